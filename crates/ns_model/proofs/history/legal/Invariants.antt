@@ -1,0 +1,6 @@
+use Rattle.std.proofs.Common.{take}
+use Rattle.ns_model.specs.Histories.{IsLegal}
+use Rattle.ns_model.proofs.history.legal.Given as goal
+
+abbrev pub invariant-loop-i : goal.invariant-loop-i
+invariant-loop-i g l = IsLegal g.C.Condition.holds (take l.i l.history)

@@ -1,0 +1,6 @@
+use Rattle.std.proofs.Common.{◌≡◌, take, fold, replicate}
+use Rattle.ns_model.specs.Histories.{row_next}
+use Rattle.ns_model.proofs.history.row_after.Given as goal
+
+abbrev pub invariant-loop-event : goal.invariant-loop-event
+invariant-loop-event g l = l.row ≡ fold row_next (replicate g.row.N 0) (take l.event-index l.history)

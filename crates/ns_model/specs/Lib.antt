@@ -1,0 +1,6 @@
+pub mod Histories
+pub mod Phases
+pub mod Room
+pub mod Seats
+pub mod Sections
+pub mod Wakes

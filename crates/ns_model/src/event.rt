@@ -1,0 +1,65 @@
+//! What happens to the lock, as events.
+
+use crate::seats::Seats;
+
+/// How a section holds the lock: alone, or beside other readers.
+#[derive(Clone, Copy, Debug, PartialEq, Eq)]
+pub enum Mode {
+    Write,
+    Read,
+}
+
+/// How a wait ended: its condition was met or it was woken, its deadline passed, or its note was
+/// notified. nsync's 0, `ETIMEDOUT` and `ECANCELED`.
+#[derive(Clone, Copy, Debug, PartialEq, Eq)]
+pub enum Answer {
+    Met,
+    TimedOut,
+    Canceled,
+}
+
+/// How a section began: by acquiring the lock, or as the return from a wait for a condition or
+/// for a condition variable.
+#[derive(Clone, Copy, Debug)]
+pub enum Entry<C> {
+    Plain,
+    Waited(C, Answer),
+    AfterCv(u8, Answer),
+}
+
+/// How a section ended: by a release, or by a wait for a condition or for a condition variable.
+#[derive(Clone, Copy, Debug)]
+pub enum Exit<C> {
+    Plain,
+    CondWait(C),
+    CvWait(u8),
+}
+
+/// One event, with the seat of its caller: a whole section with the row before and after it, a
+/// signal or a broadcast of a condition variable with the seats that it woke, or a wait for a
+/// condition variable that was left for its deadline or its note.
+#[derive(Clone, Copy)]
+pub enum Event<C, const N: usize> {
+    Section {
+        who: u8,
+        mode: Mode,
+        entry: Entry<C>,
+        before: [u64; N],
+        after: [u64; N],
+        exit: Exit<C>,
+    },
+    Signal {
+        who: u8,
+        k: u8,
+        woken: Seats,
+    },
+    Broadcast {
+        who: u8,
+        k: u8,
+        woken: Seats,
+    },
+    Leave {
+        who: u8,
+        k: u8,
+    },
+}

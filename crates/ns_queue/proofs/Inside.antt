@@ -1,0 +1,123 @@
+-- The lists as the fields hold them.
+use Rattle.std.proofs.Common.{◌≡◌, ℕ, zero, suc, ◌+◌, ◌≤◌, ◌<◌, Bool, true, false, IsTrue, not, cond, eqb, List, [], ◌∷◌, ◌++◌, length, get_or, take, drop, set, map, refl, ap, sym, ◌∙◌, arith}
+use Rattle.std.specs.List.{filter, sum_by}
+use Rattle.std.proofs.lemmas.List.{length-set, length-map, map-set, get_or-map}
+use Rattle.std.proofs.lemmas.List.Sums.{get_or-le-sum_by, sum_by-cons, sum_by_more}
+use Rattle.std.proofs.lemmas.List.Edits.{map_over_more}
+use Rattle.arrayvec.specs.ArrayVec.{ArrayVec}
+use Rattle.ns_queue.specs.declared.waiter.Waiter.{Waiter}
+use Rattle.ns_queue.specs.declared.waiter.Which.TheVariants.{Cv}
+use Rattle.ns_queue.specs.Waiters.{times_in, without_in}
+use Rattle.ns_queue.specs.Queues.{Lists, IsOrderly, times, with_waiters, waiters_of}
+use Rattle.ns_queue.proofs.Seats.{times_in-cons, times_in_push}
+use Rattle.ns_queue.proofs.Orders.{orderly_more, orderly_less, times_set, lock_times, cv_times, part_has_room}
+
+-- what a test told
+pub told_yes : (b : Bool) (n : ℕ) → b ≡ true → (IsTrue b → 0 < n) → 0 < n
+told_yes b n is tells = tells is
+
+pub told_no : (b : Bool) (n : ℕ) → b ≡ false → (0 < n → IsTrue b) → n ≡ 0
+told_no b zero is tells = refl
+told_no b (suc n) is tells = let other = tells (omega arith) in cc
+
+module _ {C : Type 0} where
+  abbrev pub shape : List (Waiter C) → List (ArrayVec (Waiter C)) → Lists C
+  shape lock cvs = record { lock = lock; cvs = map (λ v. v.items) cvs }
+
+  four_lists : (lock : List (Waiter C)) (cvs : List (ArrayVec (Waiter C))) → IsOrderly (shape lock cvs) → length cvs ≡ 4
+  four_lists lock cvs orderly = rw length-map at orderly.four
+
+  pub list_at : (lock : List (Waiter C)) (cvs : List (ArrayVec (Waiter C))) (k : ℕ) (d : ArrayVec (Waiter C)) → IsOrderly (shape lock cvs) → k < 4 →
+      waiters_of (shape lock cvs) (Cv k) ≡ (get_or cvs k d).items
+  list_at lock cvs k d orderly low = get_or-map (λ v. v.items) cvs k d [] (omega (arith, four_lists lock cvs orderly))
+
+  pub list_put : (lock : List (Waiter C)) (cvs : List (ArrayVec (Waiter C))) (k : ℕ) (v : ArrayVec (Waiter C)) →
+      shape lock (set cvs k v) ≡ with_waiters (shape lock cvs) (Cv k) v.items
+  list_put lock cvs k v = ap (λ (vs : List (List (Waiter C))). record { lock = lock; cvs = vs }) (map-set (λ v. v.items) cvs k v)
+
+  pub lock_has_room : (lock : List (Waiter C)) (cvs : List (ArrayVec (Waiter C))) (w : Waiter C) → IsOrderly (shape lock cvs) → w.seat < 64 → times w.seat (shape lock cvs) ≡ 0 → length lock < 64
+  lock_has_room lock cvs w orderly low free = part_has_room (shape lock cvs) lock w orderly (lock_times (shape lock cvs)) low free
+
+  pub list_has_room : (lock : List (Waiter C)) (cvs : List (ArrayVec (Waiter C))) (k : ℕ) (d : ArrayVec (Waiter C)) (w : Waiter C) →
+      IsOrderly (shape lock cvs) → k < 4 → w.seat < 64 → times w.seat (shape lock cvs) ≡ 0 → length (get_or cvs k d).items < 64
+  list_has_room lock cvs k d w orderly within low free =
+      let room = part_has_room (shape lock cvs) (waiters_of (shape lock cvs) (Cv k)) w orderly (λ seat. cv_times (shape lock cvs) k seat (omega (arith, orderly.four))) low free in
+      omega (arith, room, ap length (list_at lock cvs k d orderly within))
+
+  pub lock_pushed : (lock lock' : List (Waiter C)) (cvs : List (ArrayVec (Waiter C))) (w : Waiter C) → IsOrderly (shape lock cvs) → w.seat < 64 → times w.seat (shape lock cvs) ≡ 0 →
+      lock' ≡ lock ++ w ∷ [] → IsOrderly (shape lock' cvs)
+  lock_pushed lock lock' cvs w orderly low free is =
+      rw is (orderly_more (shape lock cvs) (shape (lock ++ w ∷ []) cvs) w orderly low free orderly.four (λ seat. omega (arith, times_in_push lock w seat)))
+
+  pub lock_fronted : (lock lock' : List (Waiter C)) (cvs : List (ArrayVec (Waiter C))) (w : Waiter C) → IsOrderly (shape lock cvs) → w.seat < 64 → times w.seat (shape lock cvs) ≡ 0 →
+      lock' ≡ w ∷ lock → IsOrderly (shape lock' cvs)
+  lock_fronted lock lock' cvs w orderly low free is =
+      rw is (orderly_more (shape lock cvs) (shape (w ∷ lock) cvs) w orderly low free orderly.four (λ seat. omega (arith, times_in-cons seat w lock)))
+
+  -- a list of a variable, changed
+  put_times : (lock : List (Waiter C)) (cvs : List (ArrayVec (Waiter C))) (k : ℕ) (d v : ArrayVec (Waiter C)) → IsOrderly (shape lock cvs) → k < 4 → (seat : ℕ) →
+      times seat (shape lock (set cvs k v)) + times_in seat (get_or cvs k d).items ≡ times seat (shape lock cvs) + times_in seat v.items
+  put_times lock cvs k d v orderly low seat =
+      omega (arith, times_set (shape lock cvs) k v.items seat (omega (arith, orderly.four)), ap (times seat) (list_put lock cvs k v), ap (times_in seat) (list_at lock cvs k d orderly low))
+
+  put_four : (lock : List (Waiter C)) (cvs : List (ArrayVec (Waiter C))) (k : ℕ) (v : ArrayVec (Waiter C)) → IsOrderly (shape lock cvs) → length (map (λ (u : ArrayVec (Waiter C)). u.items) (set cvs k v)) ≡ 4
+  put_four lock cvs k v orderly = rw (length-map, length-set) (four_lists lock cvs orderly)
+
+  pub list_pushed : (lock : List (Waiter C)) (cvs : List (ArrayVec (Waiter C))) (k : ℕ) (d v : ArrayVec (Waiter C)) (w : Waiter C) → IsOrderly (shape lock cvs) → k < 4 → w.seat < 64 →
+      times w.seat (shape lock cvs) ≡ 0 → v.items ≡ (get_or cvs k d).items ++ w ∷ [] → IsOrderly (shape lock (set cvs k v))
+  list_pushed lock cvs k d v w orderly within low free is =
+      orderly_more (shape lock cvs) (shape lock (set cvs k v)) w orderly low free (put_four lock cvs k v orderly)
+      (λ seat. omega (arith, put_times lock cvs k d v orderly within seat, ap (times_in seat) is, times_in_push (get_or cvs k d).items w seat))
+
+  pub list_lessened : (lock : List (Waiter C)) (cvs : List (ArrayVec (Waiter C))) (k : ℕ) (d v : ArrayVec (Waiter C)) → IsOrderly (shape lock cvs) → k < 4 →
+      ((seat : ℕ) → times_in seat v.items ≤ times_in seat (get_or cvs k d).items) → IsOrderly (shape lock (set cvs k v))
+  list_lessened lock cvs k d v orderly within less =
+      orderly_less (shape lock cvs) (shape lock (set cvs k v)) orderly (put_four lock cvs k v orderly)
+      (λ seat. omega (arith, put_times lock cvs k d v orderly within seat, less seat))
+
+  pub lock_lessened : (lock lock' : List (Waiter C)) (cvs : List (ArrayVec (Waiter C))) → IsOrderly (shape lock cvs) →
+      ((seat : ℕ) → times_in seat lock' ≤ times_in seat lock) → IsOrderly (shape lock' cvs)
+  lock_lessened lock lock' cvs orderly less = orderly_less (shape lock cvs) (shape lock' cvs) orderly orderly.four (λ seat. omega (arith, less seat))
+
+  -- a seat in one of the lists, and in none of them so far
+  pub some_list : (cvs : List (ArrayVec (Waiter C))) (i : ℕ) (d : ArrayVec (Waiter C)) (ws : List (Waiter C)) (seat : ℕ) → i < 4 → length cvs ≡ 4 → ws ≡ (get_or cvs i d).items →
+      0 < times_in seat ws → 0 < sum_by (times_in seat) (map (λ u. u.items) cvs)
+  some_list cvs i d ws seat within four is here =
+      let at = get_or-map (λ u. u.items) cvs i d [] (omega arith) in
+      let most = get_or-le-sum_by (times_in seat) (map (λ u. u.items) cvs) i [] (rw length-map (omega arith)) in
+      omega (arith, most, here, ap (times_in seat) at, ap (times_in seat) is)
+
+  pub more_lists : (cvs : List (ArrayVec (Waiter C))) (i : ℕ) (d : ArrayVec (Waiter C)) (ws : List (Waiter C)) (seat : ℕ) → i < 4 → length cvs ≡ 4 → ws ≡ (get_or cvs i d).items →
+      times_in seat ws ≡ 0 → sum_by (times_in seat) (take i (map (λ u. u.items) cvs)) ≡ 0 → sum_by (times_in seat) (take (i + 1) (map (λ u. u.items) cvs)) ≡ 0
+  more_lists cvs i d ws seat within four is none before =
+      let at = get_or-map (λ u. u.items) cvs i d [] (omega arith) in
+      let more = sum_by_more (times_in seat) (map (λ u. u.items) cvs) i [] (rw length-map (omega arith)) in
+      omega (arith, more, none, before, ap (times_in seat) at, ap (times_in seat) is)
+
+  -- each list changed in turn
+  pub lists_more : (f : List (Waiter C) → List (Waiter C)) (olds nows : List (ArrayVec (Waiter C))) (i : ℕ) (d v : ArrayVec (Waiter C)) → i < length olds → length nows ≡ length olds →
+      map (λ u. u.items) nows ≡ map f (take i (map (λ u. u.items) olds)) ++ drop i (map (λ u. u.items) olds) → v.items ≡ f (get_or nows i d).items →
+      map (λ u. u.items) (set nows i v) ≡ map f (take (i + 1) (map (λ u. u.items) olds)) ++ drop (i + 1) (map (λ u. u.items) olds)
+  lists_more f olds nows i d v within same before becomes =
+      let items : ArrayVec (Waiter C) → List (Waiter C) = λ u. u.items in
+      let at : (get_or nows i d).items ≡ get_or (map items nows) i (get_or nows i d).items = sym (get_or-map items nows i d (get_or nows i d).items (omega arith)) in
+      map-set items nows i v ∙ ap (λ (ws : List (Waiter C)). set (map items nows) i ws) becomes
+      ∙ map_over_more f (map items olds) (map items nows) i (get_or nows i d).items (rw length-map within) before at
+
+  -- a list and the lists without a seat
+  pub times_in-filter : (p : Waiter C → Bool) (ws : List (Waiter C)) (seat : ℕ) → times_in seat (filter p ws) ≤ times_in seat ws
+  times_in-filter p [] seat = omega arith
+  times_in-filter p (w ∷ ws) seat =
+      elim (p w) as (λ b. times_in seat (cond b (w ∷ filter p ws) (filter p ws)) ≤ times_in seat (w ∷ ws))
+      [ true ↦ omega (arith, times_in-cons seat w ws, times_in-cons seat w (filter p ws), times_in-filter p ws seat) | false ↦ omega (arith, times_in-cons seat w ws, times_in-filter p ws seat) ]
+
+  sums_without : (out : ℕ) (vs : List (List (Waiter C))) (seat : ℕ) → sum_by (times_in seat) (map (without_in out) vs) ≤ sum_by (times_in seat) vs
+  sums_without out [] seat = omega arith
+  sums_without out (v ∷ vs) seat =
+      omega (arith, sum_by-cons (times_in seat) v vs, sum_by-cons (times_in seat) (without_in out v) (map (without_in out) vs), sums_without out vs seat, times_in-filter (λ w. not (eqb w.seat out)) v seat)
+
+  pub removed : (lock lock' : List (Waiter C)) (cvs cvs' : List (ArrayVec (Waiter C))) (out : ℕ) → IsOrderly (shape lock cvs) → lock' ≡ without_in out lock →
+      map (λ u. u.items) cvs' ≡ map (without_in out) (map (λ u. u.items) cvs) → IsOrderly (shape lock' cvs')
+  removed lock lock' cvs cvs' out orderly is are =
+      orderly_less (shape lock cvs) (shape lock' cvs') orderly (rw (are, length-map) orderly.four)
+      (λ seat. omega (arith, ap (times_in seat) is, ap (sum_by (times_in seat)) are, times_in-filter (λ w. not (eqb w.seat out)) lock seat, sums_without out (map (λ u. u.items) cvs) seat))

@@ -1,0 +1,52 @@
+-- One place further along a list.
+use Rattle.std.proofs.Common.{◌≡◌, ℕ, suc, ◌+◌, ◌≤◌, ◌<◌, Bool, true, false, List, [], ◌∷◌, ◌++◌, length, get_or, take, drop, set, refl, ap, sym, ◌∙◌, arith, append_assoc, add-one}
+use Rattle.std.proofs.Math.Seq.{drop-cons}
+use Rattle.std.proofs.lemmas.List.{take_more_set, drop-set-lt}
+use Rattle.ns_queue.specs.declared.waiter.Waiter.{Waiter}
+use Rattle.ns_queue.specs.declared.signal.Wanted.{Wanted}
+use Rattle.ns_queue.specs.Marks.{marked, unmarked, is_wanted, wanted_after, signal_marks}
+
+pub drop_step : {A : Type 0} (xs : List A) (i : ℕ) (d x : A) → i < length xs → get_or xs i d ≡ x → drop i xs ≡ x ∷ drop (i + 1) xs
+drop_step {A} xs i d x within is = rw add-one (drop-cons xs i d within ∙ ap (λ (y : A). y ∷ drop (suc i) xs) is)
+
+some_item : {A : Type 0} (xs : List A) (i : ℕ) → i < length xs → A
+some_item [] i within = absurd (omega (arith, within))
+some_item (x ∷ xs) i within = x
+
+module _ {A : Type 0} where
+  pub skipped_on : (got rest rest' whole : List A) → rest ≡ rest' → got ++ rest ≡ whole → got ++ rest' ≡ whole
+  skipped_on got rest rest' whole cut before = ap (λ r. got ++ r) (sym cut) ∙ before
+
+  -- what was pushed stood first in the rest
+  pub pushed_on : (got got' rest rest' whole : List A) (x : A) → got' ≡ got ++ x ∷ [] → rest ≡ x ∷ rest' → got ++ rest ≡ whole → got' ++ rest' ≡ whole
+  pushed_on got got' rest rest' whole x is cut before = rw (is, append_assoc) (ap (λ r. got ++ r) (sym cut) ∙ before)
+
+  pub marked_yes : (ms : List Bool) (xs : List A) (i : ℕ) (b : Bool) (d x : A) → i < length ms → i < length xs → get_or ms i b ≡ true → get_or xs i d ≡ x →
+      marked (drop i ms) (drop i xs) ≡ x ∷ marked (drop (i + 1) ms) (drop (i + 1) xs)
+  marked_yes ms xs i b d x w v m is = rw (drop_step ms i b true w m, drop_step xs i d x v is) refl
+
+  pub marked_no : (ms : List Bool) (xs : List A) (i : ℕ) (b : Bool) → i < length ms → i < length xs → get_or ms i b ≡ false →
+      marked (drop i ms) (drop i xs) ≡ marked (drop (i + 1) ms) (drop (i + 1) xs)
+  marked_no ms xs i b w v m = let d = some_item xs i v in rw (drop_step ms i b false w m, drop_step xs i d (get_or xs i d) v refl) refl
+
+  pub unmarked_no : (ms : List Bool) (xs : List A) (i : ℕ) (b : Bool) (x : A) → i < length ms → i < length xs → get_or ms i b ≡ false → x ≡ get_or xs i x →
+      unmarked (drop i ms) (drop i xs) ≡ x ∷ unmarked (drop (i + 1) ms) (drop (i + 1) xs)
+  unmarked_no ms xs i b x w v m is = rw (drop_step ms i b false w m, drop_step xs i x x v (sym is)) refl
+
+  pub unmarked_yes : (ms : List Bool) (xs : List A) (i : ℕ) (b : Bool) → i < length ms → i < length xs → get_or ms i b ≡ true →
+      unmarked (drop i ms) (drop i xs) ≡ unmarked (drop (i + 1) ms) (drop (i + 1) xs)
+  unmarked_yes ms xs i b w v m = let d = some_item xs i v in rw (drop_step ms i b true w m, drop_step xs i d (get_or xs i d) v refl) refl
+
+  pub kept_on : (ms : List Bool) (xs whole : List A) (kept i : ℕ) (b : Bool) (x : A) → kept ≤ i → i < length ms → i < length xs → get_or ms i b ≡ false → x ≡ get_or xs i x →
+      take kept xs ++ unmarked (drop i ms) (drop i xs) ≡ whole → take (kept + 1) (set xs kept x) ++ unmarked (drop (i + 1) ms) (drop (i + 1) (set xs kept x)) ≡ whole
+  kept_on ms xs whole kept i b x behind w v m is before =
+      rw (drop-set-lt (i + 1) xs kept x (omega arith))
+      (pushed_on (take kept xs) (take (kept + 1) (set xs kept x)) (unmarked (drop i ms) (drop i xs)) (unmarked (drop (i + 1) ms) (drop (i + 1) xs)) whole x
+      (take_more_set xs kept x (omega arith)) (unmarked_no ms xs i b x w v m is) before)
+
+module _ {C : Type 0} where
+  pub signal_on : (ws : List (Waiter C)) (i : ℕ) (w : Waiter C) (wanted wanted' : Wanted) (b : Bool) (got got' whole : List Bool) → i < length ws → w ≡ get_or ws i w →
+      b ≡ is_wanted wanted w → wanted' ≡ wanted_after wanted w → got' ≡ got ++ b ∷ [] → got ++ signal_marks wanted (drop i ws) ≡ whole → got' ++ signal_marks wanted' (drop (i + 1) ws) ≡ whole
+  signal_on ws i w wanted wanted' b got got' whole within is takes after push before =
+      pushed_on got got' (signal_marks wanted (drop i ws)) (signal_marks wanted' (drop (i + 1) ws)) whole b push
+      (rw (drop_step ws i w w within (sym is), takes, after) refl) before

@@ -1,0 +1,130 @@
+-- What the marks and the counts come to.
+use Rattle.std.proofs.Common.{◌≡◌, ℕ, suc, ◌≤◌, Bool, true, false, not, cond, ◌&&◌, List, [], ◌∷◌, length, drop, refl, ap, arith}
+use Rattle.std.specs.List.{filter}
+use Rattle.ns_queue.specs.declared.waiter.Waiter.{Waiter}
+use Rattle.ns_queue.specs.declared.stage.Stage.{Stage}
+use Rattle.ns_queue.specs.declared.stage.Stage.TheVariants.{Seeking, Reading, Ended}
+use Rattle.ns_queue.specs.declared.signal.Wanted.{Wanted}
+use Rattle.ns_queue.specs.declared.signal.Wanted.TheVariants.{Anybody, ReadersAndWriter, Readers, Nobody}
+use Rattle.ns_queue.specs.Waiters.{reads, writes, times_in}
+use Rattle.ns_queue.specs.Scans.{is_eligible, woken_of, left_of}
+use Rattle.ns_queue.specs.Signals.{readers_and_a_writer, signaled_of, unsignaled_of}
+use Rattle.ns_queue.specs.Marks.{marked, unmarked, stage_after, scan_marks, wanted_after, signal_marks}
+use Rattle.ns_queue.proofs.Seats.{times_in-cons}
+
+module _ {C : Type 0} where
+  -- marks take nobody in
+  pub times_unmarked : (ms : List Bool) (ws : List (Waiter C)) (seat : ℕ) → times_in seat (unmarked ms ws) ≤ times_in seat ws
+  times_unmarked [] ws seat = omega arith
+  times_unmarked (m ∷ ms) [] seat = omega arith
+  times_unmarked (true ∷ ms) (w ∷ ws) seat = omega (arith, times_in-cons seat w ws, times_unmarked ms ws seat)
+  times_unmarked (false ∷ ms) (w ∷ ws) seat = omega (arith, times_in-cons seat w ws, times_in-cons seat w (unmarked ms ws), times_unmarked ms ws seat)
+
+  pub length-signal_marks : (wanted : Wanted) (ws : List (Waiter C)) → length (signal_marks wanted ws) ≡ length ws
+  length-signal_marks wanted [] = refl
+  length-signal_marks wanted (w ∷ ws) = ap suc (length-signal_marks (wanted_after wanted w) ws)
+
+  nobody_taken : (ws : List (Waiter C)) → marked (signal_marks Nobody ws) ws ≡ []
+  nobody_taken [] = refl
+  nobody_taken (w ∷ ws) = nobody_taken ws
+
+  nobody_left : (ws : List (Waiter C)) → unmarked (signal_marks Nobody ws) ws ≡ ws
+  nobody_left [] = refl
+  nobody_left (w ∷ ws) = ap (λ vs. w ∷ vs) (nobody_left ws)
+
+  readers_taken : (ws : List (Waiter C)) → marked (signal_marks Readers ws) ws ≡ filter reads ws
+  readers_taken [] = refl
+  readers_taken (w ∷ ws) = ap (λ vs. cond (reads w) (w ∷ vs) vs) (readers_taken ws)
+
+  readers_left : (ws : List (Waiter C)) → unmarked (signal_marks Readers ws) ws ≡ filter writes ws
+  readers_left [] = refl
+  readers_left (w ∷ ws) = elim (writes w) as (λ b. cond (not b) (unmarked (signal_marks Readers ws) ws) (w ∷ unmarked (signal_marks Readers ws) ws) ≡ cond b (w ∷ filter writes ws) (filter writes ws))
+      [ true ↦ ap (λ vs. w ∷ vs) (readers_left ws) | false ↦ readers_left ws ]
+
+  mixed_taken : (ws : List (Waiter C)) → marked (signal_marks ReadersAndWriter ws) ws ≡ readers_and_a_writer ws
+  mixed_taken [] = refl
+  mixed_taken (w ∷ ws) = elim (writes w) as (λ b. (w ∷ marked (signal_marks (cond b Readers ReadersAndWriter) ws) ws) ≡ (w ∷ cond b (filter reads ws) (readers_and_a_writer ws)))
+      [ true ↦ ap (λ vs. w ∷ vs) (readers_taken ws) | false ↦ ap (λ vs. w ∷ vs) (mixed_taken ws) ]
+
+  mixed_left : (ws : List (Waiter C)) → unmarked (signal_marks ReadersAndWriter ws) ws ≡ drop 1 (filter writes ws)
+  mixed_left [] = refl
+  mixed_left (w ∷ ws) = elim (writes w) as (λ b. unmarked (signal_marks (cond b Readers ReadersAndWriter) ws) ws ≡ drop 1 (cond b (w ∷ filter writes ws) (filter writes ws)))
+      [ true ↦ readers_left ws | false ↦ mixed_left ws ]
+
+  pub signal_takes : (ws : List (Waiter C)) → marked (signal_marks Anybody ws) ws ≡ signaled_of ws
+  signal_takes [] = refl
+  signal_takes (w ∷ ws) = elim (writes w) as (λ b. (w ∷ marked (signal_marks (cond b Nobody ReadersAndWriter) ws) ws) ≡ (w ∷ cond b [] (readers_and_a_writer ws)))
+      [ true ↦ ap (λ vs. w ∷ vs) (nobody_taken ws) | false ↦ ap (λ vs. w ∷ vs) (mixed_taken ws) ]
+
+  pub signal_leaves : (ws : List (Waiter C)) → unmarked (signal_marks Anybody ws) ws ≡ unsignaled_of ws
+  signal_leaves [] = refl
+  signal_leaves (w ∷ ws) = elim (writes w) as (λ b. unmarked (signal_marks (cond b Nobody ReadersAndWriter) ws) ws ≡ cond b ws (drop 1 (filter writes ws)))
+      [ true ↦ nobody_left ws | false ↦ mixed_left ws ]
+
+module _ {C : Type 0} (meets : C → Bool) where
+  pub length-scan_marks : (stage : Stage) (ws : List (Waiter C)) → length (scan_marks meets stage ws) ≡ length ws
+  length-scan_marks stage [] = refl
+  length-scan_marks stage (w ∷ ws) = ap suc (length-scan_marks (stage_after meets stage w) ws)
+
+  ended_takes : (ws : List (Waiter C)) → marked (scan_marks meets Ended ws) ws ≡ []
+  ended_takes [] = refl
+  ended_takes (w ∷ ws) = ended_takes ws
+
+  ended_leaves : (ws : List (Waiter C)) → unmarked (scan_marks meets Ended ws) ws ≡ ws
+  ended_leaves [] = refl
+  ended_leaves (w ∷ ws) = ap (λ vs. w ∷ vs) (ended_leaves ws)
+
+  reading_takes : (ws : List (Waiter C)) → marked (scan_marks meets Reading ws) ws ≡ filter (λ v. reads v && is_eligible meets v) ws
+  reading_takes [] = refl
+  reading_takes (w ∷ ws) = ap (λ vs. cond (reads w && is_eligible meets w) (w ∷ vs) vs) (reading_takes ws)
+
+  reading_leaves : (ws : List (Waiter C)) → unmarked (scan_marks meets Reading ws) ws ≡ filter (λ v. not (reads v && is_eligible meets v)) ws
+  reading_leaves [] = refl
+  reading_leaves (w ∷ ws) = elim (reads w && is_eligible meets w) as (λ b. cond b (unmarked (scan_marks meets Reading ws) ws) (w ∷ unmarked (scan_marks meets Reading ws) ws) ≡ cond (not b) (w ∷ filter (λ v. not (reads v && is_eligible meets v)) ws) (filter (λ v. not (reads v && is_eligible meets v)) ws))
+      [ true ↦ reading_leaves ws | false ↦ ap (λ vs. w ∷ vs) (reading_leaves ws) ]
+
+  pub scan_takes : (ws : List (Waiter C)) → marked (scan_marks meets Seeking ws) ws ≡ woken_of meets ws
+  scan_takes [] = refl
+  scan_takes (w ∷ ws) =
+      elim (is_eligible meets w) as (λ b. cond b (w ∷ marked (scan_marks meets (cond b (cond (writes w) Ended Reading) Seeking) ws) ws) (marked (scan_marks meets (cond b (cond (writes w) Ended Reading) Seeking) ws) ws)
+      ≡ cond b (w ∷ cond (writes w) [] (filter (λ v. reads v && is_eligible meets v) ws)) (woken_of meets ws)) [
+        | true ↦ elim (writes w) as (λ b. (w ∷ marked (scan_marks meets (cond b Ended Reading) ws) ws) ≡ (w ∷ cond b [] (filter (λ v. reads v && is_eligible meets v) ws)))
+            [ true ↦ ap (λ vs. w ∷ vs) (ended_takes ws) | false ↦ ap (λ vs. w ∷ vs) (reading_takes ws) ]
+        | false ↦ scan_takes ws
+      ]
+
+  pub scan_leaves : (ws : List (Waiter C)) → unmarked (scan_marks meets Seeking ws) ws ≡ left_of meets ws
+  scan_leaves [] = refl
+  scan_leaves (w ∷ ws) =
+      elim (is_eligible meets w) as (λ b. cond b (unmarked (scan_marks meets (cond b (cond (writes w) Ended Reading) Seeking) ws) ws) (w ∷ unmarked (scan_marks meets (cond b (cond (writes w) Ended Reading) Seeking) ws) ws)
+      ≡ cond b (cond (writes w) ws (filter (λ v. not (reads v && is_eligible meets v)) ws)) (w ∷ left_of meets ws)) [
+        | true ↦ elim (writes w) as (λ b. unmarked (scan_marks meets (cond b Ended Reading) ws) ws ≡ cond b ws (filter (λ v. not (reads v && is_eligible meets v)) ws))
+            [ true ↦ ended_leaves ws | false ↦ reading_leaves ws ]
+        | false ↦ ap (λ vs. w ∷ vs) (scan_leaves ws)
+      ]
+
+  -- what a list's marks make of it
+  pub chosen_fit : (a b : List (Waiter C)) (c ms : List Bool) (items : List (Waiter C)) → a ≡ items → b ≡ items → c ≡ ms → ms ≡ scan_marks meets Seeking a → length c ≡ length b
+  chosen_fit a b c ms items ea eb ec em = rw (ec, em, ea, eb) (length-scan_marks Seeking items)
+
+  pub chosen_takes : (a b : List (Waiter C)) (c ms : List Bool) (items : List (Waiter C)) → a ≡ items → b ≡ items → c ≡ ms → ms ≡ scan_marks meets Seeking a → marked c b ≡ woken_of meets items
+  chosen_takes a b c ms items ea eb ec em = rw (ec, em, ea, eb) (scan_takes items)
+
+  pub chosen_leaves : (a b : List (Waiter C)) (c ms : List Bool) (items : List (Waiter C)) → a ≡ items → b ≡ items → c ≡ ms → ms ≡ scan_marks meets Seeking a → unmarked c b ≡ left_of meets items
+  chosen_leaves a b c ms items ea eb ec em = rw (ec, em, ea, eb) (scan_leaves items)
+
+  pub times_left : (ws : List (Waiter C)) (seat : ℕ) → times_in seat (left_of meets ws) ≤ times_in seat ws
+  times_left ws seat = rw (← scan_leaves ws) (times_unmarked (scan_marks meets Seeking ws) ws seat)
+
+module _ {C : Type 0} where
+  pub signaled_fit : (a b : List (Waiter C)) (c ms : List Bool) (items : List (Waiter C)) → a ≡ items → b ≡ items → c ≡ ms → ms ≡ signal_marks Anybody a → length c ≡ length b
+  signaled_fit a b c ms items ea eb ec em = rw (ec, em, ea, eb) (length-signal_marks Anybody items)
+
+  pub signaled_takes : (a b : List (Waiter C)) (c ms : List Bool) (items : List (Waiter C)) → a ≡ items → b ≡ items → c ≡ ms → ms ≡ signal_marks Anybody a → marked c b ≡ signaled_of items
+  signaled_takes a b c ms items ea eb ec em = rw (ec, em, ea, eb) (signal_takes items)
+
+  pub signaled_leaves : (a b : List (Waiter C)) (c ms : List Bool) (items : List (Waiter C)) → a ≡ items → b ≡ items → c ≡ ms → ms ≡ signal_marks Anybody a → unmarked c b ≡ unsignaled_of items
+  signaled_leaves a b c ms items ea eb ec em = rw (ec, em, ea, eb) (signal_leaves items)
+
+  pub times_unsignaled : (ws : List (Waiter C)) (seat : ℕ) → times_in seat (unsignaled_of ws) ≤ times_in seat ws
+  times_unsignaled ws seat = rw (← signal_leaves ws) (times_unmarked (signal_marks Anybody ws) ws seat)

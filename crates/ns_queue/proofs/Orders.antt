@@ -1,0 +1,52 @@
+-- What changes one list keeps the lists orderly.
+use Rattle.std.proofs.Common.{◌≡◌, ℕ, ◌+◌, ◌*◌, ◌^◌, ◌≤◌, ◌<◌, inl, inr, eqb, List, [], length, get_or, set, refl, subst, arith}
+use Rattle.std.proofs.Common.{Fits, w64}
+use Rattle.std.proofs.Math.Nat.{mul-le-mul_right}
+use Rattle.std.proofs.lemmas.List.Sums.{sum_by-set, get_or-le-sum_by}
+use Rattle.std.proofs.lemmas.Bool.{ne_eqb, eq-eqb, cases_eq}
+use Rattle.ns_queue.specs.declared.waiter.Waiter.{Waiter}
+use Rattle.ns_queue.specs.Waiters.{times_in}
+use Rattle.ns_queue.specs.Queues.{Lists, IsOrderly, times}
+use Rattle.ns_queue.proofs.Seats.{one_if, room_for}
+
+module _ {C : Type 0} where
+  -- one more waiter
+  pub orderly_more : (old new : Lists C) (w : Waiter C) → IsOrderly old → w.seat < 64 → times w.seat old ≡ 0 → length new.cvs ≡ 4 →
+      ((seat : ℕ) → times seat new ≡ times seat old + one_if (eqb w.seat seat)) → IsOrderly new
+  orderly_more old new w orderly low free four more = record {
+    four = four;
+    once = λ seat. elim (cases_eq w.seat seat) [
+      | inl e ↦ (let P : ℕ → Type 0 = λ s. times s new ≤ 1 in subst P e (let one : one_if (eqb w.seat w.seat) ≡ 1 = rw (eq-eqb w.seat w.seat refl) refl in omega (arith, more w.seat, free, one)))
+      | inr ne ↦ (let no : one_if (eqb w.seat seat) ≡ 0 = rw (ne_eqb w.seat seat ne) refl in omega (arith, more seat, orderly.once seat, no))
+    ];
+    below = λ seat high. let no : one_if (eqb w.seat seat) ≡ 0 = rw (ne_eqb w.seat seat (λ e. omega arith)) refl in omega (arith, more seat, orderly.below seat high, no);
+  }
+
+  -- no seat more often
+  pub orderly_less : (old new : Lists C) → IsOrderly old → length new.cvs ≡ 4 → ((seat : ℕ) → times seat new ≤ times seat old) → IsOrderly new
+  orderly_less old new orderly four less = record {
+    four = four;
+    once = λ seat. omega (arith, less seat, orderly.once seat);
+    below = λ seat high. omega (arith, less seat, orderly.below seat high);
+  }
+
+  -- a variable's list in place of another
+  pub times_set : (lists : Lists C) (k : ℕ) (ws : List (Waiter C)) (seat : ℕ) → k < length lists.cvs →
+      times seat (record { lock = lists.lock; cvs = set lists.cvs k ws }) + times_in seat (get_or lists.cvs k []) ≡ times seat lists + times_in seat ws
+  times_set lists k ws seat within = omega (arith, sum_by-set (times_in seat) lists.cvs k ws [] within)
+
+  pub lock_times : (lists : Lists C) (seat : ℕ) → times_in seat lists.lock ≤ times seat lists
+  lock_times lists seat = omega arith
+
+  pub cv_times : (lists : Lists C) (k : ℕ) (seat : ℕ) → k < length lists.cvs → times_in seat (get_or lists.cvs k []) ≤ times seat lists
+  cv_times lists k seat within = omega (arith, get_or-le-sum_by (times_in seat) lists.cvs k [] within)
+
+  -- any list has room for one that stands in none
+  pub part_has_room : (lists : Lists C) (ws : List (Waiter C)) (w : Waiter C) → IsOrderly lists → ((seat : ℕ) → times_in seat ws ≤ times seat lists) →
+      w.seat < 64 → times w.seat lists ≡ 0 → length ws < 64
+  part_has_room lists ws w orderly part low free =
+      room_for 64 ws w (λ seat. omega (arith, part seat, orderly.once seat)) (λ seat high. omega (arith, part seat, orderly.below seat high)) low (omega (arith, part w.seat, free))
+
+-- where the lists of the variables lie, in bytes
+pub offset_fits : (k size : ℕ) → k < 4 → size < 2 ^ 60 → Fits w64 (k * size)
+offset_fits k size low small = let most : k * size ≤ 4 * size = mul-le-mul_right size (omega arith) in omega (arith, most)

@@ -1,0 +1,163 @@
+-- The tests of a scan are its runs with a waiter whose truth is needed.
+use Rattle.std.proofs.Common.{◌≡◌, ℕ, ◌+◌, ◌≤◌, Bool, true, false, not, cond, ◌&&◌, ◌||◌, List, [], ◌∷◌, ◌++◌, length, map, Option, None, Some, is_some, refl, ap, sym, ◌∙◌, arith, length-append}
+use Rattle.std.specs.List.{count_by, list_any}
+use Rattle.std.proofs.lemmas.List.Sums.{sum_by-append, sum_by-cons, count_by-le-length}
+use Rattle.ns_queue.specs.declared.waiter.Waiter.{Waiter}
+use Rattle.ns_queue.specs.declared.stage.Stage.{Stage}
+use Rattle.ns_queue.specs.declared.stage.Stage.TheVariants.{Seeking, Reading, Ended}
+use Rattle.ns_queue.specs.Waiters.{reads, writes}
+use Rattle.ns_queue.specs.Scans.{is_eligible, is_alike, Asked, asked_of, goes_on, started, ended, runs_after, runs_of, tests_of}
+use Rattle.ns_queue.specs.Marks.{needs, stage_after, tests_from}
+use Rattle.ns_queue.proofs.Seats.{one_if}
+
+module _ {C : Type 0} where
+  abbrev asks : List (Asked C) → Bool
+  asks run = list_any (λ a. a.is_needed) run
+
+  abbrev first_of : List (Asked C) → Option C
+  first_of [] = None
+  first_of (a ∷ run) = a.waiter.cond
+
+  asks_more : (run : List (Asked C)) (a : Asked C) → asks (run ++ a ∷ []) ≡ (a.is_needed || asks run)
+  asks_more [] a = refl
+  asks_more (b ∷ run) a = ap (λ t. b.is_needed || t) (asks_more run a) ∙ elim b.is_needed as (λ t. (t || (a.is_needed || asks run)) ≡ (a.is_needed || (t || asks run)))
+      [ true ↦ elim a.is_needed as (λ u. true ≡ (u || true)) [ true ↦ refl | false ↦ refl ] | false ↦ refl ]
+
+  count_ended : (run : List (Asked C)) → count_by asks (ended run) ≡ one_if (asks run)
+  count_ended [] = refl
+  count_ended (a ∷ run) = omega (arith, sum_by-cons (λ r. one_if (asks r)) (a ∷ run) [])
+
+module _ {C : Type 0} (same : C → C → Bool) (meets : C → Bool) where
+  alike_none : (o : Option C) → is_alike same o None ≡ false
+  alike_none (Some c) = refl
+  alike_none None = refl
+
+  -- what is known of no run is of no use
+  none_known : (stage : Stage) (known : Bool) (ws : List (Waiter C)) → tests_from same meets stage None known ws ≡ tests_from same meets stage None false ws
+  none_known stage known [] = refl
+  none_known stage known (w ∷ ws) = rw (alike_none w.cond) refl
+
+  abbrev asked_from : Stage → List (Waiter C) → List (Asked C)
+  asked_from stage [] = []
+  asked_from stage (w ∷ ws) = record { waiter = w; is_needed = needs stage w } ∷ asked_from (stage_after meets stage w) ws
+
+  ended_asked : (ws : List (Waiter C)) → asked_from Ended ws ≡ map (λ v. record { waiter = v; is_needed = false }) ws
+  ended_asked [] = refl
+  ended_asked (w ∷ ws) = ap (λ xs. record { waiter = w; is_needed = false } ∷ xs) (ended_asked ws)
+
+  reading_asked : (ws : List (Waiter C)) → asked_from Reading ws ≡ map (λ v. record { waiter = v; is_needed = reads v }) ws
+  reading_asked [] = refl
+  reading_asked (w ∷ ws) = ap (λ xs. record { waiter = w; is_needed = reads w } ∷ xs) (reading_asked ws)
+
+  asked_is : (ws : List (Waiter C)) → asked_from Seeking ws ≡ asked_of meets ws
+  asked_is [] = refl
+  asked_is (w ∷ ws) =
+      ap (λ (xs : List (Asked C)). record { waiter = w; is_needed = true } ∷ xs)
+      (elim (is_eligible meets w) as (λ b. asked_from (cond b (cond (writes w) Ended Reading) Seeking) ws ≡ cond b (map (λ v. record { waiter = v; is_needed = reads w && reads v }) ws) (asked_of meets ws)) [
+        | true ↦ elim (writes w) as (λ b. asked_from (cond b Ended Reading) ws ≡ map (λ v. record { waiter = v; is_needed = not b && reads v }) ws) [ true ↦ ended_asked ws | false ↦ reading_asked ws ]
+        | false ↦ asked_is ws
+      ])
+
+  -- a run that starts, or none
+  start_count : (w : Waiter C) (n : Bool) (R : Option C → Bool → ℕ) → ((known : Bool) → R None known ≡ R None false) → (o : Option C) → w.cond ≡ o →
+      one_if (asks (cond (is_some o) (record { waiter = w; is_needed = n } ∷ []) [])) + R (first_of (cond (is_some o) (record { waiter = w; is_needed = n } ∷ []) [])) (asks (cond (is_some o) (record { waiter = w; is_needed = n } ∷ []) []))
+      ≡ cond (n && is_some o) 1 0 + R o n
+  start_count w true R free (Some c) e = ap (λ o. 1 + R o true) e
+  start_count w false R free (Some c) e = ap (λ o. 0 + R o false) e
+  start_count w true R free None e = ap (λ n. 0 + n) (sym (free true))
+  start_count w false R free None e = refl
+
+  goes_is : (run : List (Asked C)) (a : Asked C) → goes_on same (λ x. x.waiter.cond) run a ≡ is_alike same a.waiter.cond (first_of run)
+  goes_is [] a = sym (alike_none a.waiter.cond)
+  goes_is (b ∷ run) a = refl
+
+  first_stays : (run : List (Asked C)) (a : Asked C) → goes_on same (λ x. x.waiter.cond) run a ≡ true → first_of (run ++ a ∷ []) ≡ first_of run
+  first_stays [] a goes = absurd (cc)
+  first_stays (b ∷ run) a goes = refl
+
+  go_count : (known n : Bool) (R : Bool → ℕ) → one_if (n || known) + R (n || known) ≡ one_if known + (cond (n && not known) 1 0 + R (n || known))
+  go_count true true R = omega arith
+  go_count true false R = omega arith
+  go_count false true R = omega arith
+  go_count false false R = omega arith
+
+  -- one waiter further
+  runs_step : (stage : Stage) (w : Waiter C) (ws : List (Waiter C)) (run : List (Asked C)) →
+      ((r : List (Asked C)) → count_by asks (runs_after same (λ x. x.waiter.cond) r (asked_from (stage_after meets stage w) ws)) ≡ one_if (asks r) + tests_from same meets (stage_after meets stage w) (first_of r) (asks r) ws) →
+      (alike : Bool) → is_alike same w.cond (first_of run) ≡ alike →
+      count_by asks (runs_after same (λ x. x.waiter.cond) run (asked_from stage (w ∷ ws))) ≡ one_if (asks run) + tests_from same meets stage (first_of run) (asks run) (w ∷ ws)
+  runs_step stage w ws run rest true e =
+      let a : Asked C = record { waiter = w; is_needed = needs stage w } in
+      let goes = goes_is run a ∙ e in
+      let after = rest (run ++ a ∷ []) in
+      rw (goes, e) ((rw (asks_more run a, first_stays run a goes) at after) ∙ go_count (asks run) (needs stage w) (λ b. tests_from same meets (stage_after meets stage w) (first_of run) b ws))
+  runs_step stage w ws run rest false e =
+      let a : Asked C = record { waiter = w; is_needed = needs stage w } in
+      let goes = goes_is run a ∙ e in
+      let next = started (λ (x : Asked C). x.waiter.cond) a in
+      let after = rest next in
+      let parts = sum_by-append (λ (r : List (Asked C)). one_if (asks r)) (ended run) (runs_after same (λ (x : Asked C). x.waiter.cond) next (asked_from (stage_after meets stage w) ws)) in
+      let begins = start_count w (needs stage w) (λ o k. tests_from same meets (stage_after meets stage w) o k ws) (λ k. none_known (stage_after meets stage w) k ws) w.cond refl in
+      rw (goes, e) (omega (arith, parts, count_ended run, after, begins))
+
+  runs_count : (stage : Stage) (ws : List (Waiter C)) (run : List (Asked C)) →
+      count_by asks (runs_after same (λ x. x.waiter.cond) run (asked_from stage ws)) ≡ one_if (asks run) + tests_from same meets stage (first_of run) (asks run) ws
+  runs_count stage [] run = omega (arith, count_ended run)
+  runs_count stage (w ∷ ws) run = runs_step stage w ws run (λ r. runs_count (stage_after meets stage w) ws r) (is_alike same w.cond (first_of run)) refl
+
+  pub tests_is : (ws : List (Waiter C)) → tests_from same meets Seeking None false ws ≡ tests_of same meets ws
+  tests_is ws =
+      let counted = runs_count Seeking ws [] in
+      let same_list = ap (λ xs. count_by asks (runs_of same (λ x. x.waiter.cond) xs)) (asked_is ws) in
+      omega (arith, counted, same_list)
+
+  -- the runs are those of the waiters alone
+  goes_same : (run : List (Asked C)) (x : Asked C) → goes_on same (λ w. w.cond) (map (λ (y : Asked C). y.waiter) run) x.waiter ≡ goes_on same (λ (y : Asked C). y.waiter.cond) run x
+  goes_same [] x = refl
+  goes_same (a ∷ run) x = refl
+
+  map_push : (run : List (Asked C)) (x : Asked C) → map (λ (y : Asked C). y.waiter) (run ++ x ∷ []) ≡ map (λ (y : Asked C). y.waiter) run ++ x.waiter ∷ []
+  map_push [] x = refl
+  map_push (a ∷ run) x = ap (λ vs. a.waiter ∷ vs) (map_push run x)
+
+  ended_alike : (run : List (Asked C)) → length (ended run) ≡ length (ended (map (λ (y : Asked C). y.waiter) run))
+  ended_alike [] = refl
+  ended_alike (a ∷ run) = refl
+
+  started_alike : (x : Asked C) → map (λ (y : Asked C). y.waiter) (started (λ (y : Asked C). y.waiter.cond) x) ≡ started (λ (w : Waiter C). w.cond) x.waiter
+  started_alike x = elim (is_some x.waiter.cond) as (λ b. map (λ (y : Asked C). y.waiter) (cond b (x ∷ []) []) ≡ cond b (x.waiter ∷ []) []) [ true ↦ refl | false ↦ refl ]
+
+  runs_alike_step : (xs : List (Asked C)) →
+      ((r : List (Asked C)) → length (runs_after same (λ (y : Asked C). y.waiter.cond) r xs) ≡ length (runs_after same (λ w. w.cond) (map (λ (y : Asked C). y.waiter) r) (map (λ (y : Asked C). y.waiter) xs))) →
+      (run : List (Asked C)) (x : Asked C) (b : Bool) → goes_on same (λ (y : Asked C). y.waiter.cond) run x ≡ b →
+      length (runs_after same (λ (y : Asked C). y.waiter.cond) run (x ∷ xs)) ≡ length (runs_after same (λ w. w.cond) (map (λ (y : Asked C). y.waiter) run) (map (λ (y : Asked C). y.waiter) (x ∷ xs)))
+  runs_alike_step xs rest run x true e =
+      let other = goes_same run x ∙ e in
+      rw (e, other) (rest (run ++ x ∷ []) ∙ ap (λ r. length (runs_after same (λ w. w.cond) r (map (λ (y : Asked C). y.waiter) xs))) (map_push run x))
+  runs_alike_step xs rest run x false e =
+      let other = goes_same run x ∙ e in
+      let after = rest (started (λ (y : Asked C). y.waiter.cond) x) ∙ ap (λ r. length (runs_after same (λ w. w.cond) r (map (λ (y : Asked C). y.waiter) xs))) (started_alike x) in
+      rw (e, other, length-append, length-append) (omega (arith, after, ended_alike run))
+
+  runs_alike : (xs run : List (Asked C)) →
+      length (runs_after same (λ (y : Asked C). y.waiter.cond) run xs) ≡ length (runs_after same (λ w. w.cond) (map (λ (y : Asked C). y.waiter) run) (map (λ (y : Asked C). y.waiter) xs))
+  runs_alike [] run = ended_alike run
+  runs_alike (x ∷ xs) run = runs_alike_step xs (λ r. runs_alike xs r) run x (goes_on same (λ (y : Asked C). y.waiter.cond) run x) refl
+
+  map_waiters : (f : Waiter C → Bool) (ws : List (Waiter C)) → map (λ (y : Asked C). y.waiter) (map (λ v. record { waiter = v; is_needed = f v }) ws) ≡ ws
+  map_waiters f [] = refl
+  map_waiters f (w ∷ ws) = ap (λ vs. w ∷ vs) (map_waiters f ws)
+
+  asked_waiters : (ws : List (Waiter C)) → map (λ (y : Asked C). y.waiter) (asked_of meets ws) ≡ ws
+  asked_waiters [] = refl
+  asked_waiters (w ∷ ws) =
+      ap (λ vs. w ∷ vs)
+      (elim (is_eligible meets w) as (λ b. map (λ (y : Asked C). y.waiter) (cond b (map (λ v. record { waiter = v; is_needed = reads w && reads v }) ws) (asked_of meets ws)) ≡ ws)
+      [ true ↦ map_waiters (λ v. reads w && reads v) ws | false ↦ asked_waiters ws ])
+
+  pub tests_most : (ws : List (Waiter C)) → tests_of same meets ws ≤ length (runs_of same (λ w. w.cond) ws)
+  tests_most ws =
+      let most = count_by-le-length asks (runs_of same (λ x. x.waiter.cond) (asked_of meets ws)) in
+      let alike = runs_alike (asked_of meets ws) [] in
+      let those = ap (λ vs. length (runs_of same (λ (w : Waiter C). w.cond) vs)) (asked_waiters ws) in
+      omega (arith, most, alike, those)

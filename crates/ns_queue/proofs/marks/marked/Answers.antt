@@ -1,0 +1,18 @@
+use Rattle.std.proofs.Common.{◌<◌, length, sym, arith}
+use Rattle.ns_queue.proofs.Marking.{pushed_on, skipped_on, marked_yes, marked_no}
+use Rattle.ns_queue.proofs.marks.marked.Goals as goal
+use Rattle.ns_queue.proofs.marks.marked.Goals.{then-marks-i, else-marks-i}
+
+pub loop-i-preserved : goal.loop-i-preserved
+loop-i-preserved g c =
+    let within : c.loop-i.i < length c.args.marks.now = omega (arith, c.loop-i-test.true, c.requires.same) in
+    elim c.if-marks-i.branch [
+      | then-marks-i w ↦ rw w.taken-is (record {
+        so_far = pushed_on _ _ _ _ _ w.index-waiters-i.result w.push.ensures.items (marked_yes c.args.marks.now c.args.waiters.now c.loop-i.i _ w.index-waiters-i.result w.index-waiters-i.result within c.loop-i-test.true w.if-marks-i.true (sym w.index-waiters-i.is)) c.loop-i.invariant.so_far;
+        few = omega (arith, w.push.ensures.len, c.loop-i.invariant.few);
+      })
+      | else-marks-i w ↦ rw w.taken-is (record {
+        so_far = skipped_on _ _ _ _ (marked_no c.args.marks.now c.args.waiters.now c.loop-i.i _ within c.loop-i-test.true w.if-marks-i.false) c.loop-i.invariant.so_far;
+        few = omega (arith, c.loop-i.invariant.few);
+      })
+    ]

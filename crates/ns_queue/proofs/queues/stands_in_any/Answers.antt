@@ -1,0 +1,13 @@
+use Rattle.std.proofs.Common.{refl}
+use Rattle.ns_queue.proofs.Inside.{some_list, more_lists, told_yes, told_no}
+use Rattle.ns_queue.proofs.queues.stands_in_any.Goals as goal
+
+pub returns-then-stands_in : goal.returns-then-stands_in
+returns-then-stands_in g c =
+    let here = told_yes _ _ c.if-stands_in.true c.stands_in.ensures.0 in
+    (λ _. some_list c.args.lists.now c.loop-list.list-index c.list-item.result _ c.args.seat c.loop-list-test.true c.type_inv.lists c.as_slice.ensures.value here, λ _. refl)
+
+pub loop-list-preserved : goal.loop-list-preserved
+loop-list-preserved g c =
+    let none = told_no _ _ c.if-stands_in.false c.stands_in.ensures.1 in
+    more_lists c.args.lists.now c.loop-list.list-index c.list-item.result _ c.args.seat c.loop-list-test.true c.type_inv.lists c.as_slice.ensures.value none c.loop-list.invariant

@@ -1,0 +1,6 @@
+pub mod Marks
+pub mod Queues
+pub mod Room
+pub mod Scans
+pub mod Signals
+pub mod Waiters

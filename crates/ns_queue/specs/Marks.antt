@@ -1,0 +1,76 @@
+-- Lists taken apart by marks, one for each waiter, and the stages in which a scan and a signal set them.
+use Rattle.std.specs.Prelude.{ℕ, ◌+◌, Bool, true, false, not, ◌&&◌, ◌||◌, List, [], ◌∷◌, if◌then◌else◌, Option, Some, is_none, is_some}
+use Rattle.ns_queue.specs.declared.waiter.Waiter.{Waiter}
+use Rattle.ns_queue.specs.declared.stage.Stage.{Stage}
+use Rattle.ns_queue.specs.declared.stage.Stage.TheVariants.{Seeking, Reading, Ended}
+use Rattle.ns_queue.specs.declared.signal.Wanted.{Wanted}
+use Rattle.ns_queue.specs.declared.signal.Wanted.TheVariants.{Anybody, ReadersAndWriter, Readers, Nobody}
+use Rattle.ns_queue.specs.Waiters.{reads, writes}
+use Rattle.ns_queue.specs.Scans.{is_eligible, is_met, is_alike}
+
+-- those with a mark, and those without
+abbrev pub marked : {A : Type 0} → List Bool → List A → List A
+marked [] xs = []
+marked (m ∷ ms) [] = []
+marked (m ∷ ms) (x ∷ xs) = if m then x ∷ marked ms xs else marked ms xs
+
+abbrev pub unmarked : {A : Type 0} → List Bool → List A → List A
+unmarked [] xs = xs
+unmarked (m ∷ ms) [] = []
+unmarked (m ∷ ms) (x ∷ xs) = if m then unmarked ms xs else x ∷ unmarked ms xs
+
+-- whether the truth of a waiter is needed at a stage of a scan
+abbrev pub needs : {C : Type 0} → Stage → Waiter C → Bool
+needs Seeking w = true
+needs Reading w = reads w
+needs Ended w = false
+
+abbrev pub takes : {C : Type 0} → (C → Bool) → Stage → Waiter C → Bool
+takes meets stage w = needs stage w && is_eligible meets w
+
+-- the stage after a waiter that was taken or not
+abbrev pub stage_next : {C : Type 0} → Stage → Bool → Waiter C → Stage
+stage_next Seeking taken w = if taken then (if writes w then Ended else Reading) else Seeking
+stage_next Reading taken w = Reading
+stage_next Ended taken w = Ended
+
+abbrev pub stage_after : {C : Type 0} → (C → Bool) → Stage → Waiter C → Stage
+stage_after meets stage w = stage_next stage (takes meets stage w) w
+
+-- what is known of a run with this first condition after its truth was asked for, and how many tests that took
+abbrev pub asked_for : {C : Type 0} → (C → Bool) → Bool → Option C → Option Bool → Option Bool
+asked_for meets needed first truth = if needed && is_none truth then Some (is_met meets first) else truth
+
+abbrev pub asking : {C : Type 0} → Bool → Option C → Option Bool → ℕ
+asking needed first truth = if needed && is_none truth && is_some first then 1 else 0
+
+-- the marks of a scan from a stage on
+abbrev pub scan_marks : {C : Type 0} → (C → Bool) → Stage → List (Waiter C) → List Bool
+scan_marks meets stage [] = []
+scan_marks meets stage (w ∷ ws) = takes meets stage w ∷ scan_marks meets (stage_after meets stage w) ws
+
+-- the tests of a scan from a stage on, in a run with this first condition, which was tested or not
+abbrev pub tests_from : {C : Type 0} → (C → C → Bool) → (C → Bool) → Stage → Option C → Bool → List (Waiter C) → ℕ
+tests_from same meets stage first known [] = 0
+tests_from same meets stage first known (w ∷ ws) =
+    if is_alike same w.cond first then
+    (if needs stage w && not known then 1 else 0) + tests_from same meets (stage_after meets stage w) first (needs stage w || known) ws
+    else
+    (if needs stage w && is_some w.cond then 1 else 0) + tests_from same meets (stage_after meets stage w) w.cond (needs stage w) ws
+
+-- whom a signal still wants after a waiter, and its marks from there on
+abbrev pub wanted_after : {C : Type 0} → Wanted → Waiter C → Wanted
+wanted_after Anybody w = if writes w then Nobody else ReadersAndWriter
+wanted_after ReadersAndWriter w = if writes w then Readers else ReadersAndWriter
+wanted_after Readers w = Readers
+wanted_after Nobody w = Nobody
+
+abbrev pub is_wanted : {C : Type 0} → Wanted → Waiter C → Bool
+is_wanted Anybody w = true
+is_wanted ReadersAndWriter w = true
+is_wanted Readers w = reads w
+is_wanted Nobody w = false
+
+abbrev pub signal_marks : {C : Type 0} → Wanted → List (Waiter C) → List Bool
+signal_marks wanted [] = []
+signal_marks wanted (w ∷ ws) = is_wanted wanted w ∷ signal_marks (wanted_after wanted w) ws

@@ -1,0 +1,40 @@
+-- The five lists.
+use Rattle.std.specs.Prelude.{◌≡◌, ℕ, ◌+◌, ◌<◌, ◌≤◌, List, [], map, length, sum_by, slice_index_or, slice_set}
+use Rattle.ns_queue.specs.declared.waiter.Waiter.{Waiter}
+use Rattle.ns_queue.specs.declared.waiter.Which.{Which}
+use Rattle.ns_queue.specs.declared.waiter.Which.TheVariants.{Lock, Cv}
+use Rattle.ns_queue.specs.Waiters.{times_in, without_in}
+
+-- the list of the lock, front first, and those of the condition variables, by their numbers
+pub record Lists (C : Type 0) : Type 0 where
+  pub lock : List (Waiter C)
+  pub cvs : List (List (Waiter C))
+
+-- a list that there is
+abbrev pub IsList : Which → Type 0
+IsList Lock = Unit {0}
+IsList (Cv k) = k < 4
+
+-- the waiters of a list
+abbrev pub waiters_of : {C : Type 0} → Lists C → Which → List (Waiter C)
+waiters_of lists Lock = lists.lock
+waiters_of lists (Cv k) = slice_index_or lists.cvs k []
+
+-- the lists with other waiters in one of them
+abbrev pub with_waiters : {C : Type 0} → Lists C → Which → List (Waiter C) → Lists C
+with_waiters lists Lock ws = record { lock = ws; cvs = lists.cvs }
+with_waiters lists (Cv k) ws = record { lock = lists.lock; cvs = slice_set lists.cvs k ws }
+
+-- how often a seat stands in the lists
+abbrev pub times : {C : Type 0} → ℕ → Lists C → ℕ
+times seat lists = times_in seat lists.lock + sum_by (times_in seat) lists.cvs
+
+-- the lists without a seat
+abbrev pub without : {C : Type 0} → ℕ → Lists C → Lists C
+without seat lists = record { lock = without_in seat lists.lock; cvs = map (without_in seat) lists.cvs }
+
+-- there are four variables, no seat stands in the lists twice, and each that does is below 64
+pub record IsOrderly {C : Type 0} (lists : Lists C) : Type 0 where
+  pub four : length lists.cvs ≡ 4
+  pub once : (seat : ℕ) → times seat lists ≤ 1
+  pub below : (seat : ℕ) → 64 ≤ seat → times seat lists ≡ 0

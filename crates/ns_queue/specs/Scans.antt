@@ -1,0 +1,74 @@
+-- The scan of the lock list: whom a release wakes, who stays, and how many conditions it has to test.
+use Rattle.std.specs.Prelude.{ℕ, Bool, true, false, not, ◌&&◌, List, [], ◌∷◌, ◌++◌, map, filter, count_by, if◌then◌else◌, Option, None, Some, is_some}
+use Rattle.std.specs.List.{list_any}
+use Rattle.ns_queue.specs.declared.waiter.Waiter.{Waiter}
+use Rattle.ns_queue.specs.Waiters.{reads, writes}
+
+-- no condition, or one that is true
+abbrev pub is_met : {C : Type 0} → (C → Bool) → Option C → Bool
+is_met meets None = true
+is_met meets (Some c) = meets c
+
+abbrev pub is_eligible : {C : Type 0} → (C → Bool) → Waiter C → Bool
+is_eligible meets w = is_met meets w.cond
+
+-- The first eligible waiter is taken; if it reads, so is every later eligible reader.
+abbrev pub woken_of : {C : Type 0} → (C → Bool) → List (Waiter C) → List (Waiter C)
+woken_of meets [] = []
+woken_of meets (w ∷ ws) =
+    if is_eligible meets w then w ∷ (if writes w then [] else filter (λ v. reads v && is_eligible meets v) ws)
+    else woken_of meets ws
+
+-- The others stay, in order.
+abbrev pub left_of : {C : Type 0} → (C → Bool) → List (Waiter C) → List (Waiter C)
+left_of meets [] = []
+left_of meets (w ∷ ws) =
+    if is_eligible meets w then (if writes w then ws else filter (λ v. not (reads v && is_eligible meets v)) ws)
+    else w ∷ left_of meets ws
+
+-- a waiter, and whether its truth is needed
+pub record Asked (C : Type 0) : Type 0 where
+  pub waiter : Waiter C
+  pub is_needed : Bool
+
+-- Needed is the truth of each waiter up to the first that is taken, and if that one reads, of each later reader.
+abbrev pub asked_of : {C : Type 0} → (C → Bool) → List (Waiter C) → List (Asked C)
+asked_of meets [] = []
+asked_of meets (w ∷ ws) =
+    record { waiter = w; is_needed = true } ∷
+    (if is_eligible meets w then map (λ v. record { waiter = v; is_needed = reads w && reads v }) ws
+    else asked_of meets ws)
+
+-- a waiter whose condition is declared the same as another's
+abbrev pub is_alike : {C : Type 0} → (C → C → Bool) → Option C → Option C → Bool
+is_alike same (Some next) (Some first) = same next first
+is_alike same _ _ = false
+
+-- whether a run goes on with a waiter: its condition is the same as that of the run's first
+abbrev pub goes_on : {A C : Type 0} → (C → C → Bool) → (A → Option C) → List A → A → Bool
+goes_on same cond [] x = false
+goes_on same cond (first ∷ run) x = is_alike same (cond x) (cond first)
+
+-- a run starts at a waiter with a condition
+abbrev pub started : {A C : Type 0} → (A → Option C) → A → List A
+started cond x = if is_some (cond x) then x ∷ [] else []
+
+-- a run that ends, if there is one
+abbrev pub ended : {A : Type 0} → List A → List (List A)
+ended [] = []
+ended (first ∷ run) = (first ∷ run) ∷ []
+
+-- the runs of a list, after a run that is not yet at its end
+abbrev pub runs_after : {A C : Type 0} → (C → C → Bool) → (A → Option C) → List A → List A → List (List A)
+runs_after same cond run [] = ended run
+runs_after same cond run (x ∷ xs) =
+    if goes_on same cond run x then runs_after same cond (run ++ x ∷ []) xs
+    else ended run ++ runs_after same cond (started cond x) xs
+
+-- the runs of a list: neighbours whose conditions are the same as that of the run's first
+abbrev pub runs_of : {A C : Type 0} → (C → C → Bool) → (A → Option C) → List A → List (List A)
+runs_of same cond xs = runs_after same cond [] xs
+
+-- how many conditions a scan tests: one for each run with a waiter whose truth is needed
+abbrev pub tests_of : {C : Type 0} → (C → C → Bool) → (C → Bool) → List (Waiter C) → ℕ
+tests_of same meets ws = count_by (λ run. list_any (λ a. a.is_needed) run) (runs_of same (λ a. a.waiter.cond) (asked_of meets ws))

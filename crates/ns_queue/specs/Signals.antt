@@ -1,0 +1,19 @@
+-- Whom a signal takes from the list of a condition variable, and who stays.
+use Rattle.std.specs.Prelude.{List, [], ◌∷◌, filter, drop, if◌then◌else◌}
+use Rattle.ns_queue.specs.declared.waiter.Waiter.{Waiter}
+use Rattle.ns_queue.specs.Waiters.{reads, writes}
+
+-- every reader, and the first writer
+abbrev pub readers_and_a_writer : {C : Type 0} → List (Waiter C) → List (Waiter C)
+readers_and_a_writer [] = []
+readers_and_a_writer (w ∷ ws) = w ∷ (if writes w then filter reads ws else readers_and_a_writer ws)
+
+-- The first waiter is taken; if it reads, so are every other reader and the first writer.
+abbrev pub signaled_of : {C : Type 0} → List (Waiter C) → List (Waiter C)
+signaled_of [] = []
+signaled_of (w ∷ ws) = w ∷ (if writes w then [] else readers_and_a_writer ws)
+
+-- The others stay: all of them, or every writer but the first.
+abbrev pub unsignaled_of : {C : Type 0} → List (Waiter C) → List (Waiter C)
+unsignaled_of [] = []
+unsignaled_of (w ∷ ws) = if writes w then ws else drop 1 (filter writes ws)

@@ -1,0 +1,32 @@
+-- Waiters, one by one and in a list.
+use Rattle.std.specs.Prelude.{ℕ, ◌==◌, Bool, not, List, map, count_by, filter, is_some}
+use Rattle.ns_model.specs.Phases.{is_write}
+use Rattle.ns_queue.specs.declared.waiter.Waiter.{Waiter}
+use Rattle.ns_queue.specs.declared.waiter.Shown.{Shown}
+
+-- the form in which a waiter is shown
+abbrev pub shown_of : {C : Type 0} → Waiter C → Shown
+shown_of w = record { seat = w.seat; mode = w.mode; conditional = is_some w.cond }
+
+abbrev pub writes : {C : Type 0} → Waiter C → Bool
+writes w = is_write w.mode
+
+abbrev pub reads : {C : Type 0} → Waiter C → Bool
+reads w = not (is_write w.mode)
+
+abbrev pub has_condition : {C : Type 0} → Waiter C → Bool
+has_condition w = is_some w.cond
+
+abbrev pub is_of : {C : Type 0} → ℕ → Waiter C → Bool
+is_of seat w = w.seat == seat
+
+abbrev pub seats_of : {C : Type 0} → List (Waiter C) → List ℕ
+seats_of ws = map (λ w. w.seat) ws
+
+-- how often a seat stands in a list
+abbrev pub times_in : {C : Type 0} → ℕ → List (Waiter C) → ℕ
+times_in seat ws = count_by (is_of seat) ws
+
+-- a list without a seat
+abbrev pub without_in : {C : Type 0} → ℕ → List (Waiter C) → List (Waiter C)
+without_in seat ws = filter (λ w. not (is_of seat w)) ws

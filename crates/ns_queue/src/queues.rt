@@ -1,0 +1,223 @@
+//! The lists, and what changes one waiter.
+
+ghost use Rattle.std.specs.Prelude.{◌≡◌, ◌<◌, ◌↔◌, ◌&&◌, not, [], ◌∷◌, ◌++◌, length, map, replicate, sum_by, take, IsTrue};
+ghost use Rattle.std.specs.Bool.{OnFalse, OnTrue};
+ghost use Rattle.std.specs.List.{list_any};
+ghost use Rattle.ns_queue.specs.Queues.{IsList, IsOrderly, times, waiters_of, with_waiters, without};
+ghost use Rattle.ns_queue.specs.Waiters.{has_condition, times_in, without_in, writes};
+
+use crate::room::Queueable;
+use crate::waiter::{Waiter, Which};
+use arrayvec::ArrayVec;
+use std::marker::Model;
+
+/// The waiter lists of a lock. To its callers this is [`Lists`](specs): the lock's list and four more.
+#[derive(Drop)]
+pub struct Queues<C, const N: usize> {
+    pub(crate) lock: ArrayVec<Waiter<C>, 64>,
+    pub(crate) cvs: [ArrayVec<Waiter<C>, 64>; 4],
+}
+
+impl<C, const N: usize> Model for Queues<C, N> {
+    ghost use Rattle.std.specs.Prelude.{map};
+    ghost use Rattle.ns_queue.specs.Queues.{Lists, IsOrderly};
+
+    ghost Value = { Lists C };
+
+    ghost view = { λ q. record { lock = q.lock.items; cvs = map (λ v. v.items) q.cvs } };
+
+    ghost invariant = { λ q. IsOrderly (record { lock = q.lock.items; cvs = map (λ v. v.items) q.cvs }) };
+}
+
+impl<C: Queueable<N>, const N: usize> Queues<C, N> {
+    /// Empty lists.
+    pub fn new() -> Queues<C, N>
+        ensures { result ≡ record { lock = []; cvs = replicate 4 [] } }
+    {
+        Queues {
+            lock: ArrayVec::new(),
+            cvs: [
+                ArrayVec::new(),
+                ArrayVec::new(),
+                ArrayVec::new(),
+                ArrayVec::new(),
+            ],
+        }
+    }
+
+    /// The waiters of a list, front first.
+    ///
+    /// Needs a list that there is: a variable's number below 4.
+    pub fn waiters(&self, list: Which) -> ArrayVec<Waiter<C>, 64>
+        requires { IsList list }
+        ensures { result.items ≡ waiters_of self.now list }
+    {
+        match list {
+            Which::Lock => copied(&self.lock),
+            Which::Cv(k) => copied(&self.cvs[k as usize]),
+        }
+    }
+
+    /// Whether the seat stands in a list.
+    pub fn holds(&self, seat: u8) -> bool
+        ensures stands { IsTrue result ↔ (0 < times seat self.now) }
+        ensures nowhere { OnFalse result (times seat self.now ≡ 0) }
+        ensures orderly { IsOrderly self.now }
+    {
+        stands_in(self.lock.as_slice(), seat) || stands_in_any(&self.cvs, seat)
+    }
+
+    /// Puts a waiter at the back of a list; the others stay as they are.
+    ///
+    /// Needs a list that there is, and a seat below 64 that stands in no list, which
+    /// [`Queues::holds`] tells.
+    pub fn push_back(&mut self, list: Which, waiter: Waiter<C>)
+        requires list { IsList list }
+        requires below { waiter.seat < 64 }
+        requires free { times waiter.seat self.old ≡ 0 }
+        ensures { self.new ≡ with_waiters self.old list (waiters_of self.old list ++ waiter ∷ []) }
+    {
+        match list {
+            Which::Lock => self.lock.push(waiter),
+            Which::Cv(k) => {
+                let queue = &mut self.cvs[k as usize];
+                queue.push(waiter)
+            }
+        }
+    }
+
+    /// Puts a waiter at the front of the lock list; the others stay as they are.
+    ///
+    /// Needs a seat below 64 that stands in no list, which [`Queues::holds`] tells.
+    pub fn push_front(&mut self, waiter: Waiter<C>)
+        requires below { waiter.seat < 64 }
+        requires free { times waiter.seat self.old ≡ 0 }
+        ensures { self.new ≡ with_waiters self.old Which.Lock (waiter ∷ self.old.lock) }
+    {
+        self.lock.insert(0, waiter);
+    }
+
+    /// Takes the seat out of the list that it stands in, and answers whether it stood in one. The
+    /// others stay as they are.
+    pub fn remove(&mut self, seat: u8) -> bool
+        ensures stood { IsTrue result ↔ (0 < times seat self.old) }
+        ensures removed { OnTrue result (self.new ≡ without seat self.old) }
+        ensures absent { OnFalse result (self.new ≡ self.old) }
+    {
+        if !self.holds(seat) {
+            return false;
+        }
+        drop_seat(&mut self.lock, seat);
+        drop_from_all(&mut self.cvs, seat);
+        true
+    }
+
+    /// What the lock list holds: whether somebody waits, whether somebody waits for a condition, and
+    /// whether a writer waits without one.
+    pub fn bits(&self) -> (bool, bool, bool)
+        ensures waiting { IsTrue result.0 ↔ (0 < length self.now.lock) }
+        ensures conditional { result.1 ≡ list_any has_condition self.now.lock }
+        ensures writer_waits { result.2 ≡ list_any (λ w. writes w && not (has_condition w)) self.now.lock }
+    {
+        let waiters = self.lock.as_slice();
+        (
+            !waiters.is_empty(),
+            some_conditional(waiters),
+            some_plain_writer(waiters),
+        )
+    }
+}
+
+/// Whether a waiter of the list has a condition.
+fn some_conditional<C: Queueable<N>, const N: usize>(waiters: &[Waiter<C>]) -> bool
+    ensures { result ≡ list_any has_condition waiters.now }
+{
+    for waiter in waiters {
+        if waiter.cond.is_some() {
+            return true;
+        }
+    }
+    false
+}
+
+/// Whether a writer of the list has no condition.
+fn some_plain_writer<C: Queueable<N>, const N: usize>(waiters: &[Waiter<C>]) -> bool
+    ensures { result ≡ list_any (λ w. writes w && not (has_condition w)) waiters.now }
+{
+    for waiter in waiters {
+        if waiter.mode.is_write() && waiter.cond.is_none() {
+            return true;
+        }
+    }
+    false
+}
+
+/// Takes the seat out of the list.
+fn drop_seat<C: Queueable<N>, const N: usize>(waiters: &mut ArrayVec<Waiter<C>, 64>, seat: u8)
+    ensures { waiters.new.items ≡ without_in seat waiters.old.items }
+{
+    let kept = keep_others(waiters.as_mut_slice(), seat);
+    waiters.truncate(kept);
+}
+
+/// Moves those of other seats to the front, in order, and counts them.
+fn keep_others<C: Queueable<N>, const N: usize>(waiters: &mut [Waiter<C>], seat: u8) -> usize
+    ensures { take result waiters.new ≡ without_in seat waiters.old }
+{
+    let mut kept = 0;
+    for i in 0..waiters.len() {
+        let waiter = waiters[i];
+        if waiter.seat != seat {
+            waiters[kept] = waiter;
+            kept += 1;
+        }
+    }
+    kept
+}
+
+/// Takes the seat out of each of the lists.
+fn drop_from_all<C: Queueable<N>, const N: usize>(lists: &mut [ArrayVec<Waiter<C>, 64>], seat: u8)
+    ensures { map (λ v. v.items) lists.new ≡ map (without_in seat) (map (λ v. v.items) lists.old) }
+{
+    for list in lists.iter_mut() {
+        drop_seat(list, seat);
+    }
+}
+
+/// The same list once more.
+pub(crate) fn copied<C: Queueable<N>, const N: usize>(
+    waiters: &ArrayVec<Waiter<C>, 64>,
+) -> ArrayVec<Waiter<C>, 64>
+    ensures { result.items ≡ waiters.now.items }
+{
+    let mut copy = ArrayVec::new();
+    let _ = copy.try_extend_from_slice(waiters.as_slice());
+    copy
+}
+
+/// Whether the seat stands in the list.
+fn stands_in<C: Queueable<N>, const N: usize>(waiters: &[Waiter<C>], seat: u8) -> bool
+    ensures { IsTrue result ↔ (0 < times_in seat waiters.now) }
+{
+    for waiter in waiters {
+        if waiter.seat == seat {
+            return true;
+        }
+    }
+    false
+}
+
+/// Whether the seat stands in one of the lists.
+fn stands_in_any<C: Queueable<N>, const N: usize>(
+    lists: &[ArrayVec<Waiter<C>, 64>; 4],
+    seat: u8,
+) -> bool
+    ensures { IsTrue result ↔ (0 < sum_by (times_in seat) (map (λ v. v.items) lists.now)) }
+{
+    for list in lists {
+        if stands_in(list.as_slice(), seat) {
+            return true;
+        }
+    }
+    false
+}

@@ -1,0 +1,106 @@
+//! Whom a signal and a broadcast take from the list of a condition variable.
+
+ghost use Rattle.std.specs.Prelude.{◌≡◌, ◌≤◌, ◌<◌, [], length};
+ghost use Rattle.ns_queue.specs.Marks.{is_wanted, signal_marks, wanted_after};
+ghost use Rattle.ns_queue.specs.Queues.{waiters_of, with_waiters};
+ghost use Rattle.ns_queue.specs.Signals.{signaled_of, unsignaled_of};
+ghost use Rattle.ns_queue.specs.declared.signal.Wanted.TheVariants.{Anybody};
+
+use crate::marks::{drop_marked, marked};
+use crate::queues::{Queues, copied};
+use crate::room::Queueable;
+use crate::waiter::{Waiter, Which};
+use arrayvec::ArrayVec;
+
+/// Whom a signal still takes.
+#[derive(Clone, Copy)]
+pub(crate) enum Wanted {
+    Anybody,
+    ReadersAndWriter,
+    Readers,
+    Nobody,
+}
+
+impl Wanted {
+    ghost use Rattle.std.specs.Prelude.{◌≡◌};
+
+    fn after<C: Queueable<N>, const N: usize>(self, waiter: &Waiter<C>) -> Wanted
+        ensures { result ≡ wanted_after self waiter.now }
+    {
+        match self {
+            Wanted::Anybody if waiter.mode.is_write() => Wanted::Nobody,
+            Wanted::ReadersAndWriter if waiter.mode.is_write() => Wanted::Readers,
+            Wanted::Anybody => Wanted::ReadersAndWriter,
+            other => other,
+        }
+    }
+
+    fn takes<C: Queueable<N>, const N: usize>(self, waiter: &Waiter<C>) -> bool
+        ensures { result ≡ is_wanted self waiter.now }
+    {
+        match self {
+            Wanted::Anybody => true,
+            Wanted::ReadersAndWriter => true,
+            Wanted::Readers => !waiter.mode.is_write(),
+            Wanted::Nobody => false,
+        }
+    }
+}
+
+/// A mark for each waiter that a signal takes.
+fn marks_of<C: Queueable<N>, const N: usize>(waiters: &[Waiter<C>]) -> ArrayVec<bool, 64>
+    requires { length waiters.now ≤ 64 }
+    ensures { result.items ≡ signal_marks Anybody waiters.now }
+{
+    let mut wanted = Wanted::Anybody;
+    let mut marks = ArrayVec::new();
+    for waiter in waiters {
+        marks.push(wanted.takes(waiter));
+        wanted = wanted.after(waiter);
+    }
+    marks
+}
+
+/// Takes those out of the list whom a signal wakes.
+fn signal_list<C: Queueable<N>, const N: usize>(
+    waiters: &mut ArrayVec<Waiter<C>, 64>,
+) -> ArrayVec<Waiter<C>, 64>
+    ensures taken { result.items ≡ signaled_of waiters.old.items }
+    ensures left { waiters.new.items ≡ unsignaled_of waiters.old.items }
+{
+    let marks = marks_of(waiters.as_slice());
+    let taken = marked(waiters.as_slice(), marks.as_slice());
+    drop_marked(waiters, marks.as_slice());
+    taken
+}
+
+impl<C: Queueable<N>, const N: usize> Queues<C, N> {
+    /// Takes those out of the list of the variable whom a signal wakes, and answers them in order:
+    /// the first waiter, and if that one reads, every other reader and the first writer too. Of an
+    /// empty list it takes nobody. The others stay, in order, and so do the other lists.
+    ///
+    /// Needs a number below 4.
+    pub fn take_signal(&mut self, k: u8) -> ArrayVec<Waiter<C>, 64>
+        requires { k < 4 }
+        ensures taken { result.items ≡ signaled_of (waiters_of self.old (Which.Cv k)) }
+        ensures left { self.new ≡ with_waiters self.old (Which.Cv k) (unsignaled_of (waiters_of self.old (Which.Cv k))) }
+    {
+        let queue = &mut self.cvs[k as usize];
+        signal_list(queue)
+    }
+
+    /// Takes everybody out of the list of the variable, and answers them in order. The other lists
+    /// stay as they are.
+    ///
+    /// Needs a number below 4.
+    pub fn take_all(&mut self, k: u8) -> ArrayVec<Waiter<C>, 64>
+        requires { k < 4 }
+        ensures taken { result.items ≡ waiters_of self.old (Which.Cv k) }
+        ensures left { self.new ≡ with_waiters self.old (Which.Cv k) [] }
+    {
+        let queue = &mut self.cvs[k as usize];
+        let taken = copied(queue);
+        queue.clear();
+        taken
+    }
+}

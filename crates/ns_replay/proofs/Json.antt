@@ -1,0 +1,48 @@
+-- What serde_json reads, as the definitions of a script see it.
+use Rattle.std.proofs.Common.{◌≡◌, ℕ, ◌<◌, ◌≤◌, Bool, true, false, cond, ◌&&◌, List, [], ◌∷◌, length, map, Option, Some, None, Ok, Err, refl, ap, arith}
+use Rattle.std.specs.Prelude.{IsUtf8, string_bytes, String, nat_le}
+use Rattle.std.specs.declared.alloc.Global.{Global}
+use Rattle.std.specs.List.{list_all}
+use Rattle.std.specs.Str.{is_utf8}
+use Rattle.std.proofs.lemmas.Str.{is_utf8-from_IsUtf8, IsUtf8-from_is_utf8}
+use Rattle.std.proofs.lemmas.Bool.Decides.{nat_tests}
+use Rattle.serde_json.specs.Data.{Data}
+use Rattle.serde_json.specs.declared.value.Value.{Value}
+use Rattle.serde_json.specs.Find.{as_array}
+use Rattle.serde_json.specs.Read.{read}
+use Rattle.serde_json.specs.View.{items_of, members_view}
+use Rattle.ns_replay.specs.declared.place.Place.{Place}
+use Rattle.ns_replay.specs.declared.fault.Fault.TheVariants.{NotJson, TooMany}
+use Rattle.ns_replay.specs.Script.{json_of, json_read, list_of, list_in, is_known, are_known}
+
+pub json_ok : (bytes : List ℕ) (d : Data) → IsUtf8 bytes → read bytes ≡ Some d → json_of bytes ≡ Ok d
+unfolding json_of
+json_ok bytes d u e = rw (is_utf8-from_IsUtf8 bytes u, e) refl
+
+either : (b : Bool) (r : Option Data) → (b ≡ true → r ≡ None) → cond b (json_read r) (Err NotJson) ≡ Err NotJson
+either true r h = rw (h refl) refl
+either false r h = refl
+
+pub json_err : (bytes : List ℕ) → (IsUtf8 bytes → read bytes ≡ None) → json_of bytes ≡ Err NotJson
+unfolding json_of
+json_err bytes h = either (is_utf8 bytes) (read bytes) (λ e. h (IsUtf8-from_is_utf8 bytes e))
+
+list_of-items_of : (ds : List Data) → list_of (items_of ds) ≡ ds
+list_of-items_of [] = refl
+list_of-items_of (d ∷ ds) = ap (λ (xs : List Data). d ∷ xs) (list_of-items_of ds)
+
+pub list_few : (limit : ℕ) (p : Place) (d : Data) (ds : List Data) → Some (items_of ds) ≡ as_array d → length ds ≤ limit → list_in limit p (Some d) ≡ Ok ds
+unfolding list_in
+list_few limit p d ds e le =
+    let few : nat_le (length ds) limit ≡ true = grind (arith, nat_tests) in
+    rw (← e, list_of-items_of ds, few) refl
+
+pub list_many : (limit : ℕ) (p : Place) (d : Data) (ds : List Data) → Some (items_of ds) ≡ as_array d → limit < length ds → list_in limit p (Some d) ≡ Err (TooMany p)
+unfolding list_in
+list_many limit p d ds e lt =
+    let many : nat_le (length ds) limit ≡ false = grind (arith, nat_tests) in
+    rw (← e, list_of-items_of ds, many) refl
+
+pub are_known_entries : (es : List (String Global × Value)) → are_known (members_view es) ≡ list_all (λ name. is_known (string_bytes name)) (map (λ e. e.0) es)
+are_known_entries [] = refl
+are_known_entries (e ∷ es) = ap (λ (b : Bool). is_known (string_bytes e.0) && b) (are_known_entries es)

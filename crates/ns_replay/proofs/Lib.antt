@@ -1,0 +1,7 @@
+pub mod Json
+pub mod Loop
+pub mod Numbers
+pub mod Outcomes
+pub mod Plans
+pub mod Runs
+pub mod Texts

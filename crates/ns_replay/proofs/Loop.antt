@@ -1,0 +1,8 @@
+-- What a loop has read, and what it still reads.
+use Rattle.std.proofs.Common.{List, ◌++◌, Result, Ok}
+use Rattle.ns_replay.specs.declared.fault.Fault.{Fault}
+use Rattle.ns_replay.specs.Faults.{◌>>=◌}
+
+-- what was read before, and what is still read
+abbrev pub with_front : {B : Type 0} → List B → Result (List B) Fault → Result (List B) Fault
+with_front front read = read >>= λ ys. Ok (front ++ ys)

@@ -1,0 +1,86 @@
+-- What a fault leaves.
+use Rattle.std.proofs.Common.{◌≡◌, ℕ, ◌<◌, ◌≤◌, true, false, List, inl, length, Option, Ok, Err, refl, arith}
+use Rattle.std.specs.Prelude.{nat_lt}
+use Rattle.std.proofs.KnownBytes.{Keeps-refl}
+use Rattle.std.proofs.lemmas.Bool.Decides.{nat_tests}
+use Rattle.ns_replay.specs.declared.options.Options.{Options}
+use Rattle.ns_replay.specs.declared.place.Place.TheVariants as at
+use Rattle.ns_replay.specs.declared.fault.Fault.{Fault}
+use Rattle.ns_replay.specs.declared.fault.Fault.TheVariants.{OutOfMemory, NotJson, BadScript, TooMany, StepLimit, Read, Write}
+use Rattle.ns_replay.specs.Faults.{Fails}
+use Rattle.ns_replay.specs.Script.{Plan, script_of}
+use Rattle.ns_replay.specs.Transfer.{Gave, Collects, max_bytes}
+use Rattle.ns_replay.specs.Replaying.{IsRunFault, plan_from, IsRefused, WasRead, Answers}
+
+-- ---- bytes that are not too many
+
+plan_few : (bytes : List ℕ) → length bytes ≤ max_bytes → plan_from bytes ≡ script_of bytes
+unfolding plan_from
+plan_few bytes few =
+    let fits : nat_lt max_bytes (length bytes) ≡ false = grind (arith, nat_tests) in
+    rw fits refl
+
+pub plan_read : (bytes : List ℕ) (plan : Plan) → length bytes ≤ max_bytes → script_of bytes ≡ Ok plan → plan_from bytes ≡ Ok plan
+plan_read bytes plan few read = rw (plan_few bytes few) read
+
+pub script_refused : (limit : ℕ) (bytes : List ℕ) (fault : Fault) → length bytes ≤ max_bytes → Fails fault (script_of bytes) → IsRefused limit bytes fault
+script_refused limit bytes OutOfMemory few h = tt
+script_refused limit bytes StepLimit few h = absurd h
+script_refused limit bytes Read few h = absurd h
+script_refused limit bytes Write few h = absurd h
+script_refused limit bytes NotJson few h = rw (plan_few bytes few) h
+script_refused limit bytes (BadScript place) few h = rw (plan_few bytes few) h
+script_refused limit bytes (TooMany place) few h = rw (plan_few bytes few) h
+
+pub run_refused : (limit : ℕ) (bytes : List ℕ) (plan : Plan) (fault : Fault) → plan_from bytes ≡ Ok plan → IsRunFault limit plan fault → IsRefused limit bytes fault
+run_refused limit bytes plan OutOfMemory read h = tt
+run_refused limit bytes plan StepLimit read h = record { plan = plan; read = read; needs = h }
+run_refused limit bytes plan Read read h = absurd h
+run_refused limit bytes plan Write read h = absurd h
+run_refused limit bytes plan NotJson read h = absurd h
+run_refused limit bytes plan (BadScript place) read h = absurd h
+run_refused limit bytes plan (TooMany place) read h = absurd h
+
+-- ---- bytes that are too many
+
+too_many : (bytes : List ℕ) → max_bytes < length bytes → plan_from bytes ≡ Err (TooMany at.Root)
+unfolding plan_from
+too_many bytes lt =
+    let many : nat_lt max_bytes (length bytes) ≡ true = grind (arith, nat_tests) in
+    rw many refl
+
+not_collected : (taken left : Option (List ℕ)) (options : Options) (bytes : List ℕ) (fault : Fault) → Collects bytes left (Err fault) → Answers taken taken options bytes (Err fault)
+not_collected taken left options bytes OutOfMemory h = (tt, Keeps-refl taken)
+not_collected taken left options bytes Read h = Keeps-refl taken
+not_collected taken left options bytes (TooMany at.Root) h = (too_many bytes h.0, Keeps-refl taken)
+not_collected taken left options bytes (TooMany at.Version) h = absurd h
+not_collected taken left options bytes (TooMany at.Threads) h = absurd h
+not_collected taken left options bytes (TooMany (at.Thread t)) h = absurd h
+not_collected taken left options bytes (TooMany (at.Call t c)) h = absurd h
+not_collected taken left options bytes (TooMany at.Schedule) h = absurd h
+not_collected taken left options bytes (TooMany (at.Word i)) h = absurd h
+not_collected taken left options bytes NotJson h = absurd h
+not_collected taken left options bytes (BadScript place) h = absurd h
+not_collected taken left options bytes StepLimit h = absurd h
+not_collected taken left options bytes Write h = absurd h
+
+-- ---- what was read
+
+-- all of it, or as much as shows that it is too much
+read_part : (bytes : List ℕ) (left : Option (List ℕ)) (fault : Fault) → Collects bytes left (Err fault) → WasRead bytes left (Err fault)
+read_part bytes left OutOfMemory h = tt
+read_part bytes left Read h = tt
+read_part bytes left (TooMany at.Root) h = (inl h.0, h.1)
+read_part bytes left (TooMany at.Version) h = absurd h
+read_part bytes left (TooMany at.Threads) h = absurd h
+read_part bytes left (TooMany (at.Thread t)) h = absurd h
+read_part bytes left (TooMany (at.Call t c)) h = absurd h
+read_part bytes left (TooMany at.Schedule) h = absurd h
+read_part bytes left (TooMany (at.Word i)) h = absurd h
+read_part bytes left NotJson h = absurd h
+read_part bytes left (BadScript place) h = absurd h
+read_part bytes left StepLimit h = absurd h
+read_part bytes left Write h = absurd h
+
+pub unread : (old new taken : Option (List ℕ)) (options : Options) (fault : Fault) → Gave old new (λ bytes. Collects bytes new (Err fault)) → Gave old new (λ bytes. WasRead bytes new (Err fault) × Answers taken taken options bytes (Err fault))
+unread old new taken options fault (bytes, consumed, h) = (bytes, consumed, (read_part bytes new fault h, not_collected taken new options bytes fault h))

@@ -1,0 +1,126 @@
+-- Runs of scripts that were read: what they need, and why they fail.
+use Rattle.std.proofs.Common.{◌≡◌, ℕ, ◌<◌, ◌≤◌, ◌⊎◌, inl, inr, Bool, true, false, cond, List, [], ◌∷◌, length, replicate, map, Option, Some, None, refl, sym, ap, ◌∙◌, subst, arith}
+use Rattle.std.specs.Prelude.{◌==◌, All}
+use Rattle.std.specs.List.{AllByRecursion}
+use Rattle.std.specs.Global.{Vec}
+use Rattle.std.proofs.lemmas.List.{length-set, length-map}
+use Rattle.std.proofs.lemmas.List.Elements.{All-nil, All-append, All-replicate, All-from_recursion, recursion_from_All}
+use Rattle.ns_world.specs.declared.call.Call.{Call}
+use Rattle.ns_world.specs.declared.schedule.Turn.{Turn}
+use Rattle.ns_world.specs.declared.step.Step.{Step}
+use Rattle.ns_world.specs.declared.step.Step.TheVariants.{Went, Finished, Nothing}
+use Rattle.ns_world.specs.declared.fault.Fault.{Fault as WorldFault}
+use Rattle.ns_world.specs.declared.fault.Fault.TheVariants as world
+use Rattle.ns_world.specs.World.{Now, StepOf, fresh, is_busy}
+use Rattle.ns_world.specs.Runs.{Progress, Leads, TurnOf, TurnsOf, Turned, Item, items_of, rest_of, is_end, progressed, start, StopsFor, RunFault, ListFits}
+use Rattle.ns_world.proofs.Starts.{length_seats}
+use Rattle.ns_world.proofs.Busy.{idle_from}
+use Rattle.ns_replay.specs.declared.condition.ScriptCondition.{ScriptCondition}
+use Rattle.ns_replay.specs.Faults.{fault_of_world}
+use Rattle.ns_replay.specs.declared.script.Script.{Script}
+use Rattle.ns_replay.specs.Script.{Plan, plan_of}
+use Rattle.ns_replay.specs.Runnable.{IsShort, IsRunnable}
+use Rattle.ns_replay.specs.Replaying.{world_for, IsRunFault}
+
+-- ---- a run keeps the number of seats
+
+module _ {C : Type 0} {N : ℕ} where
+  abbrev pub seats_of : Now C N → ℕ
+  seats_of now = length now.state.views
+
+  step_keeps : (old new : Now C N) (seat : ℕ) (step : Step) → StepOf old new seat step → seats_of new ≡ seats_of old
+  step_keeps old new seat Went h = rw h.others (length-set _ _ _)
+  step_keeps old new seat (Finished reply) h = rw h.others (length-set _ _ _)
+  step_keeps old new seat Nothing h = rw h.0 refl
+
+  leads_keeps : (lists : List (List Call)) (p : Progress C N) (seat : ℕ) (now : Now C N) → Leads lists p seat now → seats_of now ≡ seats_of p.world
+  leads_keeps lists p seat now (inl (busy, e)) = rw e refl
+  leads_keeps lists p seat now (inr (call, next, starts)) = rw starts.begins (length-set _ _ _)
+
+  progressed_world : (p : Progress C N) (seat : ℕ) (step : Step) (now : Now C N) → (progressed p seat step now).world ≡ now
+  progressed_world p seat Went now = refl
+  progressed_world p seat (Finished reply) now = refl
+  progressed_world p seat Nothing now = refl
+
+  turn_keeps : (lists : List (List Call)) (p : Progress C N) (seat : ℕ) (step : Step) (q : Progress C N) → TurnOf lists p seat step q → seats_of q.world ≡ seats_of p.world
+  turn_keeps lists p seat step q (inl m) =
+      ap (λ (r : Progress C N). seats_of r.world) m.after ∙ ap seats_of (progressed_world p seat step m.world) ∙ step_keeps m.begun m.world seat step m.steps ∙ leads_keeps lists p seat m.begun m.leads
+  turn_keeps lists p seat step q (inr (inl m)) = ap (λ (r : Progress C N). seats_of r.world) m.after
+  turn_keeps lists p seat step q (inr (inr r)) = ap (λ (r : Progress C N). seats_of r.world) r.after
+
+  turns_keep : (lists : List (List Call)) (p : Progress C N) (turns : List Turned) (q : Progress C N) → TurnsOf lists p turns q → seats_of q.world ≡ seats_of p.world
+  turns_keep lists p [] q e = ap (λ (r : Progress C N). seats_of r.world) e
+  turns_keep lists p (turned ∷ turns) q (r, first, more) = turns_keep lists r turns q more ∙ turn_keeps lists p turned.seat turned.step r first
+
+-- ---- the items that are left are the schedule's
+
+rest_by : (a b : Bool) (x y : Option (List Item)) (left : List Item) → cond a (cond b x y) None ≡ Some left → (x ≡ Some left) ⊎ (y ≡ Some left)
+rest_by true true x y left e = inl e
+rest_by true false x y left e = inr e
+rest_by false b x y left e = absurd cc
+
+rest_each : (P : Item → Type 0) (items : List Item) (turns : List Turned) (left : List Item) → rest_of items turns ≡ Some left → AllByRecursion P items → AllByRecursion P left
+rest_each P items [] left e h = let same : items ≡ left = cc in subst (AllByRecursion P) same h
+rest_each P [] (turned ∷ turns) left e h = absurd cc
+rest_each P (item ∷ items) (turned ∷ turns) left e h =
+    elim (rest_by (turned.seat == item.seat) (is_end item.whole turned.step) (rest_of items turns) (rest_of (item ∷ items) turns) left e) [
+      | inl x ↦ rest_each P items turns left x h.1
+      | inr y ↦ rest_each P (item ∷ items) turns left y h
+    ]
+
+items_in : (seats : ℕ) (turns : List Turn) → AllByRecursion (λ turn. turn.thread < seats) turns → All (λ item. item.seat < seats) (items_of turns)
+items_in seats [] h = All-nil _
+items_in seats (turn ∷ turns) h =
+    All-append (λ item. item.seat < seats) (replicate turn.times (record { seat = turn.thread; whole = turn.whole })) (items_of turns) (All-replicate (λ item. item.seat < seats) turn.times _ h.0) (items_in seats turns h.1)
+
+-- ---- why a run fails
+
+no_seat : {C : Type 0} {N : ℕ} (limit : ℕ) (now : Now C N) (made seats : ℕ) (left : List Item) → length now.state.views ≡ seats → AllByRecursion (λ item. item.seat < seats) left → StopsFor limit now made left world.NoSuchSeat → ⊥
+no_seat limit now made seats [] same each h = h
+no_seat limit now made seats (item ∷ left) same each h = absurd (omega (arith, same, each.0, h))
+
+no_room : {C : Type 0} {N : ℕ} (limit : ℕ) (now : Now C N) (made : ℕ) (left : List Item) → StopsFor limit now made left world.TooManySeats → ⊥
+no_room limit now made [] h = h
+no_room limit now made (item ∷ left) h = h
+
+seat_there : (limit : ℕ) (plan : Plan) (now : Now ScriptCondition 8) → IsRunnable plan → RunFault plan.threads plan.schedule limit (world_for plan) now world.NoSuchSeat → ⊥
+seat_there limit plan now runnable stops =
+    let first : length (world_for plan).state.views ≡ length plan.threads = length_seats ScriptCondition 8 0 (length plan.threads) in
+    let kept = turns_keep plan.threads (start (world_for plan)) stops.advances.turns stops.end stops.advances.made in
+    let same : length now.state.views ≡ length plan.threads = ap (λ (w : Now ScriptCondition 8). length w.state.views) (sym stops.here) ∙ kept ∙ first in
+    let items = items_in (length plan.threads) plan.schedule (recursion_from_All _ _ runnable.in_range) in
+    no_seat limit now stops.after (length plan.threads) stops.left same (rest_each _ (items_of plan.schedule) stops.advances.turns stops.left stops.advances.rest (recursion_from_All _ _ items)) stops.why
+
+-- A run of a script that was read fails by want of memory, or by the limit.
+pub run_fails : (limit : ℕ) (plan : Plan) (now : Now ScriptCondition 8) (fault : WorldFault) → IsRunnable plan → RunFault plan.threads plan.schedule limit (world_for plan) now fault → IsRunFault limit plan (fault_of_world fault)
+run_fails limit plan now world.OutOfMemory runnable stops = tt
+run_fails limit plan now world.StepLimit runnable stops = (now, stops)
+run_fails limit plan now world.NoSuchSeat runnable stops = absurd (seat_there limit plan now runnable stops)
+run_fails limit plan now world.TooManySeats runnable stops = absurd (no_room limit now stops.after stops.left stops.why)
+
+-- the same, as a run over the lists of a script gives it
+pub script_fails : (limit : ℕ) (script : Script) (old now : Now ScriptCondition 8) (fault : WorldFault) → IsRunnable (plan_of script) → old ≡ world_for (plan_of script) →
+    RunFault (map (λ calls. calls.items) script.threads.items) script.schedule.items limit old now fault → IsRunFault limit (plan_of script) (fault_of_world fault)
+script_fails limit script old now fault runnable first stops = run_fails limit (plan_of script) now fault runnable (rw first at stops)
+
+-- ---- what a run needs
+
+lists_by : (lists : List (Vec Call)) → AllByRecursion IsShort (map (λ calls. calls.items) lists) → AllByRecursion (λ calls. ListFits 8 calls.items) lists
+lists_by [] h = tt
+lists_by (calls ∷ lists) h = ((h.0.few, h.0.cells), lists_by lists h.1)
+
+pub few_threads : (script : Script) → IsRunnable (plan_of script) → length script.threads.items ≤ 64
+few_threads script runnable =
+    let same : length (map (λ (calls : Vec Call). calls.items) script.threads.items) ≡ length script.threads.items = length-map script.threads.items (λ calls. calls.items) in
+    rw (← same) runnable.few
+
+pub world_is : (script : Script) (n : ℕ) (now : Now ScriptCondition 8) → n ≡ length script.threads.items → now ≡ fresh n → now ≡ world_for (plan_of script)
+world_is script n now count first =
+    let same : length (map (λ (calls : Vec Call). calls.items) script.threads.items) ≡ length script.threads.items = length-map script.threads.items (λ calls. calls.items) in
+    first ∙ ap (λ (m : ℕ). fresh m) (count ∙ sym same)
+
+pub idle_world : (n seat : ℕ) (now : Now ScriptCondition 8) → now ≡ fresh n → is_busy now.state.views seat ≡ false
+idle_world n seat now first = rw first (idle_from ScriptCondition 8 0 n seat)
+
+pub lists_fit : (lists : List (Vec Call)) → All IsShort (map (λ calls. calls.items) lists) → All (λ calls. ListFits 8 calls.items) lists
+lists_fit lists h = All-from_recursion _ lists (lists_by lists (recursion_from_All _ _ h))

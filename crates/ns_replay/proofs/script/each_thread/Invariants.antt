@@ -1,0 +1,9 @@
+use Rattle.std.proofs.Common.{◌≡◌, map, drop}
+use Rattle.serde_json.specs.View.{view}
+use Rattle.ns_replay.specs.Faults.{each_from}
+use Rattle.ns_replay.specs.Script.{calls_at}
+use Rattle.ns_replay.proofs.Loop.{with_front}
+use Rattle.ns_replay.proofs.script.each_thread.Given as goal
+
+abbrev pub invariant-loop-thread : goal.invariant-loop-thread
+invariant-loop-thread l = with_front (map (λ w. w.items) l.threads.items) (each_from calls_at l.thread (map view (drop l.thread l.values))) ≡ each_from calls_at 0 (map view l.values)

@@ -1,0 +1,11 @@
+use Rattle.std.proofs.Common.{map, arith}
+use Rattle.std.proofs.lemmas.List.{length-map}
+use Rattle.serde_json.specs.View.{view}
+use Rattle.ns_replay.proofs.Json.{list_few, list_many}
+use Rattle.ns_replay.proofs.script.list.Goals as goal
+
+pub returns-then-len-limit : goal.returns-then-len-limit
+returns-then-len-limit c = rw c.in-Some.is (list_many c.args.limit c.args.place (view c.in-Some.value.now) (map view c.in-Some-as_array.list.now.items) c.in-Some-as_array.ensures (rw length-map (omega arith)))
+
+pub returns : goal.returns
+returns c = rw (c.as_slice.ensures.value, c.in-Some.is) (list_few c.args.limit c.args.place (view c.in-Some.value.now) (map view c.in-Some-as_array.list.now.items) c.in-Some-as_array.ensures (rw length-map (omega arith)))

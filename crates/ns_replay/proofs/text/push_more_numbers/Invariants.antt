@@ -1,0 +1,7 @@
+use Rattle.std.proofs.Common.{◌≡◌, ◌++◌, take, string_bytes}
+use Rattle.std.specs.Prelude.{flat_map}
+use Rattle.ns_replay.specs.Text.{after_comma}
+use Rattle.ns_replay.proofs.text.push_more_numbers.Given as goal
+
+abbrev pub invariant-loop-number : goal.invariant-loop-number
+invariant-loop-number l = string_bytes l.out ≡ string_bytes l.fn.out ++ flat_map after_comma (take l.number-index l.numbers)

@@ -1,0 +1,10 @@
+pub mod Condition
+pub mod ConditionLaws
+pub mod Faults
+pub mod Replaying
+pub mod Runnable
+pub mod Script
+pub mod Streams
+pub mod Text
+pub mod Transfer
+pub mod Words

@@ -1,0 +1,79 @@
+-- What a replay answers and writes.
+use Rattle.std.specs.Prelude.{◌≡◌, ℕ, ◌+◌, ◌<◌, ◌≤◌, ◌⊎◌, ⊤, List, ◌++◌, length, nat_lt, if◌then◌else◌, Option, Result, Ok, Err}
+use Rattle.std.specs.Io.KnownBytes.{Appends, IsAtEnd, Keeps}
+use Rattle.ns_world.specs.declared.fault.Fault.TheVariants.{StepLimit as NeedsMoreTurns}
+use Rattle.ns_world.specs.declared.schedule.Line.{Line}
+use Rattle.ns_world.specs.World.{Now, fresh}
+use Rattle.ns_world.specs.Runs.{Runs, RunFault}
+use Rattle.ns_replay.specs.declared.condition.ScriptCondition.{ScriptCondition}
+use Rattle.ns_replay.specs.declared.options.Options.{Options}
+use Rattle.ns_replay.specs.declared.place.Place.TheVariants as at
+use Rattle.ns_replay.specs.declared.fault.Fault.{Fault}
+use Rattle.ns_replay.specs.declared.fault.Fault.TheVariants.{OutOfMemory, TooMany, StepLimit, Read, Write}
+use Rattle.ns_replay.specs.Script.{Plan, script_of}
+use Rattle.ns_replay.specs.Text.{text_of}
+use Rattle.ns_replay.specs.Transfer.{max_bytes, max_piece}
+
+-- ---- a run
+
+-- before the run of a script: a free lock, and a seat for each thread
+abbrev pub world_for : Plan → Now ScriptCondition 8
+world_for plan = fresh (length plan.threads)
+
+-- A run of the script in at most so many turns ends in this world, and gives these lines.
+abbrev pub RunsTo : ℕ → Plan → Now ScriptCondition 8 → List Line → Type 0
+RunsTo limit plan world lines = Runs plan.threads plan.schedule limit (world_for plan) world lines
+
+-- A run of the script has made as many turns as it may, and its schedule needs one more.
+abbrev pub NeedsMore : ℕ → Plan → Type 0
+NeedsMore limit plan = (world : Now ScriptCondition 8) × RunFault plan.threads plan.schedule limit (world_for plan) world NeedsMoreTurns
+
+-- a run fails by want of memory, or by the limit
+abbrev pub IsRunFault : ℕ → Plan → Fault → Type 0
+IsRunFault limit plan OutOfMemory = Unit {0}
+IsRunFault limit plan StepLimit = NeedsMore limit plan
+IsRunFault limit plan fault = ⊥
+
+-- ---- an answer
+
+-- the script that bytes give, or their first refusal
+unfoldable pub plan_from : List ℕ → Result Plan Fault
+plan_from bytes = if nat_lt max_bytes (length bytes) then Err (TooMany at.Root) else script_of bytes
+
+-- The text is that of a run of the script that the bytes give.
+pub record IsText (options : Options) (bytes text : List ℕ) : Type 0 where
+  pub plan : Plan
+  pub read : plan_from bytes ≡ Ok plan
+  pub world : Now ScriptCondition 8
+  pub lines : List Line
+  pub runs : RunsTo options.limit plan world lines
+  pub is : text ≡ text_of options plan.threads lines world
+
+-- the bytes give a script, and its schedule needs more turns than the limit
+pub record IsPastLimit (limit : ℕ) (bytes : List ℕ) : Type 0 where
+  pub plan : Plan
+  pub read : plan_from bytes ≡ Ok plan
+  pub needs : NeedsMore limit plan
+
+-- Why the bytes give no text: want of memory, or the limit, or their first refusal. No stream is at fault.
+abbrev pub IsRefused : ℕ → List ℕ → Fault → Type 0
+IsRefused limit bytes OutOfMemory = Unit {0}
+IsRefused limit bytes StepLimit = IsPastLimit limit bytes
+IsRefused limit bytes Read = ⊥
+IsRefused limit bytes Write = ⊥
+IsRefused limit bytes fault = plan_from bytes ≡ Err fault
+
+-- What was read: the source to its end, but where memory was refused or a read failed, or as much as shows that it is too much.
+abbrev pub WasRead : List ℕ → Option (List ℕ) → Result ⊤ Fault → Type 0
+WasRead bytes left (Ok _) = IsAtEnd left
+WasRead bytes left (Err OutOfMemory) = Unit {0}
+WasRead bytes left (Err Read) = Unit {0}
+WasRead bytes left (Err (TooMany at.Root)) = ((max_bytes < length bytes) ⊎ IsAtEnd left) × (length bytes ≤ max_bytes + max_piece)
+WasRead bytes left (Err fault) = IsAtEnd left
+
+-- What was written: the whole text after Ok, a front of it after a failed write, and else nothing.
+abbrev pub Answers : Option (List ℕ) → Option (List ℕ) → Options → List ℕ → Result ⊤ Fault → Type 0
+Answers old new options bytes (Ok _) = (text : List ℕ) × IsText options bytes text × Appends old new text
+Answers old new options bytes (Err Write) = (front : List ℕ) × (rest : List ℕ) × IsText options bytes (front ++ rest) × (0 < length rest) × Appends old new front
+Answers old new options bytes (Err Read) = Keeps old new
+Answers old new options bytes (Err fault) = IsRefused options.limit bytes fault × Keeps old new

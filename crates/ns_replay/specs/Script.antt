@@ -1,0 +1,101 @@
+-- The script that bytes give, or their first refusal.
+use Rattle.std.specs.Prelude.{ℕ, ◌==◌, ◌&&◌, ◌||◌, List, [], ◌∷◌, length, map, Bool, true, codes, bytes_eq, nat_le, if◌then◌else◌, Option, Some, None, option_map, option_and_then, Result, Ok, Err}
+use Rattle.std.specs.Str.{is_utf8}
+use Rattle.serde_json.specs.Data.{Data, Items, no_items, item, Members, no_members, member}
+use Rattle.serde_json.specs.Find.{get, as_number, as_u64, as_str, as_array, as_object}
+use Rattle.serde_json.specs.Read.{read}
+use Rattle.ns_world.specs.declared.call.Call.{Call}
+use Rattle.ns_world.specs.declared.schedule.Turn.{Turn}
+use Rattle.ns_replay.specs.declared.script.Script.{Script}
+use Rattle.ns_replay.specs.declared.place.Place.{Place}
+use Rattle.ns_replay.specs.declared.place.Place.TheVariants as at
+use Rattle.ns_replay.specs.declared.fault.Fault.{Fault}
+use Rattle.ns_replay.specs.declared.fault.Fault.TheVariants.{NotJson, BadScript, TooMany}
+use Rattle.ns_replay.specs.Faults.{◌>>=◌, need, each_from}
+use Rattle.ns_replay.specs.Words.{parts, call_of, turn_of}
+
+-- what to run: the calls of each thread, and whose turn it is
+pub record Plan : Type 0 where
+  pub threads : List (List Call)
+  pub schedule : List Turn
+
+abbrev pub plan_of : Script → Plan
+plan_of script = record { threads = map (λ v. v.items) script.threads.items; schedule = script.schedule.items }
+
+abbrev pub list_of : Items → List Data
+list_of no_items = []
+list_of (item d ds) = d ∷ list_of ds
+
+abbrev pub at_most : {A : Type 0} → ℕ → Place → List A → Result (List A) Fault
+at_most limit place xs = if nat_le (length xs) limit then Ok xs else Err (TooMany place)
+
+-- a list of at most so many values
+unfoldable pub list_in : ℕ → Place → Option Data → Result (List Data) Fault
+list_in limit place d = need place (option_map list_of (option_and_then as_array d)) >>= at_most limit place
+
+-- a call: a text of words parted by one space
+unfoldable pub call_at : ℕ → ℕ → Data → Result Call Fault
+call_at thread number d = do
+  text ← need (at.Call thread number) (as_str d)
+  need (at.Call thread number) (call_of (parts 32 text))
+
+-- a thread: at most 256 calls
+unfoldable pub calls_at : ℕ → Data → Result (List Call) Fault
+calls_at thread d = do
+  list ← list_in 256 (at.Thread thread) (Some d)
+  each_from (call_at thread) 0 list
+
+-- `threads`: at most 64 of them
+unfoldable pub threads_of : Data → Result (List (List Call)) Fault
+threads_of d = do
+  list ← list_in 64 at.Threads (get (codes "threads") d)
+  each_from calls_at 0 list
+
+-- words parted by one space; the empty text has none
+abbrev pub words_of : List ℕ → List (List ℕ)
+words_of text = if length text == 0 then [] else parts 32 text
+
+unfoldable pub turn_at : ℕ → ℕ → List ℕ → Result Turn Fault
+turn_at threads number word = need (at.Word number) (turn_of threads (parts 42 word))
+
+-- `schedule`: a text of at most 4096 words
+unfoldable pub schedule_of : ℕ → Data → Result (List Turn) Fault
+schedule_of threads d = do
+  text ← need at.Schedule (option_and_then as_str (get (codes "schedule") d))
+  words ← at_most 4096 at.Schedule (words_of text)
+  each_from (turn_at threads) 0 words
+
+abbrev pub is_known : List ℕ → Bool
+is_known name = bytes_eq name (codes "version") || bytes_eq name (codes "threads") || bytes_eq name (codes "schedule")
+
+abbrev pub are_known : Members → Bool
+are_known no_members = true
+are_known (member name d ms) = is_known name && are_known ms
+
+-- an object with no other member
+unfoldable pub members_of : Data → Result Members Fault
+members_of d = need at.Root (as_object d) >>= λ ms. if are_known ms then Ok ms else Err (BadScript at.Root)
+
+-- `version`: the number 1
+unfoldable pub version_of : Data → Result ℕ Fault
+version_of d = need at.Version (option_and_then (λ n. if n == 1 then Some n else None) (option_and_then as_u64 (option_and_then as_number (get (codes "version") d))))
+
+-- the members in order
+unfoldable pub plan_in : Data → Result Plan Fault
+plan_in d = do
+  members ← members_of d
+  version ← version_of d
+  threads ← threads_of d
+  schedule ← schedule_of (length threads) d
+  Ok (record { threads = threads; schedule = schedule })
+
+abbrev pub json_read : Option Data → Result Data Fault
+json_read None = Err NotJson
+json_read (Some d) = Ok d
+
+unfoldable pub json_of : List ℕ → Result Data Fault
+json_of bytes = if is_utf8 bytes then json_read (read bytes) else Err NotJson
+
+-- The script that bytes give, or their first refusal.
+unfoldable pub script_of : List ℕ → Result Plan Fault
+script_of bytes = json_of bytes >>= plan_in

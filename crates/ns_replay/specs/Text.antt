@@ -1,0 +1,179 @@
+-- The text of a run, by its parts.
+use Rattle.std.specs.Prelude.{ℕ, List, [], ◌∷◌, ◌++◌, Bool, true, false, ◌&&◌, ◌==◌, if◌then◌else◌, Option, Some, None, option_and_then, codes, decimal, flat_map, filter, count_by, slice_get, length}
+use Rattle.std.specs.List.{range_with_len}
+use Rattle.ns_model.specs.declared.event.Mode.{Mode}
+use Rattle.ns_model.specs.declared.event.Mode.TheVariants as mode
+use Rattle.ns_model.specs.declared.event.Answer.{Answer}
+use Rattle.ns_model.specs.declared.event.Answer.TheVariants.{Met, TimedOut, Canceled}
+use Rattle.ns_model.specs.declared.event.Entry.{Entry}
+use Rattle.ns_model.specs.declared.event.Entry.TheVariants.{Plain, Waited, AfterCv}
+use Rattle.ns_model.specs.declared.event.Exit.{Exit}
+use Rattle.ns_model.specs.declared.event.Exit.TheVariants.{Plain as Released, CondWait, CvWait}
+use Rattle.ns_model.specs.declared.event.Event.{Event}
+use Rattle.ns_model.specs.declared.event.Event.TheVariants.{Section, Signal, Broadcast, Leave}
+use Rattle.ns_model.specs.declared.seats.Seats.{Seats}
+use Rattle.ns_model.specs.Seats.{is_in}
+use Rattle.ns_word.specs.declared.walk.Reply.{Reply}
+use Rattle.ns_word.specs.declared.walk.Reply.TheVariants.{Ok as Went, Busy, Number, Misuse}
+use Rattle.ns_world.specs.declared.call.Call.{Call}
+use Rattle.ns_world.specs.declared.call.Call.TheVariants.{TryLock, Unlock, Get, Set}
+use Rattle.ns_world.specs.declared.schedule.Line.{Line}
+use Rattle.ns_replay.specs.declared.condition.ScriptCondition.{ScriptCondition}
+use Rattle.ns_world.specs.World.{Now, is_busy}
+use Rattle.ns_replay.specs.Condition.{condition_text}
+use Rattle.ns_replay.specs.declared.options.Options.{Options}
+
+-- ---- finished calls
+
+abbrev pub reply_text : Reply → List ℕ
+reply_text Went = codes "ok"
+reply_text Busy = codes "busy"
+reply_text (Number n) = decimal n
+reply_text Misuse = codes "misuse"
+
+abbrev pub is_ok : Reply → Bool
+is_ok Went = true
+is_ok Busy = false
+is_ok (Number n) = false
+is_ok Misuse = false
+
+abbrev pub is_unlock : Option Call → Bool
+is_unlock None = false
+is_unlock (Some TryLock) = false
+is_unlock (Some Unlock) = true
+is_unlock (Some (Get i)) = false
+is_unlock (Some (Set i v)) = false
+
+-- the call that the line is the end of releases
+abbrev pub is_release : List (List Call) → Line → Bool
+is_release threads line = is_unlock (option_and_then (λ calls. slice_get calls line.call) (slice_get threads line.thread))
+
+-- ` tests K` after the `ok` of a release, where that is asked for
+abbrev pub tests_text : Bool → List (List Call) → Line → List ℕ
+tests_text asked threads line = if asked && is_ok line.reply && is_release threads line then codes " tests " ++ decimal line.tests else []
+
+-- `T C ANSWER`
+abbrev pub line_text : Bool → List (List Call) → Line → List ℕ
+line_text tests threads line = decimal line.thread ++ codes " " ++ decimal line.call ++ codes " " ++ reply_text line.reply ++ tests_text tests threads line ++ codes "\n"
+
+abbrev pub lines_text : Bool → List (List Call) → List Line → List ℕ
+lines_text tests threads lines = flat_map (line_text tests threads) lines
+
+-- ---- calls in progress
+
+-- how many calls of the thread are finished
+abbrev pub finished_calls : List Line → ℕ → ℕ
+finished_calls lines thread = count_by (λ line. line.thread == thread) lines
+
+-- `T C left`, if the thread's call is in progress
+abbrev pub left_text : (ℕ → Bool) → List Line → ℕ → List ℕ
+left_text is_busy lines thread = if is_busy thread then decimal thread ++ codes " " ++ decimal (finished_calls lines thread) ++ codes " left\n" else []
+
+abbrev pub lefts_text : (ℕ → Bool) → List Line → ℕ → List ℕ
+lefts_text is_busy lines threads = flat_map (left_text is_busy lines) (range_with_len 0 threads)
+
+-- ---- cells
+
+abbrev pub cell_text : ℕ → List ℕ
+cell_text cell = codes " " ++ decimal cell
+
+-- `row`, and the cells
+abbrev pub row_text : List ℕ → List ℕ
+row_text row = codes "row" ++ flat_map cell_text row ++ codes "\n"
+
+-- ---- events
+
+abbrev pub after_comma : ℕ → List ℕ
+after_comma number = codes "," ++ decimal number
+
+-- numbers with commas
+abbrev pub numbers_text : List ℕ → List ℕ
+numbers_text [] = []
+numbers_text (n ∷ ns) = decimal n ++ flat_map after_comma ns
+
+abbrev pub mode_text : Mode → List ℕ
+mode_text mode.Write = codes "w"
+mode_text mode.Read = codes "r"
+
+abbrev pub answer_text : Answer → List ℕ
+answer_text Met = codes "0"
+answer_text TimedOut = codes "ETIMEDOUT"
+answer_text Canceled = codes "ECANCELED"
+
+abbrev pub entry_text : Entry ScriptCondition → List ℕ
+entry_text Plain = codes "plain"
+entry_text (Waited condition answer) = codes "waited:" ++ condition_text condition ++ codes ":" ++ answer_text answer
+entry_text (AfterCv k answer) = codes "aftercv:" ++ decimal k ++ codes ":" ++ answer_text answer
+
+abbrev pub exit_text : Exit ScriptCondition → List ℕ
+exit_text Released = codes "plain"
+exit_text (CondWait condition) = codes "cond:" ++ condition_text condition
+exit_text (CvWait k) = codes "cv:" ++ decimal k
+
+-- a seat of a set, after a comma if it is not the first
+abbrev pub seat_text : Bool → Bool → ℕ → List ℕ
+seat_text after is_in seat = if is_in then (if after then codes "," else []) ++ decimal seat else []
+
+-- numbers with commas, or a dash for none
+abbrev pub some_numbers_text : List ℕ → List ℕ
+some_numbers_text [] = codes "-"
+some_numbers_text (n ∷ ns) = numbers_text (n ∷ ns)
+
+-- the seats of a set below n, ascending
+unfoldable pub seats_below : ℕ → Seats → List ℕ
+seats_below n seats = filter (is_in seats) (range_with_len 0 n)
+
+abbrev pub seats_text : Seats → List ℕ
+seats_text seats = some_numbers_text (seats_below 64 seats)
+
+-- a section without its rows
+abbrev pub section_text : ℕ → Mode → Entry ScriptCondition → Exit ScriptCondition → List ℕ
+section_text who mode entry exit = codes "section " ++ decimal who ++ codes " " ++ mode_text mode ++ codes " " ++ entry_text entry ++ codes " " ++ exit_text exit
+
+abbrev pub rows_text : List ℕ → List ℕ → List ℕ
+rows_text before after = codes " " ++ numbers_text before ++ codes " " ++ numbers_text after
+
+-- an event, without the end of its line
+abbrev pub event_words : Event ScriptCondition 8 → List ℕ
+event_words (Section who mode entry before after exit) = section_text who mode entry exit ++ rows_text before after
+event_words (Signal who k woken) = codes "signal " ++ decimal who ++ codes " " ++ decimal k ++ codes " " ++ seats_text woken
+event_words (Broadcast who k woken) = codes "broadcast " ++ decimal who ++ codes " " ++ decimal k ++ codes " " ++ seats_text woken
+event_words (Leave who k) = codes "leave " ++ decimal who ++ codes " " ++ decimal k
+
+abbrev pub event_text : Event ScriptCondition 8 → List ℕ
+event_text event = event_words event ++ codes "\n"
+
+abbrev pub events_text : List (Event ScriptCondition 8) → List ℕ
+events_text events = flat_map event_text events
+
+-- where that is asked for
+abbrev pub history_text : Bool → List (Event ScriptCondition 8) → List ℕ
+history_text asked events = if asked then events_text events else []
+
+-- ---- the lock
+
+abbrev pub write_text : Bool → List ℕ
+write_text write = if write then codes " write" else []
+
+-- the lock word, by which nobody reads
+abbrev pub word_text : Bool → List ℕ
+word_text write = codes "word" ++ write_text write ++ codes " readers=0\n"
+
+-- the lock word, and the queue, in which nobody waits
+abbrev pub lock_text : Bool → List ℕ
+lock_text write = word_text write ++ codes "queue\n"
+
+-- where that is asked for
+abbrev pub state_text : Bool → Bool → List ℕ
+state_text asked write = if asked then lock_text write else []
+
+-- ---- a run
+
+-- The text of a run with these calls: the lines that it finished, and what its world is after it.
+unfoldable pub text_of : Options → List (List Call) → List Line → Now ScriptCondition 8 → List ℕ
+text_of options threads lines world =
+    lines_text options.tests threads lines
+    ++ lefts_text (is_busy world.state.views) lines (length threads)
+    ++ row_text world.state.row
+    ++ history_text options.history world.history
+    ++ state_text options.state world.state.word.write

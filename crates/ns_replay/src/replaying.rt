@@ -1,0 +1,63 @@
+//! A replay, from bytes to bytes.
+//!
+//! The source is read to its end, the script is read and run, and only then is anything
+//! written. Nothing else here takes memory.
+
+ghost use Rattle.std.specs.Prelude.{◌≡◌, ◌≢◌, ◌⊎◌, ◌≤◌, length, IfOk, IfErr, IsErrOf, true, false, string_bytes};
+ghost use Rattle.ns_replay.specs.Transfer.{Gave, IsReadFault};
+ghost use Rattle.ns_replay.specs.Replaying.{IsText, IsRefused, WasRead, Answers};
+
+use crate::fault::Fault;
+use crate::options::Options;
+use crate::running::{run_script, run_text};
+use crate::script::read_script;
+use crate::streams::{Sink, Source};
+use crate::transfer::{collect_bytes, write_all};
+use std::alloc::Global;
+
+/// The text of a run of the script that the bytes give.
+fn text_for(alloc: Global, bytes: &[u8], options: Options) -> Result<String, Fault>
+    requires { length bytes.now ≤ 1048576 }
+    ensures ok { IfOk result (λ text. IsText options bytes.now (string_bytes text)) }
+    ensures err { IfErr result (λ fault. IsRefused options.limit bytes.now fault) }
+{
+    let script = read_script(alloc, bytes)?;
+    let run = run_script(alloc, &script, options.limit)?;
+    Ok(run_text(alloc, &script, &run, options)?)
+}
+
+/// Reads a script to its end, runs it in a new world, and then writes the text of the run.
+///
+/// Returns `Ok` when the whole text was taken. Refuses, in this order: a source that failed or
+/// did not end in 2,097,152 reads (`Read`); more than 1 MiB, as soon as it has come (`TooMany`);
+/// bytes that are no JSON (`NotJson`); the first place of the script that is missing or of the
+/// wrong kind (`BadScript`) or that holds too much (`TooMany`), member by member; a schedule that
+/// needs more turns than `options.limit` (`StepLimit`); and a sink that failed or took no byte
+/// (`Write`). An allocation that is refused is answered at once (`OutOfMemory`). After `Write`
+/// the sink has a front of the text, and after any other fault nothing was written.
+///
+/// Needs a source and a sink that have not failed. What it says of bytes it says of streams
+/// that know theirs.
+pub fn replay<S: Source, W: Sink>(
+    alloc: Global,
+    source: &mut S,
+    sink: &mut W,
+    options: Options,
+) -> Result<(), Fault>
+    requires source { S.has_failed source.old ≡ false }
+    requires sink { W.has_failed sink.old ≡ false }
+    // What was read gives what was answered and written, and nothing else was.
+    ensures answers { Gave (S.to_come source.old) (S.to_come source.new) (λ bytes.
+        WasRead bytes (S.to_come source.new) result × Answers (W.taken sink.old) (W.taken sink.new) options bytes result) }
+    // Nothing is written before the whole run is made.
+    ensures untouched { IfErr result (λ fault. fault ≢ Fault.Write → sink.new ≡ sink.old) }
+    ensures read_fault { IsErrOf result Fault.Read → IsReadFault (S.has_failed source.new) (S.asked source.old) (S.asked source.new) }
+    // A read or a write that failed is answered, and not tried again.
+    ensures failed_read { S.has_failed source.new ≡ true → IsErrOf result Fault.Read }
+    ensures failed_write { W.has_failed sink.new ≡ true → IsErrOf result Fault.Write }
+    ensures write_fault { IsErrOf result Fault.Write → (W.has_failed sink.new ≡ true) ⊎ (W.is_stuck sink.new ≡ true) }
+{
+    let bytes = collect_bytes(alloc, source)?;
+    let text = text_for(alloc, &bytes, options)?;
+    write_all(sink, text.as_bytes())
+}

@@ -1,0 +1,56 @@
+//! The run of a script in a new world, and its text.
+
+ghost use Rattle.std.specs.Prelude.{◌≡◌, ◌≤◌, map, length, string_bytes, IfOk, IfErr};
+ghost use Rattle.ns_replay.specs.Script.{plan_of};
+ghost use Rattle.ns_replay.specs.Runnable.{IsRunnable};
+ghost use Rattle.ns_replay.specs.Replaying.{RunsTo, IsRunFault};
+ghost use Rattle.ns_replay.specs.Text.{text_of};
+
+use crate::condition::ScriptCondition;
+use crate::fault::Fault;
+use crate::options::Options;
+use crate::script::Script;
+use crate::text::{push_history, push_lefts, push_lines, push_row, push_state};
+use ns_world::schedule::Line;
+use ns_world::world::World;
+use std::alloc::{AllocError, Global};
+
+/// A run: its world after it, and the lines of the calls that it finished.
+#[derive(Drop)]
+pub struct Run {
+    pub world: World<ScriptCondition, 8>,
+    pub lines: Vec<Line>,
+}
+
+/// Runs a script in a new world, which has a seat for each thread.
+pub fn run_script(alloc: Global, script: &Script, limit: u32) -> Result<Run, Fault>
+    requires { IsRunnable (plan_of script.now) }
+    ensures ok { IfOk result (λ run. RunsTo limit (plan_of script.now) run.world run.lines.items) }
+    ensures err { IfErr result (λ fault. IsRunFault limit (plan_of script.now) fault) }
+{
+    let mut world = World::new(alloc, script.threads.len(), &[], 0)?;
+    let lines = world.run(alloc, &script.threads, &script.schedule, limit)?;
+    Ok(Run { world, lines })
+}
+
+/// The text of a run of a script.
+#[tactic(auto, unfolding(crate::specs::Text::text_of))]
+pub fn run_text(
+    alloc: Global,
+    script: &Script,
+    run: &Run,
+    options: Options,
+) -> Result<String, AllocError>
+    requires { length script.now.threads.items ≤ 64 }
+    ensures { IfOk result (λ text. string_bytes text ≡ text_of options (plan_of script.now).threads run.now.lines.items run.now.world) }
+{
+    let state = run.world.state();
+    let threads = script.threads.as_slice();
+    let mut out = String::new(alloc);
+    push_lines(&mut out, options.tests, threads, &run.lines)?;
+    push_lefts(&mut out, state.busy, &run.lines, threads.len() as u8)?;
+    push_row(&mut out, &state.row)?;
+    push_history(&mut out, options.history, run.world.history())?;
+    push_state(&mut out, options.state, state.write)?;
+    Ok(out)
+}

@@ -1,0 +1,222 @@
+//! Scripts, read from JSON.
+//!
+//! A script is an object with the members `version`, `threads` and `schedule`, checked in this
+//! order; each member for its kind, then for its size, then element by element in the same way.
+//! `specs/Script.antt` says the same by cases, with a definition for each function here.
+
+ghost use Rattle.std.specs.Prelude.{◌≡◌, ◌≤◌, map, length, option_map, IfOk, string_bytes, vec_len};
+ghost use Rattle.std.specs.List.{list_all};
+ghost use Rattle.std.specs.BTreeMap.{keys};
+ghost use Rattle.serde_json.specs.View.{view, members_view};
+ghost use Rattle.ns_replay.specs.Faults.{Gives, each_from};
+ghost use Rattle.ns_replay.specs.Script.{is_known, list_in, call_at, calls_at, threads_of, words_of, turn_at, schedule_of, members_of, version_of, plan_in, plan_of, json_of, script_of};
+
+use crate::calls;
+use crate::fault::Fault;
+use crate::place::Place;
+use crate::words::parts_at;
+use ns_world::call::Call;
+use ns_world::schedule::Turn;
+use serde_json::{Map, Value};
+use std::alloc::{AllocError, Global};
+
+/// What to run: the calls of each thread, and whose turn it is.
+#[derive(Drop)]
+pub struct Script {
+    pub threads: Vec<Vec<Call>>,
+    pub schedule: Vec<Turn>,
+}
+
+/// The list that stands at the place, of at most so many values.
+#[tactic(auto, unfolding(crate::specs::Script::list_in))]
+fn list<'a>(value: Option<&'a Value>, place: Place, limit: usize) -> Result<&'a [Value], Fault>
+    ensures { Gives (λ x. map view x.now) result (list_in limit place (option_map (λ v. view v.now) value.entry)) }
+{
+    let Some(value) = value else {
+        return Err(Fault::BadScript(place));
+    };
+    let Some(list) = value.as_array() else {
+        return Err(Fault::BadScript(place));
+    };
+    if list.len() > limit {
+        return Err(Fault::TooMany(place));
+    }
+    Ok(list.as_slice())
+}
+
+/// A call.
+#[tactic(auto, unfolding(crate::specs::Script::call_at))]
+fn call_in(alloc: Global, value: &Value, thread: usize, number: usize) -> Result<Call, Fault>
+    ensures { Gives (λ c. c) result (call_at thread number (view value.now)) }
+{
+    let place = Place::Call(thread, number);
+    let Some(text) = value.as_str() else {
+        return Err(Fault::BadScript(place));
+    };
+    let words = parts_at(alloc, text, ' ')?;
+    match calls::call(&words) {
+        Some(call) => Ok(call),
+        None => Err(Fault::BadScript(place)),
+    }
+}
+
+/// The calls of a thread, one by one.
+fn each_call(alloc: Global, values: &[Value], thread: usize) -> Result<Vec<Call>, Fault>
+    ensures { Gives (λ v. v.items) result (each_from (call_at thread) 0 (map view values.now)) }
+{
+    let mut calls = Vec::new(alloc);
+    for (number, value) in values.iter().enumerate() {
+        let call = call_in(alloc, value, thread, number)?;
+        calls.push(call)?;
+    }
+    Ok(calls)
+}
+
+/// The calls of a thread.
+#[tactic(auto, unfolding(crate::specs::Script::calls_at))]
+fn calls(alloc: Global, value: &Value, thread: usize) -> Result<Vec<Call>, Fault>
+    ensures { Gives (λ v. v.items) result (calls_at thread (view value.now)) }
+{
+    let values = list(Some(value), Place::Thread(thread), 256)?;
+    each_call(alloc, values, thread)
+}
+
+/// The threads, one by one.
+fn each_thread(alloc: Global, values: &[Value]) -> Result<Vec<Vec<Call>>, Fault>
+    ensures { Gives (λ v. map (λ w. w.items) v.items) result (each_from calls_at 0 (map view values.now)) }
+{
+    let mut threads = Vec::new(alloc);
+    for (thread, value) in values.iter().enumerate() {
+        let calls = calls(alloc, value, thread)?;
+        threads.push(calls)?;
+    }
+    Ok(threads)
+}
+
+/// The threads of a script.
+#[tactic(auto, unfolding(crate::specs::Script::threads_of))]
+fn threads(alloc: Global, value: &Value) -> Result<Vec<Vec<Call>>, Fault>
+    ensures { Gives (λ v. map (λ w. w.items) v.items) result (threads_of (view value.now)) }
+{
+    let values = list(value.get("threads"), Place::Threads, 64)?;
+    each_thread(alloc, values)
+}
+
+/// The words of a schedule.
+fn schedule_words(alloc: Global, text: &str) -> Result<Vec<&str>, AllocError>
+    ensures { IfOk result (λ v. map (λ x. x.now) v.items ≡ words_of text.now) }
+{
+    if text.is_empty() {
+        return Ok(Vec::new(alloc));
+    }
+    parts_at(alloc, text, ' ')
+}
+
+/// A word of a schedule.
+#[tactic(auto, unfolding(crate::specs::Script::turn_at))]
+fn turn_in(alloc: Global, word: &str, threads: u8, number: usize) -> Result<Turn, Fault>
+    ensures { Gives (λ t. t) result (turn_at threads number word.now) }
+{
+    let parts = parts_at(alloc, word, '*')?;
+    match calls::turn(alloc, &parts, threads)? {
+        Some(turn) => Ok(turn),
+        None => Err(Fault::BadScript(Place::Word(number))),
+    }
+}
+
+/// The words of a schedule, one by one.
+fn each_turn(alloc: Global, words: &[&str], threads: u8) -> Result<Vec<Turn>, Fault>
+    ensures { Gives (λ v. v.items) result (each_from (turn_at threads) 0 (map (λ x. x.now) words.now)) }
+{
+    let mut turns = Vec::new(alloc);
+    for (number, word) in words.iter().enumerate() {
+        let turn = turn_in(alloc, word, threads, number)?;
+        turns.push(turn)?;
+    }
+    Ok(turns)
+}
+
+/// The schedule of a script with so many threads.
+#[tactic(auto, unfolding(crate::specs::Script::schedule_of))]
+fn schedule(alloc: Global, value: &Value, threads: u8) -> Result<Vec<Turn>, Fault>
+    ensures { Gives (λ v. v.items) result (schedule_of threads (view value.now)) }
+{
+    let Some(text) = value.get("schedule").and_then(Value::as_str) else {
+        return Err(Fault::BadScript(Place::Schedule));
+    };
+    let words = schedule_words(alloc, text)?;
+    if words.len() > 4096 {
+        return Err(Fault::TooMany(Place::Schedule));
+    }
+    each_turn(alloc, &words, threads)
+}
+
+fn known(name: &str) -> bool
+    ensures { result ≡ is_known name.now }
+{
+    name == "version" || name == "threads" || name == "schedule"
+}
+
+fn all_known(members: &Map<String, Value>) -> bool
+    ensures { result ≡ list_all (λ name. is_known (string_bytes name)) (keys members.now) }
+{
+    members.keys().all(|name| known(name.as_str()))
+}
+
+/// The members of a script, with no other among them.
+#[tactic(auto, using(crate::proofs::Json::are_known_entries), unfolding(crate::specs::Script::members_of))]
+fn members(value: &Value) -> Result<&Map<String, Value>, Fault>
+    ensures { Gives (λ m. members_view m.now.entries) result (members_of (view value.now)) }
+{
+    let Some(members) = value.as_object() else {
+        return Err(Fault::BadScript(Place::Root));
+    };
+    if !all_known(members) {
+        return Err(Fault::BadScript(Place::Root));
+    }
+    Ok(members)
+}
+
+/// The version of a script.
+#[tactic(auto, unfolding(crate::specs::Script::version_of))]
+fn version(value: &Value) -> Result<u64, Fault>
+    ensures { Gives (λ n. n) result (version_of (view value.now)) }
+{
+    match value.get("version").and_then(Value::as_u64) {
+        Some(1) => Ok(1),
+        _ => Err(Fault::BadScript(Place::Version)),
+    }
+}
+
+/// The script that a JSON value gives.
+#[tactic(auto, unfolding(crate::specs::Script::plan_in))]
+fn script_in(alloc: Global, value: &Value) -> Result<Script, Fault>
+    ensures { Gives plan_of result (plan_in (view value.now)) }
+{
+    let _ = members(value)?;
+    let _ = version(value)?;
+    let threads = threads(alloc, value)?;
+    let schedule = schedule(alloc, value, threads.len() as u8)?;
+    Ok(Script { threads, schedule })
+}
+
+/// The JSON value that bytes give.
+#[tactic(auto, unfolding(crate::specs::Script::json_of))]
+fn json(alloc: Global, bytes: &[u8]) -> Result<Value, Fault>
+    ensures { Gives view result (json_of bytes.now) }
+{
+    match Value::from_slice(alloc, bytes) {
+        Ok(value) => Ok(value),
+        Err(error) if error.is_memory() => Err(Fault::OutOfMemory),
+        Err(_) => Err(Fault::NotJson),
+    }
+}
+
+/// The script that the bytes give, or their first refusal.
+#[tactic(auto, unfolding(crate::specs::Script::script_of))]
+pub fn read_script(alloc: Global, bytes: &[u8]) -> Result<Script, Fault>
+    ensures { Gives plan_of result (script_of bytes.now) }
+{
+    let value = json(alloc, bytes)?;
+    script_in(alloc, &value)
+}

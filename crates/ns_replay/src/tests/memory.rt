@@ -1,0 +1,154 @@
+//! A source and a sink in memory, which fail when they are told to.
+
+ghost use Rattle.std.specs.Prelude.{◌≡◌, ◌≤◌, Some, None, false};
+
+use crate::streams::{Got, Sink, Source};
+
+/// Bytes in pieces of at most `piece`, up to a read that fails.
+#[derive(Drop)]
+pub struct Pieces<'a> {
+    pub bytes: &'a [u8],
+    pub piece: usize,
+    /// How many reads don't fail.
+    pub reads: usize,
+    pub has_failed: bool,
+    pub asked: u64,
+    ghost some_piece: { 1 ≤ piece },
+}
+
+impl<'a> Pieces<'a> {
+    pub fn new(bytes: &'a [u8], piece: usize, reads: usize) -> Self
+        requires { 1 ≤ piece }
+        ensures { result.has_failed ≡ false }
+    {
+        Pieces {
+            bytes,
+            piece,
+            reads,
+            has_failed: false,
+            asked: 0,
+        }
+    }
+}
+
+impl Source for Pieces<'_> {
+    ghost to_come = { λ s. Some s.bytes.now };
+
+    ghost has_failed = { λ s. s.has_failed };
+
+    ghost asked = { λ s. s.asked };
+
+    fn read(&mut self, buffer: &mut [u8]) -> Got {
+        self.asked = self.asked.wrapping_add(1);
+        if self.reads == 0 {
+            self.has_failed = true;
+            return Got::Failed;
+        }
+        self.reads -= 1;
+        let count = self.bytes.len().min(buffer.len()).min(self.piece);
+        buffer[..count].copy_from_slice(&self.bytes[..count]);
+        self.bytes = &self.bytes[count..];
+        Got::Bytes(count)
+    }
+
+    fn failed(&self) -> bool {
+        self.has_failed
+    }
+}
+
+/// Bytes with an interrupted read before each piece of one byte, or interrupted at each read.
+#[derive(Drop)]
+pub struct Interrupted<'a> {
+    pub bytes: &'a [u8],
+    pub is_next: bool,
+    pub always: bool,
+    pub asked: u64,
+}
+
+impl Source for Interrupted<'_> {
+    ghost to_come = { λ s. Some s.bytes.now };
+
+    ghost has_failed = { λ s. false };
+
+    ghost asked = { λ s. s.asked };
+
+    fn read(&mut self, buffer: &mut [u8]) -> Got {
+        self.asked = self.asked.wrapping_add(1);
+        if self.always || self.is_next {
+            self.is_next = false;
+            return Got::Interrupted;
+        }
+        self.is_next = true;
+        let count = self.bytes.len().min(buffer.len()).min(1);
+        buffer[..count].copy_from_slice(&self.bytes[..count]);
+        self.bytes = &self.bytes[count..];
+        Got::Bytes(count)
+    }
+
+    fn failed(&self) -> bool {
+        false
+    }
+}
+
+/// A sink that compares what it takes with the text that it expects, at most `room` bytes a
+/// write, up to a write that fails. It takes no memory.
+#[derive(Drop)]
+pub struct Expects<'a> {
+    pub rest: &'a [u8],
+    pub room: usize,
+    /// How many writes don't fail.
+    pub writes: usize,
+    /// Whether anything else was written.
+    pub is_wrong: bool,
+    pub has_failed: bool,
+    pub is_stuck: bool,
+}
+
+impl<'a> Expects<'a> {
+    pub fn new(rest: &'a [u8], room: usize, writes: usize) -> Self
+        ensures { result.has_failed ≡ false }
+    {
+        Expects {
+            rest,
+            room,
+            writes,
+            is_wrong: false,
+            has_failed: false,
+            is_stuck: false,
+        }
+    }
+
+    /// Whether all that was expected was written, and nothing else.
+    pub fn is_done(&self) -> bool {
+        self.rest.is_empty() && !self.is_wrong
+    }
+}
+
+impl Sink for Expects<'_> {
+    ghost taken = { λ s. None };
+
+    ghost has_failed = { λ s. s.has_failed };
+
+    ghost is_stuck = { λ s. s.is_stuck };
+
+    fn write(&mut self, bytes: &[u8]) -> Option<usize> {
+        self.is_stuck = false;
+        if self.writes == 0 {
+            self.has_failed = true;
+            return None;
+        }
+        self.writes -= 1;
+        let count = bytes.len().min(self.room);
+        if self.rest.starts_with(&bytes[..count]) {
+            self.rest = &self.rest[count..];
+        } else {
+            self.is_wrong = true;
+        }
+        self.is_stuck = count == 0;
+        Some(count)
+    }
+
+    fn failed(&self) -> bool {
+        self.has_failed
+    }
+}

@@ -1,0 +1,358 @@
+//! The text of a run, part by part.
+//!
+//! Each function adds one part at the end of a text, and its contract says which, by the
+//! definition of that part in `specs/Text.antt`.
+
+ghost use Rattle.std.specs.Prelude.{◌≡◌, ◌≤◌, ◌<◌, ◌++◌, ◌||◌, map, flat_map, string_bytes, OnOk, IfOk};
+ghost use Rattle.ns_model.specs.Seats.{is_in};
+ghost use Rattle.ns_replay.specs.Text.{reply_text, is_release, tests_text, line_text, lines_text, finished_calls, left_text, lefts_text, row_text, after_comma, numbers_text, mode_text, answer_text, entry_text, exit_text, section_text, rows_text, seat_text, seats_text, event_words, event_text, events_text, history_text, write_text, word_text, lock_text, state_text};
+
+use crate::condition::ScriptCondition;
+use ns_model::event::{Answer, Entry, Event, Exit, Mode};
+use ns_model::seats::Seats;
+use ns_word::walk::Reply;
+use ns_world::call::Call;
+use ns_world::schedule::Line;
+use std::alloc::AllocError;
+
+/// What a call answered.
+fn push_reply(out: &mut String, reply: Reply) -> Result<(), AllocError>
+    ensures { OnOk result (string_bytes out.new ≡ string_bytes out.old ++ reply_text reply) }
+{
+    match reply {
+        Reply::Ok => out.push_str("ok"),
+        Reply::Busy => out.push_str("busy"),
+        Reply::Number(number) => write!(out, "{number}"),
+        Reply::Misuse => out.push_str("misuse"),
+    }
+}
+
+/// Whether the line is the end of a release.
+fn ends_release(threads: &[Vec<Call>], line: &Line) -> bool
+    ensures { result ≡ is_release (map (λ v. v.items) threads.now) line.now }
+{
+    let Some(calls) = threads.get(line.thread as usize) else {
+        return false;
+    };
+    match calls.get(line.call as usize) {
+        Some(Call::Unlock) => true,
+        _ => false,
+    }
+}
+
+/// How many conditions the scan of a release tested, where that is asked for.
+fn push_tests(
+    out: &mut String,
+    asked: bool,
+    threads: &[Vec<Call>],
+    line: &Line,
+) -> Result<(), AllocError>
+    ensures { OnOk result (string_bytes out.new ≡ string_bytes out.old ++ tests_text asked (map (λ v. v.items) threads.now) line.now) }
+{
+    let tests = line.tests;
+    if asked && line.reply == Reply::Ok && ends_release(threads, line) {
+        write!(out, " tests {tests}")?;
+    }
+    Ok(())
+}
+
+/// The line of a finished call.
+fn push_line(
+    out: &mut String,
+    tests: bool,
+    threads: &[Vec<Call>],
+    line: &Line,
+) -> Result<(), AllocError>
+    ensures { OnOk result (string_bytes out.new ≡ string_bytes out.old ++ line_text tests (map (λ v. v.items) threads.now) line.now) }
+{
+    let Line { thread, call, .. } = *line;
+    write!(out, "{thread} {call} ")?;
+    push_reply(out, line.reply)?;
+    push_tests(out, tests, threads, line)?;
+    out.push_str("\n")
+}
+
+/// The lines of the finished calls.
+pub fn push_lines(
+    out: &mut String,
+    tests: bool,
+    threads: &[Vec<Call>],
+    lines: &[Line],
+) -> Result<(), AllocError>
+    ensures { OnOk result (string_bytes out.new ≡ string_bytes out.old ++ lines_text tests (map (λ v. v.items) threads.now) lines.now) }
+{
+    for line in lines {
+        push_line(out, tests, threads, line)?;
+    }
+    Ok(())
+}
+
+/// How many calls of the thread are finished.
+fn finished_of(lines: &[Line], thread: u8) -> usize
+    ensures { result ≡ finished_calls lines.now thread }
+{
+    lines.iter().filter(|line| line.thread == thread).count()
+}
+
+/// The line of a thread whose call is in progress.
+fn push_left(out: &mut String, busy: Seats, lines: &[Line], thread: u8) -> Result<(), AllocError>
+    requires { thread < 64 }
+    ensures { OnOk result (string_bytes out.new ≡ string_bytes out.old ++ left_text (is_in busy) lines.now thread) }
+{
+    if busy.contains(thread) {
+        let call = finished_of(lines, thread);
+        writeln!(out, "{thread} {call} left")?;
+    }
+    Ok(())
+}
+
+/// The lines of the threads whose calls are in progress.
+pub fn push_lefts(
+    out: &mut String,
+    busy: Seats,
+    lines: &[Line],
+    threads: u8,
+) -> Result<(), AllocError>
+    requires { threads ≤ 64 }
+    ensures { OnOk result (string_bytes out.new ≡ string_bytes out.old ++ lefts_text (is_in busy) lines.now threads) }
+{
+    for thread in 0..threads {
+        push_left(out, busy, lines, thread)?;
+    }
+    Ok(())
+}
+
+/// The line of the cells.
+pub fn push_row(out: &mut String, row: &[u64]) -> Result<(), AllocError>
+    ensures { OnOk result (string_bytes out.new ≡ string_bytes out.old ++ row_text row.now) }
+{
+    out.push_str("row")?;
+    for cell in row {
+        write!(out, " {cell}")?;
+    }
+    out.push_str("\n")
+}
+
+/// Each number after a comma.
+fn push_more_numbers(out: &mut String, numbers: &[u64]) -> Result<(), AllocError>
+    ensures { OnOk result (string_bytes out.new ≡ string_bytes out.old ++ flat_map after_comma numbers.now) }
+{
+    for number in numbers {
+        write!(out, ",{number}")?;
+    }
+    Ok(())
+}
+
+/// Numbers with commas.
+fn push_numbers(out: &mut String, numbers: &[u64]) -> Result<(), AllocError>
+    ensures { OnOk result (string_bytes out.new ≡ string_bytes out.old ++ numbers_text numbers.now) }
+{
+    match numbers {
+        [] => Ok(()),
+        [first, rest @ ..] => {
+            write!(out, "{first}")?;
+            push_more_numbers(out, rest)
+        }
+    }
+}
+
+/// The mode of a section.
+fn push_mode(out: &mut String, mode: Mode) -> Result<(), AllocError>
+    ensures { OnOk result (string_bytes out.new ≡ string_bytes out.old ++ mode_text mode) }
+{
+    match mode {
+        Mode::Write => out.push_str("w"),
+        Mode::Read => out.push_str("r"),
+    }
+}
+
+/// How a wait ended.
+fn push_answer(out: &mut String, answer: Answer) -> Result<(), AllocError>
+    ensures { OnOk result (string_bytes out.new ≡ string_bytes out.old ++ answer_text answer) }
+{
+    match answer {
+        Answer::Met => out.push_str("0"),
+        Answer::TimedOut => out.push_str("ETIMEDOUT"),
+        Answer::Canceled => out.push_str("ECANCELED"),
+    }
+}
+
+/// How a section began.
+fn push_entry(out: &mut String, entry: Entry<ScriptCondition>) -> Result<(), AllocError>
+    ensures { OnOk result (string_bytes out.new ≡ string_bytes out.old ++ entry_text entry) }
+{
+    match entry {
+        Entry::Plain => out.push_str("plain"),
+        Entry::Waited(condition, answer) => {
+            write!(out, "waited:{condition}:")?;
+            push_answer(out, answer)
+        }
+        Entry::AfterCv(variable, answer) => {
+            write!(out, "aftercv:{variable}:")?;
+            push_answer(out, answer)
+        }
+    }
+}
+
+/// How a section ended.
+fn push_exit(out: &mut String, exit: Exit<ScriptCondition>) -> Result<(), AllocError>
+    ensures { OnOk result (string_bytes out.new ≡ string_bytes out.old ++ exit_text exit) }
+{
+    match exit {
+        Exit::Plain => out.push_str("plain"),
+        Exit::CondWait(condition) => write!(out, "cond:{condition}"),
+        Exit::CvWait(variable) => write!(out, "cv:{variable}"),
+    }
+}
+
+/// The seat if it is in the set, after a comma if there was one before it. Answers whether there
+/// is one now.
+fn push_seat(out: &mut String, seats: Seats, seat: u8, any: bool) -> Result<bool, AllocError>
+    requires { seat < 64 }
+    ensures any { IfOk result (λ now. now ≡ (any || is_in seats seat)) }
+    ensures text { OnOk result (string_bytes out.new ≡ string_bytes out.old ++ seat_text any (is_in seats seat) seat) }
+{
+    if !seats.contains(seat) {
+        return Ok(any);
+    }
+    if any {
+        out.push_str(",")?;
+    }
+    write!(out, "{seat}")?;
+    Ok(true)
+}
+
+/// The seats of a set with commas, or a dash for none.
+fn push_seats(out: &mut String, seats: Seats) -> Result<(), AllocError>
+    ensures { OnOk result (string_bytes out.new ≡ string_bytes out.old ++ seats_text seats) }
+{
+    let mut any = false;
+    for seat in 0..64u8 {
+        any = push_seat(out, seats, seat, any)?;
+    }
+    if any { Ok(()) } else { out.push_str("-") }
+}
+
+/// The words of a section.
+fn push_section(
+    out: &mut String,
+    who: u8,
+    mode: Mode,
+    entry: Entry<ScriptCondition>,
+    exit: Exit<ScriptCondition>,
+) -> Result<(), AllocError>
+    ensures { OnOk result (string_bytes out.new ≡ string_bytes out.old ++ section_text who mode entry exit) }
+{
+    write!(out, "section {who} ")?;
+    push_mode(out, mode)?;
+    out.push_str(" ")?;
+    push_entry(out, entry)?;
+    out.push_str(" ")?;
+    push_exit(out, exit)
+}
+
+/// Two rows, each after a space.
+fn push_rows(out: &mut String, before: &[u64], after: &[u64]) -> Result<(), AllocError>
+    ensures { OnOk result (string_bytes out.new ≡ string_bytes out.old ++ rows_text before.now after.now) }
+{
+    out.push_str(" ")?;
+    push_numbers(out, before)?;
+    out.push_str(" ")?;
+    push_numbers(out, after)
+}
+
+/// The words of an event.
+fn push_event_words(out: &mut String, event: &Event<ScriptCondition, 8>) -> Result<(), AllocError>
+    ensures { OnOk result (string_bytes out.new ≡ string_bytes out.old ++ event_words event.now) }
+{
+    match event {
+        Event::Section {
+            who,
+            mode,
+            entry,
+            before,
+            after,
+            exit,
+        } => {
+            push_section(out, *who, *mode, *entry, *exit)?;
+            push_rows(out, before, after)
+        }
+        Event::Signal { who, k, woken } => {
+            write!(out, "signal {who} {k} ")?;
+            push_seats(out, *woken)
+        }
+        Event::Broadcast { who, k, woken } => {
+            write!(out, "broadcast {who} {k} ")?;
+            push_seats(out, *woken)
+        }
+        Event::Leave { who, k } => write!(out, "leave {who} {k}"),
+    }
+}
+
+/// The line of an event.
+fn push_event(out: &mut String, event: &Event<ScriptCondition, 8>) -> Result<(), AllocError>
+    ensures { OnOk result (string_bytes out.new ≡ string_bytes out.old ++ event_text event.now) }
+{
+    push_event_words(out, event)?;
+    out.push_str("\n")
+}
+
+/// The lines of the events.
+fn push_events(out: &mut String, events: &[Event<ScriptCondition, 8>]) -> Result<(), AllocError>
+    ensures { OnOk result (string_bytes out.new ≡ string_bytes out.old ++ events_text events.now) }
+{
+    for event in events {
+        push_event(out, event)?;
+    }
+    Ok(())
+}
+
+/// The lines of the events, where that is asked for.
+pub fn push_history(
+    out: &mut String,
+    asked: bool,
+    events: &[Event<ScriptCondition, 8>],
+) -> Result<(), AllocError>
+    ensures { OnOk result (string_bytes out.new ≡ string_bytes out.old ++ history_text asked events.now) }
+{
+    if asked {
+        push_events(out, events)
+    } else {
+        Ok(())
+    }
+}
+
+/// The write bit of the lock word, if it is set.
+fn push_write(out: &mut String, write: bool) -> Result<(), AllocError>
+    ensures { OnOk result (string_bytes out.new ≡ string_bytes out.old ++ write_text write) }
+{
+    if write {
+        out.push_str(" write")
+    } else {
+        Ok(())
+    }
+}
+
+/// The line of the lock word. Nobody reads yet.
+fn push_word(out: &mut String, write: bool) -> Result<(), AllocError>
+    ensures { OnOk result (string_bytes out.new ≡ string_bytes out.old ++ word_text write) }
+{
+    out.push_str("word")?;
+    push_write(out, write)?;
+    out.push_str(" readers=0\n")
+}
+
+/// The lines of the lock word and of its queue. Nobody waits yet.
+fn push_lock(out: &mut String, write: bool) -> Result<(), AllocError>
+    ensures { OnOk result (string_bytes out.new ≡ string_bytes out.old ++ lock_text write) }
+{
+    push_word(out, write)?;
+    out.push_str("queue\n")
+}
+
+/// The lines of the lock, where that is asked for.
+pub fn push_state(out: &mut String, asked: bool, write: bool) -> Result<(), AllocError>
+    ensures { OnOk result (string_bytes out.new ≡ string_bytes out.old ++ state_text asked write) }
+{
+    if asked { push_lock(out, write) } else { Ok(()) }
+}

@@ -1,0 +1,38 @@
+//! The words of a text: its parts between separators, and the numbers that they write.
+
+ghost use Rattle.std.specs.Prelude.{◌≡◌, ◌<◌, map, IfOk};
+ghost use Rattle.ns_replay.specs.Words.{parts, number_of, below};
+
+use std::alloc::{AllocError, Global};
+
+/// The parts of a text between the separators.
+pub fn parts_at(alloc: Global, text: &str, separator: char) -> Result<Vec<&str>, AllocError>
+    requires { separator < 128 }
+    ensures { IfOk result (λ v. map (λ x. x.now) v.items ≡ parts separator text.now) }
+{
+    text.split(separator).collect(alloc)
+}
+
+/// The number that a word writes: digits, with no 0 before another, of a number below 2^64.
+#[tactic(auto, unfolding(crate::specs::Words::number_of))]
+pub fn number(word: &str) -> Option<u64>
+    ensures { result ≡ number_of word.now }
+{
+    let bytes = word.as_bytes();
+    if bytes.is_empty() || bytes[0] == b'+' || (bytes[0] == b'0' && bytes.len() > 1) {
+        return None;
+    }
+    word.parse::<u64>().ok()
+}
+
+/// The number that a word writes, if it is below the limit.
+pub fn number_below(word: &str, limit: u8) -> Option<u8>
+    ensures { result ≡ below limit (number_of word.now) }
+{
+    let n = number(word)?;
+    if n < limit as u64 {
+        Some(n as u8)
+    } else {
+        None
+    }
+}

@@ -1,0 +1,142 @@
+-- No seat is past its last call.
+use Rattle.std.proofs.Common.{◌≡◌, ◌≢◌, ℕ, zero, suc, ◌+◌, ◌<◌, ◌≤◌, inl, inr, Bool, true, false, cond, List, [], ◌∷◌, Option, None, Some, is_some, Vec, Global, length, map, get_or, slice_set, slice_get, slice_index, replicate, refl, ap, sym, ◌∙◌, subst, arith}
+use Rattle.std.specs.Prelude.{All, IfSome}
+use Rattle.std.proofs.lemmas.Bool.{cases_eq}
+use Rattle.std.proofs.lemmas.List.{length-set, get_or-set_same, get_or-set_other}
+use Rattle.std.proofs.lemmas.List.Elements.{All-head, All-tail, All-nil}
+use Rattle.std.proofs.lemmas.Option.{slice_get_within}
+use Rattle.ns_word.specs.declared.view.SeatView.{SeatView}
+use Rattle.ns_word.specs.declared.walk.Reply.{Reply}
+use Rattle.ns_word.specs.declared.walk.Next.{Next}
+use Rattle.ns_word.specs.declared.walk.Next.TheVariants.{On, Done}
+use Rattle.ns_word.specs.Walks.{got_of, walk_after, reply_of}
+use Rattle.ns_world.specs.declared.call.Call.{Call}
+use Rattle.ns_world.specs.declared.schedule.Line.{Line}
+use Rattle.ns_world.specs.declared.step.Step.{Step}
+use Rattle.ns_world.specs.declared.step.Step.TheVariants.{Went, Finished, Nothing}
+use Rattle.ns_world.specs.Calls.{CellFits}
+use Rattle.ns_world.specs.World.{Now, Goes, is_busy}
+use Rattle.ns_world.specs.Runs.{Progress, progress, progressed, calls_of, Leads, TurnOf, Counts, IsCounted, ListFits}
+use Rattle.ns_world.proofs.Busy.{busy_set_same, busy_set_other}
+use Rattle.ns_world.proofs.Turns.{is_busy_of, is_idle_of}
+
+-- ---- the lists
+
+-- each seat's calls are such a list
+pub calls_fit : (n : ℕ) (lists : List (Vec Call Global)) (seat : ℕ) → All (λ calls. ListFits n calls.items) lists → ListFits n (calls_of (map (λ calls. calls.items) lists) seat)
+calls_fit n [] seat fits = (omega arith, All-nil (CellFits n))
+calls_fit n (calls ∷ lists) zero fits = All-head (λ calls. ListFits n calls.items) calls lists fits
+calls_fit n (calls ∷ lists) (suc seat) fits = calls_fit n lists seat (All-tail (λ calls. ListFits n calls.items) calls lists fits)
+
+-- so is the seat's next call
+pub next_fits : (n : ℕ) (calls : List Call) (i : ℕ) → ListFits n calls → IfSome (slice_get calls i) (CellFits n)
+next_fits n [] i fits = tt
+next_fits n (call ∷ calls) zero fits = All-head (CellFits n) call calls fits.1
+next_fits n (call ∷ calls) (suc i) fits = next_fits n calls i (omega (arith, fits.0), All-tail (CellFits n) call calls fits.1)
+
+-- ---- one seat's change
+
+bit_most : (b : Bool) → cond b 1 0 ≤ 1
+bit_most true = omega arith
+bit_most false = omega arith
+
+-- a call that is over leaves its seat idle
+over_idle : (next : Next) (reply : Reply) → Some reply ≡ reply_of next → is_some (walk_after next) ≡ false
+over_idle (On walk) reply e = absurd (cc)
+over_idle (Done answer) reply e = refl
+
+set_others : (over : List ℕ) (seat n other : ℕ) → other ≢ seat → slice_index (slice_set over seat n) other ≡ slice_index over other
+set_others over seat n other ne = get_or-set_other over seat other n 0 ne
+
+zeros : (n i : ℕ) → ◌≡◌ {A = ℕ} (get_or (replicate n 0) i 0) 0
+zeros zero i = refl
+zeros (suc n) zero = refl
+zeros (suc n) (suc i) = zeros n i
+
+module _ {C : Type 0} {N : ℕ} where
+  -- a seat's view and count change, and no other's
+  changes : (views next : List (SeatView C N)) (over over' : List ℕ) (seat : ℕ) →
+      ((other : ℕ) → other ≢ seat → is_busy next other ≡ is_busy views other) → ((other : ℕ) → other ≢ seat → slice_index over' other ≡ slice_index over other) →
+      slice_index over' seat + cond (is_busy next seat) 1 0 ≤ 256 →
+      ((other : ℕ) → slice_index over other + cond (is_busy views other) 1 0 ≤ 256) → (other : ℕ) → slice_index over' other + cond (is_busy next other) 1 0 ≤ 256
+  changes views next over over' seat same count here p other =
+      elim (cases_eq other seat) [
+        | inl e ↦ subst (λ n. slice_index over' n + cond (is_busy next n) 1 0 ≤ 256) (sym e) here
+        | inr ne ↦ rw (same other ne, count other ne) (p other)
+      ]
+
+  -- what a step leaves of who is busy
+  goes_others : (old new : Now C N) (seat : ℕ) (reply : Option Reply) → Goes old new seat reply → (other : ℕ) → other ≢ seat → is_busy new.state.views other ≡ is_busy old.state.views other
+  goes_others old new seat reply goes other ne = ap (λ views. is_busy views other) goes.others ∙ busy_set_other old.state.views seat _ other ne
+
+  goes_over : (old new : Now C N) (seat : ℕ) (reply : Reply) → Goes old new seat (Some reply) → is_busy new.state.views seat ≡ false
+  goes_over old new seat reply goes =
+      ap (λ views. is_busy views seat) goes.others ∙ busy_set_same old.state.views seat _ (slice_get_within old.state.views seat goes.view goes.at) ∙ over_idle (got_of goes.step.walk goes.found) reply goes.replies
+
+  -- a call that goes on or begins is one of the seat's, so it is not past its last
+  leads_below : (lists : List (List Call)) (p : Progress C N) (seat : ℕ) (begun : Now C N) → length (calls_of lists seat) ≤ 256 → Leads lists p seat begun →
+      slice_index p.over seat + cond (is_busy p.world.state.views seat) 1 0 ≤ 256 → slice_index p.over seat + 1 ≤ 256
+  leads_below lists p seat begun few (inl busy) most =
+      let yes = is_busy_of p.world seat busy.0 in
+      omega (arith, rw yes at most)
+  leads_below lists p seat begun few (inr called) most =
+      let within = slice_get_within (calls_of lists seat) (slice_index p.over seat) called.0 called.1 in
+      omega (arith, within, few)
+
+  leads_others : (lists : List (List Call)) (p : Progress C N) (seat : ℕ) (begun : Now C N) → Leads lists p seat begun →
+      (other : ℕ) → other ≢ seat → is_busy begun.state.views other ≡ is_busy p.world.state.views other
+  leads_others lists p seat begun (inl busy) other ne = ap (λ (world : Now C N). is_busy world.state.views other) busy.1
+  leads_others lists p seat begun (inr called) other ne =
+      ap (λ (world : Now C N). is_busy world.state.views other) called.2.begins ∙ busy_set_other p.world.state.views seat _ other ne
+
+  -- a turn keeps the count
+  pub turn_counted : (lists : List (List Call)) (p q : Progress C N) (seat : ℕ) (step : Step) → length (calls_of lists seat) ≤ 256 → seat < 64 → TurnOf lists p seat step q →
+      IsCounted p.world p.over → IsCounted q.world q.over
+  turn_counted lists p q seat Went few low (inl t) c =
+      subst (λ (x : Progress C N). IsCounted x.world x.over) (sym t.after) (record {
+        many = c.many;
+        most = changes p.world.state.views t.world.state.views p.over p.over seat
+            (λ other ne. goes_others t.begun t.world seat None t.steps other ne ∙ leads_others lists p seat t.begun t.leads other ne)
+            (λ other ne. refl)
+            (let below = leads_below lists p seat t.begun few t.leads (c.most seat) in omega (arith, below, bit_most (is_busy t.world.state.views seat)))
+            c.most;
+      })
+  turn_counted lists p q seat (Finished reply) few low (inl t) c =
+      subst (λ (x : Progress C N). IsCounted x.world x.over) (sym t.after) (record {
+        many = length-set p.over seat _ ∙ c.many;
+        most = changes p.world.state.views t.world.state.views p.over (slice_set p.over seat (slice_index p.over seat + 1)) seat
+            (λ other ne. goes_others t.begun t.world seat (Some reply) t.steps other ne ∙ leads_others lists p seat t.begun t.leads other ne)
+            (λ other ne. set_others p.over seat (slice_index p.over seat + 1) other ne)
+            (rw (goes_over t.begun t.world seat reply t.steps, get_or-set_same p.over seat (slice_index p.over seat + 1) 0 (omega (arith, c.many, low)))
+            (let below = leads_below lists p seat t.begun few t.leads (c.most seat) in omega (arith, below)))
+            c.most;
+      })
+  turn_counted lists p q seat Nothing few low (inl t) c = absurd (t.goes refl)
+  turn_counted lists p q seat step few low (inr (inl t)) c =
+      subst (λ (x : Progress C N). IsCounted x.world x.over) (sym t.after) (record {
+        many = length-set p.over seat _ ∙ c.many;
+        most = changes p.world.state.views p.world.state.views p.over (slice_set p.over seat (slice_index p.over seat + 1)) seat
+            (λ other ne. refl)
+            (λ other ne. set_others p.over seat (slice_index p.over seat + 1) other ne)
+            (let within = slice_get_within (calls_of lists seat) (slice_index p.over seat) t.call t.next in
+            let idle = is_idle_of p.world seat (record { view = t.refused.1.view; at = t.refused.1.at; idle = t.refused.1.idle }) in
+            rw (idle, get_or-set_same p.over seat (slice_index p.over seat + 1) 0 (omega (arith, c.many, low))) (omega (arith, within, few)))
+            c.most;
+      })
+  turn_counted lists p q seat step few low (inr (inr t)) c = subst (λ (x : Progress C N). IsCounted x.world x.over) (sym t.after) c
+
+  -- before the first turn
+  pub start_counted : (world : Now C N) → ((seat : ℕ) → is_busy world.state.views seat ≡ false) → IsCounted world (replicate 64 0)
+  start_counted world idle = record { many = refl; most = λ seat. rw (idle seat, zeros 64 seat) (omega arith) }
+
+  -- what was counted is what the turn leaves
+  pub counts_progress : (world new : Now C N) (over over' : List ℕ) (lines lines' : List Line) (seat : ℕ) (step : Step) → Counts over lines seat step over' lines' →
+      progress new over' lines' ≡ progressed (progress world over lines) seat step new
+  counts_progress world new over over' lines lines' seat Went e = ap (λ o. progress new o lines') e.0 ∙ ap (λ l. progress new over l) e.1
+  counts_progress world new over over' lines lines' seat Nothing e = ap (λ o. progress new o lines') e.0 ∙ ap (λ l. progress new over l) e.1
+  counts_progress world new over over' lines lines' seat (Finished reply) e = ap (λ o. progress new o lines') e.0 ∙ ap (λ l. progress new (slice_set over seat (slice_index over seat + 1)) l) e.1
+
+  pub progressed_world : (p : Progress C N) (seat : ℕ) (step : Step) (new : Now C N) → (progressed p seat step new).world ≡ new
+  progressed_world p seat Went new = refl
+  progressed_world p seat Nothing new = refl
+  progressed_world p seat (Finished reply) new = refl

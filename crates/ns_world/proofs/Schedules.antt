@@ -1,0 +1,216 @@
+-- Turns that follow a schedule, piece by piece.
+use Rattle.std.proofs.Common.{◌≡◌, ℕ, suc, ◌+◌, ◌<◌, ◌≤◌, Bool, true, false, cond, eqb, List, [], ◌∷◌, ◌++◌, None, Some, length, refl, ap, sym, ◌∙◌, subst, arith, add-zero, length-append, eq-eqb, ◌-◌, replicate, get_or, take, drop, drop-cons}
+use Rattle.std.proofs.lemmas.List.{append-nil, replicate_more, replicate-append-replicate, take_more, take-append-drop}
+use Rattle.std.proofs.lemmas.List.Concat.{flat_map-append}
+use Rattle.ns_world.specs.declared.call.Call.{Call}
+use Rattle.ns_world.specs.declared.fault.Fault.{Fault}
+use Rattle.ns_world.specs.declared.fault.Fault.TheVariants.{OutOfMemory, NoSuchSeat, TooManySeats, StepLimit}
+use Rattle.ns_world.specs.declared.schedule.Turn.{Turn}
+use Rattle.ns_world.specs.declared.step.Step.{Step}
+use Rattle.ns_world.specs.World.{Now}
+use Rattle.ns_world.specs.Runs.{Progress, Turned, Item, TurnOf, TurnsOf, TurnFault, rest_of, is_end, word_items, items_of, Advances, Stops, StopsFor}
+
+-- ---- what is left of the items
+
+more_by : (same ends : Bool) (turns : List Turned) (item : Item) (items left more : List Item) →
+    (rest_of items turns ≡ Some left → rest_of (items ++ more) turns ≡ Some (left ++ more)) →
+    (rest_of (item ∷ items) turns ≡ Some left → rest_of (item ∷ items ++ more) turns ≡ Some (left ++ more)) →
+    cond same (cond ends (rest_of items turns) (rest_of (item ∷ items) turns)) None ≡ Some left →
+    cond same (cond ends (rest_of (items ++ more) turns) (rest_of (item ∷ items ++ more) turns)) None ≡ Some (left ++ more)
+more_by true true turns item items left more f g e = f e
+more_by true false turns item items left more f g e = g e
+more_by false ends turns item items left more f g e = absurd (cc)
+
+-- items more at the end are left too
+rest_more : (turns : List Turned) (items left more : List Item) → rest_of items turns ≡ Some left → rest_of (items ++ more) turns ≡ Some (left ++ more)
+rest_more [] items left more e = let same : items ≡ left = cc in ap (λ xs. Some (xs ++ more)) same
+rest_more (turned ∷ turns) [] left more e = absurd (cc)
+rest_more (turned ∷ turns) (item ∷ items) left more e =
+    more_by (eqb turned.seat item.seat) (is_end item.whole turned.step) turns item items left more (rest_more turns items left more) (rest_more turns (item ∷ items) left more) e
+
+join_by : (same ends : Bool) (a b : List Turned) (item : Item) (items left : List Item) →
+    (rest_of items a ≡ Some left → rest_of items (a ++ b) ≡ rest_of left b) →
+    (rest_of (item ∷ items) a ≡ Some left → rest_of (item ∷ items) (a ++ b) ≡ rest_of left b) →
+    cond same (cond ends (rest_of items a) (rest_of (item ∷ items) a)) None ≡ Some left →
+    cond same (cond ends (rest_of items (a ++ b)) (rest_of (item ∷ items) (a ++ b))) None ≡ rest_of left b
+join_by true true a b item items left f g e = f e
+join_by true false a b item items left f g e = g e
+join_by false ends a b item items left f g e = absurd (cc)
+
+-- turns after others follow what those have left
+rest_join : (a b : List Turned) (items left : List Item) → rest_of items a ≡ Some left → rest_of items (a ++ b) ≡ rest_of left b
+rest_join [] b items left e = let same : items ≡ left = cc in ap (λ xs. rest_of xs b) same
+rest_join (turned ∷ a) b [] left e = absurd (cc)
+rest_join (turned ∷ a) b (item ∷ items) left e =
+    join_by (eqb turned.seat item.seat) (is_end item.whole turned.step) a b item items left (rest_join a b items left) (rest_join a b (item ∷ items) left) e
+
+one_by : (ends : Bool) (item : Item) → cond ends (Some []) (Some (item ∷ [])) ≡ Some (cond ends [] (item ∷ []))
+one_by true item = refl
+one_by false item = refl
+
+rest_one : (item : Item) (step : Step) → rest_of (item ∷ []) (record { seat = item.seat; step = step } ∷ []) ≡ Some (cond (is_end item.whole step) [] (item ∷ []))
+rest_one item step = rw (eq-eqb item.seat item.seat refl) (one_by (is_end item.whole step) item)
+
+module _ {C : Type 0} {N : ℕ} (lists : List (List Call)) where
+  -- ---- turns
+
+  turns_join : (p q r : Progress C N) (a b : List Turned) → TurnsOf lists p a q → TurnsOf lists q b r → TurnsOf lists p (a ++ b) r
+  turns_join p q r [] b s t = subst (λ x. TurnsOf lists x b r) s t
+  turns_join p q r (turned ∷ a) b s t = (s.0, s.1, turns_join s.0 q r a b s.2 t)
+
+  module _ (limit : ℕ) where
+    -- ---- from a progress to another
+
+    -- no turn
+    pub advance_none : (p : Progress C N) (before : ℕ) (items : List Item) → before ≤ limit → Advances lists limit p before items items p before
+    advance_none p before items within = record { turns = []; made = refl; rest = refl; count = sym (add-zero before); within = within }
+
+    -- one turn, of the first item
+    pub advance_one : (p q : Progress C N) (before seat : ℕ) (whole : Bool) (step : Step) → TurnOf lists p seat step q → before + 1 ≤ limit →
+        Advances lists limit p before (record { seat = seat; whole = whole } ∷ []) (cond (is_end whole step) [] (record { seat = seat; whole = whole } ∷ [])) q (before + 1)
+    advance_one p q before seat whole step turn within = record {
+      turns = record { seat = seat; step = step } ∷ [];
+      made = (q, turn, refl);
+      rest = rest_one (record { seat = seat; whole = whole }) step;
+      count = refl;
+      within = within;
+    }
+
+    -- turns after others
+    pub advance_join : (p q r : Progress C N) (before mid behind : ℕ) (items left rest : List Item) →
+        Advances lists limit p before items left q mid → Advances lists limit q mid left rest r behind → Advances lists limit p before items rest r behind
+    advance_join p q r before mid behind items left rest a b = record {
+      turns = a.turns ++ b.turns;
+      made = turns_join p q r a.turns b.turns a.made b.made;
+      rest = rest_join a.turns b.turns items left a.rest ∙ b.rest;
+      count = let both = length-append a.turns b.turns in omega (arith, a.count, b.count, both);
+      within = b.within;
+    }
+
+    -- one turn more of an item that goes on, which ends it or leaves it
+    pub advance_item : (p q r : Progress C N) (before mid behind seat : ℕ) (whole ends : Bool) (step : Step) →
+        Advances lists limit p before (record { seat = seat; whole = whole } ∷ []) (record { seat = seat; whole = whole } ∷ []) q mid →
+        TurnOf lists q seat step r → ends ≡ is_end whole step → (behind ≡ mid + 1) × (behind ≤ limit) →
+        Advances lists limit p before (record { seat = seat; whole = whole } ∷ []) (cond ends [] (record { seat = seat; whole = whole } ∷ [])) r behind
+    advance_item p q r before mid behind seat whole ends step a turn e count =
+        let item : Item = record { seat = seat; whole = whole } in
+        rw (e, count.0) (advance_join p q r before mid (mid + 1) (item ∷ []) (item ∷ []) _ a (advance_one q r mid seat whole step turn (omega (arith, count.0, count.1))))
+
+    -- items more at the end
+    pub advance_more : (p q : Progress C N) (before behind : ℕ) (items left more : List Item) →
+        Advances lists limit p before items left q behind → Advances lists limit p before (items ++ more) (left ++ more) q behind
+    advance_more p q before behind items left more a = record { turns = a.turns; made = a.made; rest = rest_more a.turns items left more a.rest; count = a.count; within = a.within }
+
+    -- all of the items, and then all of more
+    pub advance_both : (p q r : Progress C N) (before mid behind : ℕ) (items more : List Item) →
+        Advances lists limit p before items [] q mid → Advances lists limit q mid more [] r behind → Advances lists limit p before (items ++ more) [] r behind
+    advance_both p q r before mid behind items more a b = advance_join p q r before mid behind (items ++ more) more [] (advance_more p q before mid items [] more a) b
+
+    -- ---- where a run stops
+
+    stops_for_more : (world : Now C N) (made : ℕ) (left more : List Item) (fault : Fault) → StopsFor limit world made left fault → StopsFor limit world made (left ++ more) fault
+    stops_for_more world made [] more OutOfMemory p = tt
+    stops_for_more world made [] more NoSuchSeat p = absurd p
+    stops_for_more world made [] more StepLimit p = absurd p
+    stops_for_more world made [] more TooManySeats p = absurd p
+    stops_for_more world made (item ∷ left) more OutOfMemory p = tt
+    stops_for_more world made (item ∷ left) more NoSuchSeat p = p
+    stops_for_more world made (item ∷ left) more StepLimit p = p
+    stops_for_more world made (item ∷ left) more TooManySeats p = p
+
+    -- at once
+    pub stops_now : (p : Progress C N) (before : ℕ) (items : List Item) (fault : Fault) → before ≤ limit → StopsFor limit p.world before items fault → Stops lists limit p before items p.world fault
+    stops_now p before items fault within why = record { left = items; end = p; after = before; advances = advance_none p before items within; here = refl; why = why }
+
+    -- where a turn was refused
+    pub turn_stops : (p : Progress C N) (before seat : ℕ) (whole : Bool) (world : Now C N) (fault : Fault) → before ≤ limit → (world ≡ p.world) × TurnFault p.world seat fault →
+        Stops lists limit p before (record { seat = seat; whole = whole } ∷ []) world fault
+    turn_stops p before seat whole world OutOfMemory within e = subst (λ w. Stops lists limit p before (record { seat = seat; whole = whole } ∷ []) w OutOfMemory) (sym e.0) (stops_now p before (record { seat = seat; whole = whole } ∷ []) OutOfMemory within tt)
+    turn_stops p before seat whole world NoSuchSeat within e = subst (λ w. Stops lists limit p before (record { seat = seat; whole = whole } ∷ []) w NoSuchSeat) (sym e.0) (stops_now p before (record { seat = seat; whole = whole } ∷ []) NoSuchSeat within e.1)
+    turn_stops p before seat whole world TooManySeats within e = absurd e.1
+    turn_stops p before seat whole world StepLimit within e = absurd e.1
+
+    -- where a turn was made, and there was no memory to tell it
+    pub untold_stops : (p q : Progress C N) (before seat : ℕ) (whole : Bool) (step : Step) (world : Now C N) → TurnOf lists p seat step q → before + 1 ≤ limit → q.world ≡ world →
+        Stops lists limit p before (record { seat = seat; whole = whole } ∷ []) world OutOfMemory
+    untold_stops p q before seat whole step world turn within e = record {
+      left = cond (is_end whole step) [] (record { seat = seat; whole = whole } ∷ []);
+      end = q;
+      after = before + 1;
+      advances = advance_one p q before seat whole step turn within;
+      here = e;
+      why = tt;
+    }
+
+    -- items more at the end
+    pub stops_more : (p : Progress C N) (before : ℕ) (items more : List Item) (world : Now C N) (fault : Fault) → Stops lists limit p before items world fault → Stops lists limit p before (items ++ more) world fault
+    stops_more p before items more world fault s = record {
+      left = s.left ++ more;
+      end = s.end;
+      after = s.after;
+      advances = advance_more p s.end before s.after items s.left more s.advances;
+      here = s.here;
+      why = stops_for_more world s.after s.left more fault s.why;
+    }
+
+    -- turns before
+    pub stops_behind : (p q : Progress C N) (before mid : ℕ) (items left : List Item) (world : Now C N) (fault : Fault) →
+        Advances lists limit p before items left q mid → Stops lists limit q mid left world fault → Stops lists limit p before items world fault
+    stops_behind p q before mid items left world fault a s = record {
+      left = s.left;
+      end = s.end;
+      after = s.after;
+      advances = advance_join p q s.end before mid s.after items left s.left a s.advances;
+      here = s.here;
+      why = s.why;
+    }
+
+    -- all of the items, and then a stop in more
+    pub stops_both : (p q : Progress C N) (before mid : ℕ) (items more : List Item) (world : Now C N) (fault : Fault) →
+        Advances lists limit p before items [] q mid → Stops lists limit q mid more world fault → Stops lists limit p before (items ++ more) world fault
+    stops_both p q before mid items more world fault a s = stops_behind p q before mid (items ++ more) more world fault (advance_more p q before mid items [] more a) s
+
+    -- ---- the items of a word
+
+    -- one more of them
+    pub advance_again : (p q r : Progress C N) (before mid behind k : ℕ) (item : Item) →
+        Advances lists limit p before (replicate k item) [] q mid → Advances lists limit q mid (item ∷ []) [] r behind → Advances lists limit p before (replicate (k + 1) item) [] r behind
+    advance_again p q r before mid behind k item a b =
+        subst (λ items. Advances lists limit p before items [] r behind) (replicate_more k item) (advance_both p q r before mid behind (replicate k item) (item ∷ []) a b)
+
+    -- a stop in one of them
+    pub stops_again : (p q : Progress C N) (before mid k n : ℕ) (item : Item) (world : Now C N) (fault : Fault) → k < n →
+        Advances lists limit p before (replicate k item) [] q mid → Stops lists limit q mid (item ∷ []) world fault → Stops lists limit p before (replicate n item ++ []) world fault
+    stops_again p q before mid k n item world fault within a s =
+        let rest = n - (k + 1) in
+        let one : item ∷ replicate rest item ≡ replicate (1 + rest) item = replicate-append-replicate 1 rest item in
+        let count : k + (1 + rest) ≡ n = omega arith in
+        let whole : replicate k item ++ (item ∷ [] ++ replicate rest item) ≡ replicate n item ++ [] =
+        ap (λ xs. replicate k item ++ xs) one ∙ replicate-append-replicate k (1 + rest) item ∙ ap (λ m. replicate m item) count ∙ sym (append-nil (replicate n item)) in
+        subst (λ items. Stops lists limit p before items world fault) whole
+        (stops_both p q before mid (replicate k item) (item ∷ [] ++ replicate rest item) world fault a (stops_more q mid (item ∷ []) (replicate rest item) world fault s))
+
+    -- ---- the words of a schedule
+
+    -- one more of them
+    pub advance_word : (p q r : Progress C N) (before mid behind i : ℕ) (schedule : List Turn) (d : Turn) → i < length schedule →
+        Advances lists limit p before (items_of (take i schedule)) [] q mid → Advances lists limit q mid (items_of (get_or schedule i d ∷ [])) [] r behind →
+        Advances lists limit p before (items_of (take (i + 1) schedule)) [] r behind
+    advance_word p q r before mid behind i schedule d within a b =
+        let turn = get_or schedule i d in
+        let whole : items_of (take (i + 1) schedule) ≡ items_of (take i schedule) ++ items_of (turn ∷ []) =
+        ap items_of (take_more schedule i d within) ∙ flat_map-append word_items (take i schedule) (turn ∷ []) in
+        subst (λ items. Advances lists limit p before items [] r behind) (sym whole) (advance_both p q r before mid behind (items_of (take i schedule)) (items_of (turn ∷ [])) a b)
+
+    -- a stop in one of them
+    pub stops_word : (p q : Progress C N) (before mid i : ℕ) (schedule : List Turn) (d : Turn) (world : Now C N) (fault : Fault) → i < length schedule →
+        Advances lists limit p before (items_of (take i schedule)) [] q mid → Stops lists limit q mid (items_of (get_or schedule i d ∷ [])) world fault →
+        Stops lists limit p before (items_of schedule) world fault
+    stops_word p q before mid i schedule d world fault within a s =
+        let turn = get_or schedule i d in
+        let rest = drop (suc i) schedule in
+        let parts : take i schedule ++ (turn ∷ [] ++ rest) ≡ schedule = sym (ap (λ xs. take i schedule ++ xs) (drop-cons schedule i d within)) ∙ take-append-drop i schedule in
+        let whole : items_of (take i schedule) ++ (items_of (turn ∷ []) ++ items_of rest) ≡ items_of schedule =
+        ap (λ xs. items_of (take i schedule) ++ xs) (sym (flat_map-append word_items (turn ∷ []) rest)) ∙ sym (flat_map-append word_items (take i schedule) (turn ∷ [] ++ rest)) ∙ ap items_of parts in
+        subst (λ items. Stops lists limit p before items world fault) whole
+        (stops_both p q before mid (items_of (take i schedule)) (items_of (turn ∷ []) ++ items_of rest) world fault a (stops_more q mid (items_of (turn ∷ [])) (items_of rest) world fault s))

@@ -1,0 +1,14 @@
+use Rattle.std.proofs.Common.{◌∷◌, [], map, ◌-◌}
+use Rattle.ns_world.specs.Runs.{progress, Advances, IsCounted}
+use Rattle.ns_world.proofs.run.item.Given as goal
+
+-- the item goes on
+abbrev pub invariant-loop-step : goal.invariant-loop-step
+invariant-loop-step g l = record {
+  advances : Advances (map (λ calls. calls.items) l.lists) l.limit (progress l.fn.world l.fn.tally.over l.fn.tally.lines.items) l.fn.tally.turns (record { seat = l.seat; whole = l.whole } ∷ [])
+      (record { seat = l.seat; whole = l.whole } ∷ []) (progress l.world l.tally.over l.tally.lines.items) l.tally.turns;
+  counted : IsCounted l.world l.tally.over;
+}
+
+abbrev pub decreases-loop-step : goal.decreases-loop-step
+decreases-loop-step g l = l.limit - l.tally.turns

@@ -1,0 +1,11 @@
+use Rattle.std.proofs.Common.{[], map, replicate}
+use Rattle.ns_world.specs.Runs.{progress, Advances, IsCounted}
+use Rattle.ns_world.proofs.run.word.Given as goal
+
+-- the items so far
+abbrev pub invariant-loop : goal.invariant-loop
+invariant-loop g l = record {
+  advances : Advances (map (λ calls. calls.items) l.lists) l.limit (progress l.fn.world l.fn.tally.over l.fn.tally.lines.items) l.fn.tally.turns (replicate l.counter (record { seat = l.turn.thread; whole = l.turn.whole }))
+      [] (progress l.world l.tally.over l.tally.lines.items) l.tally.turns;
+  counted : IsCounted l.world l.tally.over;
+}

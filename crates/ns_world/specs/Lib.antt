@@ -1,0 +1,10 @@
+pub mod Begins
+pub mod Calls
+pub mod Performs
+pub mod Runs
+pub mod World
+pub use Rattle.ns_model.specs.Histories
+pub use Rattle.ns_model.specs.Seats
+pub use Rattle.ns_word.specs.Lawful
+pub use Rattle.ns_word.specs.Steps
+pub use Rattle.ns_word.specs.Walks

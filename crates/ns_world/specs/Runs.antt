@@ -1,0 +1,198 @@
+-- A run of a schedule, turn by turn.
+use Rattle.std.specs.Prelude.{◌≡◌, ◌≢◌, ℕ, ◌+◌, ◌<◌, ◌≤◌, ◌⊎◌, Bool, true, false, not, ◌==◌, if◌then◌else◌, List, [], ◌∷◌, ◌++◌, Option, Some, None, slice_get, slice_index, slice_set, length, replicate, unwrap_or, All}
+use Rattle.std.specs.List.{flat_map}
+use Rattle.ns_word.specs.declared.walk.Reply.{Reply}
+use Rattle.ns_word.specs.declared.walk.Reply.TheVariants.{Misuse as Misused}
+use Rattle.ns_world.specs.declared.call.Call.{Call}
+use Rattle.ns_world.specs.declared.fault.Fault.{Fault}
+use Rattle.ns_world.specs.declared.fault.Fault.TheVariants.{OutOfMemory, NoSuchSeat, TooManySeats, StepLimit}
+use Rattle.ns_world.specs.declared.schedule.Turn.{Turn}
+use Rattle.ns_world.specs.declared.schedule.Line.{Line}
+use Rattle.ns_world.specs.declared.step.Begun.TheVariants.{Started, Misuse}
+use Rattle.ns_world.specs.declared.step.Step.{Step}
+use Rattle.ns_world.specs.declared.step.Step.TheVariants.{Went, Finished, Nothing}
+use Rattle.ns_world.specs.Begins.{Begins}
+use Rattle.ns_world.specs.Calls.{CellFits}
+use Rattle.ns_world.specs.World.{Now, IsIdle, IsBusy, StepOf, is_busy}
+
+-- ---- one turn
+
+-- the world, how many calls of each seat are over, and their lines in the order of finishing
+pub record Progress (C : Type 0) (N : ℕ) : Type 0 where
+  pub world : Now C N
+  pub over : List ℕ
+  pub lines : List Line
+
+abbrev pub progress : {C : Type 0} {N : ℕ} → Now C N → List ℕ → List Line → Progress C N
+progress world over lines = record { world = world; over = over; lines = lines }
+
+-- before the first turn
+abbrev pub start : {C : Type 0} {N : ℕ} → Now C N → Progress C N
+start world = progress world (replicate 64 0) []
+
+-- The calls of a seat. A seat without a list has none.
+abbrev pub calls_of : List (List Call) → ℕ → List Call
+calls_of lists seat = unwrap_or (slice_get lists seat) []
+
+-- the seat's next call
+abbrev pub next_call : {C : Type 0} {N : ℕ} → List (List Call) → Progress C N → ℕ → Option Call
+next_call lists p seat = slice_get (calls_of lists seat) (slice_index p.over seat)
+
+-- the seat's call is over, with this answer
+abbrev pub finished : {C : Type 0} {N : ℕ} → Progress C N → ℕ → Reply → Now C N → Progress C N
+finished p seat reply world = record {
+  world = world;
+  over = slice_set p.over seat (slice_index p.over seat + 1);
+  lines = p.lines ++ record { thread = seat; call = slice_index p.over seat; reply = reply; tests = 0 } ∷ [];
+}
+
+-- what a seat's step leaves of the progress
+abbrev pub progressed : {C : Type 0} {N : ℕ} → Progress C N → ℕ → Step → Now C N → Progress C N
+progressed p seat Went world = record p { world = world }
+progressed p seat Nothing world = record p { world = world }
+progressed p seat (Finished reply) world = finished p seat reply world
+
+-- the same of the counts and the lines alone, in whatever world
+abbrev pub Counts : List ℕ → List Line → ℕ → Step → List ℕ → List Line → Type 0
+Counts over lines seat (Finished reply) over' lines' =
+    (over' ≡ slice_set over seat (slice_index over seat + 1)) × (lines' ≡ lines ++ record { thread = seat; call = slice_index over seat; reply = reply; tests = 0 } ∷ [])
+Counts over lines seat step over' lines' = (over' ≡ over) × (lines' ≡ lines)
+
+-- A seat with a call in progress goes on with it; one with none begins its next, if the call's need is met.
+abbrev pub Leads : {C : Type 0} {N : ℕ} → List (List Call) → Progress C N → ℕ → Now C N → Type 0
+Leads lists p seat world =
+    (IsBusy p.world seat × (world ≡ p.world))
+    ⊎ ((call : Call) × (next_call lists p seat ≡ Some call) × Begins p.world world seat call Started)
+
+-- the seat makes a step of the call that it goes on with or begins
+pub record Makes {C : Type 0} {N : ℕ} (lists : List (List Call)) (p : Progress C N) (seat : ℕ) (step : Step) (q : Progress C N) : Type 0 where
+  pub begun : Now C N
+  pub leads : Leads lists p seat begun
+  pub world : Now C N
+  pub steps : StepOf begun world seat step
+  pub goes : step ≢ Nothing
+  pub after : q ≡ progressed p seat step world
+
+-- the need of the seat's next call isn't met: the call is over at once, with no step
+pub record Misuses {C : Type 0} {N : ℕ} (lists : List (List Call)) (p : Progress C N) (seat : ℕ) (step : Step) (q : Progress C N) : Type 0 where
+  pub call : Call
+  pub next : next_call lists p seat ≡ Some call
+  pub refused : Begins p.world p.world seat call Misuse
+  pub answer : step ≡ Finished Misused
+  pub after : q ≡ finished p seat Misused p.world
+
+-- no call of the seat is in progress or left
+pub record Rests {C : Type 0} {N : ℕ} (lists : List (List Call)) (p : Progress C N) (seat : ℕ) (step : Step) (q : Progress C N) : Type 0 where
+  pub idle : IsIdle p.world seat
+  pub none : next_call lists p seat ≡ None
+  pub answer : step ≡ Nothing
+  pub after : q ≡ p
+
+-- A turn of the seat takes the progress p to q, and was this.
+abbrev pub TurnOf : {C : Type 0} {N : ℕ} → List (List Call) → Progress C N → ℕ → Step → Progress C N → Type 0
+TurnOf lists p seat step q = Makes lists p seat step q ⊎ (Misuses lists p seat step q ⊎ Rests lists p seat step q)
+
+-- A turn takes the world old to the world new, where this is the seat's next call, whatever came before.
+abbrev pub TurnsWith : {C : Type 0} {N : ℕ} → Option Call → Now C N → ℕ → Step → Now C N → Type 0
+TurnsWith next old seat step new =
+    (lists : List (List Call)) (over : List ℕ) (lines : List Line) → slice_get (calls_of lists seat) (slice_index over seat) ≡ next →
+    TurnOf lists (progress old over lines) seat step (progressed (progress old over lines) seat step new)
+
+-- why a turn is refused
+abbrev pub TurnFault : {C : Type 0} {N : ℕ} → Now C N → ℕ → Fault → Type 0
+TurnFault world seat OutOfMemory = Unit {0}
+TurnFault world seat NoSuchSeat = length world.state.views ≤ seat
+TurnFault world seat TooManySeats = ⊥
+TurnFault world seat StepLimit = ⊥
+
+-- ---- many turns
+
+-- a turn that was made: whose, and what it was
+pub record Turned : Type 0 where
+  pub seat : ℕ
+  pub step : Step
+
+-- These turns, one after another, take the progress p to q
+abbrev pub TurnsOf : {C : Type 0} {N : ℕ} → List (List Call) → Progress C N → List Turned → Progress C N → Type 0
+TurnsOf lists p [] q = q ≡ p
+TurnsOf {C} {N} lists p (turned ∷ turns) q = (r : Progress C N) × TurnOf lists p turned.seat turned.step r × TurnsOf lists r turns q
+
+-- ---- the schedule
+
+-- one item of a schedule: whose turn it is, and whether it goes on until the call returns
+pub record Item : Type 0 where
+  pub seat : ℕ
+  pub whole : Bool
+
+-- a word of a schedule is as many items as it says
+abbrev pub word_items : Turn → List Item
+word_items turn = replicate turn.times (record { seat = turn.thread; whole = turn.whole })
+
+abbrev pub items_of : List Turn → List Item
+items_of schedule = flat_map word_items schedule
+
+-- an item ends with this turn of its seat: each does but a whole one whose call goes on
+abbrev pub is_end : Bool → Step → Bool
+is_end whole Went = not whole
+is_end whole Nothing = true
+is_end whole (Finished reply) = true
+
+-- what is left of the items after these turns, or nothing where the turns don't follow them
+abbrev pub rest_of : List Item → List Turned → Option (List Item)
+rest_of items [] = Some items
+rest_of [] (turned ∷ turns) = None
+rest_of (item ∷ items) (turned ∷ turns) =
+    if turned.seat == item.seat then (if is_end item.whole turned.step then rest_of items turns else rest_of (item ∷ items) turns) else None
+
+-- ---- a run
+
+-- Turns that follow the items and leave some of them take the progress p to q, and their number from `before` to `after`, at most the limit.
+pub record Advances {C : Type 0} {N : ℕ} (lists : List (List Call)) (limit : ℕ) (p : Progress C N) (before : ℕ) (items left : List Item) (q : Progress C N) (after : ℕ) : Type 0 where
+  pub turns : List Turned
+  pub made : TurnsOf lists p turns q
+  pub rest : rest_of items turns ≡ Some left
+  pub count : after ≡ before + length turns
+  pub within : after ≤ limit
+
+-- Why a run stops in this world after so many turns, with these items left: the next item needs one turn more than the limit, or its thread is no seat, or memory was refused.
+abbrev pub StopsFor : {C : Type 0} {N : ℕ} → ℕ → Now C N → ℕ → List Item → Fault → Type 0
+StopsFor limit world made left OutOfMemory = Unit {0}
+StopsFor limit world made (item ∷ left) StepLimit = (made ≡ limit) × (item.seat < length world.state.views)
+StopsFor limit world made (item ∷ left) NoSuchSeat = length world.state.views ≤ item.seat
+StopsFor limit world made left fault = ⊥
+
+-- Turns that follow a front of the items lead from the progress p, and then the run stops in this world.
+pub record Stops {C : Type 0} {N : ℕ} (lists : List (List Call)) (limit : ℕ) (p : Progress C N) (before : ℕ) (items : List Item) (world : Now C N) (fault : Fault) : Type 0 where
+  pub left : List Item
+  pub end : Progress C N
+  pub after : ℕ
+  pub advances : Advances lists limit p before items left end after
+  pub here : end.world ≡ world
+  pub why : StopsFor limit world after left fault
+
+-- A whole run takes the world old to the world new, and gives these lines: turns from the start that follow the schedule to its end, no more than the limit.
+pub record Runs {C : Type 0} {N : ℕ} (lists : List (List Call)) (schedule : List Turn) (limit : ℕ) (old new : Now C N) (lines : List Line) : Type 0 where
+  pub end : Progress C N
+  pub after : ℕ
+  pub advances : Advances lists limit (start old) 0 (items_of schedule) [] end after
+  pub here : end.world ≡ new
+  pub tells : end.lines ≡ lines
+
+-- A run that is refused leaves the world as its last turn left it.
+abbrev pub RunFault : {C : Type 0} {N : ℕ} → List (List Call) → List Turn → ℕ → Now C N → Now C N → Fault → Type 0
+RunFault lists schedule limit old new fault = Stops lists limit (start old) 0 (items_of schedule) new fault
+
+-- ---- what a run needs
+
+-- no call is in progress
+abbrev pub AllIdle : {C : Type 0} {N : ℕ} → Now C N → Type 0
+AllIdle world = (seat : ℕ) → is_busy world.state.views seat ≡ false
+
+-- No seat is past its last call, which keeps a call's number below 256.
+pub record IsCounted {C : Type 0} {N : ℕ} (world : Now C N) (over : List ℕ) : Type 0 where
+  pub many : length over ≡ 64
+  pub most : (seat : ℕ) → slice_index over seat + (if is_busy world.state.views seat then 1 else 0) ≤ 256
+
+-- a list has at most 256 calls, and each call's cell is one of n
+abbrev pub ListFits : ℕ → List Call → Type 0
+ListFits n calls = (length calls ≤ 256) × All (CellFits n) calls

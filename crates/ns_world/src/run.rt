@@ -1,0 +1,198 @@
+//! A run of a schedule: items of its words one after another, each of one turn or of as many as
+//! its call takes.
+
+ghost use Rattle.std.specs.Prelude.{◌≡◌, ◌≤◌, ◌<◌, ◌+◌, ◌∷◌, [], Some, IfSome, IfOk, IfErr, OnOk, All, map, slice_get, slice_index, replicate, MatchResult, ◌^◌, ◌++◌};
+ghost use Rattle.ns_world.specs.Calls.{CellFits};
+ghost use Rattle.ns_world.specs.Runs.{calls_of, Counts, progress, progressed, is_end, TurnsWith, TurnFault, TurnOf, Advances, Stops, Runs, RunFault, AllIdle, IsCounted, ListFits, items_of};
+
+use crate::call::Call;
+use crate::fault::Fault;
+use crate::schedule::{Line, Turn};
+use crate::step::{Begun, Step};
+use crate::world::World;
+use ns_word::room::Fits;
+use ns_word::walk::Reply;
+use std::alloc::{AllocError, Global};
+
+/// How far a run has come: how many calls of each seat are over, their lines, and the turns.
+#[derive(Drop)]
+struct Tally {
+    over: [u16; 64],
+    lines: Vec<Line>,
+    turns: u32,
+}
+
+/// The seat's call after so many. A seat without a list has none.
+fn next_call(lists: &[Vec<Call>], seat: u8, over: u16) -> Option<Call>
+    ensures { result ≡ slice_get (calls_of (map (λ calls. calls.items) lists.now) seat) over }
+{
+    match lists.get(seat as usize) {
+        Some(calls) => calls.get(over as usize).copied(),
+        None => None,
+    }
+}
+
+/// A turn of the seat: starts its next call where it is idle, and makes one step.
+fn turn<C: Fits<N>, const N: usize>(
+    world: &mut World<C, N>,
+    next: Option<Call>,
+    seat: u8,
+) -> Result<Step, Fault>
+    requires { IfSome next (CellFits N) }
+    ensures ok { IfOk result (λ step. TurnsWith next world.old seat step world.new) }
+    ensures err { IfErr result (λ fault. (world.new ≡ world.old) × TurnFault world.old seat fault) }
+{
+    let Some(call) = next else {
+        return world.step(seat);
+    };
+    match world.begin(seat, call)? {
+        Begun::Misuse => Ok(Step::Finished(Reply::Misuse)),
+        Begun::Started => world.step(seat),
+        Begun::Busy => world.step(seat),
+    }
+}
+
+/// Whether an item ends with this turn of its seat.
+fn is_end(whole: bool, step: Step) -> bool
+    ensures { result ≡ is_end whole step }
+{
+    match step {
+        Step::Went => !whole,
+        Step::Finished(_) => true,
+        Step::Nothing => true,
+    }
+}
+
+/// Counts a turn that was made, and the call that it finished.
+fn count(tally: &mut Tally, seat: u8, step: Step) -> Result<(), AllocError>
+    requires seat { seat < 64 }
+    requires over { slice_index tally.old.over seat ≤ 256 }
+    requires turns { tally.old.turns + 1 < 2 ^ 32 }
+    ensures ok { OnOk result (Counts tally.old.over tally.old.lines.items seat step tally.new.over tally.new.lines.items) }
+    ensures turns { tally.new.turns ≡ tally.old.turns + 1 }
+{
+    tally.turns += 1;
+    if let Step::Finished(reply) = step {
+        let call = tally.over[seat as usize];
+        tally.lines.push(Line {
+            thread: seat,
+            call,
+            reply,
+            tests: 0,
+        })?;
+        tally.over[seat as usize] = call + 1;
+    }
+    Ok(())
+}
+
+/// One turn of the seat, counted: its step, where the run goes on.
+fn counted_turn<C: Fits<N>, const N: usize>(
+    world: &mut World<C, N>,
+    lists: &[Vec<Call>],
+    tally: &mut Tally,
+    seat: u8,
+    limit: u32,
+) -> Result<Step, Fault>
+    requires lists { All (λ calls. ListFits N calls.items) lists.now }
+    requires counted { IsCounted world.old tally.old.over }
+    requires turns { tally.old.turns ≤ limit }
+    ensures ok { IfOk result (λ step. let calls = map (λ calls. calls.items) lists.now in
+        TurnOf calls (progress world.old tally.old.over tally.old.lines.items) seat step (progress world.new tally.new.over tally.new.lines.items)) }
+    ensures counted { OnOk result (IsCounted world.new tally.new.over) }
+    ensures turns { OnOk result ((tally.new.turns ≡ tally.old.turns + 1) × (tally.new.turns ≤ limit)) }
+    ensures err { IfErr result (λ fault. let calls = map (λ calls. calls.items) lists.now in
+        (whole : _) → Stops calls limit (progress world.old tally.old.over tally.old.lines.items) tally.old.turns (record { seat = seat; whole = whole } ∷ []) world.new fault) }
+{
+    if seat as usize >= world.seats() {
+        return Err(Fault::NoSuchSeat);
+    }
+    if tally.turns == limit {
+        return Err(Fault::StepLimit);
+    }
+    let next = next_call(lists, seat, tally.over[seat as usize]);
+    let step = turn(world, next, seat)?;
+    count(tally, seat, step)?;
+    Ok(step)
+}
+
+/// An item of the seat: a turn, and for a `whole` one further turns until its call returns.
+fn item<C: Fits<N>, const N: usize>(
+    world: &mut World<C, N>,
+    lists: &[Vec<Call>],
+    tally: &mut Tally,
+    seat: u8,
+    whole: bool,
+    limit: u32,
+) -> Result<(), Fault>
+    requires lists { All (λ calls. ListFits N calls.items) lists.now }
+    requires counted { IsCounted world.old tally.old.over }
+    requires turns { tally.old.turns ≤ limit }
+    ensures ok { OnOk result (let calls = map (λ calls. calls.items) lists.now in
+        Advances calls limit (progress world.old tally.old.over tally.old.lines.items) tally.old.turns (record { seat = seat; whole = whole } ∷ []) [] (progress world.new tally.new.over tally.new.lines.items) tally.new.turns) }
+    ensures counted { OnOk result (IsCounted world.new tally.new.over) }
+    ensures err { IfErr result (λ fault. let calls = map (λ calls. calls.items) lists.now in
+        Stops calls limit (progress world.old tally.old.over tally.old.lines.items) tally.old.turns (record { seat = seat; whole = whole } ∷ []) world.new fault) }
+{
+    loop {
+        let step = counted_turn(world, lists, tally, seat, limit)?;
+        if is_end(whole, step) {
+            return Ok(());
+        }
+    }
+}
+
+/// The items of a word of the schedule.
+fn word<C: Fits<N>, const N: usize>(
+    world: &mut World<C, N>,
+    lists: &[Vec<Call>],
+    tally: &mut Tally,
+    turn: &Turn,
+    limit: u32,
+) -> Result<(), Fault>
+    requires lists { All (λ calls. ListFits N calls.items) lists.now }
+    requires counted { IsCounted world.old tally.old.over }
+    requires turns { tally.old.turns ≤ limit }
+    ensures ok { OnOk result (let calls = map (λ calls. calls.items) lists.now in
+        Advances calls limit (progress world.old tally.old.over tally.old.lines.items) tally.old.turns (items_of (turn.now ∷ [])) [] (progress world.new tally.new.over tally.new.lines.items) tally.new.turns) }
+    ensures counted { OnOk result (IsCounted world.new tally.new.over) }
+    ensures err { IfErr result (λ fault. let calls = map (λ calls. calls.items) lists.now in
+        Stops calls limit (progress world.old tally.old.over tally.old.lines.items) tally.old.turns (items_of (turn.now ∷ [])) world.new fault) }
+{
+    for _ in 0..turn.times {
+        item(world, lists, tally, turn.thread, turn.whole, limit)?;
+    }
+    Ok(())
+}
+
+impl<C: Fits<N>, const N: usize> World<C, N> {
+    /// Runs the schedule, where thread `t` makes the calls of the list `t` from seat `t`, in
+    /// order. Answers the calls that finished, in the order of finishing. A call may be left in
+    /// progress.
+    ///
+    /// Needs a world with no call in progress, lists of at most 256 calls, and calls whose cells
+    /// are below `N`. Refuses an item whose thread is no seat (`NoSuchSeat`), the turn after
+    /// `limit` turns (`StepLimit`), and want of memory (`OutOfMemory`); the world is then as the
+    /// last turn left it.
+    pub fn run(
+        &mut self,
+        alloc: Global,
+        lists: &[Vec<Call>],
+        schedule: &[Turn],
+        limit: u32,
+    ) -> Result<Vec<Line>, Fault>
+        requires idle { AllIdle self.old }
+        requires lists { All (λ calls. ListFits N calls.items) lists.now }
+        ensures { MatchResult result (λ lines. Runs (map (λ calls. calls.items) lists.now) schedule.now limit self.old self.new lines.items)
+            (RunFault (map (λ calls. calls.items) lists.now) schedule.now limit self.old self.new) }
+    {
+        let mut tally = Tally {
+            over: [0; 64],
+            lines: Vec::new(alloc),
+            turns: 0,
+        };
+        for turn in schedule {
+            word(self, lists, &mut tally, turn, limit)?;
+        }
+        Ok(tally.lines)
+    }
+}
