@@ -1,3 +1,5 @@
+pub mod Beginnings
+pub mod Environments
 pub mod Histories
 pub mod Phases
 pub mod Room

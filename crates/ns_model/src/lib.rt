@@ -8,9 +8,14 @@
 //!
 //! [`history::legal`] decides whether a list of events is legal, [`history::row_after`] tells
 //! the row that it leaves. Both are exactly the definitions of `specs/`, and take no memory.
+//!
+//! Beside the lock stand a clock and a tree of notes, which callers watch: their events are in
+//! [`environment`], and which of their histories are legal, what the clock then shows and which
+//! notes are notified is defined in `specs/`.
 #![tactic(auto)]
 
 pub mod condition;
+pub mod environment;
 pub mod event;
 pub mod history;
 pub mod phase;

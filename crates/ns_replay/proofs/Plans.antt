@@ -8,14 +8,14 @@ use Rattle.std.proofs.lemmas.List.Elements.{All-nil, All-cons}
 use Rattle.serde_json.specs.Data.{Data}
 use Rattle.serde_json.specs.Find.{get, as_str, as_array}
 use Rattle.ns_world.specs.declared.call.Call.{Call}
-use Rattle.ns_world.specs.declared.call.Call.TheVariants.{TryLock, Unlock, Get, Set}
+use Rattle.ns_world.specs.declared.call.Call.TheVariants.{TryLock, TryRLock, Unlock, RUnlock, Get, Set}
 use Rattle.ns_world.specs.declared.schedule.Turn.{Turn}
 use Rattle.ns_world.specs.Calls.{CellFits}
 use Rattle.ns_replay.specs.declared.place.Place.{Place}
 use Rattle.ns_replay.specs.declared.place.Place.TheVariants as at
 use Rattle.ns_replay.specs.declared.fault.Fault.{Fault}
 use Rattle.ns_replay.specs.Faults.{◌>>=◌, need, each_from}
-use Rattle.ns_replay.specs.Words.{parts, number_of, below, call_of, actor_of, turn_of}
+use Rattle.ns_replay.specs.Words.{parts, number_of, below, call_of, plain_call_of, actor_of, turn_of}
 use Rattle.ns_replay.specs.Script.{Plan, list_of, at_most, list_in, call_at, calls_at, threads_of, words_of, turn_at, schedule_of, members_of, version_of, plan_in, json_of, script_of}
 use Rattle.ns_replay.specs.Runnable.{IsShort, IsRunnable}
 
@@ -80,15 +80,22 @@ below_some limit o n e =
     let small : nat_lt k limit ≡ true = p.0 in
     rw (← is) (grind (arith, nat_tests))
 
-plain_by : (b c : Bool) (call : Call) → cond b (Some TryLock) (cond c (Some Unlock) None) ≡ Some call → CellFits 8 call
-plain_by true c call e = let is : TryLock ≡ call = cc in subst (CellFits 8) is tt
-plain_by false true call e = let is : Unlock ≡ call = cc in subst (CellFits 8) is tt
-plain_by false false call e = absurd cc
+-- one name after another
+named : (b : Bool) (c : Call) (rest : Option Call) (call : Call) → CellFits 8 c → (rest ≡ Some call → CellFits 8 call) → cond b (Some c) rest ≡ Some call → CellFits 8 call
+named true c rest call fits others e = let is : c ≡ call = cc in subst (CellFits 8) is fits
+named false c rest call fits others e = others e
+
+plain_fits : (name : List ℕ) (call : Call) → plain_call_of name ≡ Some call → CellFits 8 call
+plain_fits name call =
+    named (bytes_eq name (codes "trylock")) TryLock _ call tt
+    (named (bytes_eq name (codes "rtrylock")) TryRLock _ call tt
+    (named (bytes_eq name (codes "unlock")) Unlock _ call tt
+    (named (bytes_eq name (codes "runlock")) RUnlock _ call tt (λ e. absurd cc))))
 
 call_fits : (words : List (List ℕ)) (call : Call) → call_of words ≡ Some call → CellFits 8 call
 unfolding call_of
 call_fits [] call e = absurd cc
-call_fits (name ∷ []) call e = plain_by (bytes_eq name (codes "trylock")) (bytes_eq name (codes "unlock")) call e
+call_fits (name ∷ []) call e = plain_fits name call e
 call_fits (name ∷ cell ∷ []) call e =
     let (i, number, is) = map_some Get _ call (if_some (bytes_eq name (codes "get")) (option_map Get (below 8 (number_of cell))) call e).1 in
     subst (CellFits 8) is (below_some 8 (number_of cell) i number)

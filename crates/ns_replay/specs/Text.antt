@@ -13,10 +13,12 @@ use Rattle.ns_model.specs.declared.event.Event.{Event}
 use Rattle.ns_model.specs.declared.event.Event.TheVariants.{Section, Signal, Broadcast, Leave}
 use Rattle.ns_model.specs.declared.seats.Seats.{Seats}
 use Rattle.ns_model.specs.Seats.{is_in}
+use Rattle.ns_queue.specs.declared.waiter.Shown.{Shown}
+use Rattle.ns_word.specs.declared.word.Word.{Word}
 use Rattle.ns_word.specs.declared.walk.Reply.{Reply}
 use Rattle.ns_word.specs.declared.walk.Reply.TheVariants.{Ok as Went, Busy, Number, Misuse}
 use Rattle.ns_world.specs.declared.call.Call.{Call}
-use Rattle.ns_world.specs.declared.call.Call.TheVariants.{TryLock, Unlock, Get, Set}
+use Rattle.ns_world.specs.declared.call.Call.TheVariants.{TryLock, TryRLock, Unlock, RUnlock, Get, Set}
 use Rattle.ns_world.specs.declared.schedule.Line.{Line}
 use Rattle.ns_replay.specs.declared.condition.ScriptCondition.{ScriptCondition}
 use Rattle.ns_world.specs.World.{Now, is_busy}
@@ -40,7 +42,9 @@ is_ok Misuse = false
 abbrev pub is_unlock : Option Call → Bool
 is_unlock None = false
 is_unlock (Some TryLock) = false
+is_unlock (Some TryRLock) = false
 is_unlock (Some Unlock) = true
+is_unlock (Some RUnlock) = true
 is_unlock (Some (Get i)) = false
 is_unlock (Some (Set i v)) = false
 
@@ -152,20 +156,33 @@ history_text asked events = if asked then events_text events else []
 
 -- ---- the lock
 
-abbrev pub write_text : Bool → List ℕ
-write_text write = if write then codes " write" else []
+-- a bit's name, where it is set
+abbrev pub bit_text : List ℕ → Bool → List ℕ
+bit_text name set = if set then name else []
 
--- the lock word, by which nobody reads
-abbrev pub word_text : Bool → List ℕ
-word_text write = codes "word" ++ write_text write ++ codes " readers=0\n"
+abbrev pub bits_text : Word → List ℕ
+bits_text word =
+    bit_text (codes " write") word.write ++ bit_text (codes " spin") word.spin ++ bit_text (codes " wait") word.waiting
+    ++ bit_text (codes " desig") word.desig ++ bit_text (codes " cond") word.cond ++ bit_text (codes " wwait") word.writer_waits
+    ++ bit_text (codes " allfalse") word.all_false
 
--- the lock word, and the queue, in which nobody waits
-abbrev pub lock_text : Bool → List ℕ
-lock_text write = word_text write ++ codes "queue\n"
+-- the lock word: the bits that are set, and how many seats read
+abbrev pub word_text : Word → List ℕ
+word_text word = codes "word" ++ bits_text word ++ codes " readers=" ++ decimal word.readers ++ codes "\n"
 
--- where that is asked for
-abbrev pub state_text : Bool → Bool → List ℕ
-state_text asked write = if asked then lock_text write else []
+-- a waiter: its seat and mode, and a mark if it has a condition
+abbrev pub waiter_text : Shown → List ℕ
+waiter_text waiter = codes " " ++ decimal waiter.seat ++ codes ":" ++ mode_text waiter.mode ++ bit_text (codes "?") waiter.conditional
+
+abbrev pub queue_text : List Shown → List ℕ
+queue_text waiters = codes "queue" ++ flat_map waiter_text waiters ++ codes "\n"
+
+abbrev pub lock_text : Word → List Shown → List ℕ
+lock_text word waiters = word_text word ++ queue_text waiters
+
+-- where that is asked for; no call waits yet
+abbrev pub state_text : Bool → Word → List ℕ
+state_text asked word = if asked then lock_text word [] else []
 
 -- ---- a run
 
@@ -176,4 +193,4 @@ text_of options threads lines world =
     ++ lefts_text (is_busy world.state.views) lines (length threads)
     ++ row_text world.state.row
     ++ history_text options.history world.history
-    ++ state_text options.state world.state.word.write
+    ++ state_text options.state world.state.word

@@ -17,12 +17,14 @@ fn plain_call(name: &str) -> Option<Call>
 {
     match name {
         "trylock" => Some(Call::TryLock),
+        "rtrylock" => Some(Call::TryRLock),
         "unlock" => Some(Call::Unlock),
+        "runlock" => Some(Call::RUnlock),
         _ => None,
     }
 }
 
-/// The call that words write: `trylock`, `unlock`, `get I` or `set I V`.
+/// The call that words write: one of one word, `get I` or `set I V`.
 #[tactic(auto, unfolding(crate::specs::Words::call_of))]
 pub fn call(words: &[&str]) -> Option<Call>
     ensures { result ≡ call_of (map (λ x. x.now) words.now) }

@@ -51,6 +51,6 @@ pub fn run_text(
     push_lefts(&mut out, state.busy, &run.lines, threads.len() as u8)?;
     push_row(&mut out, &state.row)?;
     push_history(&mut out, options.history, run.world.history())?;
-    push_state(&mut out, options.state, state.write)?;
+    push_state(&mut out, options.state, state.word, &state.lock)?;
     Ok(out)
 }

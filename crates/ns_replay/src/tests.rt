@@ -95,6 +95,26 @@ fn texts(rt: HostRuntime) {
             PLAIN,
             "0 0 left\n1 0 left\nrow 0 0 0 0 0 0 0 0\n",
         ),
+        (
+            "{\"version\":1,\"threads\":[[\"rtrylock\"],[\"rtrylock\",\"runlock\"],[\"trylock\"]],\"schedule\":\"0! 1! 2! 1!\"}",
+            STATE,
+            "0 0 ok\n1 0 ok\n2 0 busy\n1 1 ok\nrow 0 0 0 0 0 0 0 0\nword readers=1\nqueue\n",
+        ),
+        (
+            "{\"version\":1,\"threads\":[[\"rtrylock\",\"unlock\",\"set 0 1\",\"get 0\",\"runlock\",\"runlock\"]],\"schedule\":\"0!*6\"}",
+            ALL,
+            "0 0 ok\n0 1 misuse\n0 2 misuse\n0 3 0\n0 4 ok tests 0\n0 5 misuse\nrow 0 0 0 0 0 0 0 0\nsection 0 r plain plain 0,0,0,0,0,0,0,0 0,0,0,0,0,0,0,0\nword readers=0\nqueue\n",
+        ),
+        (
+            "{\"version\":1,\"threads\":[[\"trylock\",\"unlock\"],[\"rtrylock\",\"rtrylock\"]],\"schedule\":\"0! 1! 0! 1!\"}",
+            STATE,
+            "0 0 ok\n1 0 busy\n0 1 ok\n1 1 ok\nrow 0 0 0 0 0 0 0 0\nword readers=1\nqueue\n",
+        ),
+        (
+            "{\"version\":1,\"threads\":[[\"rtrylock\"],[\"rtrylock\"]],\"schedule\":\"0 1 0 1\"}",
+            STATE,
+            "0 0 ok\n1 0 busy\nrow 0 0 0 0 0 0 0 0\nword readers=1\nqueue\n",
+        ),
         (EMPTY, PLAIN, ROW),
         (
             "{\"version\":1,\"threads\":[[]],\"schedule\":\"0*1000000\"}",

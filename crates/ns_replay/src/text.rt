@@ -3,14 +3,16 @@
 //! Each function adds one part at the end of a text, and its contract says which, by the
 //! definition of that part in `specs/Text.antt`.
 
-ghost use Rattle.std.specs.Prelude.{◌≡◌, ◌≤◌, ◌<◌, ◌++◌, ◌||◌, map, flat_map, string_bytes, OnOk, IfOk};
+ghost use Rattle.std.specs.Prelude.{◌≡◌, ◌≤◌, ◌<◌, ◌++◌, ◌||◌, [], map, flat_map, string_bytes, OnOk, IfOk};
 ghost use Rattle.ns_model.specs.Seats.{is_in};
-ghost use Rattle.ns_replay.specs.Text.{reply_text, is_release, tests_text, line_text, lines_text, finished_calls, left_text, lefts_text, row_text, after_comma, numbers_text, mode_text, answer_text, entry_text, exit_text, section_text, rows_text, seat_text, seats_text, event_words, event_text, events_text, history_text, write_text, word_text, lock_text, state_text};
+ghost use Rattle.ns_replay.specs.Text.{reply_text, is_release, tests_text, line_text, lines_text, finished_calls, left_text, lefts_text, row_text, after_comma, numbers_text, mode_text, answer_text, entry_text, exit_text, section_text, rows_text, seat_text, seats_text, event_words, event_text, events_text, history_text, bit_text, bits_text, word_text, waiter_text, queue_text, lock_text, state_text};
 
 use crate::condition::ScriptCondition;
 use ns_model::event::{Answer, Entry, Event, Exit, Mode};
 use ns_model::seats::Seats;
+use ns_queue::waiter::Shown;
 use ns_word::walk::Reply;
+use ns_word::word::Word;
 use ns_world::call::Call;
 use ns_world::schedule::Line;
 use std::alloc::AllocError;
@@ -35,7 +37,7 @@ fn ends_release(threads: &[Vec<Call>], line: &Line) -> bool
         return false;
     };
     match calls.get(line.call as usize) {
-        Some(Call::Unlock) => true,
+        Some(Call::Unlock | Call::RUnlock) => true,
         _ => false,
     }
 }
@@ -322,37 +324,86 @@ pub fn push_history(
     }
 }
 
-/// The write bit of the lock word, if it is set.
-fn push_write(out: &mut String, write: bool) -> Result<(), AllocError>
-    ensures { OnOk result (string_bytes out.new ≡ string_bytes out.old ++ write_text write) }
+/// The name of a bit, if it is set.
+fn push_bit(out: &mut String, name: &str, set: bool) -> Result<(), AllocError>
+    ensures { OnOk result (string_bytes out.new ≡ string_bytes out.old ++ bit_text name.now set) }
 {
-    if write {
-        out.push_str(" write")
-    } else {
-        Ok(())
-    }
+    if set { out.push_str(name) } else { Ok(()) }
 }
 
-/// The line of the lock word. Nobody reads yet.
-fn push_word(out: &mut String, write: bool) -> Result<(), AllocError>
-    ensures { OnOk result (string_bytes out.new ≡ string_bytes out.old ++ word_text write) }
+/// The bits of the lock word that are set.
+fn push_bits(out: &mut String, word: Word) -> Result<(), AllocError>
+    ensures { OnOk result (string_bytes out.new ≡ string_bytes out.old ++ bits_text word) }
 {
+    push_bit(out, " write", word.write)?;
+    push_bit(out, " spin", word.spin)?;
+    push_bit(out, " wait", word.waiting)?;
+    push_bit(out, " desig", word.desig)?;
+    push_bit(out, " cond", word.cond)?;
+    push_bit(out, " wwait", word.writer_waits)?;
+    push_bit(out, " allfalse", word.all_false)
+}
+
+/// The line of the lock word.
+fn push_word(out: &mut String, word: Word) -> Result<(), AllocError>
+    ensures { OnOk result (string_bytes out.new ≡ string_bytes out.old ++ word_text word) }
+{
+    let readers = word.readers;
     out.push_str("word")?;
-    push_write(out, write)?;
-    out.push_str(" readers=0\n")
+    push_bits(out, word)?;
+    writeln!(out, " readers={readers}")
 }
 
-/// The lines of the lock word and of its queue. Nobody waits yet.
-fn push_lock(out: &mut String, write: bool) -> Result<(), AllocError>
-    ensures { OnOk result (string_bytes out.new ≡ string_bytes out.old ++ lock_text write) }
+/// A waiter of a list.
+fn push_waiter(out: &mut String, waiter: Shown) -> Result<(), AllocError>
+    ensures { OnOk result (string_bytes out.new ≡ string_bytes out.old ++ waiter_text waiter) }
 {
-    push_word(out, write)?;
-    out.push_str("queue\n")
+    let seat = waiter.seat;
+    write!(out, " {seat}:")?;
+    push_mode(out, waiter.mode)?;
+    push_bit(out, "?", waiter.conditional)
+}
+
+/// The waiters of a list.
+fn push_waiters(out: &mut String, waiters: &[Shown]) -> Result<(), AllocError>
+    ensures { OnOk result (string_bytes out.new ≡ string_bytes out.old ++ flat_map waiter_text waiters.now) }
+{
+    for waiter in waiters {
+        push_waiter(out, *waiter)?;
+    }
+    Ok(())
+}
+
+/// The line of the waiters for the lock.
+fn push_queue(out: &mut String, waiters: &[Shown]) -> Result<(), AllocError>
+    ensures { OnOk result (string_bytes out.new ≡ string_bytes out.old ++ queue_text waiters.now) }
+{
+    out.push_str("queue")?;
+    push_waiters(out, waiters)?;
+    out.push_str("\n")
+}
+
+/// The lines of the lock word and of its waiters.
+fn push_lock(out: &mut String, word: Word, waiters: &[Shown]) -> Result<(), AllocError>
+    ensures { OnOk result (string_bytes out.new ≡ string_bytes out.old ++ lock_text word waiters.now) }
+{
+    push_word(out, word)?;
+    push_queue(out, waiters)
 }
 
 /// The lines of the lock, where that is asked for.
-pub fn push_state(out: &mut String, asked: bool, write: bool) -> Result<(), AllocError>
-    ensures { OnOk result (string_bytes out.new ≡ string_bytes out.old ++ state_text asked write) }
+pub fn push_state(
+    out: &mut String,
+    asked: bool,
+    word: Word,
+    waiters: &[Shown],
+) -> Result<(), AllocError>
+    requires { waiters.now ≡ [] }
+    ensures { OnOk result (string_bytes out.new ≡ string_bytes out.old ++ state_text asked word) }
 {
-    if asked { push_lock(out, write) } else { Ok(()) }
+    if asked {
+        push_lock(out, word, waiters)
+    } else {
+        Ok(())
+    }
 }

@@ -47,26 +47,24 @@ module _ {C : Type 0} {N : ℕ} (holds : C → List ℕ → Bool) (seats : ℕ) 
       Effect seat (want_of walk) part found next commits →
       IsLawful holds seats h (state_with part front seat (Some walk) back) →
       IsLawful holds seats (h ++ commits) (state_with next front seat (walk_after (got_of walk found)) back)
-  by_walk TryLoad (Saw word) front seat back part next commits few e p = finds front seat TryLoad (Saw word) back part next commits e.1 e.2 p
-  by_walk (TryAcquire last) (Saw word) front seat back part next commits few e p = finds front seat (TryAcquire last) (Saw word) back part next commits e.2 e.3 p
-  by_walk ReleaseLoad (Saw word) front seat back part next commits few e p = finds front seat ReleaseLoad (Saw word) back part next commits e.1 e.2 p
-  by_walk (Release last) (Saw word) front seat back part next commits few e p = finds front seat (Release last) (Saw word) back part next commits e.2 e.3 p
+  by_walk (TryLoad mode) (Saw word) front seat back part next commits few e p = finds front seat (TryLoad mode) (Saw word) back part next commits e.1 e.2 p
+  by_walk (TryAcquire mode last) (Saw word) front seat back part next commits few e p = finds front seat (TryAcquire mode last) (Saw word) back part next commits e.2 e.3 p
+  by_walk (ReleaseLoad mode) (Saw word) front seat back part next commits few e p = finds front seat (ReleaseLoad mode) (Saw word) back part next commits e.1 e.2 p
+  by_walk (Release mode last) (Saw word) front seat back part next commits few e p = finds front seat (Release mode last) (Saw word) back part next commits e.2 e.3 p
   by_walk (Get i) (Cell v) front seat back part next commits few e p = finds front seat (Get i) (Cell v) back part next commits e.1 e.2 p
   by_walk (SetLoad i v) (Cell w) front seat back part next commits few e p = finds front seat (SetLoad i v) (Cell w) back part next commits e.1 e.2 p
-  by_walk (TryAcquire last) Made front seat back part next commits few e p =
-      let free : may_acquire part.word ≡ true = subst (λ word. may_acquire word ≡ true) e.0 e.1 in
-      let start = subst (λ held. IsLawful holds seats h (record { word = part.word; row = part.row; views = front ++ seat_at seat (Some (TryAcquire last)) held ∷ back })) e.2 p in
-      moved front seat None back _ next [] commits (e.3 ∙ ap (λ word. record { word = word_acquired word; row = part.row; held = Some (section Write Plain part.row part.row) }) e.0) e.4
-      (none_more _ (acquired holds seats h part.word part.row front seat (Some (TryAcquire last)) back free start))
-  by_walk (Release last) Made front seat back part next commits few e p =
+  by_walk (TryAcquire mode last) Made front seat back part next commits few e p =
+      let free : may_acquire mode part.word ≡ true = subst (λ word. may_acquire mode word ≡ true) e.0 e.1 in
+      let start = subst (λ held. IsLawful holds seats h (record { word = part.word; row = part.row; views = front ++ seat_at seat (Some (TryAcquire mode last)) held ∷ back })) e.2 p in
+      moved front seat None back _ next [] commits (e.3 ∙ ap (λ word. record { word = word_acquired mode word; row = part.row; held = Some (section mode Plain part.row part.row) }) e.0) e.4
+      (none_more _ (acquired holds seats h mode part.word part.row front seat (Some (TryAcquire mode last)) back free start))
+  by_walk (Release mode last) Made front seat back part next commits few e p =
       let held = e.0 in
-      let start = subst (λ x. IsLawful holds seats h (record { word = part.word; row = part.row; views = front ++ seat_at seat (Some (Release last)) x ∷ back })) e.1 p in
-      let as_writer = subst (λ m. IsLawful holds seats h (record { word = part.word; row = part.row; views = front ++ seat_at seat (Some (Release last)) (Some (section m held.entry held.before held.row)) ∷ back })) e.2 start in
-      let after_all = released holds seats h part.word part.row front seat (Some (Release last)) held.entry held.before held.row back few as_writer in
-      let same : next ≡ record { word = word_released part.word; row = part.row; held = None } =
-      e.4 ∙ ap (λ word. record { word = word_released word; row = part.row; held = None }) e.3 in
-      moved front seat None back _ next (section_of seat (section Write held.entry held.before held.row) Released ∷ []) commits same
-      (e.5 ∙ ap (λ m. section_of seat (section m held.entry held.before held.row) Released ∷ []) e.2) after_all
+      let start = subst (λ x. IsLawful holds seats h (record { word = part.word; row = part.row; views = front ++ seat_at seat (Some (Release mode last)) x ∷ back })) e.1 p in
+      let after_all = released holds seats h held.mode part.word part.row front seat (Some (Release mode last)) held.entry held.before held.row back few start in
+      let same : next ≡ record { word = word_released held.mode part.word; row = part.row; held = None } =
+      e.4 ∙ ap (λ word. record { word = word_released mode word; row = part.row; held = None }) e.3 ∙ ap (λ m. record { word = word_released m part.word; row = part.row; held = None }) (sym e.2) in
+      moved front seat None back _ next (section_of seat held Released ∷ []) commits same e.5 after_all
   by_walk (SetStore i v) Made front seat back part next commits few e p =
       let held = e.0 in
       let start = subst (λ x. IsLawful holds seats h (record { word = part.word; row = part.row; views = front ++ seat_at seat (Some (SetStore i v)) x ∷ back })) e.1 p in

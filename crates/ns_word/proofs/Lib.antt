@@ -1,4 +1,6 @@
 pub mod Acquires
+pub mod Alike
+pub mod Codes
 pub mod Histories
 pub mod Keeps
 pub mod Places

@@ -1,5 +1,5 @@
 -- A writer's store into a cell keeps the law; and what a writer knows of the others.
-use Rattle.std.proofs.Common.{◌≡◌, ℕ, ◌+◌, ◌<◌, Bool, true, false, cond, List, ◌∷◌, ◌++◌, Option, None, Some, slice_set, refl, ap, sym, ◌∙◌, arith}
+use Rattle.std.proofs.Common.{◌≡◌, ℕ, ◌+◌, ◌<◌, Bool, true, false, cond, inr, List, ◌∷◌, ◌++◌, Option, None, Some, slice_set, refl, ap, sym, ◌∙◌, arith}
 use Rattle.ns_model.specs.declared.event.Mode.{Mode}
 use Rattle.ns_model.specs.declared.event.Mode.TheVariants.{Write}
 use Rattle.ns_model.specs.declared.event.Entry.{Entry}
@@ -36,7 +36,7 @@ module _ {C : Type 0} {N : ℕ} (holds : C → List ℕ → Bool) (seats : ℕ) 
       let r = readers_at front view back in
       let write : word.write ≡ true = bit_set word.write (omega (arith, p.one_writer.bit)) in
       let unit : ◌≡◌ {A = ℕ} (cond word.write 1 0) 1 = rw write refl in
-      let nobody : readers (front ++ view ∷ back) ≡ 0 = p.one_writer.nobody_reads in
+      let nobody : readers (front ++ view ∷ back) ≡ 0 = p.one_writer.alone write in
       let count : writers (front ++ view ∷ back) ≡ cond word.write 1 0 = p.one_writer.bit in
       record { set = write; before = omega (arith, w, r, count, unit, nobody); behind = omega (arith, w, r, count, unit, nobody) }
 
@@ -55,22 +55,24 @@ module _ {C : Type 0} {N : ℕ} (holds : C → List ℕ → Bool) (seats : ℕ) 
       let set = alone.set in
       let parts = each_parts holds seats now row front view back p.one_history.each in
       let apart = apart_parts front view back p.apart in
+      let r : readers (front ++ view' ∷ back) ≡ readers (front ++ view ∷ back) = readers_at front view' back ∙ sym (readers_at front view back) in
       record {
         one_writer = record {
           bit = writers_at front view' back ∙ sym (writers_at front view back) ∙ p.one_writer.bit;
-          nobody_reads = readers_at front view' back ∙ sym (readers_at front view back) ∙ p.one_writer.nobody_reads;
+          alone = λ e. r ∙ p.one_writer.alone e;
         };
+        readers_counted = p.readers_counted ∙ sym r;
         one_history = record {
           legal = p.one_history.legal;
           by_seats = p.one_history.by_seats;
           each = each_join holds seats now (slice_set row i v) front view' back
-              (each_moves holds seats now now row (slice_set row i v) seat front apart.0 (λ other ne. refl) alone.before parts.0)
+              (each_moves holds seats now now row (slice_set row i v) seat front apart.0 (λ other ne. refl) (inr alone.before) parts.0)
               (record {
                 in_range = parts.1.in_range;
                 place = tt;
-                section = record { starts = parts.1.section.starts; enters = parts.1.section.enters; cells = ap (λ xs. slice_set xs i v) parts.1.section.cells };
+                section = record { starts = parts.1.section.starts; enters = parts.1.section.enters; cells = ap (λ xs. slice_set xs i v) parts.1.section.cells; reads = λ e. absurd (cc) };
               })
-              (each_moves holds seats now now row (slice_set row i v) seat back apart.1 (λ other ne. refl) alone.behind parts.2);
+              (each_moves holds seats now now row (slice_set row i v) seat back apart.1 (λ other ne. refl) (inr alone.behind) parts.2);
           free = λ e. absurd (cc);
         };
         apart = apart_moves front view view' back refl p.apart;

@@ -1,6 +1,7 @@
 -- A view among the views: what holds of all of them, by the views before it, itself, and those behind it.
-use Rattle.std.proofs.Common.{◌≡◌, ◌≢◌, ℕ, ◌+◌, Bool, true, false, not, cond, List, [], ◌∷◌, ◌++◌, Option, None, Some, refl, sym, ◌∙◌, subst, arith}
+use Rattle.std.proofs.Common.{◌≡◌, ◌≢◌, ℕ, ◌+◌, Bool, true, false, not, cond, ◌⊎◌, inl, inr, List, [], ◌∷◌, ◌++◌, Option, None, Some, refl, sym, ◌∙◌, subst, arith}
 use Rattle.ns_model.specs.Phases.{is_write}
+use Rattle.ns_model.specs.Sections.{EntryFits}
 use Rattle.ns_model.specs.Histories.{Standing}
 use Rattle.ns_word.specs.declared.view.Held.{Held}
 use Rattle.ns_word.specs.declared.view.SeatView.{SeatView}
@@ -70,18 +71,29 @@ module _ {C : Type 0} {N : ℕ} where
     each_join now row (u ∷ front) view back p q r = (p.0, each_join now row front view back p.1 q r)
 
     section_moves : (now next : Standing C) (row cells : List ℕ) (seat : ℕ) (held : Option (Held C N)) →
-        next.phases seat ≡ now.phases seat → held ≡ None →
+        next.phases seat ≡ now.phases seat →
+        ((next.row ≡ now.row) × (cells ≡ row)) ⊎ (held ≡ None) →
         SectionFits holds now row seat held → SectionFits holds next cells seat held
-    section_moves now next row cells seat None phase none p = phase ∙ p
-    section_moves now next row cells seat (Some held) phase none p = absurd (cc)
+    section_moves now next row cells seat None phase same p = phase ∙ p
+    section_moves now next row cells seat (Some held) phase (inl same) p = record {
+      starts = p.starts ∙ sym same.0;
+      enters = subst (λ ph. EntryFits holds held.before held.mode held.entry ph) (sym phase) p.enters;
+      cells = p.cells ∙ sym same.1;
+      reads = p.reads;
+    }
+    section_moves now next row cells seat (Some held) phase (inr none) p = absurd (cc)
 
-    -- what a writer's step leaves of the others, of whom none has a section in hand
+    -- what a seat's step leaves of the others: the row is the same, or none of them has a section in hand
     pub each_moves : (now next : Standing C) (row cells : List ℕ) (seat : ℕ) (views : List (SeatView C N)) →
         NoneIs seat views → ((other : ℕ) → other ≢ seat → next.phases other ≡ now.phases other) →
-        writers views + readers views ≡ 0 →
+        ((next.row ≡ now.row) × (cells ≡ row)) ⊎ (writers views + readers views ≡ 0) →
         EachFits holds seats now row views → EachFits holds seats next cells views
-    each_moves now next row cells seat [] apart phases none p = tt
-    each_moves now next row cells seat (u ∷ views) apart phases none p = (
-      record { in_range = p.0.in_range; place = p.0.place; section = section_moves now next row cells u.seat u.held (phases u.seat apart.0) (none_held u.held (omega arith)) p.0.section },
-      each_moves now next row cells seat views apart.1 phases (omega arith) p.1,
+    each_moves now next row cells seat [] apart phases same p = tt
+    each_moves now next row cells seat (u ∷ views) apart phases (inl same) p = (
+      record { in_range = p.0.in_range; place = p.0.place; section = section_moves now next row cells u.seat u.held (phases u.seat apart.0) (inl same) p.0.section },
+      each_moves now next row cells seat views apart.1 phases (inl same) p.1,
+    )
+    each_moves now next row cells seat (u ∷ views) apart phases (inr none) p = (
+      record { in_range = p.0.in_range; place = p.0.place; section = section_moves now next row cells u.seat u.held (phases u.seat apart.0) (inr (none_held u.held (omega arith))) p.0.section },
+      each_moves now next row cells seat views apart.1 phases (inr (omega arith)) p.1,
     )

@@ -1,6 +1,7 @@
 -- The law: what holds of a lock and its seats between any two steps.
 use Rattle.std.specs.Prelude.{◌≡◌, ◌≢◌, ℕ, ◌+◌, ◌<◌, Bool, true, false, if◌then◌else◌, List, [], ◌∷◌, not, Option, None, Some, IsSome}
-use Rattle.ns_model.specs.declared.event.Mode.TheVariants.{Write}
+use Rattle.ns_model.specs.declared.event.Mode.{Mode}
+use Rattle.ns_model.specs.declared.event.Mode.TheVariants.{Write, Read}
 use Rattle.ns_model.specs.declared.event.Event.{Event}
 use Rattle.ns_model.specs.declared.phase.Phase.TheVariants.{Idle}
 use Rattle.ns_model.specs.Phases.{is_write}
@@ -11,7 +12,7 @@ use Rattle.ns_word.specs.declared.view.SeatView.{SeatView}
 use Rattle.ns_word.specs.declared.walk.Walk.{Walk}
 use Rattle.ns_word.specs.declared.walk.Walk.TheVariants.{TryLoad, TryAcquire, ReleaseLoad, Release, Get, SetLoad, SetStore}
 use Rattle.ns_word.specs.declared.walk.Act.{Act}
-use Rattle.ns_word.specs.declared.walk.Act.TheVariants.{LoadWord, AcquireWrite, Release as ReleaseWord, LoadCell, StoreCell}
+use Rattle.ns_word.specs.declared.walk.Act.TheVariants.{LoadWord, Acquire, Release as ReleaseWord, LoadCell, StoreCell}
 use Rattle.ns_word.specs.Walks.{may_acquire}
 use Rattle.ns_word.specs.Steps.{State}
 
@@ -34,46 +35,53 @@ abbrev pub readers : {C : Type 0} {N : ℕ} → List (SeatView C N) → ℕ
 readers [] = 0
 readers (view ∷ views) = (if is_reading view.held then 1 else 0) + readers views
 
--- The write bit is set exactly where one seat has a write section in hand. No seat has a read section: no call makes one yet.
+-- The write bit is set exactly where one seat has a write section in hand, and then no seat has a read section.
 pub record OneWriter {C : Type 0} {N : ℕ} (s : State C N) : Type 0 where
   pub bit : writers s.views ≡ (if s.word.write then 1 else 0)
-  pub nobody_reads : readers s.views ≡ 0
+  pub alone : s.word.write ≡ true → readers s.views ≡ 0
+
+-- ---- the readers
+
+-- The word counts the read sections in hand.
+abbrev pub ReadersCounted : {C : Type 0} {N : ℕ} → State C N → Type 0
+ReadersCounted s = s.word.readers ≡ readers s.views
 
 -- ---- one legal history
 
--- a section in hand begins where the history has left the row and its seat, and its row is the row's cells
+-- a section in hand begins where the history has left the row and its seat, and its row is the row's cells; a reader's is as it began
 pub record HeldFits {C : Type 0} {N : ℕ} (holds : C → List ℕ → Bool) (now : Standing C) (row : List ℕ) (seat : ℕ) (held : Held C N) : Type 0 where
   pub starts : held.before ≡ now.row
   pub enters : EntryFits holds held.before held.mode held.entry (now.phases seat)
   pub cells : held.row ≡ row
+  pub reads : held.mode ≡ Read → held.row ≡ held.before
 
 -- a seat with no section in hand owes the history nothing
 abbrev pub SectionFits : {C : Type 0} {N : ℕ} → (C → List ℕ → Bool) → Standing C → List ℕ → ℕ → Option (Held C N) → Type 0
 SectionFits holds now row seat None = now.phases seat ≡ Idle
 SectionFits holds now row seat (Some held) = HeldFits holds now row seat held
 
-abbrev pub IsWriter : {C : Type 0} {N : ℕ} → Option (Held C N) → Type 0
-IsWriter None = ⊥
-IsWriter (Some held) = held.mode ≡ Write
+abbrev pub HasMode : {C : Type 0} {N : ℕ} → Mode → Option (Held C N) → Type 0
+HasMode mode None = ⊥
+HasMode mode (Some held) = held.mode ≡ mode
 
 -- a place in a call goes with the section in hand
 abbrev pub PlaceFits : {C : Type 0} {N : ℕ} → Option Walk → Option (Held C N) → Type 0
 PlaceFits None held = Unit {0}
-PlaceFits (Some TryLoad) held = held ≡ None
-PlaceFits (Some (TryAcquire last)) held = (held ≡ None) × (may_acquire last ≡ true)
-PlaceFits (Some ReleaseLoad) held = IsWriter held
-PlaceFits (Some (Release last)) held = IsWriter held
+PlaceFits (Some (TryLoad mode)) held = held ≡ None
+PlaceFits (Some (TryAcquire mode last)) held = (held ≡ None) × (may_acquire mode last ≡ true)
+PlaceFits (Some (ReleaseLoad mode)) held = HasMode mode held
+PlaceFits (Some (Release mode last)) held = HasMode mode held
 PlaceFits {C} {N} (Some (Get i)) held = IsSome held × (i < N)
-PlaceFits {C} {N} (Some (SetLoad i v)) held = IsWriter held × (i < N)
-PlaceFits {C} {N} (Some (SetStore i v)) held = IsWriter held × (i < N)
+PlaceFits {C} {N} (Some (SetLoad i v)) held = HasMode Write held × (i < N)
+PlaceFits {C} {N} (Some (SetStore i v)) held = HasMode Write held × (i < N)
 
 -- an act may be made with the section in hand
 abbrev pub ActFits : {C : Type 0} {N : ℕ} → Act → Option (Held C N) → Type 0
 ActFits LoadWord held = Unit {0}
-ActFits (AcquireWrite last) held = (held ≡ None) × (may_acquire last ≡ true)
-ActFits (ReleaseWord last) held = IsWriter held
+ActFits (Acquire mode last) held = (held ≡ None) × (may_acquire mode last ≡ true)
+ActFits (ReleaseWord mode last) held = HasMode mode held
 ActFits {C} {N} (LoadCell i) held = i < N
-ActFits {C} {N} (StoreCell i v) held = IsWriter held × (i < N)
+ActFits {C} {N} (StoreCell i v) held = HasMode Write held × (i < N)
 
 -- a view of one of so many seats, after a history that left this standing
 pub record ViewFits {C : Type 0} {N : ℕ} (holds : C → List ℕ → Bool) (seats : ℕ) (now : Standing C) (row : List ℕ) (view : SeatView C N) : Type 0 where
@@ -105,5 +113,6 @@ AreApart (view ∷ views) = NoneIs view.seat views × AreApart views
 -- The law, of a lock with so many seats, with this history of all that was committed.
 pub record IsLawful {C : Type 0} {N : ℕ} (holds : C → List ℕ → Bool) (seats : ℕ) (history : List (Event C N)) (s : State C N) : Type 0 where
   pub one_writer : OneWriter s
+  pub readers_counted : ReadersCounted s
   pub one_history : OneHistory holds seats history s
   pub apart : AreApart s.views

@@ -1,3 +1,4 @@
+pub mod Codec
 pub mod Lawful
 pub mod Room
 pub mod Steps

@@ -1,6 +1,7 @@
 -- One atomic step of one seat.
-use Rattle.std.specs.Prelude.{◌≡◌, ◌≢◌, ℕ, true, false, List, [], ◌∷◌, ◌++◌, Option, None, Some, slice_index, slice_set}
-use Rattle.ns_model.specs.declared.event.Mode.TheVariants.{Write}
+use Rattle.std.specs.Prelude.{◌≡◌, ◌≢◌, ℕ, ◌+◌, ◌-◌, true, false, List, [], ◌∷◌, ◌++◌, Option, None, Some, slice_index, slice_set}
+use Rattle.ns_model.specs.declared.event.Mode.{Mode}
+use Rattle.ns_model.specs.declared.event.Mode.TheVariants.{Write, Read}
 use Rattle.ns_model.specs.declared.event.Entry.TheVariants.{Plain}
 use Rattle.ns_model.specs.declared.event.Exit.{Exit}
 use Rattle.ns_model.specs.declared.event.Exit.TheVariants.{Plain as Released}
@@ -11,7 +12,7 @@ use Rattle.ns_word.specs.declared.view.Held.{Held}
 use Rattle.ns_word.specs.declared.view.SeatView.{SeatView}
 use Rattle.ns_word.specs.declared.walk.Walk.{Walk}
 use Rattle.ns_word.specs.declared.walk.Act.{Act}
-use Rattle.ns_word.specs.declared.walk.Act.TheVariants.{LoadWord, AcquireWrite, Release, LoadCell, StoreCell}
+use Rattle.ns_word.specs.declared.walk.Act.TheVariants.{LoadWord, Acquire, Release, LoadCell, StoreCell}
 use Rattle.ns_word.specs.declared.walk.Found.{Found}
 use Rattle.ns_word.specs.declared.walk.Found.TheVariants.{Word as Saw, Made, Cell}
 use Rattle.ns_word.specs.Walks.{want_of, got_of, walk_after, may_acquire}
@@ -28,11 +29,14 @@ pub record Part (C : Type 0) (N : ℕ) : Type 0 where
   pub row : List ℕ
   pub held : Option (Held C N)
 
-abbrev pub word_acquired : Word → Word
-word_acquired word = record { write = true }
+abbrev pub word_acquired : Mode → Word → Word
+word_acquired Write word = record word { write = true }
+word_acquired Read word = record word { readers = word.readers + 1 }
 
-abbrev pub word_released : Word → Word
-word_released word = record { write = false }
+-- A writer may have made a condition true, so that all are false is known no more.
+abbrev pub word_released : Mode → Word → Word
+word_released Write word = record word { write = false; all_false = false }
+word_released Read word = record word { readers = word.readers - 1 }
 
 -- the event that a section is, where it ends so
 abbrev pub section_of : {C : Type 0} {N : ℕ} → ℕ → Held C N → Exit C → Event C N
@@ -43,18 +47,18 @@ abbrev pub Effect : {C : Type 0} {N : ℕ} → ℕ → Act → Part C N → Foun
 Effect seat LoadWord old (Saw word) new commits = (word ≡ old.word) × (new ≡ old) × (commits ≡ [])
 Effect seat LoadWord old Made new commits = ⊥
 Effect seat LoadWord old (Cell v) new commits = ⊥
-Effect seat (AcquireWrite last) old (Saw word) new commits = (word ≡ old.word) × (word ≢ last) × (new ≡ old) × (commits ≡ [])
-Effect seat (AcquireWrite last) old Made new commits =
-    (last ≡ old.word) × (may_acquire last ≡ true) × (old.held ≡ None)
-    × (new ≡ record { word = word_acquired last; row = old.row; held = Some (record { mode = Write; entry = Plain; before = old.row; row = old.row }) })
+Effect seat (Acquire mode last) old (Saw word) new commits = (word ≡ old.word) × (word ≢ last) × (new ≡ old) × (commits ≡ [])
+Effect seat (Acquire mode last) old Made new commits =
+    (last ≡ old.word) × (may_acquire mode last ≡ true) × (old.held ≡ None)
+    × (new ≡ record { word = word_acquired mode last; row = old.row; held = Some (record { mode = mode; entry = Plain; before = old.row; row = old.row }) })
     × (commits ≡ [])
-Effect seat (AcquireWrite last) old (Cell v) new commits = ⊥
-Effect seat (Release last) old (Saw word) new commits = (word ≡ old.word) × (word ≢ last) × (new ≡ old) × (commits ≡ [])
-Effect {C} {N} seat (Release last) old Made new commits =
-    (held : Held C N) × (old.held ≡ Some held) × (held.mode ≡ Write) × (last ≡ old.word)
-    × (new ≡ record { word = word_released last; row = old.row; held = None })
+Effect seat (Acquire mode last) old (Cell v) new commits = ⊥
+Effect seat (Release mode last) old (Saw word) new commits = (word ≡ old.word) × (word ≢ last) × (new ≡ old) × (commits ≡ [])
+Effect {C} {N} seat (Release mode last) old Made new commits =
+    (held : Held C N) × (old.held ≡ Some held) × (held.mode ≡ mode) × (last ≡ old.word)
+    × (new ≡ record { word = word_released mode last; row = old.row; held = None })
     × (commits ≡ section_of seat held Released ∷ [])
-Effect seat (Release last) old (Cell v) new commits = ⊥
+Effect seat (Release mode last) old (Cell v) new commits = ⊥
 Effect seat (LoadCell i) old (Saw word) new commits = ⊥
 Effect seat (LoadCell i) old Made new commits = ⊥
 Effect seat (LoadCell i) old (Cell v) new commits = (v ≡ slice_index old.row i) × (new ≡ old) × (commits ≡ [])
@@ -65,10 +69,10 @@ Effect {C} {N} seat (StoreCell i v) old Made new commits =
     × (commits ≡ [])
 Effect seat (StoreCell i v) old (Cell w) new commits = ⊥
 
--- Whether the act may commit an event.
-abbrev pub IsRelease : Act → Type 0
-IsRelease (Release last) = Unit {0}
-IsRelease act = ⊥
+-- Whether the act commits an event where it finds this word.
+abbrev pub Commits : Act → Word → Type 0
+Commits (Release mode last) word = last ≡ word
+Commits act word = ⊥
 
 -- The seat with this view makes the step that its walk wants, and no other view changes.
 pub record Step {C : Type 0} {N : ℕ} (old : State C N) (view : SeatView C N) (found : Found) (new : State C N) (commits : List (Event C N)) : Type 0 where

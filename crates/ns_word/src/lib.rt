@@ -11,8 +11,11 @@
 //! is [`law::steps_keep_the_law`]'s.
 #![tactic(auto)]
 
+pub mod codec;
 pub mod law;
 pub mod room;
+#[cfg(test)]
+mod tests;
 pub mod view;
 pub mod walk;
 pub mod word;

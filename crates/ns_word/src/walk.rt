@@ -2,8 +2,8 @@
 //!
 //! | call | walk |
 //! |---|---|
-//! | try to lock | load the word; `busy` if it may not be acquired, else exchange it; `busy` if that fails |
-//! | unlock | load the word; exchange it, again with the word found where that fails |
+//! | try to lock, to write or to read | load the word; `busy` if it may not be acquired, else exchange it; `busy` if that fails |
+//! | unlock, of a writer or a reader | load the word; exchange it, again with the word found where that fails |
 //! | get | load the cell |
 //! | set | load the cell, store it |
 
@@ -11,18 +11,19 @@ ghost use Rattle.std.specs.Prelude.{◌≡◌};
 ghost use Rattle.ns_word.specs.Walks.{want_of, got_of};
 
 use crate::word::Word;
+use ns_model::event::Mode;
 
 /// A place in a call.
 #[derive(Clone, Copy, Debug, PartialEq, Eq)]
 pub enum Walk {
     /// A try to lock that is about to load the word.
-    TryLoad,
+    TryLoad(Mode),
     /// A try to lock that has seen this word, which may be acquired.
-    TryAcquire(Word),
+    TryAcquire(Mode, Word),
     /// A release that is about to load the word.
-    ReleaseLoad,
+    ReleaseLoad(Mode),
     /// A release that has seen this word.
-    Release(Word),
+    Release(Mode, Word),
     /// A read of a cell.
     Get(u8),
     /// A write that is about to load the cell's old value.
@@ -36,10 +37,10 @@ pub enum Walk {
 pub enum Act {
     /// Loads the lock word.
     LoadWord,
-    /// Acquires in write mode, by a compare-exchange on this word.
-    AcquireWrite(Word),
-    /// Releases and commits the section, by a compare-exchange on this word.
-    Release(Word),
+    /// Acquires in this mode, by a compare-exchange on this word.
+    Acquire(Mode, Word),
+    /// Releases and commits the section of this mode, by a compare-exchange on this word.
+    Release(Mode, Word),
     /// Loads a cell.
     LoadCell(u8),
     /// Stores a value into a cell.
@@ -83,10 +84,10 @@ impl Walk {
         ensures { result ≡ want_of self.now }
     {
         match *self {
-            Walk::TryLoad => Act::LoadWord,
-            Walk::TryAcquire(last) => Act::AcquireWrite(last),
-            Walk::ReleaseLoad => Act::LoadWord,
-            Walk::Release(last) => Act::Release(last),
+            Walk::TryLoad(_) => Act::LoadWord,
+            Walk::TryAcquire(mode, last) => Act::Acquire(mode, last),
+            Walk::ReleaseLoad(_) => Act::LoadWord,
+            Walk::Release(mode, last) => Act::Release(mode, last),
             Walk::Get(i) => Act::LoadCell(i),
             Walk::SetLoad(i, _) => Act::LoadCell(i),
             Walk::SetStore(i, value) => Act::StoreCell(i, value),
@@ -99,18 +100,18 @@ impl Walk {
         ensures { result ≡ got_of self found }
     {
         match (self, found) {
-            (Walk::TryLoad, Found::Word(word)) => {
-                if word.may_acquire() {
-                    Next::On(Walk::TryAcquire(word))
+            (Walk::TryLoad(mode), Found::Word(word)) => {
+                if word.may_acquire(mode) {
+                    Next::On(Walk::TryAcquire(mode, word))
                 } else {
                     Next::Done(Reply::Busy)
                 }
             }
-            (Walk::TryAcquire(_), Found::Word(_)) => Next::Done(Reply::Busy),
-            (Walk::TryAcquire(_), Found::Made) => Next::Done(Reply::Ok),
-            (Walk::ReleaseLoad, Found::Word(word)) => Next::On(Walk::Release(word)),
-            (Walk::Release(_), Found::Word(word)) => Next::On(Walk::Release(word)),
-            (Walk::Release(_), Found::Made) => Next::Done(Reply::Ok),
+            (Walk::TryAcquire(_, _), Found::Word(_)) => Next::Done(Reply::Busy),
+            (Walk::TryAcquire(_, _), Found::Made) => Next::Done(Reply::Ok),
+            (Walk::ReleaseLoad(mode), Found::Word(word)) => Next::On(Walk::Release(mode, word)),
+            (Walk::Release(mode, _), Found::Word(word)) => Next::On(Walk::Release(mode, word)),
+            (Walk::Release(_, _), Found::Made) => Next::Done(Reply::Ok),
             (Walk::Get(_), Found::Cell(value)) => Next::Done(Reply::Number(value)),
             (Walk::SetLoad(i, value), Found::Cell(_)) => Next::On(Walk::SetStore(i, value)),
             (Walk::SetStore(_, _), Found::Made) => Next::Done(Reply::Ok),

@@ -1,6 +1,8 @@
 pub mod Busy
 pub mod Counted
+pub mod Lists
 pub mod Numbers
+pub mod Packable
 pub mod Places
 pub mod Schedules
 pub mod Starts

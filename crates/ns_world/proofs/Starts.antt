@@ -42,7 +42,8 @@ module _ (C : Type 0) (N : ℕ) where
     few = omega (arith, length_seats 0 n);
     numbered = numbered 0 n;
     lawful = subst (λ m. IsLawful holds m [] (fresh {C = C} {N = N} n).state) (sym (length_seats 0 n)) (record {
-      one_writer = record { bit = no_writers 0 n; nobody_reads = no_readers 0 n };
+      one_writer = record { bit = no_writers 0 n; alone = λ e. no_readers 0 n };
+      readers_counted = sym (no_readers 0 n);
       one_history = record { legal = tt; by_seats = tt; each = each holds n 0 n (first_row N) (omega arith); free = λ e. refl };
       apart = apart 0 n;
     });

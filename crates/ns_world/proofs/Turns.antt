@@ -4,12 +4,13 @@ use Rattle.std.specs.Prelude.{IfOk, IfErr}
 use Rattle.std.proofs.lemmas.List.{length-set}
 use Rattle.std.proofs.lemmas.Option.{slice_get_within}
 use Rattle.ns_word.specs.declared.view.SeatView.{SeatView}
+use Rattle.ns_word.specs.declared.word.Word.{Word}
 use Rattle.ns_word.specs.declared.walk.Reply.{Reply}
 use Rattle.ns_word.specs.declared.walk.Reply.TheVariants.{Misuse as Misused}
-use Rattle.ns_word.specs.Steps.{IsRelease}
+use Rattle.ns_word.specs.Steps.{Commits}
 use Rattle.ns_word.specs.Walks.{want_of}
 use Rattle.ns_world.specs.declared.call.Call.{Call}
-use Rattle.ns_world.specs.declared.call.Call.TheVariants.{TryLock, Unlock, Get, Set}
+use Rattle.ns_world.specs.declared.call.Call.TheVariants.{TryLock, TryRLock, Unlock, RUnlock, Get, Set}
 use Rattle.ns_world.specs.declared.fault.Fault.{Fault}
 use Rattle.ns_world.specs.declared.fault.Fault.TheVariants.{OutOfMemory, NoSuchSeat, TooManySeats, StepLimit}
 use Rattle.ns_world.specs.declared.step.Begun.TheVariants.{Misuse}
@@ -22,11 +23,13 @@ use Rattle.ns_world.specs.Runs.{progress, finished, TurnsWith, TurnFault}
 use Rattle.ns_world.proofs.Busy.{busy_set_same, busy_at}
 
 -- no call begins with a release
-starts_apart : (call : Call) → IsRelease (want_of (start_of call)) → ⊥
-starts_apart TryLock p = p
-starts_apart Unlock p = p
-starts_apart (Get i) p = p
-starts_apart (Set i v) p = p
+starts_apart : (call : Call) (word : Word) → Commits (want_of (start_of call)) word → ⊥
+starts_apart TryLock word p = p
+starts_apart TryRLock word p = p
+starts_apart Unlock word p = p
+starts_apart RUnlock word p = p
+starts_apart (Get i) word p = p
+starts_apart (Set i v) word p = p
 
 slice_get-set_same : {X : Type 0} (xs : List X) (i : ℕ) (x : X) → i < length xs → slice_get (slice_set xs i x) i ≡ Some x
 slice_get-set_same [] i x within = absurd (omega (arith, within))
@@ -101,7 +104,7 @@ module _ {C : Type 0} {N : ℕ} where
       let view : p.0.view ≡ next = cc in
       let walk : Some p.0.walk ≡ Some (start_of call) = sym p.0.walks ∙ ap (λ (v : SeatView C N). v.walk) view in
       let place : p.0.walk ≡ start_of call = cc in
-      starts_apart call (subst (λ w. IsRelease (want_of w)) place p.1)
+      starts_apart call begun.state.word (subst (λ w. Commits (want_of w) begun.state.word) place p.1)
   started_steps old begun seat call NoSuchSeat s p =
       let within = slice_get_within old.state.views seat s.view s.at in
       let same : length begun.state.views ≡ length old.state.views = ap (λ (world : Now C N). length world.state.views) s.begins ∙ length-set old.state.views seat _ in

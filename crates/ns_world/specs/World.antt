@@ -9,7 +9,8 @@ use Rattle.ns_word.specs.declared.walk.Walk.{Walk}
 use Rattle.ns_word.specs.declared.walk.Found.{Found}
 use Rattle.ns_word.specs.declared.walk.Reply.{Reply}
 use Rattle.ns_word.specs.Walks.{want_of, got_of, walk_after, reply_of}
-use Rattle.ns_word.specs.Steps.{State, IsRelease, Step as Steps}
+use Rattle.ns_word.specs.Steps.{State, Commits, Step as Steps}
+use Rattle.ns_word.specs.Codec.{free_word}
 use Rattle.ns_word.specs.Lawful.{IsLawful}
 use Rattle.ns_world.specs.declared.step.Step.{Step}
 use Rattle.ns_world.specs.declared.step.Step.TheVariants.{Went, Finished, Nothing}
@@ -46,7 +47,7 @@ seats_from first (suc n) = record { seat = first; walk = None; held = None } ∷
 
 -- a free lock over a row of zeros, before any event
 abbrev pub fresh : {C : Type 0} {N : ℕ} → ℕ → Now C N
-fresh {C} {N} seats = now (record { write = false }) (first_row N) (seats_from 0 seats) []
+fresh {C} {N} seats = now free_word (first_row N) (seats_from 0 seats) []
 
 -- why no world is made: more than 64 seats, or want of memory where there are no more
 abbrev pub NewFault : ℕ → Fault → Type 0
@@ -82,16 +83,21 @@ pub record Goes {C : Type 0} {N : ℕ} (old new : Now C N) (seat : ℕ) (reply :
   pub grows : new.history ≡ old.history ++ commits
   pub replies : reply ≡ reply_of (got_of step.walk found)
 
+-- a step after which the call goes on, or is over with an answer
+abbrev pub step_of : Option Reply → Step
+step_of None = Went
+step_of (Some reply) = Finished reply
+
 -- what the answer says of a seat's step
 abbrev pub StepOf : {C : Type 0} {N : ℕ} → Now C N → Now C N → ℕ → Step → Type 0
 StepOf old new seat Nothing = (new ≡ old) × IsIdle old seat
 StepOf old new seat Went = Goes old new seat None
 StepOf old new seat (Finished reply) = Goes old new seat (Some reply)
 
--- Why a step is refused: the number is no seat's, or there was no memory at a release, which is where events are committed.
+-- Why a step is refused: the number is no seat's, or there was no memory for the event of a release that finds the word that it has seen.
 abbrev pub StepFault : {C : Type 0} {N : ℕ} → Now C N → ℕ → Fault → Type 0
 StepFault old seat NoSuchSeat = length old.state.views ≤ seat
-StepFault old seat OutOfMemory = (busy : IsBusy old seat) × IsRelease (want_of busy.walk)
+StepFault old seat OutOfMemory = (busy : IsBusy old seat) × Commits (want_of busy.walk) old.state.word
 StepFault old seat TooManySeats = ⊥
 StepFault old seat StepLimit = ⊥
 

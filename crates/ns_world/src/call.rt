@@ -12,8 +12,13 @@ pub enum Call {
     /// Tries to lock in write mode. Needs no section in hand. Answers `Ok`, or `Busy` where the
     /// lock is held or changed meanwhile.
     TryLock,
+    /// Tries to lock in read mode. Needs no section in hand. Answers `Ok`, or `Busy` where the
+    /// lock is held in write mode, a writer waits, or the lock changed meanwhile.
+    TryRLock,
     /// Releases a write section. Answers `Ok`.
     Unlock,
+    /// Releases a read section. Answers `Ok`.
+    RUnlock,
     /// Reads a cell of the section in hand. Answers its `Number`.
     Get(u8),
     /// Writes a cell of the write section in hand. Answers `Ok`.
@@ -26,8 +31,10 @@ impl Call {
         ensures { MatchOption result (CallFits self mode → ⊥) (λ walk. (walk ≡ start_of self) × CallFits self mode) }
     {
         match (self, mode) {
-            (Call::TryLock, None) => Some(Walk::TryLoad),
-            (Call::Unlock, Some(Mode::Write)) => Some(Walk::ReleaseLoad),
+            (Call::TryLock, None) => Some(Walk::TryLoad(Mode::Write)),
+            (Call::TryRLock, None) => Some(Walk::TryLoad(Mode::Read)),
+            (Call::Unlock, Some(Mode::Write)) => Some(Walk::ReleaseLoad(Mode::Write)),
+            (Call::RUnlock, Some(Mode::Read)) => Some(Walk::ReleaseLoad(Mode::Read)),
             (Call::Get(i), Some(_)) => Some(Walk::Get(i)),
             (Call::Set(i, value), Some(Mode::Write)) => Some(Walk::SetLoad(i, value)),
             _ => None,

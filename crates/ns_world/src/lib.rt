@@ -7,6 +7,7 @@
 
 pub mod call;
 pub mod fault;
+mod packed;
 pub mod perform;
 pub mod run;
 pub mod schedule;

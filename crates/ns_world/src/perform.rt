@@ -1,8 +1,8 @@
 //! One atomic step on the word, the cells and a seat's section, as the seat's walk wants it.
 
-ghost use Rattle.std.specs.Prelude.{◌≡◌, ◌<◌, Some, IfOk, OnErr, ℕ, []};
-ghost use Rattle.ns_word.specs.Lawful.{ActFits, IsWriter};
-ghost use Rattle.ns_word.specs.Steps.{Effect, IsRelease};
+ghost use Rattle.std.specs.Prelude.{◌≡◌, ◌<◌, ◌≤◌, Some, IfOk, OnErr, ℕ, []};
+ghost use Rattle.ns_word.specs.Lawful.{ActFits, HasMode};
+ghost use Rattle.ns_word.specs.Steps.{Effect, Commits};
 ghost use Rattle.ns_word.specs.Walks.{want_of};
 ghost use Rattle.ns_world.specs.Performs.{part, Makes, Performs};
 
@@ -13,22 +13,24 @@ use ns_word::walk::{Act, Found, Next, Reply, Walk};
 use ns_word::word::Word;
 use std::alloc::AllocError;
 
-/// Acquires in write mode, if the word is the one last seen.
+/// Acquires in this mode, if the word is the one last seen.
 fn acquire<C: Fits<N>, const N: usize>(
     word: &mut Word,
     row: &[u64; N],
     held: &mut Option<Held<C, N>>,
+    mode: Mode,
     last: Word,
 ) -> Found
-    requires { ActFits (Act.AcquireWrite last) held.old }
-    ensures { (seat : ℕ) → Effect seat (Act.AcquireWrite last) (part word.old row.now held.old) result (part word.new row.now held.new) [] }
+    requires fits { ActFits (Act.Acquire mode last) held.old }
+    requires few { word.old.readers ≤ 64 }
+    ensures { (seat : ℕ) → Effect seat (Act.Acquire mode last) (part word.old row.now held.old) result (part word.new row.now held.new) [] }
 {
     if !word.is_same(last) {
         return Found::Word(*word);
     }
-    *word = last.acquired();
+    *word = word.acquired(mode);
     *held = Some(Held {
-        mode: Mode::Write,
+        mode,
         entry: Entry::Plain,
         before: *row,
         row: *row,
@@ -43,11 +45,12 @@ fn release<C: Fits<N>, const N: usize>(
     word: &mut Word,
     held: &mut Option<Held<C, N>>,
     history: &mut Vec<Event<C, N>>,
+    mode: Mode,
     last: Word,
 ) -> Result<Found, AllocError>
-    requires { IsWriter held.old }
-    ensures ok { IfOk result (λ found. (row : _) → Makes seat (Act.Release last) (part word.old row held.old) history.old.items found (part word.new row held.new) history.new.items) }
-    ensures err { OnErr result ((word.new ≡ word.old) × (held.new ≡ held.old) × (history.new.items ≡ history.old.items)) }
+    requires { HasMode mode held.old }
+    ensures ok { IfOk result (λ found. (row : _) → Makes seat (Act.Release mode last) (part word.old row held.old) history.old.items found (part word.new row held.new) history.new.items) }
+    ensures err { OnErr result ((last ≡ word.old) × (word.new ≡ word.old) × (held.new ≡ held.old) × (history.new.items ≡ history.old.items)) }
 {
     if !word.is_same(last) {
         return Ok(Found::Word(*word));
@@ -61,7 +64,7 @@ fn release<C: Fits<N>, const N: usize>(
         after: section.row,
         exit: Exit::Plain,
     })?;
-    *word = last.released();
+    *word = word.released(mode);
     *held = None;
     Ok(Found::Made)
 }
@@ -93,15 +96,16 @@ fn make<C: Fits<N>, const N: usize>(
     history: &mut Vec<Event<C, N>>,
     act: Act,
 ) -> Result<Found, AllocError>
-    requires { ActFits act view.old.held }
+    requires fits { ActFits act view.old.held }
+    requires few { word.old.readers ≤ 64 }
     ensures ok { IfOk result (λ found. Makes view.old.seat act (part word.old row.old view.old.held) history.old.items found (part word.new row.new view.new.held) history.new.items) }
     ensures kept { (view.new.seat ≡ view.old.seat) × (view.new.walk ≡ view.old.walk) }
-    ensures err { OnErr result ((IsRelease act) × (word.new ≡ word.old) × (row.new ≡ row.old) × (view.new ≡ view.old) × (history.new.items ≡ history.old.items)) }
+    ensures err { OnErr result ((Commits act word.old) × (word.new ≡ word.old) × (row.new ≡ row.old) × (view.new ≡ view.old) × (history.new.items ≡ history.old.items)) }
 {
     let found = match act {
         Act::LoadWord => Found::Word(*word),
-        Act::AcquireWrite(last) => acquire(word, row, &mut view.held, last),
-        Act::Release(last) => release(view.seat, word, &mut view.held, history, last)?,
+        Act::Acquire(mode, last) => acquire(word, row, &mut view.held, mode, last),
+        Act::Release(mode, last) => release(view.seat, word, &mut view.held, history, mode, last)?,
         Act::LoadCell(i) => Found::Cell(row[i as usize]),
         Act::StoreCell(i, value) => store(row, &mut view.held, i, value),
     };
@@ -120,8 +124,9 @@ pub(crate) fn perform<C: Fits<N>, const N: usize>(
 ) -> Result<Option<Reply>, AllocError>
     requires walks { view.old.walk ≡ Some walk }
     requires fits { ActFits (want_of walk) view.old.held }
+    requires few { word.old.readers ≤ 64 }
     ensures ok { IfOk result (λ reply. Performs word.old row.old view.old history.old.items walk word.new row.new view.new history.new.items reply) }
-    ensures err { OnErr result ((IsRelease (want_of walk)) × (word.new ≡ word.old) × (row.new ≡ row.old) × (view.new ≡ view.old) × (history.new.items ≡ history.old.items)) }
+    ensures err { OnErr result ((Commits (want_of walk) word.old) × (word.new ≡ word.old) × (row.new ≡ row.old) × (view.new ≡ view.old) × (history.new.items ≡ history.old.items)) }
 {
     let act = walk.want();
     let found = make(word, row, view, history, act)?;

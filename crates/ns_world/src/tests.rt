@@ -12,6 +12,7 @@ use ns_model::condition::Condition;
 use ns_model::event::{Entry, Event, Exit, Mode};
 use ns_model::history::{legal, row_after};
 use ns_word::walk::Reply;
+use ns_word::word::Word;
 use std::alloc::{AllocError, Global};
 use std::test::Fail;
 
@@ -96,7 +97,7 @@ fn the_first_path_takes_seven_turns(rt: HostRuntime) -> Result<(), Fail> {
     assert!(rt; legal(history));
     assert_eq!(rt; row_after(history), [5, 0, 0, 0, 0, 0, 0, 0]);
     let state = world.state();
-    assert!(rt; !state.write && !state.busy.contains(0));
+    assert!(rt; !state.word.write && !state.busy.contains(0));
     Ok(())
 }
 
@@ -108,7 +109,7 @@ fn a_limit_stops_where_the_next_turn_was_due(rt: HostRuntime) -> Result<(), Fail
     assert!(rt; matches!(refused, Err(Fault::StepLimit)));
     assert_eq!(rt; world.history().len(), 0);
     let state = world.state();
-    assert!(rt; state.write && state.busy.contains(0));
+    assert!(rt; state.word.write && state.busy.contains(0));
     assert_eq!(rt; state.row, [5, 0, 0, 0, 0, 0, 0, 0]);
     let last = world.step(0)?;
     assert_eq!(rt; last, Step::Finished(Reply::Ok));
@@ -139,7 +140,41 @@ fn one_of_two_tries_is_busy(rt: HostRuntime) -> Result<(), Fail> {
     let misused = world.begin(1, Call::Unlock)?;
     assert_eq!(rt; misused, Begun::Misuse);
     let state = world.state();
-    assert!(rt; state.write && !state.busy.contains(0) && !state.busy.contains(1));
+    assert!(rt; state.word.write && !state.busy.contains(0) && !state.busy.contains(1));
+    Ok(())
+}
+
+#[test]
+fn readers_are_counted(rt: HostRuntime) -> Result<(), Fail> {
+    let mut world = World::<Never, 8>::new(rt.alloc(), 64, &[], 0)?;
+    for seat in 0..64 {
+        let begun = world.begin(seat, Call::TryRLock)?;
+        assert_eq!(rt; begun, Begun::Started);
+        let _ = world.step(seat)?;
+        let step = world.step(seat)?;
+        assert_eq!(rt; step, Step::Finished(Reply::Ok), "a step of {seat}");
+    }
+    assert_eq!(rt;
+        world.state().word,
+        Word {
+            readers: 64,
+            ..Word::FREE
+        }
+    );
+    let _ = world.begin(5, Call::RUnlock)?;
+    let _ = world.step(5)?;
+    let step = world.step(5)?;
+    assert_eq!(rt; step, Step::Finished(Reply::Ok));
+    let _ = world.begin(5, Call::TryLock)?;
+    let step = world.step(5)?;
+    assert_eq!(rt; step, Step::Finished(Reply::Busy));
+    assert_eq!(rt;
+        world.state().word,
+        Word {
+            readers: 63,
+            ..Word::FREE
+        }
+    );
     Ok(())
 }
 
@@ -182,7 +217,7 @@ fn refused_memory_loses_nothing(rt: HostRuntime) -> Result<(), Fail> {
                 Ok(step) => assert!(rt; step != Step::Nothing),
                 Err(fault) => {
                     assert_eq!(rt; fault, Fault::OutOfMemory);
-                    assert!(rt; world.state().write && world.history().is_empty());
+                    assert!(rt; world.state().word.write && world.history().is_empty());
                     let again = world.step(0)?;
                     assert_eq!(rt; again, Step::Finished(Reply::Ok));
                 }
@@ -221,7 +256,7 @@ fn a_run_refused_memory_is_as_its_last_turn_left_it(rt: HostRuntime) -> Result<(
         Err(fault) => assert_eq!(rt; fault, Fault::OutOfMemory),
     }
     let state = world.state();
-    if !state.write {
+    if !state.word.write {
         assert_eq!(rt; row_after(world.history()), state.row);
     }
     Ok(())

@@ -1,6 +1,6 @@
 //! The world: a lock, its row and its seats, one step at a time.
 
-ghost use Rattle.std.specs.Prelude.{◌≡◌, ◌≤◌, ℕ, length, map, MatchResult, IfOk, IfErr, All};
+ghost use Rattle.std.specs.Prelude.{◌≡◌, ◌≤◌, ℕ, [], length, map, MatchResult, IfOk, IfErr, All};
 ghost use Rattle.ns_model.specs.Histories.{IsLegal, IsBySeats};
 ghost use Rattle.ns_model.specs.Seats.{is_in};
 ghost use Rattle.ns_word.specs.Lawful.{IsLawful};
@@ -10,11 +10,15 @@ ghost use Rattle.ns_world.specs.World.{fresh, now, is_busy, IsLawfulWorld, NewFa
 
 use crate::call::Call;
 use crate::fault::Fault;
+use crate::packed::unpacked;
 use crate::seats::{busy_seats, new_seats};
 use crate::step::{Begun, Step, begin_at, step_at};
+use arrayvec::ArrayVec;
 use ns_model::condition::Condition;
 use ns_model::event::Event;
 use ns_model::seats::Seats;
+use ns_queue::waiter::Shown;
+use ns_word::codec::encode;
 use ns_word::room::Fits;
 use ns_word::view::SeatView;
 use ns_word::word::Word;
@@ -29,27 +33,34 @@ use std::marker::Model;
 /// hand begins where the history left the row.
 #[derive(Drop)]
 pub struct World<C: Condition<N>, const N: usize> {
-    word: Word,
+    word: u64,
     row: [u64; N],
     views: Vec<SeatView<C, N>>,
     history: Vec<Event<C, N>>,
 }
 
 impl<C: Condition<N>, const N: usize> Model for World<C, N> {
+    ghost use Rattle.ns_word.specs.Codec.{word_of};
     ghost use Rattle.ns_world.specs.World.{Now, now, IsLawfulWorld};
 
     ghost Value = { Now C N };
 
-    ghost view = { λ w. now w.word w.row w.views.items w.history.items };
+    ghost view = { λ w. now (word_of w.word) w.row w.views.items w.history.items };
 
-    ghost invariant = { λ w. IsLawfulWorld C.holds (now w.word w.row w.views.items w.history.items) };
+    ghost invariant = { λ w. IsLawfulWorld C.holds (now (word_of w.word) w.row w.views.items w.history.items) };
 }
 
 /// A world as it stands.
-#[derive(Clone, Copy, Debug)]
+#[derive(Clone, Drop)]
 pub struct State<const N: usize> {
-    /// Whether the lock is held in write mode.
-    pub write: bool,
+    /// The lock word.
+    pub word: Word,
+    /// Who waits for the lock, front first. No call of a world waits yet.
+    pub lock: ArrayVec<Shown, 64>,
+    /// Who waits for each condition variable, front first. No call of a world waits yet.
+    pub cvs: [ArrayVec<Shown, 64>; 4],
+    /// The wakes that are owed: who owes one, and whom, in the order in which they will be paid. None is yet.
+    pub owed: ArrayVec<(u8, u8), 64>,
     /// The row's cells.
     pub row: [u64; N],
     /// The seats with a call in progress.
@@ -71,7 +82,7 @@ impl<C: Fits<N>, const N: usize> World<C, N> {
         }
         let views = new_seats(alloc, seats as u8)?;
         Ok(World {
-            word: Word::FREE,
+            word: encode(Word::FREE),
             row: [0; N],
             views,
             history: Vec::new(alloc),
@@ -100,7 +111,8 @@ impl<C: Fits<N>, const N: usize> World<C, N> {
     /// Makes one atomic step of the seat's call, if one is in progress.
     ///
     /// Refuses a number that is no seat's (`NoSuchSeat`), and want of memory (`OutOfMemory`),
-    /// which can only come at a release, whose event is to be kept; then nothing has changed.
+    /// which can only come where a release is made, whose event is to be kept; then nothing has
+    /// changed.
     pub fn step(&mut self, seat: u8) -> Result<Step, Fault>
         ensures ok { IfOk result (λ step. StepOf self.old self.new seat step) }
         ensures err { IfErr result (λ fault. (self.new ≡ self.old) × StepFault self.old seat fault) }
@@ -125,13 +137,22 @@ impl<C: Fits<N>, const N: usize> World<C, N> {
 
     /// The world as it stands, of which the law of the lock holds.
     pub fn state(&self) -> State<N>
-        ensures write { result.write ≡ self.now.state.word.write }
+        ensures word { result.word ≡ self.now.state.word }
+        ensures lists { (result.lock.items ≡ []) × All (λ list. list.items ≡ []) result.cvs × (result.owed.items ≡ []) }
         ensures row { result.row ≡ self.now.state.row }
         ensures busy { (seat : ℕ) → is_in result.busy seat ≡ is_busy self.now.state.views seat }
         ensures lawful { IsLawful C.holds (length self.now.state.views) self.now.history self.now.state }
     {
         State {
-            write: self.word.write,
+            word: unpacked(self.word),
+            lock: ArrayVec::new(),
+            cvs: [
+                ArrayVec::new(),
+                ArrayVec::new(),
+                ArrayVec::new(),
+                ArrayVec::new(),
+            ],
+            owed: ArrayVec::new(),
             row: self.row,
             busy: busy_seats(&self.views),
         }

@@ -1,5 +1,6 @@
 use Rattle.std.proofs.Common.{◌≡◌, ◌<◌, length, arith, refl, sym, ◌∙◌, subst, Option, Some, None, is_some, false}
 use Rattle.std.proofs.lemmas.Option.{slice_get_read}
+use Rattle.ns_word.specs.Codec.{word_of}
 use Rattle.ns_world.specs.World.{now}
 use Rattle.ns_world.specs.Calls.{CallFits}
 use Rattle.ns_world.proofs.Places.{start_fits}
@@ -12,7 +13,7 @@ none_of (Some x) e = absurd (cc)
 
 pub returns-in-Some-clause-lawful : goal.returns-in-Some-clause-lawful
 returns-in-Some-clause-lawful g c =
-    let old = now c.args.word.now c.args.row.now c.args.views.now.items c.args.history.now.items in
+    let old = now (word_of c.args.word.now) c.args.row.now c.args.views.now.items c.args.history.now.items in
     let view = c.index.result.now in
     let within : c.args.seat < length c.args.views.now.items = omega arith in
     let fits = subst (λ m. CallFits c.args.call m) c.mode_of.ensures c.in-Some.ensures.1 in

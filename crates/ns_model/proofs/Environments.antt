@@ -1,0 +1,256 @@
+-- Laws of the histories of an environment.
+use Rattle.std.proofs.Common.{◌≡◌, ◌≢◌, ℕ, zero, suc, ◌+◌, ◌<◌, ◌≤◌, min, Bool, true, false, ◌||◌, eqb, cond, List, [], ◌∷◌, ◌++◌, Option, None, Some, refl, sym, ap, ◌∙◌, subst, arith, eq-eqb, ne_eqb, le-leb, leb-true, true≢false, ⊎_elim}
+use mathlib.Core.Logic.{dite}
+use native.Mathlib.Decide.{ℕ_discrete}
+use Rattle.std.specs.List.{list_any}
+use Rattle.std.proofs.lemmas.Bool.{or_cases, or_left, or_right}
+use Rattle.std.proofs.lemmas.List.Elements.{filter-append}
+use Rattle.ns_model.specs.Beginnings.{BeginsWith}
+use Rattle.ns_model.specs.declared.environment.EnvEvent.{EnvEvent}
+use Rattle.ns_model.specs.declared.environment.EnvEvent.TheVariants.{Take, New, Notify, Advance}
+use Rattle.ns_model.specs.Environments.{NoteStanding, EnvStanding, first_env, env_who, ParentFits, IsLegalEnvEvent, but_at, notified_note, made_note, env_next, env_from, IsLegalEnvFrom, IsLegalEnv, env_after, from_parent, line, line_of, is_due, is_over, notified_in, is_notified, earlier, earliest, expiry_in, expiry_of, env_own, IsEnvBySeats, IsMade}
+
+-- ---- a history and its parts
+
+pub env_from-append : (now : EnvStanding) (g h : List EnvEvent) → env_from now (g ++ h) ≡ env_from (env_from now g) h
+env_from-append now [] h = refl
+env_from-append now (e ∷ g) h = env_from-append (env_next now e) g h
+
+pub legal_env_append : (now : EnvStanding) (g h : List EnvEvent) → IsLegalEnvFrom now g → IsLegalEnvFrom (env_from now g) h → IsLegalEnvFrom now (g ++ h)
+legal_env_append now [] h p q = q
+legal_env_append now (e ∷ g) h p q = (p.0, legal_env_append (env_next now e) g h p.1 q)
+
+pub legal_env_parts : (now : EnvStanding) (g h : List EnvEvent) → IsLegalEnvFrom now (g ++ h) → IsLegalEnvFrom now g × IsLegalEnvFrom (env_from now g) h
+legal_env_parts now [] h p = (tt, p)
+legal_env_parts now (e ∷ g) h p = let rest = legal_env_parts (env_next now e) g h p.1 in ((p.0, rest.0), rest.1)
+
+pub by_seats_append : (seats : ℕ) (g h : List EnvEvent) → IsEnvBySeats seats g → IsEnvBySeats seats h → IsEnvBySeats seats (g ++ h)
+by_seats_append seats [] h p q = q
+by_seats_append seats (e ∷ g) h p q = (p.0, by_seats_append seats g h p.1 q)
+
+pub by_seats_front : (seats : ℕ) (g h : List EnvEvent) → IsEnvBySeats seats (g ++ h) → IsEnvBySeats seats g
+by_seats_front seats [] h p = tt
+by_seats_front seats (e ∷ g) h p = (p.0, by_seats_front seats g h p.1)
+
+pub env_own-append : (g h : List EnvEvent) (seat : ℕ) → env_own (g ++ h) seat ≡ env_own g seat ++ env_own h seat
+env_own-append g h seat = filter-append (λ event. eqb (env_who event) seat) g h
+
+pub env_own-mine : (h : List EnvEvent) (e : EnvEvent) (seat : ℕ) → env_who e ≡ seat → env_own (h ++ e ∷ []) seat ≡ env_own h seat ++ e ∷ []
+env_own-mine h e seat is = env_own-append h (e ∷ []) seat ∙ ap (λ (b : Bool). env_own h seat ++ cond b (e ∷ []) []) (eq-eqb (env_who e) seat is)
+
+pub env_own-other : (h : List EnvEvent) (e : EnvEvent) (seat : ℕ) → env_who e ≢ seat → env_own (h ++ e ∷ []) seat ≡ env_own h seat ++ []
+env_own-other h e seat apart = env_own-append h (e ∷ []) seat ∙ ap (λ (b : Bool). env_own h seat ++ cond b (e ∷ []) []) (ne_eqb (env_who e) seat apart)
+
+-- ---- what is changed at one number
+
+pub but_cases : {A : Type 0} (P : A → Type 0) (n m : ℕ) (value : A) (others : ℕ → A) → (m ≡ n → P value) → (m ≢ n → P (others m)) → P (but_at n value others m)
+but_cases P n m value others here there = dite (ℕ_discrete m n)
+    (λ e. subst (λ (b : Bool). P (cond b value (others m))) (sym (eq-eqb m n e)) (here e))
+    (λ ne. subst (λ (b : Bool). P (cond b value (others m))) (sym (ne_eqb m n ne)) (there ne))
+
+pub but-here : {A : Type 0} (n : ℕ) (value : A) (others : ℕ → A) → but_at n value others n ≡ value
+but-here n value others = but_cases (λ z. z ≡ value) n n value others (λ _. refl) (λ ne. absurd (ne refl))
+
+pub but-there : {A : Type 0} (n m : ℕ) (value : A) (others : ℕ → A) → m ≢ n → but_at n value others m ≡ others m
+but-there n m value others ne = but_cases (λ z. z ≡ others m) n m value others (λ e. absurd (ne e)) (λ _. refl)
+
+-- ---- what holds after a legal history
+
+pub record IsSound (now : EnvStanding) : Type 0 where
+  pub few : now.takes ≤ 64
+  pub taken : (n w : ℕ) → now.takers n ≡ Some w → n < now.takes
+  pub made : (n : ℕ) → (now.notes n).made ≡ true → n < now.takes
+  pub above : (n p : ℕ) → (now.notes n).parent ≡ Some p → (p < n) × ((now.notes p).made ≡ true)
+
+first_sound : IsSound first_env
+first_sound = record { few = omega arith; taken = λ n w e. absurd (cc); made = λ n e. absurd (cc); above = λ n p e. absurd (cc) }
+
+parent_fits : (now : EnvStanding) (n p : ℕ) (parent : Option ℕ) → ParentFits now n parent → parent ≡ Some p → (p < n) × ((now.notes p).made ≡ true)
+parent_fits now n p None f e = absurd (cc)
+parent_fits now n p (Some q) f e = let is : q ≡ p = cc in subst (λ (k : ℕ). (k < n) × ((now.notes k).made ≡ true)) is f
+
+sound_next : (now : EnvStanding) (e : EnvEvent) → IsSound now → IsLegalEnvEvent now e → IsSound (env_next now e)
+sound_next now (Take who note) s l = let is = l.0 in let below = l.1 in record {
+  few = omega arith;
+  taken = λ n w. but_cases (λ (z : Option ℕ). z ≡ Some w → n < now.takes + 1) note n (Some who) now.takers (λ here _. omega arith) (λ _ e. let k = s.taken n w e in omega arith);
+  made = λ n e. let k = s.made n e in omega arith;
+  above = s.above;
+}
+sound_next now (New who note parent deadline) s l = record {
+  few = s.few;
+  taken = s.taken;
+  made = λ n. but_cases (λ (z : NoteStanding). z.made ≡ true → n < now.takes) note n (made_note parent deadline) now.notes (λ here _. let k = s.taken note who l.0 in omega arith) (λ _ e. s.made n e);
+  above = λ n p. but_cases (λ (z : NoteStanding). z.parent ≡ Some p → (p < n) × ((but_at note (made_note parent deadline) now.notes p).made ≡ true)) note n (made_note parent deadline) now.notes
+      (λ here e. let f = parent_fits now note p parent l.2 e in let lt = f.0 in (omega arith, but_cases (λ (z : NoteStanding). z.made ≡ true) note p (made_note parent deadline) now.notes (λ _. refl) (λ _. f.1)))
+      (λ _ e. let f = s.above n p e in (f.0, but_cases (λ (z : NoteStanding). z.made ≡ true) note p (made_note parent deadline) now.notes (λ _. refl) (λ _. f.1)));
+}
+sound_next now (Notify who note) s l = record {
+  few = s.few;
+  taken = s.taken;
+  made = λ n. but_cases (λ (z : NoteStanding). z.made ≡ true → n < now.takes) note n (notified_note (now.notes note)) now.notes (λ here e. let k = s.made note e in omega arith) (λ _ e. s.made n e);
+  above = λ n p. but_cases (λ (z : NoteStanding). z.parent ≡ Some p → (p < n) × ((but_at note (notified_note (now.notes note)) now.notes p).made ≡ true)) note n (notified_note (now.notes note)) now.notes
+      (λ here e. let f = s.above note p e in let lt = f.0 in (omega arith, but_cases (λ (z : NoteStanding). z.made ≡ true) note p (notified_note (now.notes note)) now.notes (λ _. l) (λ _. f.1)))
+      (λ _ e. let f = s.above n p e in (f.0, but_cases (λ (z : NoteStanding). z.made ≡ true) note p (notified_note (now.notes note)) now.notes (λ _. l) (λ _. f.1)));
+}
+sound_next now (Advance who to) s l = record { few = s.few; taken = s.taken; made = s.made; above = s.above }
+
+pub sound_from : (now : EnvStanding) (h : List EnvEvent) → IsSound now → IsLegalEnvFrom now h → IsSound (env_from now h)
+sound_from now [] s l = s
+sound_from now (e ∷ h) s l = sound_from (env_next now e) h (sound_next now e s l.0) l.1
+
+pub sound_after : (h : List EnvEvent) → IsLegalEnv h → IsSound (env_after h)
+sound_after h l = sound_from first_env h first_sound l
+
+-- ---- what only grows
+
+pub record NoteGrown (old new : NoteStanding) : Type 0 where
+  pub made : new.made ≡ true
+  pub parent : new.parent ≡ old.parent
+  pub deadline : new.deadline ≡ old.deadline
+  pub called : old.called ≡ true → new.called ≡ true
+
+pub record IsGrown (old new : EnvStanding) : Type 0 where
+  pub clock : old.clock ≤ new.clock
+  pub takes : old.takes ≤ new.takes
+  pub note : (n : ℕ) → (old.notes n).made ≡ true → NoteGrown (old.notes n) (new.notes n)
+
+note_same : (note : NoteStanding) → note.made ≡ true → NoteGrown note note
+note_same note e = record { made = e; parent = refl; deadline = refl; called = λ h. h }
+
+pub grown_itself : (now : EnvStanding) → IsGrown now now
+grown_itself now = record { clock = omega arith; takes = omega arith; note = λ n e. note_same (now.notes n) e }
+
+pub grown_through : (a b c : EnvStanding) → IsGrown a b → IsGrown b c → IsGrown a c
+grown_through a b c f g = record {
+  clock = let x = f.clock in let y = g.clock in omega arith;
+  takes = let x = f.takes in let y = g.takes in omega arith;
+  note = λ n e. let x = f.note n e in let y = g.note n x.made in record { made = y.made; parent = y.parent ∙ x.parent; deadline = y.deadline ∙ x.deadline; called = λ h. y.called (x.called h) };
+}
+
+grown_next : (now : EnvStanding) (e : EnvEvent) → IsLegalEnvEvent now e → IsGrown now (env_next now e)
+grown_next now (Take who note) l = record { clock = omega arith; takes = omega arith; note = λ n e. note_same (now.notes n) e }
+grown_next now (New who note parent deadline) l = record {
+  clock = omega arith;
+  takes = omega arith;
+  note = λ n e. but_cases (λ (z : NoteStanding). NoteGrown (now.notes n) z) note n (made_note parent deadline) now.notes
+      (λ here. absurd (true≢false (sym e ∙ (ap (λ (k : ℕ). (now.notes k).made) here ∙ l.1)))) (λ _. note_same (now.notes n) e);
+}
+grown_next now (Notify who note) l = record {
+  clock = omega arith;
+  takes = omega arith;
+  note = λ n e. but_cases (λ (z : NoteStanding). NoteGrown (now.notes n) z) note n (notified_note (now.notes note)) now.notes
+      (λ here. subst (λ (k : ℕ). NoteGrown (now.notes n) (notified_note (now.notes k))) here (record { made = e; parent = refl; deadline = refl; called = λ _. refl })) (λ _. note_same (now.notes n) e);
+}
+grown_next now (Advance who to) l = record { clock = omega arith; takes = omega arith; note = λ n e. note_same (now.notes n) e }
+
+pub grown_from : (now : EnvStanding) (h : List EnvEvent) → IsLegalEnvFrom now h → IsGrown now (env_from now h)
+grown_from now [] l = grown_itself now
+grown_from now (e ∷ h) l = grown_through now (env_next now e) (env_from (env_next now e) h) (grown_next now e l.0) (grown_from (env_next now e) h l.1)
+
+-- a history that begins with another has what the other has
+pub grown_begins : (h g : List EnvEvent) → IsLegalEnv h → BeginsWith h g → IsGrown (env_after g) (env_after h)
+grown_begins h g l b = let parts = legal_env_parts first_env g b.0 (subst IsLegalEnv b.1 l) in
+    subst (λ (s : EnvStanding). IsGrown (env_after g) s) (sym (ap env_after b.1 ∙ env_from-append first_env g b.0)) (grown_from (env_after g) b.0 parts.1)
+
+pub legal_begins : (h g : List EnvEvent) → IsLegalEnv h → BeginsWith h g → IsLegalEnv g
+legal_begins h g l b = (legal_env_parts first_env g b.0 (subst IsLegalEnv b.1 l)).0
+
+-- ---- the line up to the root
+
+parents_same : (f g : ℕ → List ℕ) (o : Option ℕ) → ((p : ℕ) → o ≡ Some p → f p ≡ g p) → from_parent f o ≡ from_parent g o
+parents_same f g None h = refl
+parents_same f g (Some p) h = h p refl
+
+-- there are no more ancestors than the number says
+line_enough : (notes : ℕ → NoteStanding) → ((n p : ℕ) → (notes n).parent ≡ Some p → p < n) → (k j n : ℕ) → n < k → n < j → line k notes n ≡ line j notes n
+line_enough notes above zero j n h i = absurd (omega arith)
+line_enough notes above (suc k) zero n h i = absurd (omega arith)
+line_enough notes above (suc k) (suc j) n h i = ap (λ (r : List ℕ). n ∷ r) (parents_same (line k notes) (line j notes) (notes n).parent (λ p e. let lt = above n p e in line_enough notes above k j p (omega arith) (omega arith)))
+
+line-up : (now : EnvStanding) (n p : ℕ) → IsSound now → (now.notes n).parent ≡ Some p → line_of now n ≡ n ∷ line_of now p
+line-up now n p s e = let lt = (s.above n p e).0 in ap (λ (o : Option ℕ). n ∷ from_parent (line n now.notes) o) e ∙ ap (λ (r : List ℕ). n ∷ r) (line_enough now.notes (λ m q is. (s.above m q is).0) n (suc p) p lt (omega arith))
+
+line-root : (now : EnvStanding) (n : ℕ) → (now.notes n).parent ≡ None → line_of now n ≡ n ∷ []
+line-root now n e = ap (λ (o : Option ℕ). n ∷ from_parent (line n now.notes) o) e
+
+pub notified_in-up : (now : EnvStanding) (n p : ℕ) → IsSound now → (now.notes n).parent ≡ Some p → notified_in now n ≡ (is_over now.clock (now.notes n) || notified_in now p)
+notified_in-up now n p s e = ap (λ (l : List ℕ). list_any (λ m. is_over now.clock (now.notes m)) l) (line-up now n p s e)
+
+pub notified_in-root : (now : EnvStanding) (n : ℕ) → (now.notes n).parent ≡ None → notified_in now n ≡ (is_over now.clock (now.notes n) || false)
+notified_in-root now n e = ap (λ (l : List ℕ). list_any (λ m. is_over now.clock (now.notes m)) l) (line-root now n e)
+
+pub expiry_in-up : (now : EnvStanding) (n p : ℕ) → IsSound now → (now.notes n).parent ≡ Some p → expiry_in now n ≡ earlier (now.notes n).deadline (expiry_in now p)
+expiry_in-up now n p s e = ap (earliest now.notes) (line-up now n p s e)
+
+pub expiry_in-root : (now : EnvStanding) (n : ℕ) → (now.notes n).parent ≡ None → expiry_in now n ≡ earlier (now.notes n).deadline None
+expiry_in-root now n e = ap (earliest now.notes) (line-root now n e)
+
+pub earlier-none : (a : Option ℕ) → earlier a None ≡ a
+earlier-none None = refl
+earlier-none (Some d) = refl
+
+pub earlier_assoc : (a b c : Option ℕ) → earlier (earlier a b) c ≡ earlier a (earlier b c)
+earlier_assoc None b c = refl
+earlier_assoc (Some d) None c = refl
+earlier_assoc (Some d) (Some e) None = refl
+earlier_assoc (Some d) (Some e) (Some f) = ap Some (let same : min (min d e) f ≡ min d (min e f) = omega arith in same)
+
+-- ---- once notified, for good; and what was seen made keeps its line
+
+pub due_grown : (c d : ℕ) (deadline : Option ℕ) → c ≤ d → is_due c deadline ≡ true → is_due d deadline ≡ true
+due_grown c d None h e = e
+due_grown c d (Some t) h e = let k = leb-true t c e in le-leb t d (omega arith)
+
+pub over_grown : (c d : ℕ) (old new : NoteStanding) → c ≤ d → NoteGrown old new → is_over c old ≡ true → is_over d new ≡ true
+over_grown c d old new h g e = ⊎_elim
+    (λ (t : old.called ≡ true). or_left new.called (is_due d new.deadline) (g.called t))
+    (λ (t : is_due c old.deadline ≡ true). or_right new.called (is_due d new.deadline) (ap (is_due d) g.deadline ∙ due_grown c d old.deadline h t))
+    (or_cases old.called (is_due c old.deadline) e)
+
+module _ (old new : EnvStanding) (s : IsSound old) (g : IsGrown old new) where
+  any_parent : (k : ℕ) (o : Option ℕ) → ((p : ℕ) → o ≡ Some p → list_any (λ m. is_over old.clock (old.notes m)) (line k old.notes p) ≡ true → list_any (λ m. is_over new.clock (new.notes m)) (line k new.notes p) ≡ true)
+      → list_any (λ m. is_over old.clock (old.notes m)) (from_parent (line k old.notes) o) ≡ true → list_any (λ m. is_over new.clock (new.notes m)) (from_parent (line k new.notes) o) ≡ true
+  any_parent k None h e = e
+  any_parent k (Some p) h e = h p refl e
+
+  any_grown : (k n : ℕ) → (old.notes n).made ≡ true → list_any (λ m. is_over old.clock (old.notes m)) (line k old.notes n) ≡ true → list_any (λ m. is_over new.clock (new.notes m)) (line k new.notes n) ≡ true
+  any_grown zero n made e = absurd (cc)
+  any_grown (suc k) n made e = let grown = g.note n made in let test = λ (m : ℕ). is_over new.clock (new.notes m) in
+      let above : Bool = list_any (λ m. is_over new.clock (new.notes m)) (from_parent (line k new.notes) (new.notes n).parent) in ⊎_elim
+      (λ (t : is_over old.clock (old.notes n) ≡ true). or_left (is_over new.clock (new.notes n)) above (over_grown old.clock new.clock (old.notes n) (new.notes n) g.clock grown t))
+      (λ (t : list_any (λ m. is_over old.clock (old.notes m)) (from_parent (line k old.notes) (old.notes n).parent) ≡ true). or_right (is_over new.clock (new.notes n)) above
+      (ap (λ (o : Option ℕ). list_any (λ m. is_over new.clock (new.notes m)) (from_parent (line k new.notes) o)) grown.parent
+      ∙ any_parent k (old.notes n).parent (λ p is. any_grown k p (s.above n p is).1) t))
+      (or_cases (is_over old.clock (old.notes n)) (list_any (λ m. is_over old.clock (old.notes m)) (from_parent (line k old.notes) (old.notes n).parent)) e)
+
+  pub notified_grown : (n : ℕ) → (old.notes n).made ≡ true → notified_in old n ≡ true → notified_in new n ≡ true
+  notified_grown n made e = any_grown (suc n) n made e
+
+  earliest_parent : (k : ℕ) (o : Option ℕ) → ((p : ℕ) → o ≡ Some p → earliest new.notes (line k new.notes p) ≡ earliest old.notes (line k old.notes p)) → earliest new.notes (from_parent (line k new.notes) o) ≡ earliest old.notes (from_parent (line k old.notes) o)
+  earliest_parent k None h = refl
+  earliest_parent k (Some p) h = h p refl
+
+  earliest_grown : (k n : ℕ) → (old.notes n).made ≡ true → earliest new.notes (line k new.notes n) ≡ earliest old.notes (line k old.notes n)
+  earliest_grown zero n made = refl
+  earliest_grown (suc k) n made = let grown = g.note n made in
+      (λ i. earlier (grown.deadline i) (earliest new.notes (from_parent (line k new.notes) (grown.parent i))))
+      ∙ ap (earlier (old.notes n).deadline) (earliest_parent k (old.notes n).parent (λ p is. earliest_grown k p (s.above n p is).1))
+
+  pub expiry_grown : (n : ℕ) → (old.notes n).made ≡ true → expiry_in new n ≡ expiry_in old n
+  expiry_grown n made = earliest_grown (suc n) n made
+
+-- ---- the same of histories
+
+pub made_begins : (h g : List EnvEvent) (n : ℕ) → IsLegalEnv h → BeginsWith h g → IsMade g n → IsMade h n
+made_begins h g n l b made = ((grown_begins h g l b).note n made).made
+
+pub notified_begins : (h g : List EnvEvent) (n : ℕ) → IsLegalEnv h → BeginsWith h g → IsMade g n → is_notified g n ≡ true → is_notified h n ≡ true
+unfolding is_notified
+notified_begins h g n l b made e = notified_grown (env_after g) (env_after h) (sound_after g (legal_begins h g l b)) (grown_begins h g l b) n made e
+
+pub expiry_begins : (h g : List EnvEvent) (n : ℕ) → IsLegalEnv h → BeginsWith h g → IsMade g n → expiry_of h n ≡ expiry_of g n
+unfolding expiry_of
+expiry_begins h g n l b made = expiry_grown (env_after g) (env_after h) (sound_after g (legal_begins h g l b)) (grown_begins h g l b) n made
+
+pub made_below : (h : List EnvEvent) (n : ℕ) → IsLegalEnv h → IsMade h n → n < 64
+made_below h n l made = let s = sound_after h l in let few = s.few in let below = s.made n made in omega arith

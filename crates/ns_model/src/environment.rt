@@ -1,0 +1,32 @@
+//! What happens to a clock and a tree of notes, as events.
+
+/// One event of an environment, with the seat of its caller.
+///
+/// To make a note takes two events: its number is taken first, and only then does the note
+/// itself stand, with its parent, if any, and its deadline, if any. Other callers may see the
+/// number taken while there is no note yet. A moment is in ticks.
+#[derive(Clone, Copy, Debug)]
+pub enum EnvEvent {
+    /// The caller takes the next number.
+    Take {
+        who: u8,
+        note: u8,
+    },
+    /// The caller makes the note whose number it has taken.
+    New {
+        who: u8,
+        note: u8,
+        parent: Option<u8>,
+        deadline: Option<u64>,
+    },
+    /// The caller notifies the note.
+    Notify {
+        who: u8,
+        note: u8,
+    },
+    /// The caller moves the clock on to the moment, or leaves it where it stands later.
+    Advance {
+        who: u8,
+        to: u64,
+    },
+}

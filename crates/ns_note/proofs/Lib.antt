@@ -1,0 +1,8 @@
+pub mod Codec
+pub mod Keeps
+pub mod Lines
+pub mod Looks
+pub mod Rests
+pub mod Seats
+pub mod Tallies
+pub mod Turns

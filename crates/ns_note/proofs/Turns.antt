@@ -1,0 +1,188 @@
+-- The steps, as the table asks for them.
+use Rattle.std.proofs.Common.{◌≡◌, ℕ, suc, ◌+◌, ◌-◌, ◌%◌, ◌^◌, ◌<◌, ◌≤◌, min, max, Bool, true, false, List, [], ◌∷◌, ◌++◌, length, set, get_or, Option, None, Some, IfSome, sym, refl, ap, ◌∙◌, subst, arith, length-set, bit_or}
+use mathlib.Core.Option.{some}
+use mathlib.Core.Logic.{dite}
+use native.Mathlib.Decide.{dec_le}
+use lib.ListN.{get_elem?}
+use lib.Seq.{set-get_or}
+use Rattle.std.proofs.Common.{get_or-set_same, get_or-set_other}
+use Rattle.atomic_table.specs.Table.{Me, keeps, Allows}
+use Rattle.ns_model.specs.declared.environment.EnvEvent.TheVariants.{Take, New, Notify, Advance}
+use Rattle.ns_model.specs.Environments.{NoteStanding, EnvStanding, IsLegalEnvEvent, ParentFits, but_at, notified_note, made_note, env_after, takes_in, IsMade}
+use Rattle.ns_model.proofs.Environments.{IsSound, sound_after, grown_begins, made_begins, but_cases, but-here}
+use Rattle.ns_note.specs.declared.note.NoteWord.{NoteWord}
+use Rattle.ns_note.specs.declared.view.Making.TheVariants.{Nothing, Adding, Taken}
+use Rattle.ns_note.specs.declared.view.SeatView.{SeatView}
+use Rattle.ns_note.specs.Words.{WordFits, word_of, note_of}
+use Rattle.ns_note.specs.Known.{the, IsOne}
+use Rattle.ns_note.specs.Law.{Views, adds, MakingFits, note_word, NoteFits, IsLawful, HoldsAt, Holds}
+use Rattle.ns_note.specs.Told.{Tells, Adds, Stepped, LoadedClock, LoadedNext, LoadedNote, Added, Made, NotifiedNote, AdvancedClock}
+use Rattle.ns_note.proofs.Codec.{note_of-word_of, marked}
+use Rattle.ns_note.proofs.Keeps.{after_one, NotesAre, its_fit, room_stays, room_below, looked, looks, tells_look, done, does, tells_done}
+
+-- ---- the words of the notes come after two others
+
+get_note : (c x : ℕ) (notes : List ℕ) (n : ℕ) → get_or (c ∷ x ∷ notes) (n + 2) 0 ≡ get_or notes n 0
+get_note c x notes n = let two : n + 2 ≡ suc (suc n) = omega arith in ap (λ (k : ℕ). get_or (c ∷ x ∷ notes) k 0) two
+
+set_note : (c x : ℕ) (notes : List ℕ) (n a : ℕ) → set (c ∷ x ∷ notes) (n + 2) a ≡ c ∷ x ∷ set notes n a
+set_note c x notes n a = let two : n + 2 ≡ suc (suc n) = omega arith in ap (λ (k : ℕ). set (c ∷ x ∷ notes) k a) two
+
+pub back : (n : ℕ) → (n + 2) - 2 ≡ n
+back n = omega arith
+
+-- a note whose number isn't taken isn't made
+unmade : (now : EnvStanding) (n : ℕ) → IsSound now → now.takes ≤ n → (now.notes n).made ≡ false
+unmade now n s h = by_cases (now.notes n).made (λ e. s.made n e)
+  where
+    by_cases : (b : Bool) → (b ≡ true → n < now.takes) → b ≡ false
+    by_cases true f = let k = f refl in absurd (omega arith)
+    by_cases false f = refl
+
+module _ (S : Type 0) (limit id : ℕ) where
+  abbrev V : Type 0
+  V = List SeatView
+
+  -- what is owed of a step that leaves the words ws'
+  abbrev Owes : Views → List (ℕ × S) → List ℕ → (Me S V → Type 0) → Type 0
+  Owes views cs ws' then = (w : V) × HoldsAt limit ws' (set views id w) × then (w, cs)
+
+  -- the seat with the view v may make a step that changes the word i by f, and tells this of the number found
+  abbrev pub Turns : ℕ → (ℕ → ℕ) → (ℕ → Tells) → SeatView → Type 0
+  Turns i f tells v = (c x : ℕ) (notes : List ℕ) (views : Views) (h : _) (l : IsLawful limit c x notes views h) → get_elem? views id ≡ some (v ∷ [])
+      → (w : SeatView) × HoldsAt limit (set (c ∷ x ∷ notes) i (f (get_or (c ∷ x ∷ notes) i 0))) (set views id (w ∷ [])) × tells (get_or (c ∷ x ∷ notes) i 0) v w
+
+  turn_at : (i : ℕ) (f : ℕ → ℕ) (tells : ℕ → Tells) (ws : List ℕ) (views : Views) (vs : V) (cs : List (ℕ × S)) → IsOne vs → Turns i f tells (the vs) → HoldsAt limit ws views → get_elem? views id ≡ some vs
+      → Owes views cs (set ws i (f (get_or ws i 0))) (Stepped (tells (get_or ws i 0)) (vs, cs))
+  turn_at i f tells [] views vs cs one t h at = absurd h
+  turn_at i f tells (c ∷ []) views vs cs one t h at = absurd h
+  turn_at i f tells (c ∷ x ∷ notes) views [] cs one t h at = absurd one
+  turn_at i f tells (c ∷ x ∷ notes) views (v ∷ u ∷ us) cs one t h at = absurd one
+  turn_at i f tells (c ∷ x ∷ notes) views (v ∷ []) cs one t h at = let r = t c x notes views h.0 h.1 at in (r.0 ∷ [], r.1, (tt, refl, r.2))
+
+  allows : (slots i : ℕ) (f : ℕ → ℕ) (tells : ℕ → Tells) (me : Me S V) → IsOne me.0 → Turns i f tells (the me.0) → Allows (Holds limit) slots id me i f (λ found now. Stepped (tells found) me now)
+  allows slots i f tells me one t s h _ at _ = let r = turn_at i f tells s.words s.views me.0 me.1 one t h at in (r.0, keeps, tt, r.1, r.2)
+
+  -- ---- loads
+
+  pub loads_clock : (slots : ℕ) (me : Me S V) → IsOne me.0 → Allows (Holds limit) slots id me 0 (λ n. n) (λ found now. Stepped (LoadedClock found) me now)
+  loads_clock slots me one = allows slots 0 (λ n. n) LoadedClock me one (λ c x notes views h l at. let v = the me.0 in let m = v.making in let w = looked limit c x notes views h l id v at m in (
+    w,
+    (h, looks limit c x notes views h l id v at m x l.takes_are (its_fit limit c x notes views h l id v at).making (let r = room_stays limit c x notes views h l id v at w 0 (omega arith) in omega arith)),
+    (tells_look limit c x notes views h l id v at m, refl, l.clock_is, l.moment),
+  ))
+
+  turns_next : (v : SeatView) → v.making ≡ Nothing → Turns 1 (λ n. n) LoadedNext v
+  turns_next v idle c x notes views h l at = let takes_are = l.takes_are in dite (dec_le 64 x)
+      (λ full. let w = looked limit c x notes views h l id v at Nothing in (
+        w,
+        (h, looks limit c x notes views h l id v at Nothing x l.takes_are tt (let r = room_stays limit c x notes views h l id v at w 0 (omega arith) in omega arith)),
+        (tells_look limit c x notes views h l id v at Nothing, (λ below. absurd (omega arith)), (λ _. (refl, omega arith))),
+      ))
+      (λ some_left. let below : x < 64 = omega arith in let w = looked limit c x notes views h l id v at Adding in (
+        w,
+        (h, looks limit c x notes views h l id v at Adding x l.takes_are tt (room_below limit c x notes views h l id v at w below)),
+        (tells_look limit c x notes views h l id v at Adding, (λ _. refl), (λ full. absurd (omega arith))),
+      ))
+
+  pub loads_next : (slots : ℕ) (me : Me S V) → IsOne me.0 → (the me.0).making ≡ Nothing → Allows (Holds limit) slots id me 1 (λ n. n) (λ found now. Stepped (LoadedNext found) me now)
+  loads_next slots me one idle = allows slots 1 (λ n. n) LoadedNext me one (turns_next (the me.0) idle)
+
+  pub loads_note : (slots n : ℕ) (me : Me S V) → IsOne me.0 → n < 64 → Allows (Holds limit) slots id me (n + 2) (λ k. k) (λ found now. Stepped (LoadedNote ((n + 2) - 2) found) me now)
+  loads_note slots n me one below = allows slots (n + 2) (λ k. k) (LoadedNote ((n + 2) - 2)) me one (λ c x notes views h l at. let v = the me.0 in let m = v.making in let w = looked limit c x notes views h l id v at m in (
+    w,
+    subst (λ (ws : List ℕ). HoldsAt limit ws (set views id (w ∷ []))) (sym (set-get_or (c ∷ x ∷ notes) (n + 2) 0))
+        (h, looks limit c x notes views h l id v at m x l.takes_are (its_fit limit c x notes views h l id v at).making (let r = room_stays limit c x notes views h l id v at w 0 (omega arith) in omega arith)),
+    (tells_look limit c x notes views h l id v at m, refl, subst (λ (z : ℕ × ℕ). NoteFits z.0 ((env_after h).notes z.1)) (λ i. (sym (get_note c x notes n) i, sym (back n) i)) (l.notes_are n below)),
+  ))
+
+  -- ---- a number is taken
+
+  small : (x : ℕ) → x ≤ 127 → (x + 1) % 2 ^ 64 ≡ x + 1
+  small x h = omega arith
+
+  turns_add : (v : SeatView) → v.making ≡ Adding → Turns 1 (λ n. (n + 1) % 2 ^ 64) Added v
+  turns_add v goes c x notes views h l at = let takes_are = l.takes_are in let room = l.room in let one : adds v.making ≡ 1 = ap adds goes in let wide = small x (omega arith) in dite (dec_le 64 x)
+      (λ full. let w = looked limit c x notes views h l id v at Nothing in let takes : takes_in h ≡ min (x + 1) 64 = omega arith in (
+        w,
+        subst (λ (k : ℕ). HoldsAt limit (c ∷ k ∷ notes) (set views id (w ∷ []))) (sym wide) (h, looks limit c x notes views h l id v at Nothing (x + 1) takes tt (room_stays limit c x notes views h l id v at w 1 (omega arith))),
+        ((λ below. absurd (omega arith)), (λ _. (tells_look limit c x notes views h l id v at Nothing, refl, omega arith))),
+      ))
+      (λ some_left. let below : x < 64 = omega arith in let e = Take v.who x in let is : x ≡ takes_in h = omega arith in let w = done limit c x notes views h l id v at e (Taken x) in let f = its_fit limit c x notes views h l id v at in
+      let now = env_after h in let grown = (grown_begins h v.seen l.legal f.seen).takes in
+      let fits : MakingFits (h ++ e ∷ []) v.who (Taken x) = subst (λ (z : EnvStanding). (z.takers x ≡ Some v.who) × ((z.notes x).made ≡ false) × (x < z.takes)) (sym (after_one h e)) (but-here x (Some v.who) now.takers, unmade now x (sound_after h l.legal) (omega arith), omega arith) in (
+        w,
+        subst (λ (k : ℕ). HoldsAt limit (c ∷ k ∷ notes) (set views id (w ∷ []))) (sym wide)
+            (h ++ e ∷ [], does limit c x notes views h l id v at e (Taken x) c (x + 1) notes refl (is, below) fits l.clock_is l.moment (omega arith) (room_stays limit c x notes views h l id v at w 1 (omega arith)) l.width l.notes_are),
+        ((λ _. (tells_done limit c x notes views h l id v at e (Taken x) refl (is, below), refl, omega arith)), (λ full. absurd (omega arith))),
+      ))
+
+  pub adds_one : (slots : ℕ) (me : Me S V) → IsOne me.0 → (the me.0).making ≡ Adding → Allows (Holds limit) slots id me 1 (λ n. (n + 1) % 2 ^ 64) (λ found now. Stepped (Added found) me now)
+  adds_one slots me one goes = allows slots 1 (λ n. (n + 1) % 2 ^ 64) Added me one (turns_add (the me.0) goes)
+
+  -- ---- a note is made
+
+  -- a parent that the seat has seen made, and whose number is smaller, fits
+  parent_seen : (seen h : _) (n : ℕ) (parent : Option ℕ) → ((p : ℕ) → IsMade seen p → IsMade h p) → IfSome parent (λ p. IsMade seen p × (p < n)) → ParentFits (env_after h) n parent
+  parent_seen seen h n None more f = tt
+  parent_seen seen h n (Some p) more f = (f.1, more p f.0)
+
+  -- the words of the notes, with one of them changed
+  notes_set : (notes : List ℕ) (now : EnvStanding) (n word : ℕ) (note : NoteStanding) → length notes ≡ 64 → NotesAre notes now → NoteFits word note → (m : ℕ) → m < 64 → NoteFits (get_or (set notes n word) m 0) (but_at n note now.notes m)
+  notes_set notes now n word note width are fits m below = but_cases (λ (z : NoteStanding). NoteFits (get_or (set notes n word) m 0) z) n m note now.notes
+      (λ here. let within : n < length notes = omega arith in subst (λ (k : ℕ). NoteFits (get_or (set notes n word) k 0) note) (sym here) (rw get_or-set_same fits))
+      (λ apart. rw get_or-set_other (are m below))
+
+  turns_make : (v : SeatView) (n word : ℕ) (note : NoteWord) → v.making ≡ Taken n → note.made ≡ true → note.notified ≡ false → word ≡ word_of note → WordFits note → IfSome note.parent (λ p. IsMade v.seen p × (p < n))
+      → Turns (n + 2) (λ _. word) (λ _. Made ((n + 2) - 2) word) v
+  turns_make v n word note taken made unnotified is small_enough above c x notes views h l at =
+      let f = its_fit limit c x notes views h l id v at in let t = subst (MakingFits h v.who) taken f.making in let e = New v.who n note.parent note.deadline in let now = env_after h in
+      let legal : IsLegalEnvEvent now e = (t.0, t.1, parent_seen v.seen h n note.parent (λ p seen. made_begins h v.seen p l.legal f.seen seen) above) in
+      let few = (sound_after h l.legal).few in let under = t.2 in let w = done limit c x notes views h l id v at e Nothing in
+      let told : note_of word ≡ note = ap note_of is ∙ note_of-word_of note small_enough in
+      let fits : NoteFits word (made_note note.parent note.deadline) = (is ∙ (λ i. word_of (record { notified = unnotified i; made = made i; parent = note.parent; deadline = note.deadline })), small_enough) in (
+        w,
+        subst (λ (ws : List ℕ). HoldsAt limit ws (set views id (w ∷ []))) (sym (set_note c x notes n word)) (
+          h ++ e ∷ [],
+          does limit c x notes views h l id v at e Nothing c x (set notes n word) refl legal tt l.clock_is l.moment l.takes_are (let r = room_stays limit c x notes views h l id v at w 0 (omega arith) in omega arith) (length-set notes n word ∙ l.width)
+              (notes_set notes now n word (made_note note.parent note.deadline) l.width l.notes_are fits),
+        ),
+        subst (λ (z : ℕ × NoteWord). Adds (New v.who z.0 z.1.parent z.1.deadline ∷ []) v w × (w.making ≡ Nothing) × IsMade w.seen z.0) (λ i. (sym (back n) i, sym told i))
+            (tells_done limit c x notes views h l id v at e Nothing refl legal, refl, ap (λ (z : EnvStanding). (z.notes n).made) (after_one h e) ∙ ap (λ (z : NoteStanding). z.made) (but-here n (made_note note.parent note.deadline) now.notes)),
+      )
+
+  pub makes : (slots n word : ℕ) (note : NoteWord) (me : Me S V) → IsOne me.0 → (the me.0).making ≡ Taken n → note.made ≡ true → note.notified ≡ false → word ≡ word_of note → WordFits note → IfSome note.parent (λ p. IsMade (the me.0).seen p × (p < n))
+      → Allows (Holds limit) slots id me (n + 2) (λ _. word) (λ _ now. Stepped (Made ((n + 2) - 2) word) me now)
+  makes slots n word note me one taken made unnotified is fits above = allows slots (n + 2) (λ _. word) (λ _. Made ((n + 2) - 2) word) me one (turns_make (the me.0) n word note taken made unnotified is fits above)
+
+  -- ---- a note is notified
+
+  turns_mark : (v : SeatView) (n : ℕ) → v.making ≡ Nothing → n < 64 → IsMade v.seen n → Turns (n + 2) (λ k. bit_or k 1) (λ _. NotifiedNote ((n + 2) - 2)) v
+  turns_mark v n idle below seen c x notes views h l at =
+      let f = its_fit limit c x notes views h l id v at in let e = Notify v.who n in let now = env_after h in let legal = made_begins h v.seen n l.legal f.seen seen in
+      let w = done limit c x notes views h l id v at e Nothing in let old = get_or notes n 0 in let was = l.notes_are n below in
+      let word : bit_or (get_or (c ∷ x ∷ notes) (n + 2) 0) 1 ≡ bit_or old 1 = ap (λ (k : ℕ). bit_or k 1) (get_note c x notes n) in
+      let fits : NoteFits (bit_or old 1) (notified_note (now.notes n)) = (ap (λ (k : ℕ). bit_or k 1) was.0 ∙ marked (note_word (now.notes n)), was.1) in (
+        w,
+        subst (λ (ws : List ℕ). HoldsAt limit ws (set views id (w ∷ []))) (sym (ap (set (c ∷ x ∷ notes) (n + 2)) word ∙ set_note c x notes n (bit_or old 1))) (
+          h ++ e ∷ [],
+          does limit c x notes views h l id v at e Nothing c x (set notes n (bit_or old 1)) refl legal tt l.clock_is l.moment l.takes_are (let r = room_stays limit c x notes views h l id v at w 0 (omega arith) in omega arith) (length-set notes n (bit_or old 1) ∙ l.width)
+              (notes_set notes now n (bit_or old 1) (notified_note (now.notes n)) l.width l.notes_are fits),
+        ),
+        subst (λ (k : ℕ). Adds (Notify v.who k ∷ []) v w × (w.making ≡ v.making)) (sym (back n)) (tells_done limit c x notes views h l id v at e Nothing refl legal, sym idle),
+      )
+
+  pub marks : (slots n : ℕ) (me : Me S V) → IsOne me.0 → (the me.0).making ≡ Nothing → n < 64 → IsMade (the me.0).seen n → Allows (Holds limit) slots id me (n + 2) (λ k. bit_or k 1) (λ _ now. Stepped (NotifiedNote ((n + 2) - 2)) me now)
+  marks slots n me one idle below seen = allows slots (n + 2) (λ k. bit_or k 1) (λ _. NotifiedNote ((n + 2) - 2)) me one (turns_mark (the me.0) n idle below seen)
+
+  -- ---- the clock is moved
+
+  turns_move : (v : SeatView) (to : ℕ) → v.making ≡ Nothing → to < 2 ^ 54 → Turns 0 (λ k. max k to) (λ _. AdvancedClock to) v
+  turns_move v to idle below c x notes views h l at = let e = Advance v.who to in let w = done limit c x notes views h l id v at e Nothing in (
+    w,
+    (h ++ e ∷ [], does limit c x notes views h l id v at e Nothing (max c to) x notes refl tt tt (ap (λ (k : ℕ). max k to) l.clock_is) (let was = l.moment in omega arith) l.takes_are (let r = room_stays limit c x notes views h l id v at w 0 (omega arith) in omega arith) l.width l.notes_are),
+    (tells_done limit c x notes views h l id v at e Nothing refl tt, sym idle),
+  )
+
+  pub moves : (slots to : ℕ) (me : Me S V) → IsOne me.0 → (the me.0).making ≡ Nothing → to < 2 ^ 54 → Allows (Holds limit) slots id me 0 (λ k. max k to) (λ _ now. Stepped (AdvancedClock to) me now)
+  moves slots to me one idle below = allows slots 0 (λ k. max k to) (λ _. AdvancedClock to) me one (turns_move (the me.0) to idle below)

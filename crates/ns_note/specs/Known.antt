@@ -1,0 +1,76 @@
+-- What a seat knows, and how it grows.
+use Rattle.std.specs.Prelude.{◌≡◌, ℕ, suc, List, [], ◌∷◌, ◌⊎◌}
+use Rattle.atomic_table.specs.Seated.{TableId}
+use Rattle.atomic_table.specs.Table.{Me}
+use Rattle.ns_model.specs.declared.environment.EnvEvent.{EnvEvent}
+use Rattle.ns_model.specs.Beginnings.{BeginsWith}
+use Rattle.ns_model.specs.Environments.{IsLegalEnv, IsEnvBySeats, env_own}
+use Rattle.ns_note.specs.declared.view.Making.TheVariants.{Nothing}
+use Rattle.ns_note.specs.declared.view.SeatView.{SeatView}
+
+-- what contracts see of a seat: its environment, how many seats that has, its own number, the history that it has seen, and its own events
+pub record EnvKnown : Type 0 where
+  pub env : TableId
+  pub limit : ℕ
+  pub who : ℕ
+  pub seen : List EnvEvent
+  pub mine : List EnvEvent
+
+abbrev pub known : TableId → ℕ → ℕ → List EnvEvent → List EnvEvent → EnvKnown
+known env limit who seen mine = record { env = env; limit = limit; who = who; seen = seen; mine = mine }
+
+abbrev pub known_of : TableId → SeatView → EnvKnown
+known_of env view = known env view.limit view.who view.seen view.mine
+
+-- the seat that a view stands for, where it is one
+abbrev pub the : List SeatView → SeatView
+the [] = record { limit = 0; who = 0; making = Nothing; seen = []; mine = [] }
+the (view ∷ views) = view
+
+abbrev pub the_second : List SeatView → SeatView
+the_second [] = the []
+the_second (view ∷ views) = the views
+
+abbrev pub IsOne : List SeatView → Type 0
+IsOne [] = ⊥
+IsOne (view ∷ []) = Unit {0}
+IsOne (view ∷ other ∷ views) = ⊥
+
+abbrev pub ArePair : List SeatView → Type 0
+ArePair [] = ⊥
+ArePair (view ∷ views) = IsOne views
+
+-- What a seat has seen is a legal history by the seats that there are, and the seat's own events in it are just its own.
+pub record IsTrueToHistory (k : EnvKnown) : Type 0 where
+  pub legal : IsLegalEnv k.seen
+  pub by_seats : IsEnvBySeats k.limit k.seen
+  pub own : env_own k.seen k.who ≡ k.mine
+
+-- a seat between its calls: it stands for itself alone, holds nothing of the table and makes no note
+pub record IsAtRest {S : Type 0} (env : TableId) (me : Me S (List SeatView)) : Type 0 where
+  pub one : IsOne me.0
+  pub empty : me.1 ≡ []
+  pub idle : (the me.0).making ≡ Nothing
+  pub true_to : IsTrueToHistory (known_of env (the me.0))
+
+-- The same seat later: it has seen a history that begins with what it had seen, and that is one of those above.
+pub record Grows (old new : EnvKnown) : Type 0 where
+  pub env : new.env ≡ old.env
+  pub limit : new.limit ≡ old.limit
+  pub who : new.who ≡ old.who
+  pub begins : BeginsWith new.seen old.seen
+  pub true_to : IsTrueToHistory new
+
+-- the seats of a new environment, from a number on: none has seen or done anything
+abbrev pub AreNew : TableId → ℕ → ℕ → List EnvKnown → Type 0
+AreNew env limit from [] = Unit {0}
+AreNew env limit from (seat ∷ seats) = (seat ≡ known env limit from [] []) × AreNew env limit (suc from) seats
+
+-- Of two seats, one has seen all that the other has: a history that begins with what the other has seen, in which the events of both are just their own.
+pub record SawAllOf (ahead behind : EnvKnown) : Type 0 where
+  pub begins : BeginsWith ahead.seen behind.seen
+  pub own : env_own ahead.seen ahead.who ≡ ahead.mine
+  pub theirs : env_own ahead.seen behind.who ≡ behind.mine
+
+abbrev pub AreOfOneHistory : EnvKnown → EnvKnown → Type 0
+AreOfOneHistory first second = SawAllOf first second ⊎ SawAllOf second first

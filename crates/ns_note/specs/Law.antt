@@ -1,0 +1,105 @@
+-- The rule of an environment's table: word 0 is the clock, word 1 the next note's number, and the notes' words follow.
+use Rattle.std.specs.Prelude.{◌≡◌, ℕ, suc, zero, ◌+◌, ◌^◌, ◌<◌, ◌≤◌, min, Bool, true, false, ◌==◌, List, [], ◌∷◌, length, Some, slice_index}
+use Rattle.atomic_table.specs.Table.{State}
+use Rattle.ns_model.specs.declared.environment.EnvEvent.{EnvEvent}
+use Rattle.ns_model.specs.Beginnings.{BeginsWith}
+use Rattle.ns_model.specs.Environments.{NoteStanding, IsLegalEnv, env_after, clock_of, takes_in, is_made, env_own, IsEnvBySeats}
+use Rattle.ns_note.specs.declared.note.NoteWord.{NoteWord}
+use Rattle.ns_note.specs.declared.view.Making.{Making}
+use Rattle.ns_note.specs.declared.view.Making.TheVariants.{Nothing, Adding, Taken}
+use Rattle.ns_note.specs.declared.view.SeatView.{SeatView}
+use Rattle.ns_note.specs.Words.{WordFits, word_of}
+
+abbrev pub Views : Type 0
+Views = List (List SeatView)
+
+abbrev pub total : {A : Type 0} → (A → ℕ) → List A → ℕ
+total f [] = 0
+total f (x ∷ xs) = f x + total f xs
+
+abbrev pub Every : {A : Type 0} → (A → Type 0) → List A → Type 0
+Every P [] = Unit {0}
+Every P (x ∷ xs) = P x × Every P xs
+
+-- a sum over all seats
+abbrev pub tally : (SeatView → ℕ) → Views → ℕ
+tally f views = total (total f) views
+
+abbrev pub one_if : Bool → ℕ
+one_if true = 1
+one_if false = 0
+
+-- 1 for a seat that goes to take a number
+abbrev pub adds : Making → ℕ
+adds Nothing = 0
+adds Adding = 1
+adds (Taken note) = 0
+
+abbrev pub is_adding : SeatView → ℕ
+is_adding view = adds view.making
+
+abbrev pub is_who : ℕ → SeatView → ℕ
+is_who who view = one_if (view.who == who)
+
+-- a number that a seat has taken is its own, and its note isn't made yet
+abbrev pub MakingFits : List EnvEvent → ℕ → Making → Type 0
+MakingFits h who Nothing = Unit {0}
+MakingFits h who Adding = Unit {0}
+MakingFits h who (Taken note) = ((env_after h).takers note ≡ Some who) × (is_made h note ≡ false) × (note < takes_in h)
+
+-- what one of so many seats knows fits the history: it has seen a beginning of it, which has all of its own events
+pub record Fits (limit : ℕ) (h : List EnvEvent) (view : SeatView) : Type 0 where
+  pub limited : view.limit ≡ limit
+  pub below : view.who < limit
+  pub seen : BeginsWith h view.seen
+  pub mine : env_own h view.who ≡ view.mine
+  pub mine_seen : env_own view.seen view.who ≡ view.mine
+  pub making : MakingFits h view.who view.making
+
+-- the word of a note as a history leaves it
+abbrev pub note_word : NoteStanding → NoteWord
+note_word note = record { notified = note.called; made = note.made; parent = note.parent; deadline = note.deadline }
+
+abbrev pub NoteFits : ℕ → NoteStanding → Type 0
+NoteFits word note = (word ≡ word_of (note_word note)) × WordFits (note_word note)
+
+-- The rule: the words are as a history leaves them, which is legal, by these seats, and begins with what each seat has seen.
+-- The next number may pass 64, where seats saw it below 64 and add at once, but no further than the seats go: at most 127.
+pub record IsLawful (limit clock next : ℕ) (notes : List ℕ) (views : Views) (h : List EnvEvent) : Type 0 where
+  pub clock_is : clock ≡ clock_of h
+  pub moment : clock < 2 ^ 54
+  pub takes_are : takes_in h ≡ min next 64
+  pub room : next + tally is_adding views ≤ 127
+  pub width : length notes ≡ 64
+  pub notes_are : (n : ℕ) → n < 64 → NoteFits (slice_index notes n) ((env_after h).notes n)
+  pub seats : tally (λ _. 1) views ≡ limit
+  pub few : limit ≤ 64
+  pub once : (who : ℕ) → tally (is_who who) views ≤ 1
+  pub legal : IsLegalEnv h
+  pub by_seats : IsEnvBySeats limit h
+  pub each : Every (Every (Fits limit h)) views
+
+-- the seats from a number on, so many of them, of which none has made a step
+abbrev pub fresh_seat : ℕ → ℕ → SeatView
+fresh_seat limit who = record { limit = limit; who = who; making = Nothing; seen = []; mine = [] }
+
+abbrev pub fresh : ℕ → ℕ → ℕ → List SeatView
+fresh limit from zero = []
+fresh limit from (suc k) = fresh_seat limit from ∷ fresh limit (suc from) k
+
+-- the first seat of a view, alone, and the rest
+abbrev pub first_of : List SeatView → List SeatView
+first_of [] = []
+first_of (v ∷ vs) = v ∷ []
+
+abbrev pub rest_of : List SeatView → List SeatView
+rest_of [] = []
+rest_of (v ∷ vs) = vs
+
+abbrev pub HoldsAt : ℕ → List ℕ → Views → Type 0
+HoldsAt limit [] views = ⊥
+HoldsAt limit (clock ∷ []) views = ⊥
+HoldsAt limit (clock ∷ next ∷ notes) views = (h : List EnvEvent) × IsLawful limit clock next notes views h
+
+abbrev pub Holds : {S : Type 0} → ℕ → State S (List SeatView) → Type 0
+Holds limit s = HoldsAt limit s.words s.views

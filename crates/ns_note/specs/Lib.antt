@@ -1,0 +1,5 @@
+pub mod Answers
+pub mod Known
+pub mod Law
+pub mod Told
+pub mod Words

@@ -1,0 +1,353 @@
+//! The clock and the notes of several callers.
+
+ghost use Rattle.std.specs.Prelude.{◌≡◌, ◌<◌, ◌^◌, ◌++◌, ◌↔◌, [], ◌∷◌, true, false, List, length, IfSome, IfOk, IfErr, OnOk, option_map};
+ghost use Rattle.ns_model.specs.Beginnings.{IsBetween};
+ghost use Rattle.ns_model.specs.Environments.{IsMade, IsNotified, clock_of, earlier as earlier_of, env_after, expiry_of, is_made, is_notified, takes_in};
+ghost use Rattle.ns_note.specs.Answers.{LookAnswers, WaitAnswers};
+ghost use Rattle.ns_note.specs.Known.{AreNew, AreOfOneHistory, Grows, IsAtRest, IsOne, IsTrueToHistory, known_of, the};
+ghost use Rattle.ns_note.specs.Law.{note_word};
+ghost use Rattle.ns_note.specs.Told.{FoundFull, HasTaken};
+ghost use Rattle.ns_note.specs.declared.view.Making.TheVariants.{Nothing};
+ghost use Rattle.ns_note.specs.Words.{WordFits};
+
+use crate::fault::{Fault, NotesFull};
+use crate::note::{Note, NoteWord, decode_note, encode_note, index_of, is_due};
+use crate::plays::{
+    FirstOut, Law, Learn, LoadClock, LoadNext, LoadNote, Make, Mark, MoveClock, Take, Together,
+};
+use crate::seat::{EnvSeat, TableSeat};
+use crate::view::View;
+use atomic_table::Table;
+use crossbeam_utils::Backoff;
+use ns_model::environment::EnvEvent;
+use ns_model::event::Answer;
+use std::alloc::{AllocError, Global};
+use std::marker::Model;
+use std::sync::Wait;
+
+/// A clock and up to 64 notes, shared by up to 64 callers. Each call takes its caller's seat, which
+/// has to be of this environment.
+///
+/// A call on a note needs one that the seat has seen made: that its own [`Env::note_new`] has
+/// given, or of which its own [`Env::knows`] has answered `true`. Once seen, that holds for good.
+#[derive(Drop)]
+pub struct Env {
+    table: Table<(), View, u8, Law, Global>,
+}
+
+impl Model for Env {
+    ghost use Rattle.std.specs.Prelude.{◌≡◌};
+    ghost use Rattle.atomic_table.specs.Seated.{TableId};
+
+    ghost Value = { TableId };
+
+    ghost view = { λ e. e.table.shared.table_id };
+
+    ghost invariant = { λ e. (e.table.shared.table_id.words ≡ 66) × (e.table.shared.table_id.slots ≡ 0) };
+}
+
+/// One new seat.
+fn seated(seat: TableSeat) -> EnvSeat
+    requires { IsAtRest seat.table_id seat.me }
+    ensures { result ≡ known_of seat.table_id (the seat.me.0) }
+{
+    EnvSeat { seat }
+}
+
+/// Puts a seat behind the others.
+fn add(seats: &mut Vec<EnvSeat>, seat: EnvSeat) -> Result<(), AllocError>
+    ensures { OnOk result (seats.new.items ≡ seats.old.items ++ seat ∷ []) }
+{
+    seats.push(seat)?;
+    Ok(())
+}
+
+impl Env {
+    /// An environment with its clock at 0 and no note, and its seats, one for each caller.
+    ///
+    /// Refuses more than 64 seats before it takes any memory, and refuses where memory is. Needs
+    /// at least one seat.
+    pub fn new(alloc: Global, seats: usize) -> Result<(Env, Vec<EnvSeat>), Fault>
+        requires { 0 < seats }
+        ensures made { IfOk result (λ r. (length r.1.items ≡ seats) × AreNew r.0 seats 0 r.1.items) }
+        ensures refused { (result ≡ Err Fault.TooManySeats) ↔ (64 < seats) }
+    {
+        if seats > 64 {
+            return Err(Fault::TooManySeats);
+        }
+        let (table, mut rest) = Table::of_words(alloc, &[0; 66], &(seats as u8))?;
+        let mut given = Vec::new(alloc);
+        for _who in 0..seats {
+            let seat = table.shared.split_seat::<FirstOut>(&mut rest);
+            add(&mut given, seated(seat))?;
+        }
+        Ok((Env { table }, given))
+    }
+
+    /// Two callers compare what they have seen: of what one had seen and what the other had, one
+    /// begins the other, with just the events of both as their own, and now both have seen one
+    /// history that begins with it.
+    pub fn meet(&self, first: EnvSeat, second: EnvSeat) -> (EnvSeat, EnvSeat)
+        requires { (first.env ≡ self.now) × (second.env ≡ self.now) }
+        ensures grows { Grows first result.0 × Grows second result.1 }
+        ensures mine { (result.0.mine ≡ first.mine) × (result.1.mine ≡ second.mine) }
+        ensures before { AreOfOneHistory first second }
+        ensures after { result.1.seen ≡ result.0.seen }
+    {
+        let EnvSeat { seat: mut both } = first;
+        let EnvSeat { seat: second } = second;
+        let shared = &self.table.shared;
+        shared.join_seat::<Together>(&mut both, second);
+        shared.load::<Learn>(&mut both, 0);
+        let first = shared.split_seat::<FirstOut>(&mut both);
+        (seated(first), seated(both))
+    }
+
+    /// Takes the next number, if there still is one.
+    fn take_number(&self, seat: &mut TableSeat) -> Result<u8, NotesFull>
+        requires env { seat.old.table_id ≡ self.now }
+        requires one { IsOne seat.old.me.0 }
+        requires idle { (the seat.old.me.0).making ≡ Nothing }
+        ensures seat { (seat.new.table_id ≡ seat.old.table_id) × IsOne seat.new.me.0 × (seat.new.me.1 ≡ seat.old.me.1) }
+        ensures taken { IfOk result (λ number. HasTaken number (the seat.old.me.0) (the seat.new.me.0)) }
+        ensures full { IfErr result (λ _. FoundFull (the seat.old.me.0) (the seat.new.me.0)) }
+    {
+        let shared = &self.table.shared;
+        if shared.load::<LoadNext>(seat, 1) >= 64 {
+            return Err(NotesFull);
+        }
+        let number = shared.fetch_add::<Take>(seat, 1, 1);
+        if number < 64 {
+            Ok(number as u8)
+        } else {
+            Err(NotesFull)
+        }
+    }
+
+    /// Makes a note below a parent, if one is given, with a deadline in ticks, if one is given.
+    /// nsync's `nsync_note_new`.
+    ///
+    /// Refuses only where 64 numbers are taken, and then no note has changed. Needs a parent
+    /// that the seat has seen made, and a deadline below 2^54.
+    pub fn note_new(
+        &self,
+        seat: &mut EnvSeat,
+        parent: Option<Note>,
+        deadline: Option<u64>,
+    ) -> Result<Note, NotesFull>
+        requires env { seat.old.env ≡ self.now }
+        requires parent { IfSome parent (λ p. IsMade seat.old.seen p.index) }
+        requires deadline { IfSome deadline (λ d. d < 2 ^ 54) }
+        ensures grows { Grows seat.old seat.new }
+        ensures made { IfOk result (λ note. seat.new.mine ≡ seat.old.mine ++ EnvEvent.Take seat.old.who note.index ∷ EnvEvent.New seat.old.who note.index (option_map (λ p. p.index) parent) deadline ∷ []) }
+        ensures is_made { IfOk result (λ note. IsMade seat.new.seen note.index) }
+        ensures full { IfErr result (λ _. (seat.new.mine ≡ seat.old.mine) × (takes_in seat.new.seen ≡ 64)) }
+    {
+        let index = self.take_number(&mut seat.seat)?;
+        let word = encode_note(NoteWord {
+            notified: false,
+            made: true,
+            parent: index_of(parent),
+            deadline,
+        });
+        self.table
+            .shared
+            .store::<Make>(&mut seat.seat, usize::from(index) + 2, word);
+        Ok(Note { index })
+    }
+
+    /// The clock, in ticks: a moment below 2^54.
+    pub fn now(&self, seat: &mut EnvSeat) -> u64
+        requires { seat.old.env ≡ self.now }
+        ensures grows { Grows seat.old seat.new }
+        ensures mine { seat.new.mine ≡ seat.old.mine }
+        ensures clock { result ≡ clock_of seat.new.seen }
+        ensures moment { result < 2 ^ 54 }
+    {
+        self.table.shared.load::<LoadClock>(&mut seat.seat, 0)
+    }
+
+    /// Moves the clock to a moment, in ticks; a clock that stands later stays where it is.
+    ///
+    /// Needs a moment below 2^54.
+    pub fn advance(&self, seat: &mut EnvSeat, to: u64)
+        requires env { seat.old.env ≡ self.now }
+        requires moment { to < 2 ^ 54 }
+        ensures grows { Grows seat.old seat.new }
+        ensures mine { seat.new.mine ≡ seat.old.mine ++ EnvEvent.Advance seat.old.who to ∷ [] }
+    {
+        self.table
+            .shared
+            .fetch_max::<MoveClock>(&mut seat.seat, 0, to);
+    }
+
+    /// Notifies a note, for good, and with it every note below it. nsync's `nsync_note_notify`.
+    ///
+    /// Needs a note that the seat has seen made.
+    pub fn notify(&self, seat: &mut EnvSeat, note: Note)
+        requires env { seat.old.env ≡ self.now }
+        requires made { IsMade seat.old.seen note.index }
+        ensures grows { Grows seat.old seat.new }
+        ensures mine { seat.new.mine ≡ seat.old.mine ++ EnvEvent.Notify seat.old.who note.index ∷ [] }
+    {
+        self.table
+            .shared
+            .fetch_or::<Mark>(&mut seat.seat, usize::from(note.index) + 2, 1);
+    }
+
+    /// What the word of a number tells now.
+    fn word(&self, seat: &mut EnvSeat, number: u8) -> NoteWord
+        requires env { seat.old.env ≡ self.now }
+        requires number { number < 64 }
+        ensures grows { Grows seat.old seat.new }
+        ensures mine { seat.new.mine ≡ seat.old.mine }
+        ensures word { result ≡ note_word ((env_after seat.new.seen).notes number) }
+        ensures fits { WordFits result }
+    {
+        let word = self
+            .table
+            .shared
+            .load::<LoadNote>(&mut seat.seat, usize::from(number) + 2);
+        decode_note(word)
+    }
+
+    /// Whether the note is made, so that other calls of this seat may take it.
+    pub fn knows(&self, seat: &mut EnvSeat, note: Note) -> bool
+        requires { seat.old.env ≡ self.now }
+        ensures grows { Grows seat.old seat.new }
+        ensures mine { seat.new.mine ≡ seat.old.mine }
+        ensures made { result ≡ is_made seat.new.seen note.index }
+    {
+        self.word(seat, note.index).made
+    }
+
+    /// Whether the note or an ancestor is notified by a call, or has a deadline that the clock,
+    /// which was loaded before, has reached.
+    fn stops(&self, seat: &mut EnvSeat, note: Note, clock: u64) -> bool
+        requires env { seat.old.env ≡ self.now }
+        requires made { IsMade seat.old.seen note.index }
+        requires clock { clock ≡ clock_of seat.old.seen }
+        requires true_to { IsTrueToHistory seat.old }
+        ensures grows { Grows seat.old seat.new }
+        ensures mine { seat.new.mine ≡ seat.old.mine }
+        ensures over { result ≡ true → IsNotified seat.new.seen note.index }
+        ensures not_yet { result ≡ false → is_notified seat.old.seen note.index ≡ false }
+    {
+        let mut next = Some(note.index);
+        while let Some(number) = next {
+            let word = self.word(seat, number);
+            if word.is_over(clock) {
+                return true;
+            }
+            next = word.parent;
+        }
+        false
+    }
+
+    /// Whether the note is notified: it or an ancestor, by a call or by its deadline. nsync's
+    /// `nsync_note_is_notified`.
+    ///
+    /// Needs a note that the seat has seen made.
+    pub fn is_notified(&self, seat: &mut EnvSeat, note: Note) -> bool
+        requires env { seat.old.env ≡ self.now }
+        requires made { IsMade seat.old.seen note.index }
+        ensures grows { Grows seat.old seat.new }
+        ensures mine { seat.new.mine ≡ seat.old.mine }
+        ensures notified { (point : List EnvEvent) × IsBetween seat.old.seen point seat.new.seen × (result ≡ is_notified point note.index) }
+    {
+        let clock = self.now(seat);
+        self.stops(seat, note, clock)
+    }
+
+    /// The earliest deadline from the note up to its root, in ticks, or `None` where there is
+    /// none. nsync's `nsync_note_expiry`.
+    ///
+    /// Needs a note that the seat has seen made.
+    pub fn expiry(&self, seat: &mut EnvSeat, note: Note) -> Option<u64>
+        requires env { seat.old.env ≡ self.now }
+        requires made { IsMade seat.old.seen note.index }
+        ensures grows { Grows seat.old seat.new }
+        ensures mine { seat.new.mine ≡ seat.old.mine }
+        ensures expiry { result ≡ expiry_of seat.new.seen note.index }
+    {
+        let word = self.word(seat, note.index);
+        let mut earliest = word.deadline;
+        let mut next = word.parent;
+        while let Some(number) = next {
+            let word = self.word(seat, number);
+            earliest = earlier(earliest, word.deadline);
+            next = word.parent;
+        }
+        earliest
+    }
+
+    /// One look at a note and a deadline, in ticks: `Canceled` where the note is notified, else
+    /// `TimedOut` where the clock has reached the deadline, else nothing. What is not given is
+    /// not looked at.
+    ///
+    /// Needs a note, if one is given, that the seat has seen made.
+    pub fn look(
+        &self,
+        seat: &mut EnvSeat,
+        note: Option<Note>,
+        deadline: Option<u64>,
+    ) -> Option<Answer>
+        requires env { seat.old.env ≡ self.now }
+        requires made { IfSome note (λ n. IsMade seat.old.seen n.index) }
+        ensures grows { Grows seat.old seat.new }
+        ensures mine { seat.new.mine ≡ seat.old.mine }
+        ensures answers { LookAnswers note deadline seat.old.seen seat.new.seen result }
+    {
+        let clock = self.now(seat);
+        if let Some(note) = note {
+            if self.stops(seat, note, clock) {
+                return Some(Answer::Canceled);
+            }
+        }
+        if is_due(deadline, clock) {
+            Some(Answer::TimedOut)
+        } else {
+            None
+        }
+    }
+
+    /// Waits until the note is notified, or until the clock has reached the deadline, in ticks,
+    /// and answers whether the note is notified. With no deadline it waits for the note alone.
+    /// nsync's `nsync_note_wait`.
+    ///
+    /// Needs a note that the seat has seen made.
+    pub fn note_wait<R: Wait>(
+        &self,
+        rt: &R,
+        seat: &mut EnvSeat,
+        note: Note,
+        deadline: Option<u64>,
+    ) -> bool
+        requires env { seat.old.env ≡ self.now }
+        requires made { IsMade seat.old.seen note.index }
+        ensures grows { Grows seat.old seat.new }
+        ensures mine { seat.new.mine ≡ seat.old.mine }
+        ensures answers { WaitAnswers note deadline seat.old.seen seat.new.seen result }
+    {
+        let backoff = Backoff::new();
+        for _ in rt.forever() {
+            match self.look(seat, Some(note), deadline) {
+                Some(Answer::Canceled) => return true,
+                Some(Answer::TimedOut) => return false,
+                _ => backoff.snooze(),
+            }
+        }
+        unreachable!()
+    }
+}
+
+/// The earlier of two deadlines, where there are two.
+fn earlier(one: Option<u64>, other: Option<u64>) -> Option<u64>
+    ensures { result ≡ earlier_of one other }
+{
+    match (one, other) {
+        (Some(moment), Some(later)) => Some(moment.min(later)),
+        (None, deadline) => deadline,
+        (deadline, None) => deadline,
+    }
+}

@@ -1,0 +1,41 @@
+//! A clock and a tree of notes, shared between threads.
+//!
+//! A note is notified for good: by a call, by its deadline or by an ancestor. A caller that
+//! waits for something else watches a note to learn that it should give up:
+//!
+//! ```text
+//! let (env, mut seats) = Env::new(alloc, 2)?;     // one seat for each thread
+//!
+//! // the one that may call it off:
+//! let stop = env.note_new(&mut mine, None, Some(1_000))?;   // notified at 1,000 ticks, or
+//! env.notify(&mut mine, stop);                              // before, by this call
+//!
+//! // the other, which has been handed `stop`:
+//! if env.knows(&mut theirs, stop) {
+//!     env.note_wait(rt, &mut theirs, stop, None);
+//! }
+//! ```
+//!
+//! The clock stands at 0 and is moved by callers alone, in ticks below 2^54. It never goes back.
+//!
+//! An [`env::Env`] is a table of 66 atomic words: the clock, the next note's number and 64
+//! words of notes. To make a note, a call takes a number by an addition and then stores the
+//! note's word, so others may see a number taken whose note isn't made yet. To ask whether a note
+//! is notified, a call loads the clock first and then the words from the note up to its root.
+//! Only [`env::Env::note_wait`] ever waits.
+//!
+//! What is promised: there is one history of the environment, legal by the definitions of
+//! `ns_model`, that begins with what each [`seat::EnvSeat`] has seen, and in which each seat's own
+//! events are just those that its calls have added. Each call says which events it adds, and at
+//! which point of the history its answer is right. Two callers compare their histories by
+//! [`env::Env::meet`]; between callers that never met, nothing is said of the order.
+#![tactic(auto)]
+
+pub mod env;
+pub mod fault;
+pub mod note;
+mod plays;
+pub mod seat;
+#[cfg(test)]
+mod tests;
+mod view;

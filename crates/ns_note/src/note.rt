@@ -1,0 +1,130 @@
+//! A note, and the word that a table keeps of it.
+
+ghost use Rattle.std.specs.Prelude.{◌≡◌, ◌<◌, ◌^◌, ◌||◌, IfSome, option_map};
+ghost use Rattle.ns_model.specs.Environments.{is_due as is_due_of};
+ghost use Rattle.ns_note.specs.Words.{WordFits, deadline_at, deadline_code, note_of, parent_at, parent_code, word_of};
+
+/// A note of an environment, by its number, from 0 to 63.
+#[derive(Clone, Copy, Debug, PartialEq, Eq)]
+pub struct Note {
+    /// The number.
+    pub index: u8,
+    pub ghost in_range: { index < 64 },
+}
+
+/// The number of a note, if there is one.
+pub(crate) fn index_of(note: Option<Note>) -> Option<u8>
+    ensures { result ≡ option_map (λ n. n.index) note }
+{
+    match note {
+        None => None,
+        Some(Note { index }) => Some(index),
+    }
+}
+
+/// What a note's word tells. A deadline is a moment, in ticks.
+#[derive(Clone, Copy, Debug, PartialEq, Eq)]
+pub struct NoteWord {
+    /// Notified by a call. A note whose deadline has come, or whose parent is notified, need not
+    /// be marked.
+    pub notified: bool,
+    /// The note is made; a number that is only taken, or not even that, has no note yet.
+    pub made: bool,
+    /// The parent's number.
+    pub parent: Option<u8>,
+    /// The note's own deadline.
+    pub deadline: Option<u64>,
+}
+
+/// Whether the clock has reached the deadline, both in ticks. Where there is none, it never has.
+pub(crate) fn is_due(deadline: Option<u64>, clock: u64) -> bool
+    ensures { result ≡ is_due_of clock deadline }
+{
+    match deadline {
+        None => false,
+        Some(moment) => moment <= clock,
+    }
+}
+
+impl NoteWord {
+    /// Whether the note itself is notified, by a call or by its deadline. Needs the clock, in ticks.
+    pub(crate) fn is_over(self, clock: u64) -> bool
+        ensures { result ≡ (self.notified || is_due_of clock self.deadline) }
+    {
+        self.notified || is_due(self.deadline, clock)
+    }
+}
+
+/// The parent's number plus 1, or 0 for none.
+fn parent_bits(parent: Option<u8>) -> u64
+    requires { IfSome parent (λ p. p < 64) }
+    ensures { result ≡ parent_code parent }
+{
+    match parent {
+        None => 0,
+        Some(number) => u64::from(number) + 1,
+    }
+}
+
+/// The deadline with a bit above it that tells that there is one, or 0 for none.
+fn deadline_bits(deadline: Option<u64>) -> u64
+    requires { IfSome deadline (λ d. d < 2 ^ 54) }
+    ensures { result ≡ deadline_code deadline }
+{
+    match deadline {
+        None => 0,
+        Some(moment) => DEADLINE + moment,
+    }
+}
+
+/// The parent that these bits tell of.
+fn parent_of_bits(bits: u8) -> Option<u8>
+    ensures { result ≡ parent_at bits }
+{
+    if bits == 0 { None } else { Some(bits - 1) }
+}
+
+/// The deadline that these bits tell of.
+fn deadline_of_bits(bits: u64) -> Option<u64>
+    ensures { result ≡ deadline_at bits }
+{
+    if bits < DEADLINE {
+        None
+    } else {
+        Some(bits - DEADLINE)
+    }
+}
+
+/// One past the last moment, and the bit that tells of a deadline.
+const DEADLINE: u64 = 1 << 54;
+
+/// The word of a note.
+///
+/// Bit 0 is set where a call has notified it and bit 1 where it is made; bits 2 to 8 are the
+/// parent's number plus 1, or 0 for none; bits 9 to 62 are the deadline in ticks, and bit 63
+/// is set where there is one.
+///
+/// Needs a parent below 64 and a deadline below 2^54, where there are any.
+pub fn encode_note(note: NoteWord) -> u64
+    requires { WordFits note }
+    ensures { result ≡ word_of note }
+{
+    u64::from(note.notified)
+        + 2 * u64::from(note.made)
+        + 4 * parent_bits(note.parent)
+        + 512 * deadline_bits(note.deadline)
+}
+
+/// The note that a word tells of: from the word that [`encode_note`] gives for a note, that very
+/// note.
+pub fn decode_note(word: u64) -> NoteWord
+    ensures decoded { result ≡ note_of word }
+    ensures undoes { (note : NoteWord) → WordFits note → word ≡ word_of note → result ≡ note }
+{
+    NoteWord {
+        notified: word % 2 == 1,
+        made: word / 2 % 2 == 1,
+        parent: parent_of_bits((word / 4 % 128) as u8),
+        deadline: deadline_of_bits(word / 512),
+    }
+}

@@ -1,0 +1,91 @@
+//! The rule of the table, and what each step on it tells.
+
+ghost use Rattle.std.specs.Prelude.{◌-◌, ◌++◌, []};
+ghost use Rattle.ns_note.specs.Law.{Holds, first_of, fresh, rest_of};
+ghost use Rattle.ns_note.specs.Told.{Added, AdvancedClock, Learned, LoadedClock, LoadedNext, LoadedNote, Made, NotifiedNote, Stepped};
+
+use crate::view::View;
+use atomic_table::{Join, Play, Split, TableRule};
+
+/// The words are as one legal history leaves them, which each seat has seen a beginning of.
+pub struct Law;
+
+impl TableRule<(), View, u8> for Law {
+    ghost holds = { λ limit s. Holds limit s };
+
+    ghost first = { λ limit. fresh limit 0 limit };
+}
+
+/// A load of the clock.
+pub struct LoadClock;
+
+impl Play<(), View> for LoadClock {
+    ghost then = { λ st me found now. Stepped (LoadedClock found) me now };
+}
+
+/// A load of the next number, before one is taken.
+pub struct LoadNext;
+
+impl Play<(), View> for LoadNext {
+    ghost then = { λ st me found now. Stepped (LoadedNext found) me now };
+}
+
+/// A load of a note's word.
+pub struct LoadNote;
+
+impl Play<(), View> for LoadNote {
+    ghost then = { λ st me found now. Stepped (LoadedNote (st.word - 2) found) me now };
+}
+
+/// An addition of 1 to the next number.
+pub struct Take;
+
+impl Play<(), View> for Take {
+    ghost then = { λ st me found now. Stepped (Added found) me now };
+}
+
+/// A store of a new note's word.
+pub struct Make;
+
+impl Play<(), View> for Make {
+    ghost then = { λ st me found now. Stepped (Made (st.word - 2) st.first) me now };
+}
+
+/// A mark on a note's word.
+pub struct Mark;
+
+impl Play<(), View> for Mark {
+    ghost then = { λ st me found now. Stepped (NotifiedNote (st.word - 2)) me now };
+}
+
+/// A move of the clock.
+pub struct MoveClock;
+
+impl Play<(), View> for MoveClock {
+    ghost then = { λ st me found now. Stepped (AdvancedClock st.first) me now };
+}
+
+/// A load by two seats that are joined: both see the history so far.
+pub struct Learn;
+
+impl Play<(), View> for Learn {
+    ghost then = { λ st me found now. Learned me now };
+}
+
+/// The first seat of a view goes to a seat of its own.
+pub struct FirstOut;
+
+impl Split<View> for FirstOut {
+    ghost left = { rest_of };
+
+    ghost right = { first_of };
+}
+
+/// Two seats stand for both their seats together, while they meet.
+pub struct Together;
+
+impl Join<View> for Together {
+    ghost both = { λ v w. v ++ w };
+
+    ghost spent = { [] };
+}

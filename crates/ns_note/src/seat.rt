@@ -1,0 +1,26 @@
+//! The seats through which callers use an environment.
+
+use crate::view::View;
+use std::marker::Model;
+
+/// A seat on the table, with what it knows.
+pub(crate) type TableSeat = atomic_table::Seat<(), View>;
+
+/// A seat of an environment. Each call takes one, and each caller needs its own.
+///
+/// For contracts it carries which environment it is of, how many seats that has, its own number,
+/// the history of the environment that it has seen, and its own events in it. It has no bytes.
+#[derive(Drop)]
+pub struct EnvSeat {
+    pub(crate) seat: TableSeat,
+}
+
+impl Model for EnvSeat {
+    ghost use Rattle.ns_note.specs.Known.{EnvKnown, IsAtRest, known_of, the};
+
+    ghost Value = { EnvKnown };
+
+    ghost view = { λ s. known_of s.seat.table_id (the s.seat.me.0) };
+
+    ghost invariant = { λ s. IsAtRest s.seat.table_id s.seat.me };
+}

@@ -1,0 +1,27 @@
+//! What a seat knows. These are values of the proof: no value of them is made.
+
+use ns_model::environment::EnvEvent;
+use std::collections::LinkedList;
+
+/// How far a seat has come in making a note.
+pub enum Making {
+    /// It makes none.
+    Nothing,
+    /// It has seen that a number is free, and goes to take one.
+    Adding,
+    /// It has taken this number, and goes to make the note.
+    Taken(u8),
+}
+
+/// What one seat knows: how many seats its environment has, its own number, the history that it
+/// has seen, and its own events in it.
+pub struct SeatView {
+    pub limit: u8,
+    pub who: u8,
+    pub making: Making,
+    pub seen: LinkedList<EnvEvent>,
+    pub mine: LinkedList<EnvEvent>,
+}
+
+/// The seats that a seat of the table stands for: one, but for while seats are split or joined.
+pub type View = LinkedList<SeatView>;

@@ -1,0 +1,67 @@
+-- A word and its number: each gives the other back.
+use Rattle.std.proofs.Common.{◌≡◌, ℕ, ◌+◌, ◌*◌, ◌/◌, ◌%◌, ◌<◌, ◌≤◌, Bool, true, false, if◌then◌else◌, ◌==◌, ◌⊎◌, inl, inr, refl, ap, sym, ◌∙◌, subst, arith}
+use Rattle.std.proofs.lemmas.Bool.Decides.{nat_tests}
+use Rattle.ns_word.specs.declared.word.Word.{Word}
+use Rattle.ns_word.specs.Codec.{bit, bits_of, is_set, word_of, IsPackable}
+
+bit_few : (b : Bool) → bit b ≤ 1
+bit_few true = omega arith
+bit_few false = omega arith
+
+-- a bit is read back
+told : (b : Bool) (n : ℕ) → n % 2 ≡ bit b → (n % 2 == 1) ≡ b
+told true n e = rw e refl
+told false n e = rw e refl
+
+-- and a number's last digit is that of its bit
+digit : (n : ℕ) → bit (n % 2 == 1) ≡ n % 2
+digit n = last (n % 2) (omega arith) where
+  last : (d : ℕ) → d < 2 → bit (d == 1) ≡ d
+  last d few = grind (arith, nat_tests)
+
+pub decoded : (w : Word) → word_of (bits_of w) ≡ w
+unfolding word_of
+decoded w =
+    let a = bit_few w.write in
+    let b = bit_few w.spin in
+    let c = bit_few w.waiting in
+    let d = bit_few w.desig in
+    let e = bit_few w.cond in
+    let f = bit_few w.writer_waits in
+    let g = bit_few w.all_false in
+    let n = bits_of w in
+    rw (
+      told w.write (n / 1) (omega (arith, a, b, c, d, e, f, g)),
+      told w.spin (n / 2) (omega (arith, a, b, c, d, e, f, g)),
+      told w.waiting (n / 4) (omega (arith, a, b, c, d, e, f, g)),
+      told w.desig (n / 8) (omega (arith, a, b, c, d, e, f, g)),
+      told w.cond (n / 16) (omega (arith, a, b, c, d, e, f, g)),
+      told w.writer_waits (n / 32) (omega (arith, a, b, c, d, e, f, g)),
+      told w.all_false (n / 64) (omega (arith, a, b, c, d, e, f, g)),
+      readers w n refl a b c d e f g,
+    ) refl
+  where
+    readers : (w : Word) (n : ℕ) → n ≡ bits_of w → bit w.write ≤ 1 → bit w.spin ≤ 1 → bit w.waiting ≤ 1 → bit w.desig ≤ 1 → bit w.cond ≤ 1 → bit w.writer_waits ≤ 1 → bit w.all_false ≤ 1 → n / 128 ≡ w.readers
+    readers w n is a b c d e f g = omega arith
+
+pub encoded : (bits : ℕ) → bits_of (word_of bits) ≡ bits
+unfolding word_of
+encoded bits =
+    let a = digit (bits / 1) in
+    let b = digit (bits / 2) in
+    let c = digit (bits / 4) in
+    let d = digit (bits / 8) in
+    let e = digit (bits / 16) in
+    let f = digit (bits / 32) in
+    let g = digit (bits / 64) in
+    omega (arith, a, b, c, d, e, f, g)
+
+-- a number that is not refused is its word's
+pub read_back : (bits : ℕ) (w : Word) → w ≡ word_of bits → bits / 128 ≤ 64 → ((w.write ≡ true) × (bits / 128 ≤ 0)) ⊎ (w.write ≡ false) →
+    (w ≡ word_of bits) × (bits_of w ≡ bits) × IsPackable w
+unfolding word_of
+read_back bits w is few free = (is, rw is (encoded bits), record { few = rw is few; alone = alone w.readers (ap (λ w. w.readers) is) free })
+  where
+    alone : (readers : ℕ) → readers ≡ bits / 128 → ((w.write ≡ true) × (bits / 128 ≤ 0)) ⊎ (w.write ≡ false) → w.write ≡ true → readers ≡ 0
+    alone readers e (inl p) writes = omega (arith, e, p.1)
+    alone readers e (inr p) writes = absurd (cc)

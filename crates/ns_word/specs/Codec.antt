@@ -1,0 +1,50 @@
+-- The lock word as one number.
+use Rattle.std.specs.Prelude.{◌≡◌, ℕ, ◌+◌, ◌*◌, ◌/◌, ◌%◌, ◌≤◌, Bool, true, false, if◌then◌else◌, ◌==◌, ◌⊎◌}
+use Rattle.ns_word.specs.declared.word.Word.{Word}
+
+abbrev pub bit : Bool → ℕ
+bit b = if b then 1 else 0
+
+-- Each bit of the word has a value, and each reader counts 128.
+abbrev pub bits_of : Word → ℕ
+bits_of w =
+    bit w.write + 2 * bit w.spin + 4 * bit w.waiting + 8 * bit w.desig + 16 * bit w.cond + 32 * bit w.writer_waits + 64 * bit w.all_false
+    + 128 * w.readers
+
+-- whether the bit of this value is set
+abbrev pub is_set : ℕ → ℕ → Bool
+is_set bits value = (bits / value) % 2 == 1
+
+unfoldable pub word_of : ℕ → Word
+word_of bits = record {
+  write = is_set bits 1;
+  spin = is_set bits 2;
+  waiting = is_set bits 4;
+  desig = is_set bits 8;
+  cond = is_set bits 16;
+  writer_waits = is_set bits 32;
+  all_false = is_set bits 64;
+  readers = bits / 128;
+}
+
+-- the word of a free lock, whose number is 0
+abbrev pub free_word : Word
+free_word = record {
+  write = false;
+  spin = false;
+  waiting = false;
+  desig = false;
+  cond = false;
+  writer_waits = false;
+  all_false = false;
+  readers = 0;
+}
+
+-- At most 64 seats read, and none where one writes: such a word has a number.
+pub record IsPackable (w : Word) : Type 0 where
+  pub few : w.readers ≤ 64
+  pub alone : w.write ≡ true → w.readers ≡ 0
+
+-- The number is no word's: a writer beside readers, or more than 64 readers.
+abbrev pub IsBad : ℕ → Type 0
+IsBad bits = ((is_set bits 1 ≡ true) × (128 ≤ bits)) ⊎ (65 * 128 ≤ bits)

@@ -1,0 +1,93 @@
+//! The lock word as one number, as a table of atomic words keeps it.
+//!
+//! | value | bit |
+//! |---|---|
+//! | 1 | held in write mode |
+//! | 2 | one caller has the waiter queues: the spinlock bit |
+//! | 4 | somebody waits for the lock |
+//! | 8 | a designated waker is on its way |
+//! | 16 | somebody waits with a condition |
+//! | 32 | a writer waits without condition |
+//! | 64 | every waiter has a condition, and it is false |
+//! | 128 | one reader; each counts so much |
+
+ghost use Rattle.std.specs.Prelude.{◌≡◌, ◌*◌, ◌<◌, MatchResult};
+ghost use Rattle.ns_word.specs.Codec.{bit, bits_of, word_of, is_set, IsPackable, IsBad};
+
+use crate::word::Word;
+
+const WRITE: u64 = 1;
+
+const SPIN: u64 = 2;
+
+const WAITING: u64 = 4;
+
+const DESIGNATED: u64 = 8;
+
+const CONDITIONAL: u64 = 16;
+
+const WRITER_WAITS: u64 = 32;
+
+const ALL_FALSE: u64 = 64;
+
+const READER: u64 = 128;
+
+/// The most readers of a word.
+const MOST_READERS: u64 = 64;
+
+/// The number is no lock word's: it has a writer beside readers, or more than 64 readers.
+#[derive(Clone, Copy, Debug, PartialEq, Eq)]
+pub struct BadWord;
+
+/// The value, if the bit is set.
+fn valued(b: bool, value: u64) -> u64
+    requires { value < 128 }
+    ensures { result ≡ value * bit b }
+{
+    if b { value } else { 0 }
+}
+
+/// Whether the bit of this value is set.
+fn is_set(bits: u64, value: u64) -> bool
+    requires { 0 < value }
+    ensures { result ≡ is_set bits value }
+{
+    bits / value % 2 == 1
+}
+
+/// The number of a word. Needs at most 64 readers, and none beside a writer.
+pub fn encode(word: Word) -> u64
+    requires { IsPackable word }
+    ensures { result ≡ bits_of word }
+{
+    valued(word.write, WRITE)
+        + valued(word.spin, SPIN)
+        + valued(word.waiting, WAITING)
+        + valued(word.desig, DESIGNATED)
+        + valued(word.cond, CONDITIONAL)
+        + valued(word.writer_waits, WRITER_WAITS)
+        + valued(word.all_false, ALL_FALSE)
+        + READER * u64::from(word.readers)
+}
+
+/// The word of a number. Refuses one with a writer beside readers, and one with more than 64
+/// readers, and no other.
+pub fn decode(bits: u64) -> Result<Word, BadWord>
+    ensures { MatchResult result (λ word. (word ≡ word_of bits) × (bits_of word ≡ bits) × IsPackable word) (λ bad. IsBad bits) }
+{
+    let write = is_set(bits, WRITE);
+    let readers = bits / READER;
+    if readers > MOST_READERS || write && readers > 0 {
+        return Err(BadWord);
+    }
+    Ok(Word {
+        write,
+        spin: is_set(bits, SPIN),
+        waiting: is_set(bits, WAITING),
+        desig: is_set(bits, DESIGNATED),
+        cond: is_set(bits, CONDITIONAL),
+        writer_waits: is_set(bits, WRITER_WAITS),
+        all_false: is_set(bits, ALL_FALSE),
+        readers: readers as u8,
+    })
+}
