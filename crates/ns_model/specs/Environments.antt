@@ -33,7 +33,7 @@ env_who (New who note parent deadline) = who
 env_who (Notify who note) = who
 env_who (Advance who to) = who
 
--- a parent, if any, is made, and has a smaller number
+-- a note may stand below a parent of a smaller number that is already made
 abbrev pub ParentFits : EnvStanding → ℕ → Option ℕ → Type 0
 ParentFits now note None = Unit {0}
 ParentFits now note (Some parent) = (parent < note) × ((now.notes parent).made ≡ true)

@@ -20,7 +20,7 @@ deadline_code (Some deadline) = 2 ^ 54 + deadline
 abbrev pub WordFits : NoteWord → Type 0
 WordFits note = IfSome note.parent (λ p. p < 64) × IfSome note.deadline (λ d. d < 2 ^ 54)
 
--- The word of a note: bit 0 notified, bit 1 made, bits 2 to 8 the parent, bits 9 to 63 the deadline.
+-- The word of a note: from the lowest bit up, whether it is notified, whether it is made, seven bits for its parent, and the rest for its deadline.
 abbrev pub word_of : NoteWord → ℕ
 word_of note = flag note.notified + 2 * flag note.made + 4 * parent_code note.parent + 512 * deadline_code note.deadline
 

@@ -65,8 +65,8 @@ fn add(seats: &mut Vec<EnvSeat>, seat: EnvSeat) -> Result<(), AllocError>
 impl Env {
     /// An environment with its clock at 0 and no note, and its seats, one for each caller.
     ///
-    /// Refuses more than 64 seats before it takes any memory, and refuses where memory is. Needs
-    /// at least one seat.
+    /// Refuses more than 64 seats (`TooManySeats`) before it takes any memory, and refuses where memory
+    /// is refused (`OutOfMemory`). Needs at least one seat.
     pub fn new(alloc: Global, seats: usize) -> Result<(Env, Vec<EnvSeat>), Fault>
         requires { 0 < seats }
         ensures made { IfOk result (λ r. (length r.1.items ≡ seats) × AreNew r.0 seats 0 r.1.items) }
@@ -127,7 +127,7 @@ impl Env {
     /// Makes a note below a parent, if one is given, with a deadline in ticks, if one is given.
     /// nsync's `nsync_note_new`.
     ///
-    /// Refuses only where 64 numbers are taken, and then no note has changed. Needs a parent
+    /// Refuses (`NotesFull`) only where 64 numbers are taken, and then no note has changed. Needs a parent
     /// that the seat has seen made, and a deadline below 2^54.
     pub fn note_new(
         &self,

@@ -1,6 +1,7 @@
 //! A clock and a tree of notes, shared between threads.
 //!
-//! A note is notified for good: by a call, by its deadline or by an ancestor. A caller that
+//! A note becomes notified once, and stays so: where somebody says so, where its deadline comes, or
+//! where that happens to a note above it. A caller that
 //! waits for something else watches a note to learn that it should give up:
 //!
 //! ```text
@@ -16,7 +17,7 @@
 //! }
 //! ```
 //!
-//! The clock stands at 0 and is moved by callers alone, in ticks below 2^54. It never goes back.
+//! The clock begins at 0 and only callers move it, forward, in ticks below 2^54.
 //!
 //! An [`env::Env`] is a table of 66 atomic words: the clock, the next note's number and 64
 //! words of notes. To make a note, a call takes a number by an addition and then stores the

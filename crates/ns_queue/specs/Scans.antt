@@ -12,7 +12,7 @@ is_met meets (Some c) = meets c
 abbrev pub is_eligible : {C : Type 0} → (C → Bool) → Waiter C → Bool
 is_eligible meets w = is_met meets w.cond
 
--- The first eligible waiter is taken; if it reads, so is every later eligible reader.
+-- Taken is the first waiter that is eligible, and with a reader each eligible reader behind it.
 abbrev pub woken_of : {C : Type 0} → (C → Bool) → List (Waiter C) → List (Waiter C)
 woken_of meets [] = []
 woken_of meets (w ∷ ws) =
@@ -49,7 +49,7 @@ abbrev pub goes_on : {A C : Type 0} → (C → C → Bool) → (A → Option C) 
 goes_on same cond [] x = false
 goes_on same cond (first ∷ run) x = is_alike same (cond x) (cond first)
 
--- a run starts at a waiter with a condition
+-- where the run before has ended, a waiter with a condition begins another
 abbrev pub started : {A C : Type 0} → (A → Option C) → A → List A
 started cond x = if is_some (cond x) then x ∷ [] else []
 

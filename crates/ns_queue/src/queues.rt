@@ -11,7 +11,8 @@ use crate::waiter::{Waiter, Which};
 use arrayvec::ArrayVec;
 use std::marker::Model;
 
-/// The waiter lists of a lock. To its callers this is [`Lists`](specs): the lock's list and four more.
+/// The waiter lists of a lock. To its callers this is five lists: the lock's, and one for each of four condition
+/// variables. A seat stands in at most one of them, once.
 #[derive(Drop)]
 pub struct Queues<C, const N: usize> {
     pub(crate) lock: ArrayVec<Waiter<C>, 64>,
@@ -55,6 +56,21 @@ impl<C: Queueable<N>, const N: usize> Queues<C, N> {
         match list {
             Which::Lock => copied(&self.lock),
             Which::Cv(k) => copied(&self.cvs[k as usize]),
+        }
+    }
+
+    /// The same lists once more.
+    pub fn copied(&self) -> Queues<C, N>
+        ensures { result ≡ self.now }
+    {
+        Queues {
+            lock: copied(&self.lock),
+            cvs: [
+                copied(&self.cvs[0]),
+                copied(&self.cvs[1]),
+                copied(&self.cvs[2]),
+                copied(&self.cvs[3]),
+            ],
         }
     }
 

@@ -5,13 +5,21 @@ use ns_model::event::Mode;
 /// One who waits: its seat, the mode that it waits in, and the condition that it waits for, if any.
 #[derive(Clone, Copy)]
 pub struct Waiter<C> {
+    /// A number below 64.
     pub seat: u8,
+    /// The mode in which it waits.
     pub mode: Mode,
+    /// The condition that it waits for.
     pub cond: Option<C>,
 }
 
 /// The blank that unused places of a list hold: seat 0, writing, without condition.
 impl<C> Default for Waiter<C> {
+    ghost use Rattle.std.specs.Prelude.{◌≡◌, None};
+    ghost use Rattle.ns_model.specs.declared.event.Mode.TheVariants.{Write};
+
+    ghost is_default = { λ w. w ≡ record { seat = 0; mode = Write; cond = None } };
+
     fn default() -> Waiter<C> {
         Waiter {
             seat: 0,
@@ -24,13 +32,21 @@ impl<C> Default for Waiter<C> {
 /// The form in which a waiter is shown: its seat, its mode, and whether it has a condition.
 #[derive(Clone, Copy, Debug, PartialEq, Eq)]
 pub struct Shown {
+    /// A number below 64.
     pub seat: u8,
+    /// The mode in which it waits.
     pub mode: Mode,
+    /// Whether it waits for a condition.
     pub conditional: bool,
 }
 
 /// The blank that unused places of a list hold: seat 0, writing, without condition.
 impl Default for Shown {
+    ghost use Rattle.std.specs.Prelude.{◌≡◌, false};
+    ghost use Rattle.ns_model.specs.declared.event.Mode.TheVariants.{Write};
+
+    ghost is_default = { λ w. w ≡ record { seat = 0; mode = Write; conditional = false } };
+
     fn default() -> Shown {
         Shown {
             seat: 0,
@@ -59,6 +75,8 @@ impl<C: Copy> Waiter<C> {
 /// The name of a list: the lock's, or that of a condition variable, numbered from 0 to 3.
 #[derive(Clone, Copy, Debug, PartialEq, Eq)]
 pub enum Which {
+    /// The lock's list.
     Lock,
+    /// That of the condition variable of this number, below 4.
     Cv(u8),
 }

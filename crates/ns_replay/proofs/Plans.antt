@@ -8,7 +8,7 @@ use Rattle.std.proofs.lemmas.List.Elements.{All-nil, All-cons}
 use Rattle.serde_json.specs.Data.{Data}
 use Rattle.serde_json.specs.Find.{get, as_str, as_array}
 use Rattle.ns_world.specs.declared.call.Call.{Call}
-use Rattle.ns_world.specs.declared.call.Call.TheVariants.{TryLock, TryRLock, Unlock, RUnlock, Get, Set}
+use Rattle.ns_world.specs.declared.call.Call.TheVariants.{Lock, RLock, TryLock, TryRLock, Unlock, RUnlock, UnlockQuiet, Get, Set}
 use Rattle.ns_world.specs.declared.schedule.Turn.{Turn}
 use Rattle.ns_world.specs.Calls.{CellFits}
 use Rattle.ns_replay.specs.declared.place.Place.{Place}
@@ -87,10 +87,13 @@ named false c rest call fits others e = others e
 
 plain_fits : (name : List ℕ) (call : Call) → plain_call_of name ≡ Some call → CellFits 8 call
 plain_fits name call =
-    named (bytes_eq name (codes "trylock")) TryLock _ call tt
+    named (bytes_eq name (codes "lock")) Lock _ call tt
+    (named (bytes_eq name (codes "rlock")) RLock _ call tt
+    (named (bytes_eq name (codes "trylock")) TryLock _ call tt
     (named (bytes_eq name (codes "rtrylock")) TryRLock _ call tt
     (named (bytes_eq name (codes "unlock")) Unlock _ call tt
-    (named (bytes_eq name (codes "runlock")) RUnlock _ call tt (λ e. absurd cc))))
+    (named (bytes_eq name (codes "runlock")) RUnlock _ call tt
+    (named (bytes_eq name (codes "unlockquiet")) UnlockQuiet _ call tt (λ e. absurd cc)))))))
 
 call_fits : (words : List (List ℕ)) (call : Call) → call_of words ≡ Some call → CellFits 8 call
 unfolding call_of

@@ -8,13 +8,14 @@ use Rattle.std.proofs.lemmas.List.Elements.{All-nil, All-append, All-replicate, 
 use Rattle.ns_world.specs.declared.call.Call.{Call}
 use Rattle.ns_world.specs.declared.schedule.Turn.{Turn}
 use Rattle.ns_world.specs.declared.step.Step.{Step}
-use Rattle.ns_world.specs.declared.step.Step.TheVariants.{Went, Finished, Nothing}
+use Rattle.ns_world.specs.declared.step.Step.TheVariants.{Went, Idle, Finished, Nothing}
 use Rattle.ns_world.specs.declared.fault.Fault.{Fault as WorldFault}
 use Rattle.ns_world.specs.declared.fault.Fault.TheVariants as world
 use Rattle.ns_world.specs.World.{Now, StepOf, fresh, is_busy}
 use Rattle.ns_world.specs.Runs.{Progress, Leads, TurnOf, TurnsOf, Turned, Item, items_of, rest_of, is_end, progressed, start, StopsFor, RunFault, ListFits}
-use Rattle.ns_world.proofs.Starts.{length_seats}
+use Rattle.ns_world.proofs.Fresh.{length_views}
 use Rattle.ns_world.proofs.Busy.{idle_from}
+use Rattle.ns_replay.specs.Condition.{script_truths}
 use Rattle.ns_replay.specs.declared.condition.ScriptCondition.{ScriptCondition}
 use Rattle.ns_replay.specs.Faults.{fault_of_world}
 use Rattle.ns_replay.specs.declared.script.Script.{Script}
@@ -30,6 +31,7 @@ module _ {C : Type 0} {N : ℕ} where
 
   step_keeps : (old new : Now C N) (seat : ℕ) (step : Step) → StepOf old new seat step → seats_of new ≡ seats_of old
   step_keeps old new seat Went h = rw h.others (length-set _ _ _)
+  step_keeps old new seat Idle h = rw h.others (length-set _ _ _)
   step_keeps old new seat (Finished reply) h = rw h.others (length-set _ _ _)
   step_keeps old new seat Nothing h = rw h.0 refl
 
@@ -39,6 +41,7 @@ module _ {C : Type 0} {N : ℕ} where
 
   progressed_world : (p : Progress C N) (seat : ℕ) (step : Step) (now : Now C N) → (progressed p seat step now).world ≡ now
   progressed_world p seat Went now = refl
+  progressed_world p seat Idle now = refl
   progressed_world p seat (Finished reply) now = refl
   progressed_world p seat Nothing now = refl
 
@@ -85,7 +88,7 @@ no_room limit now made (item ∷ left) h = h
 
 seat_there : (limit : ℕ) (plan : Plan) (now : Now ScriptCondition 8) → IsRunnable plan → RunFault plan.threads plan.schedule limit (world_for plan) now world.NoSuchSeat → ⊥
 seat_there limit plan now runnable stops =
-    let first : length (world_for plan).state.views ≡ length plan.threads = length_seats ScriptCondition 8 0 (length plan.threads) in
+    let first : length (world_for plan).state.views ≡ length plan.threads = length_views ScriptCondition 8 0 (length plan.threads) in
     let kept = turns_keep plan.threads (start (world_for plan)) stops.advances.turns stops.end stops.advances.made in
     let same : length now.state.views ≡ length plan.threads = ap (λ (w : Now ScriptCondition 8). length w.state.views) (sym stops.here) ∙ kept ∙ first in
     let items = items_in (length plan.threads) plan.schedule (recursion_from_All _ _ runnable.in_range) in
@@ -114,12 +117,12 @@ few_threads script runnable =
     let same : length (map (λ (calls : Vec Call). calls.items) script.threads.items) ≡ length script.threads.items = length-map script.threads.items (λ calls. calls.items) in
     rw (← same) runnable.few
 
-pub world_is : (script : Script) (n : ℕ) (now : Now ScriptCondition 8) → n ≡ length script.threads.items → now ≡ fresh n → now ≡ world_for (plan_of script)
+pub world_is : (script : Script) (n : ℕ) (now : Now ScriptCondition 8) → n ≡ length script.threads.items → now ≡ fresh script_truths n → now ≡ world_for (plan_of script)
 world_is script n now count first =
     let same : length (map (λ (calls : Vec Call). calls.items) script.threads.items) ≡ length script.threads.items = length-map script.threads.items (λ calls. calls.items) in
-    first ∙ ap (λ (m : ℕ). fresh m) (count ∙ sym same)
+    first ∙ ap (λ (m : ℕ). fresh script_truths m) (count ∙ sym same)
 
-pub idle_world : (n seat : ℕ) (now : Now ScriptCondition 8) → now ≡ fresh n → is_busy now.state.views seat ≡ false
+pub idle_world : (n seat : ℕ) (now : Now ScriptCondition 8) → now ≡ fresh script_truths n → is_busy now.state.views seat ≡ false
 idle_world n seat now first = rw first (idle_from ScriptCondition 8 0 n seat)
 
 pub lists_fit : (lists : List (Vec Call)) → All IsShort (map (λ calls. calls.items) lists) → All (λ calls. ListFits 8 calls.items) lists

@@ -1,6 +1,7 @@
 -- The conditions of scripts.
 use Rattle.std.specs.Prelude.{ℕ, List, [], ◌++◌, length, zip, slice_index, Bool, true, false, ◌&&◌, ◌==◌, nat_le, nat_lt, Option, Some, None, codes, decimal}
 use Rattle.std.specs.List.{list_all}
+use Rattle.ns_word.specs.Steps.{Truths, truths}
 use Rattle.ns_replay.specs.declared.condition.AtLeast.{AtLeast}
 use Rattle.ns_replay.specs.declared.condition.ScriptCondition.{ScriptCondition}
 
@@ -44,3 +45,7 @@ is_same_condition a b = has_same_fields a.first b.first && have_same_fields a.se
 -- no cell rose
 abbrev pub none_rose : List ℕ → List ℕ → Bool
 none_rose before after = list_all (λ cells. nat_le cells.1 cells.0) (zip before after)
+
+-- what the conditions of scripts mean
+abbrev pub script_truths : Truths ScriptCondition
+script_truths = truths is_true_of is_same_condition none_rose

@@ -6,6 +6,7 @@ use Rattle.ns_world.specs.declared.schedule.Line.{Line}
 use Rattle.ns_world.specs.World.{Now, fresh}
 use Rattle.ns_world.specs.Runs.{Runs, RunFault}
 use Rattle.ns_replay.specs.declared.condition.ScriptCondition.{ScriptCondition}
+use Rattle.ns_replay.specs.Condition.{script_truths}
 use Rattle.ns_replay.specs.declared.options.Options.{Options}
 use Rattle.ns_replay.specs.declared.place.Place.TheVariants as at
 use Rattle.ns_replay.specs.declared.fault.Fault.{Fault}
@@ -18,7 +19,7 @@ use Rattle.ns_replay.specs.Transfer.{max_bytes, max_piece}
 
 -- before the run of a script: a free lock, and a seat for each thread
 abbrev pub world_for : Plan → Now ScriptCondition 8
-world_for plan = fresh (length plan.threads)
+world_for plan = fresh script_truths (length plan.threads)
 
 -- A run of the script in at most so many turns ends in this world, and gives these lines.
 abbrev pub RunsTo : ℕ → Plan → Now ScriptCondition 8 → List Line → Type 0

@@ -1,5 +1,5 @@
 -- The text of a run, by its parts.
-use Rattle.std.specs.Prelude.{ℕ, List, [], ◌∷◌, ◌++◌, Bool, true, false, ◌&&◌, ◌==◌, if◌then◌else◌, Option, Some, None, option_and_then, codes, decimal, flat_map, filter, count_by, slice_get, length}
+use Rattle.std.specs.Prelude.{ℕ, List, [], ◌∷◌, ◌++◌, Bool, true, false, ◌&&◌, ◌==◌, if◌then◌else◌, Option, Some, None, option_and_then, codes, decimal, flat_map, map, filter, count_by, slice_get, length}
 use Rattle.std.specs.List.{range_with_len}
 use Rattle.ns_model.specs.declared.event.Mode.{Mode}
 use Rattle.ns_model.specs.declared.event.Mode.TheVariants as mode
@@ -16,12 +16,14 @@ use Rattle.ns_model.specs.Seats.{is_in}
 use Rattle.ns_queue.specs.declared.waiter.Shown.{Shown}
 use Rattle.ns_word.specs.declared.word.Word.{Word}
 use Rattle.ns_word.specs.declared.walk.Reply.{Reply}
-use Rattle.ns_word.specs.declared.walk.Reply.TheVariants.{Ok as Went, Busy, Number, Misuse}
+use Rattle.ns_word.specs.declared.walk.Reply.TheVariants.{Ok as Went, Busy, Noisy, Number, Misuse}
 use Rattle.ns_world.specs.declared.call.Call.{Call}
-use Rattle.ns_world.specs.declared.call.Call.TheVariants.{TryLock, TryRLock, Unlock, RUnlock, Get, Set}
+use Rattle.ns_world.specs.declared.call.Call.TheVariants.{Lock, RLock, TryLock, TryRLock, Unlock, RUnlock, UnlockQuiet, Get, Set}
 use Rattle.ns_world.specs.declared.schedule.Line.{Line}
 use Rattle.ns_replay.specs.declared.condition.ScriptCondition.{ScriptCondition}
+use Rattle.ns_queue.specs.Waiters.{shown_of}
 use Rattle.ns_world.specs.World.{Now, is_busy}
+use Rattle.ns_world.specs.Shows.{lock_shown, wakes_owed}
 use Rattle.ns_replay.specs.Condition.{condition_text}
 use Rattle.ns_replay.specs.declared.options.Options.{Options}
 
@@ -30,21 +32,26 @@ use Rattle.ns_replay.specs.declared.options.Options.{Options}
 abbrev pub reply_text : Reply → List ℕ
 reply_text Went = codes "ok"
 reply_text Busy = codes "busy"
+reply_text Noisy = codes "noisy"
 reply_text (Number n) = decimal n
 reply_text Misuse = codes "misuse"
 
 abbrev pub is_ok : Reply → Bool
 is_ok Went = true
 is_ok Busy = false
+is_ok Noisy = false
 is_ok (Number n) = false
 is_ok Misuse = false
 
 abbrev pub is_unlock : Option Call → Bool
 is_unlock None = false
+is_unlock (Some Lock) = false
+is_unlock (Some RLock) = false
 is_unlock (Some TryLock) = false
 is_unlock (Some TryRLock) = false
 is_unlock (Some Unlock) = true
 is_unlock (Some RUnlock) = true
+is_unlock (Some UnlockQuiet) = true
 is_unlock (Some (Get i)) = false
 is_unlock (Some (Set i v)) = false
 
@@ -177,12 +184,19 @@ waiter_text waiter = codes " " ++ decimal waiter.seat ++ codes ":" ++ mode_text 
 abbrev pub queue_text : List Shown → List ℕ
 queue_text waiters = codes "queue" ++ flat_map waiter_text waiters ++ codes "\n"
 
-abbrev pub lock_text : Word → List Shown → List ℕ
-lock_text word waiters = word_text word ++ queue_text waiters
+-- a wake that is owed: by whom, and to whom
+abbrev pub wake_text : ℕ × ℕ → List ℕ
+wake_text wake = codes "owed " ++ decimal wake.0 ++ codes ">" ++ decimal wake.1 ++ codes "\n"
 
--- where that is asked for; no call waits yet
-abbrev pub state_text : Bool → Word → List ℕ
-state_text asked word = if asked then lock_text word [] else []
+abbrev pub wakes_text : List (ℕ × ℕ) → List ℕ
+wakes_text wakes = flat_map wake_text wakes
+
+abbrev pub lock_text : Word → List Shown → List (ℕ × ℕ) → List ℕ
+lock_text word waiters wakes = word_text word ++ queue_text waiters ++ wakes_text wakes
+
+-- where that is asked for
+abbrev pub state_text : Bool → Word → List Shown → List (ℕ × ℕ) → List ℕ
+state_text asked word waiters wakes = if asked then lock_text word waiters wakes else []
 
 -- ---- a run
 
@@ -193,4 +207,4 @@ text_of options threads lines world =
     ++ lefts_text (is_busy world.state.views) lines (length threads)
     ++ row_text world.state.row
     ++ history_text options.history world.history
-    ++ state_text options.state world.state.word
+    ++ state_text options.state world.state.word (map shown_of (lock_shown world)) (wakes_owed world.state.views)

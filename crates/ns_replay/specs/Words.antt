@@ -4,7 +4,7 @@ use Rattle.std.specs.List.{slice_split}
 use Rattle.std.specs.Str.{all_ascii_digits}
 use Rattle.std.specs.Str.Parse.{digits_value}
 use Rattle.ns_world.specs.declared.call.Call.{Call}
-use Rattle.ns_world.specs.declared.call.Call.TheVariants.{TryLock, TryRLock, Unlock, RUnlock, Get, Set}
+use Rattle.ns_world.specs.declared.call.Call.TheVariants.{Lock, RLock, TryLock, TryRLock, Unlock, RUnlock, UnlockQuiet, Get, Set}
 use Rattle.ns_world.specs.declared.schedule.Turn.{Turn}
 
 -- the parts of a text between the bytes c
@@ -22,13 +22,16 @@ number_of word = if is_numeral word && nat_lt (digits_value 10 word) (2 ^ 64) th
 abbrev pub below : ℕ → Option ℕ → Option ℕ
 below limit number = option_and_then (λ n. if nat_lt n limit then Some n else None) number
 
--- `trylock`, `rtrylock`, `unlock` or `runlock`
+-- a call of one word: `lock`, `rlock`, `trylock`, `rtrylock`, `unlock`, `runlock` or `unlockquiet`
 abbrev pub plain_call_of : List ℕ → Option Call
 plain_call_of name =
-    if bytes_eq name (codes "trylock") then Some TryLock else
+    if bytes_eq name (codes "lock") then Some Lock else
+    (if bytes_eq name (codes "rlock") then Some RLock else
+    (if bytes_eq name (codes "trylock") then Some TryLock else
     (if bytes_eq name (codes "rtrylock") then Some TryRLock else
     (if bytes_eq name (codes "unlock") then Some Unlock else
-    (if bytes_eq name (codes "runlock") then Some RUnlock else None)))
+    (if bytes_eq name (codes "runlock") then Some RUnlock else
+    (if bytes_eq name (codes "unlockquiet") then Some UnlockQuiet else None))))))
 
 -- a plain call, `get I` or `set I V`, where I is one of eight cells
 unfoldable pub call_of : List (List ℕ) → Option Call

@@ -16,10 +16,13 @@ fn plain_call(name: &str) -> Option<Call>
     ensures { result ≡ plain_call_of name.now }
 {
     match name {
+        "lock" => Some(Call::Lock),
+        "rlock" => Some(Call::RLock),
         "trylock" => Some(Call::TryLock),
         "rtrylock" => Some(Call::TryRLock),
         "unlock" => Some(Call::Unlock),
         "runlock" => Some(Call::RUnlock),
+        "unlockquiet" => Some(Call::UnlockQuiet),
         _ => None,
     }
 }

@@ -8,7 +8,7 @@ pub struct Options {
     pub history: bool,
     /// How many conditions each release tested.
     pub tests: bool,
-    /// The lock word and its queue.
+    /// The lock word, its queue, and the wakes that are owed.
     pub state: bool,
     /// How many turns the schedule may need.
     pub limit: u32,

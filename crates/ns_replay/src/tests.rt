@@ -129,6 +129,97 @@ fn texts(rt: HostRuntime) {
     }
 }
 
+/// Locks that wait: what the calls answer, and what the world shows as they go.
+#[test]
+fn blocking(rt: HostRuntime) {
+    let table = [
+        (
+            "{\"version\":1,\"threads\":[[\"lock\",\"set 0 5\",\"get 0\",\"unlock\",\"rlock\",\"get 0\",\"runlock\"]],\"schedule\":\"0!*7\"}",
+            PLAIN,
+            "0 0 ok\n0 1 ok\n0 2 5\n0 3 ok\n0 4 ok\n0 5 5\n0 6 ok\nrow 5 0 0 0 0 0 0 0\n",
+        ),
+        (
+            "{\"version\":1,\"threads\":[[\"lock\",\"set 0 5\",\"get 0\",\"unlock\",\"rlock\",\"get 0\",\"runlock\"]],\"schedule\":\"0!*7\"}",
+            Options { limit: 12, ..PLAIN },
+            "0 0 ok\n0 1 ok\n0 2 5\n0 3 ok\n0 4 ok\n0 5 5\n0 6 ok\nrow 5 0 0 0 0 0 0 0\n",
+        ),
+        (
+            "{\"version\":1,\"threads\":[[\"rlock\"],[\"rlock\"]],\"schedule\":\"0 1 0 1 1\"}",
+            STATE,
+            "0 0 ok\n1 0 ok\nrow 0 0 0 0 0 0 0 0\nword readers=2\nqueue\n",
+        ),
+        (
+            "{\"version\":1,\"threads\":[[\"trylock\",\"unlock\",\"rlock\"],[\"trylock\",\"unlock\"]],\"schedule\":\"0!*3 1!*2\"}",
+            PLAIN,
+            "0 0 ok\n0 1 ok\n0 2 ok\n1 0 busy\n1 1 misuse\nrow 0 0 0 0 0 0 0 0\n",
+        ),
+        (
+            "{\"version\":1,\"threads\":[[\"lock\",\"set 0 3\",\"unlock\",\"lock\",\"set 0 2\",\"unlockquiet\",\"lock\",\"set 0 4\",\"unlockquiet\",\"get 0\",\"unlock\"]],\"schedule\":\"0!*11\"}",
+            PLAIN,
+            "0 0 ok\n0 1 ok\n0 2 ok\n0 3 ok\n0 4 ok\n0 5 ok\n0 6 ok\n0 7 ok\n0 8 noisy\n0 9 4\n0 10 ok\nrow 4 0 0 0 0 0 0 0\n",
+        ),
+        (
+            "{\"version\":1,\"threads\":[[\"rlock\"],[\"lock\"],[\"rtrylock\",\"runlock\",\"rtrylock\"]],\"schedule\":\"0! 2!*2 1! 2!\"}",
+            STATE,
+            "0 0 ok\n2 0 ok\n2 1 ok\n2 2 busy\n1 0 left\nrow 0 0 0 0 0 0 0 0\nword wait wwait readers=1\nqueue 1:w\n",
+        ),
+        (
+            "{\"version\":1,\"threads\":[[\"lock\",\"unlock\"],[\"lock\",\"unlock\"]],\"schedule\":\"0! 1! 0! 1!*2\"}",
+            ALL,
+            "0 0 ok\n0 1 ok tests 0\n1 0 ok\n1 1 ok tests 0\nrow 0 0 0 0 0 0 0 0\nsection 0 w plain plain 0,0,0,0,0,0,0,0 0,0,0,0,0,0,0,0\nsection 1 w plain plain 0,0,0,0,0,0,0,0 0,0,0,0,0,0,0,0\nword readers=0\nqueue\n",
+        ),
+        (
+            "{\"version\":1,\"threads\":[[\"lock\",\"unlock\"],[\"lock\"],[\"lock\"],[\"trylock\"]],\"schedule\":\"0! 1! 2! 0! 3! 1!\"}",
+            STATE,
+            "0 0 ok\n0 1 ok\n3 0 ok\n1 0 left\n2 0 left\nrow 0 0 0 0 0 0 0 0\nword write wait wwait readers=0\nqueue 1:w 2:w\n",
+        ),
+        (
+            "{\"version\":1,\"threads\":[[\"lock\",\"unlock\"],[\"rlock\"],[\"lock\"]],\"schedule\":\"0! 1! 2! 0! 1!\"}",
+            STATE,
+            "0 0 ok\n0 1 ok\n1 0 ok\n2 0 left\nrow 0 0 0 0 0 0 0 0\nword wait wwait readers=1\nqueue 2:w\n",
+        ),
+        (
+            "{\"version\":1,\"threads\":[[\"lock\",\"unlock\"],[\"lock\"],[\"lock\"],[\"trylock\",\"unlock\"]],\"schedule\":\"0! 1! 2! 0! 3!*2\"}",
+            STATE,
+            "0 0 ok\n0 1 ok\n3 0 ok\n3 1 ok\n1 0 left\n2 0 left\nrow 0 0 0 0 0 0 0 0\nword wait desig wwait readers=0\nqueue 2:w\n",
+        ),
+        (
+            "{\"version\":1,\"threads\":[[\"rlock\",\"runlock\"],[\"rlock\",\"runlock\"],[\"lock\"]],\"schedule\":\"0! 1! 2! 0! 1!\"}",
+            STATE,
+            "0 0 ok\n1 0 ok\n0 1 ok\n1 1 ok\n2 0 left\nrow 0 0 0 0 0 0 0 0\nword desig readers=0\nqueue\n",
+        ),
+        (
+            "{\"version\":1,\"threads\":[[\"lock\",\"unlock\"],[\"lock\"],[\"lock\"]],\"schedule\":\"0! 1! 0*2 2!\"}",
+            STATE,
+            "0 0 ok\n0 1 left\n1 0 left\n2 0 left\nrow 0 0 0 0 0 0 0 0\nword write spin wait wwait readers=0\nqueue\n",
+        ),
+        (
+            "{\"version\":1,\"threads\":[[\"rlock\",\"runlock\"],[\"lock\"],[\"rlock\"]],\"schedule\":\"0! 2! 1*2 0! 1*2\"}",
+            STATE,
+            "0 0 ok\n2 0 ok\n0 1 ok\n1 0 left\nrow 0 0 0 0 0 0 0 0\nword spin wait wwait readers=1\nqueue 1:w\n",
+        ),
+        (
+            "{\"version\":1,\"threads\":[[\"lock\",\"unlock\"],[\"lock\"]],\"schedule\":\"0! 1! 0*3\"}",
+            STATE,
+            "0 0 ok\n0 1 left\n1 0 left\nrow 0 0 0 0 0 0 0 0\nword desig readers=0\nqueue\nowed 0>1\n",
+        ),
+        (
+            "{\"version\":1,\"threads\":[[\"rlock\"],[\"rlock\"],[\"rlock\"],[\"rlock\"],[\"rlock\"],[\"rlock\"],[\"rlock\"],[\"rlock\"],[\"rlock\"],[\"rlock\"],[\"rlock\"],[\"rlock\"],[\"rlock\"],[\"rlock\"],[\"rlock\"],[\"rlock\"],[\"rlock\"],[\"rlock\"],[\"rlock\"],[\"rlock\"],[\"rlock\"],[\"rlock\"],[\"rlock\"],[\"rlock\"],[\"rlock\"],[\"rlock\"],[\"rlock\"],[\"rlock\"],[\"rlock\"],[\"rlock\"],[\"rlock\"],[\"rlock\"],[\"rlock\"],[\"rlock\"],[\"rlock\"],[\"rlock\"],[\"rlock\"],[\"rlock\"],[\"rlock\"],[\"rlock\"],[\"rlock\"],[\"rlock\"],[\"rlock\"],[\"rlock\"],[\"rlock\"],[\"rlock\"],[\"rlock\"],[\"rlock\"],[\"rlock\"],[\"rlock\"],[\"rlock\"],[\"rlock\"],[\"rlock\"],[\"rlock\"],[\"rlock\"],[\"rlock\"],[\"rlock\"],[\"rlock\"],[\"rlock\"],[\"rlock\"],[\"rlock\"],[\"rlock\"],[\"rlock\"],[\"rlock\"]],\"schedule\":\"0! 1! 2! 3! 4! 5! 6! 7! 8! 9! 10! 11! 12! 13! 14! 15! 16! 17! 18! 19! 20! 21! 22! 23! 24! 25! 26! 27! 28! 29! 30! 31! 32! 33! 34! 35! 36! 37! 38! 39! 40! 41! 42! 43! 44! 45! 46! 47! 48! 49! 50! 51! 52! 53! 54! 55! 56! 57! 58! 59! 60! 61! 62! 63!\"}",
+            STATE,
+            "0 0 ok\n1 0 ok\n2 0 ok\n3 0 ok\n4 0 ok\n5 0 ok\n6 0 ok\n7 0 ok\n8 0 ok\n9 0 ok\n10 0 ok\n11 0 ok\n12 0 ok\n13 0 ok\n14 0 ok\n15 0 ok\n16 0 ok\n17 0 ok\n18 0 ok\n19 0 ok\n20 0 ok\n21 0 ok\n22 0 ok\n23 0 ok\n24 0 ok\n25 0 ok\n26 0 ok\n27 0 ok\n28 0 ok\n29 0 ok\n30 0 ok\n31 0 ok\n32 0 ok\n33 0 ok\n34 0 ok\n35 0 ok\n36 0 ok\n37 0 ok\n38 0 ok\n39 0 ok\n40 0 ok\n41 0 ok\n42 0 ok\n43 0 ok\n44 0 ok\n45 0 ok\n46 0 ok\n47 0 ok\n48 0 ok\n49 0 ok\n50 0 ok\n51 0 ok\n52 0 ok\n53 0 ok\n54 0 ok\n55 0 ok\n56 0 ok\n57 0 ok\n58 0 ok\n59 0 ok\n60 0 ok\n61 0 ok\n62 0 ok\n63 0 ok\nrow 0 0 0 0 0 0 0 0\nword readers=64\nqueue\n",
+        ),
+    ];
+    for (script, options, text) in table {
+        let (outcome, done) = replayed(rt.alloc(), script, options, text);
+        assert_eq!(rt; outcome, Ok(()), "at {script}");
+        assert!(rt; done, "at {script}");
+    }
+    let script = table[0].0;
+    let (outcome, done) = replayed(rt.alloc(), script, Options { limit: 11, ..PLAIN }, "");
+    assert_eq!(rt; outcome, Err(Fault::StepLimit));
+    assert!(rt; done);
+}
+
 #[test]
 fn refusals(rt: HostRuntime) {
     let table = [
@@ -169,7 +260,7 @@ fn refusals(rt: HostRuntime) {
             Fault::BadScript(Place::Call(0, 0)),
         ),
         (
-            "{\"version\":1,\"threads\":[[\"lock\"]],\"schedule\":\"\"}",
+            "{\"version\":1,\"threads\":[[\"wait 0>=1\"]],\"schedule\":\"\"}",
             Fault::BadScript(Place::Call(0, 0)),
         ),
         (

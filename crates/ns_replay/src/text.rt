@@ -3,9 +3,9 @@
 //! Each function adds one part at the end of a text, and its contract says which, by the
 //! definition of that part in `specs/Text.antt`.
 
-ghost use Rattle.std.specs.Prelude.{◌≡◌, ◌≤◌, ◌<◌, ◌++◌, ◌||◌, [], map, flat_map, string_bytes, OnOk, IfOk};
+ghost use Rattle.std.specs.Prelude.{◌≡◌, ◌≤◌, ◌<◌, ◌++◌, ◌||◌, map, flat_map, string_bytes, OnOk, IfOk};
 ghost use Rattle.ns_model.specs.Seats.{is_in};
-ghost use Rattle.ns_replay.specs.Text.{reply_text, is_release, tests_text, line_text, lines_text, finished_calls, left_text, lefts_text, row_text, after_comma, numbers_text, mode_text, answer_text, entry_text, exit_text, section_text, rows_text, seat_text, seats_text, event_words, event_text, events_text, history_text, bit_text, bits_text, word_text, waiter_text, queue_text, lock_text, state_text};
+ghost use Rattle.ns_replay.specs.Text.{reply_text, is_release, tests_text, line_text, lines_text, finished_calls, left_text, lefts_text, row_text, after_comma, numbers_text, mode_text, answer_text, entry_text, exit_text, section_text, rows_text, seat_text, seats_text, event_words, event_text, events_text, history_text, bit_text, bits_text, word_text, waiter_text, queue_text, wake_text, wakes_text, lock_text, state_text};
 
 use crate::condition::ScriptCondition;
 use ns_model::event::{Answer, Entry, Event, Exit, Mode};
@@ -24,6 +24,7 @@ fn push_reply(out: &mut String, reply: Reply) -> Result<(), AllocError>
     match reply {
         Reply::Ok => out.push_str("ok"),
         Reply::Busy => out.push_str("busy"),
+        Reply::Noisy => out.push_str("noisy"),
         Reply::Number(number) => write!(out, "{number}"),
         Reply::Misuse => out.push_str("misuse"),
     }
@@ -37,7 +38,7 @@ fn ends_release(threads: &[Vec<Call>], line: &Line) -> bool
         return false;
     };
     match calls.get(line.call as usize) {
-        Some(Call::Unlock | Call::RUnlock) => true,
+        Some(Call::Unlock | Call::RUnlock | Call::UnlockQuiet) => true,
         _ => false,
     }
 }
@@ -383,12 +384,36 @@ fn push_queue(out: &mut String, waiters: &[Shown]) -> Result<(), AllocError>
     out.push_str("\n")
 }
 
-/// The lines of the lock word and of its waiters.
-fn push_lock(out: &mut String, word: Word, waiters: &[Shown]) -> Result<(), AllocError>
-    ensures { OnOk result (string_bytes out.new ≡ string_bytes out.old ++ lock_text word waiters.now) }
+/// The line of a wake that is owed.
+fn push_wake(out: &mut String, wake: (u8, u8)) -> Result<(), AllocError>
+    ensures { OnOk result (string_bytes out.new ≡ string_bytes out.old ++ wake_text wake) }
+{
+    let (by, to) = wake;
+    writeln!(out, "owed {by}>{to}")
+}
+
+/// The lines of the wakes that are owed.
+fn push_wakes(out: &mut String, wakes: &[(u8, u8)]) -> Result<(), AllocError>
+    ensures { OnOk result (string_bytes out.new ≡ string_bytes out.old ++ wakes_text wakes.now) }
+{
+    for wake in wakes {
+        push_wake(out, *wake)?;
+    }
+    Ok(())
+}
+
+/// The lines of the lock word, of its waiters, and of the wakes that are owed.
+fn push_lock(
+    out: &mut String,
+    word: Word,
+    waiters: &[Shown],
+    wakes: &[(u8, u8)],
+) -> Result<(), AllocError>
+    ensures { OnOk result (string_bytes out.new ≡ string_bytes out.old ++ lock_text word waiters.now wakes.now) }
 {
     push_word(out, word)?;
-    push_queue(out, waiters)
+    push_queue(out, waiters)?;
+    push_wakes(out, wakes)
 }
 
 /// The lines of the lock, where that is asked for.
@@ -397,12 +422,12 @@ pub fn push_state(
     asked: bool,
     word: Word,
     waiters: &[Shown],
+    wakes: &[(u8, u8)],
 ) -> Result<(), AllocError>
-    requires { waiters.now ≡ [] }
-    ensures { OnOk result (string_bytes out.new ≡ string_bytes out.old ++ state_text asked word) }
+    ensures { OnOk result (string_bytes out.new ≡ string_bytes out.old ++ state_text asked word waiters.now wakes.now) }
 {
     if asked {
-        push_lock(out, word, waiters)
+        push_lock(out, word, waiters, wakes)
     } else {
         Ok(())
     }

@@ -2,7 +2,7 @@
 use Rattle.std.proofs.Common.{◌≡◌, ℕ, ◌+◌, ◌*◌, ◌/◌, ◌%◌, ◌<◌, ◌≤◌, Bool, true, false, if◌then◌else◌, ◌==◌, ◌⊎◌, inl, inr, refl, ap, sym, ◌∙◌, subst, arith}
 use Rattle.std.proofs.lemmas.Bool.Decides.{nat_tests}
 use Rattle.ns_word.specs.declared.word.Word.{Word}
-use Rattle.ns_word.specs.Codec.{bit, bits_of, is_set, word_of, IsPackable}
+use Rattle.ns_word.specs.Codec.{bit, number_of, is_set, word_of, IsPackable}
 
 bit_few : (b : Bool) → bit b ≤ 1
 bit_few true = omega arith
@@ -19,7 +19,7 @@ digit n = last (n % 2) (omega arith) where
   last : (d : ℕ) → d < 2 → bit (d == 1) ≡ d
   last d few = grind (arith, nat_tests)
 
-pub decoded : (w : Word) → word_of (bits_of w) ≡ w
+pub decoded : (w : Word) → word_of (number_of w) ≡ w
 unfolding word_of
 decoded w =
     let a = bit_few w.write in
@@ -29,7 +29,7 @@ decoded w =
     let e = bit_few w.cond in
     let f = bit_few w.writer_waits in
     let g = bit_few w.all_false in
-    let n = bits_of w in
+    let n = number_of w in
     rw (
       told w.write (n / 1) (omega (arith, a, b, c, d, e, f, g)),
       told w.spin (n / 2) (omega (arith, a, b, c, d, e, f, g)),
@@ -41,10 +41,10 @@ decoded w =
       readers w n refl a b c d e f g,
     ) refl
   where
-    readers : (w : Word) (n : ℕ) → n ≡ bits_of w → bit w.write ≤ 1 → bit w.spin ≤ 1 → bit w.waiting ≤ 1 → bit w.desig ≤ 1 → bit w.cond ≤ 1 → bit w.writer_waits ≤ 1 → bit w.all_false ≤ 1 → n / 128 ≡ w.readers
+    readers : (w : Word) (n : ℕ) → n ≡ number_of w → bit w.write ≤ 1 → bit w.spin ≤ 1 → bit w.waiting ≤ 1 → bit w.desig ≤ 1 → bit w.cond ≤ 1 → bit w.writer_waits ≤ 1 → bit w.all_false ≤ 1 → n / 128 ≡ w.readers
     readers w n is a b c d e f g = omega arith
 
-pub encoded : (bits : ℕ) → bits_of (word_of bits) ≡ bits
+pub encoded : (bits : ℕ) → number_of (word_of bits) ≡ bits
 unfolding word_of
 encoded bits =
     let a = digit (bits / 1) in
@@ -58,7 +58,7 @@ encoded bits =
 
 -- a number that is not refused is its word's
 pub read_back : (bits : ℕ) (w : Word) → w ≡ word_of bits → bits / 128 ≤ 64 → ((w.write ≡ true) × (bits / 128 ≤ 0)) ⊎ (w.write ≡ false) →
-    (w ≡ word_of bits) × (bits_of w ≡ bits) × IsPackable w
+    (w ≡ word_of bits) × (number_of w ≡ bits) × IsPackable w
 unfolding word_of
 read_back bits w is few free = (is, rw is (encoded bits), record { few = rw is few; alone = alone w.readers (ap (λ w. w.readers) is) free })
   where

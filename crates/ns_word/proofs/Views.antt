@@ -1,11 +1,28 @@
 -- A view among the views: what holds of all of them, by the views before it, itself, and those behind it.
-use Rattle.std.proofs.Common.{◌≡◌, ◌≢◌, ℕ, ◌+◌, Bool, true, false, not, cond, ◌⊎◌, inl, inr, List, [], ◌∷◌, ◌++◌, Option, None, Some, refl, sym, ◌∙◌, subst, arith}
+use Rattle.std.proofs.Common.{◌≡◌, ◌≢◌, ℕ, ◌+◌, ◌≤◌, Bool, true, false, not, cond, ◌⊎◌, inl, inr, List, [], ◌∷◌, ◌++◌, Option, None, Some, eqb, refl, ap, sym, ◌∙◌, subst, arith, eq-eqb}
+use Rattle.std.proofs.lemmas.Bool.{ne_eqb}
 use Rattle.ns_model.specs.Phases.{is_write}
 use Rattle.ns_model.specs.Sections.{EntryFits}
 use Rattle.ns_model.specs.Histories.{Standing}
 use Rattle.ns_word.specs.declared.view.Held.{Held}
 use Rattle.ns_word.specs.declared.view.SeatView.{SeatView}
-use Rattle.ns_word.specs.Lawful.{writers, readers, is_writing, is_reading, ViewFits, SectionFits, EachFits, NoneIs, AreApart}
+use Rattle.ns_word.specs.declared.walk.Walk.{Walk}
+use Rattle.ns_word.specs.Lists.{times_among}
+use Rattle.ns_word.specs.Walks.{has_queues, is_queuing}
+use Rattle.ns_word.specs.Views.{is_writing, is_reading, writers, readers, takers, queuers, owed_to, walk_at, NoneIs, AreApart}
+use Rattle.ns_word.specs.Steps.{Truths}
+use Rattle.ns_word.specs.Lawful.{ViewFits, SectionFits, EachFits}
+
+abbrev pub one_if : Bool → ℕ
+one_if b = cond b 1 0
+
+-- a seat with this place, this section and these wakes to pay
+abbrev pub view_of : {C : Type 0} {N : ℕ} → ℕ → Option Walk → Option (Held C N) → List ℕ → SeatView C N
+view_of seat walk held owed = record { seat = seat; walk = walk; held = held; owed = owed }
+
+pub one_most : (b : Bool) → one_if b ≤ 1
+one_most true = omega arith
+one_most false = omega arith
 
 one_of : (b : Bool) → cond b 1 0 + cond (not b) 1 0 ≡ 1
 one_of true = refl
@@ -24,21 +41,36 @@ module _ {C : Type 0} {N : ℕ} where
   writers_at [] view back = omega arith
   writers_at (u ∷ front) view back = let rest = writers_at front view back in omega arith
 
+  pub takers_at : (front : List (SeatView C N)) (view : SeatView C N) (back : List (SeatView C N)) →
+      takers (front ++ view ∷ back) ≡ takers front + (cond (has_queues view.walk) 1 0 + takers back)
+  takers_at [] view back = omega arith
+  takers_at (u ∷ front) view back = let rest = takers_at front view back in omega arith
+
+  pub owed_at : (seat : ℕ) (front : List (SeatView C N)) (view : SeatView C N) (back : List (SeatView C N)) →
+      owed_to seat (front ++ view ∷ back) ≡ owed_to seat front + (times_among seat view.owed + owed_to seat back)
+  owed_at seat [] view back = omega arith
+  owed_at seat (u ∷ front) view back = let rest = owed_at seat front view back in omega arith
+
+  pub queuers_at : (front : List (SeatView C N)) (view : SeatView C N) (back : List (SeatView C N)) →
+      queuers (front ++ view ∷ back) ≡ queuers front + (cond (is_queuing view.walk) 1 0 + queuers back)
+  queuers_at [] view back = omega arith
+  queuers_at (u ∷ front) view back = let rest = queuers_at front view back in omega arith
+
   none_held : (held : Option (Held C N)) → cond (is_writing held) 1 0 + cond (is_reading held) 1 0 ≡ 0 → held ≡ None
   none_held None e = refl
   none_held (Some held) e = absurd (omega (arith, one_of (is_write held.mode)))
 
   -- ---- apart
 
-  pub none_parts : (seat : ℕ) (front : List (SeatView C N)) (view : SeatView C N) (back : List (SeatView C N)) →
-      NoneIs seat (front ++ view ∷ back) → NoneIs seat front × (view.seat ≢ seat) × NoneIs seat back
-  none_parts seat [] view back p = (tt, p.0, p.1)
-  none_parts seat (u ∷ front) view back p = let rest = none_parts seat front view back p.1 in ((p.0, rest.0), rest.1, rest.2)
+  pub none_parts : (who : ℕ) (front : List (SeatView C N)) (view : SeatView C N) (back : List (SeatView C N)) →
+      NoneIs who (front ++ view ∷ back) → NoneIs who front × (view.seat ≢ who) × NoneIs who back
+  none_parts who [] view back p = (tt, p.0, p.1)
+  none_parts who (u ∷ front) view back p = let rest = none_parts who front view back p.1 in ((p.0, rest.0), rest.1, rest.2)
 
-  pub none_join : (seat : ℕ) (front : List (SeatView C N)) (view : SeatView C N) (back : List (SeatView C N)) →
-      NoneIs seat front → view.seat ≢ seat → NoneIs seat back → NoneIs seat (front ++ view ∷ back)
-  none_join seat [] view back p q r = (q, r)
-  none_join seat (u ∷ front) view back p q r = (p.0, none_join seat front view back p.1 q r)
+  pub none_join : (who : ℕ) (front : List (SeatView C N)) (view : SeatView C N) (back : List (SeatView C N)) →
+      NoneIs who front → view.seat ≢ who → NoneIs who back → NoneIs who (front ++ view ∷ back)
+  none_join who [] view back p q r = (q, r)
+  none_join who (u ∷ front) view back p q r = (p.0, none_join who front view back p.1 q r)
 
   pub apart_parts : (front : List (SeatView C N)) (view : SeatView C N) (back : List (SeatView C N)) →
       AreApart (front ++ view ∷ back) → NoneIs view.seat front × NoneIs view.seat back
@@ -51,49 +83,62 @@ module _ {C : Type 0} {N : ℕ} where
   -- a view that moves keeps its number
   pub apart_moves : (front : List (SeatView C N)) (view next : SeatView C N) (back : List (SeatView C N)) → next.seat ≡ view.seat →
       AreApart (front ++ view ∷ back) → AreApart (front ++ next ∷ back)
-  apart_moves [] view next back e p = (subst (λ seat. NoneIs seat back) (sym e) p.0, p.1)
+  apart_moves [] view next back e p = (subst (λ who. NoneIs who back) (sym e) p.0, p.1)
   apart_moves (u ∷ front) view next back e p =
       let here = none_parts u.seat front view back p.0 in
       (none_join u.seat front next back here.0 (λ f. here.1 (sym e ∙ f)) here.2, apart_moves front view next back e p.1)
 
+  -- ---- places
+
+  -- the place of the seat itself
+  pub walk_here : (front : List (SeatView C N)) (view : SeatView C N) (back : List (SeatView C N)) → NoneIs view.seat front → walk_at view.seat (front ++ view ∷ back) ≡ view.walk
+  walk_here [] view back p = rw (eq-eqb view.seat view.seat refl) refl
+  walk_here (u ∷ front) view back p = rw (ne_eqb u.seat view.seat p.0) (walk_here front view back p.1)
+
+  -- that of another
+  pub walk_there : (seat : ℕ) (front : List (SeatView C N)) (view next : SeatView C N) (back : List (SeatView C N)) → view.seat ≢ seat → next.seat ≡ view.seat →
+      walk_at seat (front ++ next ∷ back) ≡ walk_at seat (front ++ view ∷ back)
+  walk_there seat [] view next back ne e = rw (ne_eqb view.seat seat ne) (rw (ne_eqb next.seat seat (λ f. ne (sym e ∙ f))) refl)
+  walk_there seat (u ∷ front) view next back ne e = ap (λ w. cond (eqb u.seat seat) u.walk w) (walk_there seat front view next back ne e)
+
   -- ---- each
-  module _ (holds : C → List ℕ → Bool) (seats : ℕ) where
+  module _ (truths : Truths C) (seats : ℕ) where
     pub each_parts : (now : Standing C) (row : List ℕ) (front : List (SeatView C N)) (view : SeatView C N) (back : List (SeatView C N)) →
-        EachFits holds seats now row (front ++ view ∷ back) →
-        EachFits holds seats now row front × ViewFits holds seats now row view × EachFits holds seats now row back
+        EachFits truths seats now row (front ++ view ∷ back) →
+        EachFits truths seats now row front × ViewFits truths seats now row view × EachFits truths seats now row back
     each_parts now row [] view back p = (tt, p.0, p.1)
     each_parts now row (u ∷ front) view back p = let rest = each_parts now row front view back p.1 in ((p.0, rest.0), rest.1, rest.2)
 
     pub each_join : (now : Standing C) (row : List ℕ) (front : List (SeatView C N)) (view : SeatView C N) (back : List (SeatView C N)) →
-        EachFits holds seats now row front → ViewFits holds seats now row view → EachFits holds seats now row back →
-        EachFits holds seats now row (front ++ view ∷ back)
+        EachFits truths seats now row front → ViewFits truths seats now row view → EachFits truths seats now row back →
+        EachFits truths seats now row (front ++ view ∷ back)
     each_join now row [] view back p q r = (q, r)
     each_join now row (u ∷ front) view back p q r = (p.0, each_join now row front view back p.1 q r)
 
-    section_moves : (now next : Standing C) (row cells : List ℕ) (seat : ℕ) (held : Option (Held C N)) →
-        next.phases seat ≡ now.phases seat →
+    section_moves : (now next : Standing C) (row cells : List ℕ) (who : ℕ) (held : Option (Held C N)) →
+        next.phases who ≡ now.phases who →
         ((next.row ≡ now.row) × (cells ≡ row)) ⊎ (held ≡ None) →
-        SectionFits holds now row seat held → SectionFits holds next cells seat held
-    section_moves now next row cells seat None phase same p = phase ∙ p
-    section_moves now next row cells seat (Some held) phase (inl same) p = record {
+        SectionFits truths.holds now row who held → SectionFits truths.holds next cells who held
+    section_moves now next row cells who None phase same p = phase ∙ p
+    section_moves now next row cells who (Some held) phase (inl same) p = record {
       starts = p.starts ∙ sym same.0;
-      enters = subst (λ ph. EntryFits holds held.before held.mode held.entry ph) (sym phase) p.enters;
+      enters = subst (λ ph. EntryFits truths.holds held.before held.mode held.entry ph) (sym phase) p.enters;
       cells = p.cells ∙ sym same.1;
       reads = p.reads;
     }
-    section_moves now next row cells seat (Some held) phase (inr none) p = absurd (cc)
+    section_moves now next row cells who (Some held) phase (inr none) p = absurd (cc)
 
-    -- what a seat's step leaves of the others: the row is the same, or none of them has a section in hand
-    pub each_moves : (now next : Standing C) (row cells : List ℕ) (seat : ℕ) (views : List (SeatView C N)) →
-        NoneIs seat views → ((other : ℕ) → other ≢ seat → next.phases other ≡ now.phases other) →
+    -- what the step of a seat leaves of the others: the row is the same, or none of them has a section
+    pub each_moves : (now next : Standing C) (row cells : List ℕ) (who : ℕ) (views : List (SeatView C N)) →
+        NoneIs who views → ((seat : ℕ) → seat ≢ who → next.phases seat ≡ now.phases seat) →
         ((next.row ≡ now.row) × (cells ≡ row)) ⊎ (writers views + readers views ≡ 0) →
-        EachFits holds seats now row views → EachFits holds seats next cells views
-    each_moves now next row cells seat [] apart phases same p = tt
-    each_moves now next row cells seat (u ∷ views) apart phases (inl same) p = (
-      record { in_range = p.0.in_range; place = p.0.place; section = section_moves now next row cells u.seat u.held (phases u.seat apart.0) (inl same) p.0.section },
-      each_moves now next row cells seat views apart.1 phases (inl same) p.1,
+        EachFits truths seats now row views → EachFits truths seats next cells views
+    each_moves now next row cells who [] apart phases same p = tt
+    each_moves now next row cells who (u ∷ views) apart phases (inl same) p = (
+      record { in_range = p.0.in_range; place = p.0.place; owes = p.0.owes; section = section_moves now next row cells u.seat u.held (phases u.seat apart.0) (inl same) p.0.section },
+      each_moves now next row cells who views apart.1 phases (inl same) p.1,
     )
-    each_moves now next row cells seat (u ∷ views) apart phases (inr none) p = (
-      record { in_range = p.0.in_range; place = p.0.place; section = section_moves now next row cells u.seat u.held (phases u.seat apart.0) (inr (none_held u.held (omega arith))) p.0.section },
-      each_moves now next row cells seat views apart.1 phases (inr (omega arith)) p.1,
+    each_moves now next row cells who (u ∷ views) apart phases (inr none) p = (
+      record { in_range = p.0.in_range; place = p.0.place; owes = p.0.owes; section = section_moves now next row cells u.seat u.held (phases u.seat apart.0) (inr (none_held u.held (omega arith))) p.0.section },
+      each_moves now next row cells who views apart.1 phases (inr (omega arith)) p.1,
     )

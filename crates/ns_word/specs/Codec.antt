@@ -1,13 +1,13 @@
 -- The lock word as one number.
-use Rattle.std.specs.Prelude.{◌≡◌, ℕ, ◌+◌, ◌*◌, ◌/◌, ◌%◌, ◌≤◌, Bool, true, false, if◌then◌else◌, ◌==◌, ◌⊎◌}
+use Rattle.std.specs.Prelude.{◌≡◌, ℕ, ◌+◌, ◌*◌, ◌/◌, ◌%◌, ◌≤◌, Bool, true, if◌then◌else◌, ◌==◌, ◌⊎◌}
 use Rattle.ns_word.specs.declared.word.Word.{Word}
 
 abbrev pub bit : Bool → ℕ
 bit b = if b then 1 else 0
 
 -- Each bit of the word has a value, and each reader counts 128.
-abbrev pub bits_of : Word → ℕ
-bits_of w =
+abbrev pub number_of : Word → ℕ
+number_of w =
     bit w.write + 2 * bit w.spin + 4 * bit w.waiting + 8 * bit w.desig + 16 * bit w.cond + 32 * bit w.writer_waits + 64 * bit w.all_false
     + 128 * w.readers
 
@@ -25,19 +25,6 @@ word_of bits = record {
   writer_waits = is_set bits 32;
   all_false = is_set bits 64;
   readers = bits / 128;
-}
-
--- the word of a free lock, whose number is 0
-abbrev pub free_word : Word
-free_word = record {
-  write = false;
-  spin = false;
-  waiting = false;
-  desig = false;
-  cond = false;
-  writer_waits = false;
-  all_false = false;
-  readers = 0;
 }
 
 -- At most 64 seats read, and none where one writes: such a word has a number.

@@ -1,54 +1,35 @@
 -- The law: what holds of a lock and its seats between any two steps.
-use Rattle.std.specs.Prelude.{◌≡◌, ◌≢◌, ℕ, ◌+◌, ◌<◌, Bool, true, false, if◌then◌else◌, List, [], ◌∷◌, not, Option, None, Some, IsSome}
-use Rattle.ns_model.specs.declared.event.Mode.{Mode}
-use Rattle.ns_model.specs.declared.event.Mode.TheVariants.{Write, Read}
+use Rattle.std.specs.Prelude.{◌≡◌, ℕ, ◌+◌, ◌<◌, ◌≤◌, Bool, true, false, ◌&&◌, ◌==◌, if◌then◌else◌, List, [], ◌∷◌, length, Option, None, Some}
+use Rattle.ns_model.specs.declared.event.Mode.TheVariants.{Read}
 use Rattle.ns_model.specs.declared.event.Event.{Event}
 use Rattle.ns_model.specs.declared.phase.Phase.TheVariants.{Idle}
-use Rattle.ns_model.specs.Phases.{is_write}
 use Rattle.ns_model.specs.Sections.{EntryFits}
 use Rattle.ns_model.specs.Histories.{Standing, IsLegal, IsBySeats, standing_after}
+use Rattle.ns_queue.specs.declared.waiter.Waiter.{Waiter}
+use Rattle.ns_queue.specs.Waiters.{times_in}
+use Rattle.ns_word.specs.declared.word.Word.{Word}
+use Rattle.ns_word.specs.declared.word.Bits.{Bits}
 use Rattle.ns_word.specs.declared.view.Held.{Held}
 use Rattle.ns_word.specs.declared.view.SeatView.{SeatView}
 use Rattle.ns_word.specs.declared.walk.Walk.{Walk}
-use Rattle.ns_word.specs.declared.walk.Walk.TheVariants.{TryLoad, TryAcquire, ReleaseLoad, Release, Get, SetLoad, SetStore}
-use Rattle.ns_word.specs.declared.walk.Act.{Act}
-use Rattle.ns_word.specs.declared.walk.Act.TheVariants.{LoadWord, Acquire, Release as ReleaseWord, LoadCell, StoreCell}
-use Rattle.ns_word.specs.Walks.{may_acquire}
-use Rattle.ns_word.specs.Steps.{State}
+use Rattle.ns_word.specs.Lists.{has_some, has_eligible, bits_of}
+use Rattle.ns_word.specs.Walks.{has_armed, waits_in, awaits, pays, is_on_way}
+use Rattle.ns_word.specs.Views.{writers, readers, takers, queuers, owed_to, walk_at, AreApart}
+use Rattle.ns_word.specs.Places.{PlaceFits}
+use Rattle.ns_word.specs.Steps.{Truths, State}
 
--- ---- the write bit and its one writer
+-- ---- the sections
 
-abbrev pub is_writing : {C : Type 0} {N : ℕ} → Option (Held C N) → Bool
-is_writing None = false
-is_writing (Some held) = is_write held.mode
+-- The write bit is set exactly where one seat has a write section in hand; then no seat has a read section.
+pub record OneWriter {C : Type 0} {N : ℕ} (word : Word) (views : List (SeatView C N)) : Type 0 where
+  pub bit : writers views ≡ (if word.write then 1 else 0)
+  pub alone : word.write ≡ true → readers views ≡ 0
 
-abbrev pub is_reading : {C : Type 0} {N : ℕ} → Option (Held C N) → Bool
-is_reading None = false
-is_reading (Some held) = not (is_write held.mode)
+-- The word's count of readers is the number of seats with a read section in hand.
+abbrev pub ReadersCounted : {C : Type 0} {N : ℕ} → Word → List (SeatView C N) → Type 0
+ReadersCounted word views = word.readers ≡ readers views
 
--- how many seats have a write section in hand, and how many a read section
-abbrev pub writers : {C : Type 0} {N : ℕ} → List (SeatView C N) → ℕ
-writers [] = 0
-writers (view ∷ views) = (if is_writing view.held then 1 else 0) + writers views
-
-abbrev pub readers : {C : Type 0} {N : ℕ} → List (SeatView C N) → ℕ
-readers [] = 0
-readers (view ∷ views) = (if is_reading view.held then 1 else 0) + readers views
-
--- The write bit is set exactly where one seat has a write section in hand, and then no seat has a read section.
-pub record OneWriter {C : Type 0} {N : ℕ} (s : State C N) : Type 0 where
-  pub bit : writers s.views ≡ (if s.word.write then 1 else 0)
-  pub alone : s.word.write ≡ true → readers s.views ≡ 0
-
--- ---- the readers
-
--- The word counts the read sections in hand.
-abbrev pub ReadersCounted : {C : Type 0} {N : ℕ} → State C N → Type 0
-ReadersCounted s = s.word.readers ≡ readers s.views
-
--- ---- one legal history
-
--- a section in hand begins where the history has left the row and its seat, and its row is the row's cells; a reader's is as it began
+-- a section in hand begins where the history has left the row and its seat, its row is the row's cells, and a reader changes nothing
 pub record HeldFits {C : Type 0} {N : ℕ} (holds : C → List ℕ → Bool) (now : Standing C) (row : List ℕ) (seat : ℕ) (held : Held C N) : Type 0 where
   pub starts : held.before ≡ now.row
   pub enters : EntryFits holds held.before held.mode held.entry (now.phases seat)
@@ -60,59 +41,94 @@ abbrev pub SectionFits : {C : Type 0} {N : ℕ} → (C → List ℕ → Bool) �
 SectionFits holds now row seat None = now.phases seat ≡ Idle
 SectionFits holds now row seat (Some held) = HeldFits holds now row seat held
 
-abbrev pub HasMode : {C : Type 0} {N : ℕ} → Mode → Option (Held C N) → Type 0
-HasMode mode None = ⊥
-HasMode mode (Some held) = held.mode ≡ mode
-
--- a place in a call goes with the section in hand
-abbrev pub PlaceFits : {C : Type 0} {N : ℕ} → Option Walk → Option (Held C N) → Type 0
-PlaceFits None held = Unit {0}
-PlaceFits (Some (TryLoad mode)) held = held ≡ None
-PlaceFits (Some (TryAcquire mode last)) held = (held ≡ None) × (may_acquire mode last ≡ true)
-PlaceFits (Some (ReleaseLoad mode)) held = HasMode mode held
-PlaceFits (Some (Release mode last)) held = HasMode mode held
-PlaceFits {C} {N} (Some (Get i)) held = IsSome held × (i < N)
-PlaceFits {C} {N} (Some (SetLoad i v)) held = HasMode Write held × (i < N)
-PlaceFits {C} {N} (Some (SetStore i v)) held = HasMode Write held × (i < N)
-
--- an act may be made with the section in hand
-abbrev pub ActFits : {C : Type 0} {N : ℕ} → Act → Option (Held C N) → Type 0
-ActFits LoadWord held = Unit {0}
-ActFits (Acquire mode last) held = (held ≡ None) × (may_acquire mode last ≡ true)
-ActFits (ReleaseWord mode last) held = HasMode mode held
-ActFits {C} {N} (LoadCell i) held = i < N
-ActFits {C} {N} (StoreCell i v) held = HasMode Write held × (i < N)
-
--- a view of one of so many seats, after a history that left this standing
-pub record ViewFits {C : Type 0} {N : ℕ} (holds : C → List ℕ → Bool) (seats : ℕ) (now : Standing C) (row : List ℕ) (view : SeatView C N) : Type 0 where
+-- A view of one of so many seats, after a history that left this standing. It owes a wake exactly where it is about to pay one, so none once its call is over.
+pub record ViewFits {C : Type 0} {N : ℕ} (truths : Truths C) (seats : ℕ) (now : Standing C) (row : List ℕ) (view : SeatView C N) : Type 0 where
   pub in_range : view.seat < seats
-  pub place : PlaceFits view.walk view.held
-  pub section : SectionFits holds now row view.seat view.held
+  pub place : PlaceFits truths view.walk view.held
+  pub owes : has_some view.owed ≡ pays view.walk
+  pub section : SectionFits truths.holds now row view.seat view.held
 
-abbrev pub EachFits : {C : Type 0} {N : ℕ} → (C → List ℕ → Bool) → ℕ → Standing C → List ℕ → List (SeatView C N) → Type 0
-EachFits holds seats now row [] = Unit {0}
-EachFits holds seats now row (view ∷ views) = ViewFits holds seats now row view × EachFits holds seats now row views
+abbrev pub EachFits : {C : Type 0} {N : ℕ} → Truths C → ℕ → Standing C → List ℕ → List (SeatView C N) → Type 0
+EachFits truths seats now row [] = Unit {0}
+EachFits truths seats now row (view ∷ views) = ViewFits truths seats now row view × EachFits truths seats now row views
 
 -- The history is legal and by these seats, and the views and the cells are as it leaves them. With no writer the cells are the row after it.
-pub record OneHistory {C : Type 0} {N : ℕ} (holds : C → List ℕ → Bool) (seats : ℕ) (history : List (Event C N)) (s : State C N) : Type 0 where
-  pub legal : IsLegal holds history
+pub record OneHistory {C : Type 0} {N : ℕ} (truths : Truths C) (seats : ℕ) (history : List (Event C N)) (word : Word) (row : List ℕ) (views : List (SeatView C N)) : Type 0 where
+  pub legal : IsLegal truths.holds history
   pub by_seats : IsBySeats seats history
-  pub each : EachFits holds seats (standing_after history) s.row s.views
-  pub free : s.word.write ≡ false → s.row ≡ (standing_after history).row
+  pub each : EachFits truths seats (standing_after history) row views
+  pub free : word.write ≡ false → row ≡ (standing_after history).row
+  pub cells : length row ≡ N
+  pub cells_after : length (standing_after history).row ≡ N
 
--- ---- no number stands twice
+-- ---- the queues
 
-abbrev pub NoneIs : {C : Type 0} {N : ℕ} → ℕ → List (SeatView C N) → Type 0
-NoneIs seat [] = Unit {0}
-NoneIs seat (view ∷ views) = (view.seat ≢ seat) × NoneIs seat views
+-- The spinlock bit is set exactly where one seat has the queues.
+abbrev pub SpinHeldOnce : {C : Type 0} {N : ℕ} → Word → List (SeatView C N) → Type 0
+SpinHeldOnce word views = takers views ≡ (if word.spin then 1 else 0)
 
-abbrev pub AreApart : {C : Type 0} {N : ℕ} → List (SeatView C N) → Type 0
-AreApart [] = Unit {0}
-AreApart (view ∷ views) = NoneIs view.seat views × AreApart views
+-- the word's own bits of the lock list
+abbrev pub bits_in : Word → Bits
+bits_in word = record { waiting = word.waiting; conditional = word.cond; writer_waits = word.writer_waits }
+
+-- While the spinlock bit is clear, the word tells what the lock list holds. While the waiting bit is clear, nobody stands there or is about to.
+pub record BitsTell {C : Type 0} {N : ℕ} (word : Word) (lock : List (Waiter C)) (views : List (SeatView C N)) : Type 0 where
+  pub at_home : word.spin ≡ false → bits_in word ≡ bits_of lock
+  pub nobody : word.waiting ≡ false → (has_some lock ≡ false) × (queuers views ≡ 0)
+
+-- ---- the waiters
+
+abbrev pub is_set : ℕ → Bool
+is_set flag = flag == 1
+
+-- a seat waits, and its flag isn't cleared
+abbrev pub is_due : Option Walk → ℕ → Bool
+is_due walk flag = awaits walk && is_set flag
+
+-- Each seat that waits stands in the lock list once, or is owed one wake by one seat, or has its flag cleared and neither; every other seat stands nowhere and is owed nothing. Before it queues, a seat has set its flag.
+pub record WaitersPlaced {C : Type 0} {N : ℕ} (lock : List (Waiter C)) (flags : ℕ → ℕ) (views : List (SeatView C N)) : Type 0 where
+  pub placed : (seat : ℕ) → times_in seat lock + owed_to seat views ≡ (if is_due (walk_at seat views) (flags seat) then 1 else 0)
+  pub armed : (seat : ℕ) → has_armed (walk_at seat views) ≡ true → flags seat ≡ 1
+  pub flag : (seat : ℕ) → flags seat ≤ 1
+
+-- a waiter of the lock list is its seat's own: the seat waits in that mode, and without a condition, since no call waits for one yet
+pub record WaiterFits {C : Type 0} {N : ℕ} (views : List (SeatView C N)) (w : Waiter C) : Type 0 where
+  pub mode : waits_in (walk_at w.seat views) ≡ Some w.mode
+  pub plain : w.cond ≡ None
+
+-- Each waiter of the lock list is its seat's own.
+abbrev pub WaitersOwn : {C : Type 0} {N : ℕ} → List (Waiter C) → List (SeatView C N) → Type 0
+WaitersOwn [] views = Unit {0}
+WaitersOwn (w ∷ ws) views = WaiterFits views w × WaitersOwn ws views
+
+-- ---- nobody is forgotten
+
+-- The designated bit is set only where a seat that was taken from the lock list is on its way: it has since neither acquired nor queued anew.
+abbrev pub DesigOnItsWay : {C : Type 0} {N : ℕ} → Word → List (Waiter C) → List (SeatView C N) → Type 0
+DesigOnItsWay word lock views = word.desig ≡ true → (seat : ℕ) × (is_on_way (walk_at seat views) (times_in seat lock) ≡ true)
+
+-- every waiter of the lock list has a condition, it is false of the row, and nobody is about to stand there
+abbrev pub IsIdle : {C : Type 0} {N : ℕ} → (C → List ℕ → Bool) → List ℕ → List (Waiter C) → List (SeatView C N) → Type 0
+IsIdle holds row lock views = (has_eligible (λ c. holds c row) lock ≡ false) × (queuers views ≡ 0)
+
+-- With no holder and nobody on its way, the waiters are idle: no seat waits that could go on.
+abbrev pub IdleWaitersFalse : {C : Type 0} {N : ℕ} → (C → List ℕ → Bool) → List ℕ → Word → List (Waiter C) → List (SeatView C N) → Type 0
+IdleWaitersFalse holds row word lock views = word.write ≡ false → word.readers ≡ 0 → word.desig ≡ false → IsIdle holds row lock views
+
+-- Where the word says that all conditions are false, they are, of the row that the history left.
+abbrev pub AllfalseTrue : {C : Type 0} {N : ℕ} → (C → List ℕ → Bool) → List ℕ → Word → List (Waiter C) → List (SeatView C N) → Type 0
+AllfalseTrue holds row word lock views = word.all_false ≡ true → IsIdle holds row lock views
 
 -- The law, of a lock with so many seats, with this history of all that was committed.
-pub record IsLawful {C : Type 0} {N : ℕ} (holds : C → List ℕ → Bool) (seats : ℕ) (history : List (Event C N)) (s : State C N) : Type 0 where
-  pub one_writer : OneWriter s
-  pub readers_counted : ReadersCounted s
-  pub one_history : OneHistory holds seats history s
+pub record IsLawful {C : Type 0} {N : ℕ} (truths : Truths C) (seats : ℕ) (history : List (Event C N)) (s : State C N) : Type 0 where
+  pub one_writer : OneWriter s.word s.views
+  pub readers_counted : ReadersCounted s.word s.views
+  pub one_history : OneHistory truths seats history s.word s.row s.views
+  pub spin_held_once : SpinHeldOnce s.word s.views
+  pub bits_tell : BitsTell s.word s.lock s.views
+  pub waiters_placed : WaitersPlaced s.lock s.flags s.views
+  pub waiters_own : WaitersOwn s.lock s.views
+  pub desig_on_its_way : DesigOnItsWay s.word s.lock s.views
+  pub idle_waiters_false : IdleWaitersFalse truths.holds (standing_after history).row s.word s.lock s.views
+  pub allfalse_true : AllfalseTrue truths.holds (standing_after history).row s.word s.lock s.views
   pub apart : AreApart s.views

@@ -1,7 +1,15 @@
+pub mod Begins
 pub mod Codec
 pub mod Lawful
+pub mod Lists
+pub mod Places
 pub mod Room
 pub mod Steps
+pub mod Told
+pub mod Views
 pub mod Walks
+pub mod Words
 pub use Rattle.ns_model.specs.Histories
 pub use Rattle.ns_model.specs.Sections
+pub use Rattle.ns_queue.specs.Scans
+pub use Rattle.ns_queue.specs.Waiters

@@ -1,11 +1,10 @@
--- An event, a section in hand and a seat's view fit in memory, over any condition.
+-- An event and a section in hand fit in memory, over any condition.
 use Rattle.std.proofs.Common.{arith}
 use Rattle.std.specs.Mem.{FitsInMemory}
 use denote.RattleType.{RattleType}
 use denote.Param.{layout, copied, param}
 use Rattle.ns_model.specs.contracts.event.Event.{the_row as event_row}
 use Rattle.ns_word.specs.contracts.view.Held.{the_row as held_row}
-use Rattle.ns_word.specs.contracts.view.SeatView.{the_row as view_row}
 use Rattle.ns_model.specs.Room.{HasRoom, room_enough}
 
 abbrev pub EventFits : (C N : RattleType) → Type 0
@@ -14,14 +13,8 @@ EventFits C N = FitsInMemory (event_row C N)
 abbrev pub HeldFits : (C N : RattleType) → Type 0
 HeldFits C N = FitsInMemory (held_row C N)
 
-abbrev pub ViewFits : (C N : RattleType) → Type 0
-ViewFits C N = FitsInMemory (view_row C N)
-
 pub event_fits : (C N : RattleType) → HasRoom (copied 0 C) (param 1 N) → EventFits (copied 0 C) (param 1 N)
 event_fits C N small = let most = room_enough (layout (event_row (copied 0 C) (param 1 N))) in omega (arith, most, small.0, small.1)
 
 pub held_fits : (C N : RattleType) → HasRoom (copied 0 C) (param 1 N) → HeldFits (copied 0 C) (param 1 N)
 held_fits C N small = let most = room_enough (layout (held_row (copied 0 C) (param 1 N))) in omega (arith, most, small.0, small.1)
-
-pub view_fits : (C N : RattleType) → HasRoom (copied 0 C) (param 1 N) → ViewFits (copied 0 C) (param 1 N)
-view_fits C N small = let most = room_enough (layout (view_row (copied 0 C) (param 1 N))) in omega (arith, most, small.0, small.1)

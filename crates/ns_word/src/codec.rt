@@ -1,4 +1,5 @@
-//! The lock word as one number, as a table of atomic words keeps it.
+//! The lock word as one number, as a table of atomic words keeps it. The values stand here and in
+//! `specs/Codec.antt`, and nowhere else.
 //!
 //! | value | bit |
 //! |---|---|
@@ -11,8 +12,8 @@
 //! | 64 | every waiter has a condition, and it is false |
 //! | 128 | one reader; each counts so much |
 
-ghost use Rattle.std.specs.Prelude.{◌≡◌, ◌*◌, ◌<◌, MatchResult};
-ghost use Rattle.ns_word.specs.Codec.{bit, bits_of, word_of, is_set, IsPackable, IsBad};
+ghost use Rattle.std.specs.Prelude.{◌≡◌, ◌*◌, ◌<◌, Ok, MatchResult};
+ghost use Rattle.ns_word.specs.Codec.{bit, number_of, word_of, is_set, IsPackable, IsBad};
 
 use crate::word::Word;
 
@@ -58,7 +59,7 @@ fn is_set(bits: u64, value: u64) -> bool
 /// The number of a word. Needs at most 64 readers, and none beside a writer.
 pub fn encode(word: Word) -> u64
     requires { IsPackable word }
-    ensures { result ≡ bits_of word }
+    ensures { result ≡ number_of word }
 {
     valued(word.write, WRITE)
         + valued(word.spin, SPIN)
@@ -70,10 +71,11 @@ pub fn encode(word: Word) -> u64
         + READER * u64::from(word.readers)
 }
 
-/// The word of a number. Refuses one with a writer beside readers, and one with more than 64
-/// readers, and no other.
+/// The word of a number, so that decoding undoes encoding. Refuses (`BadWord`) a number with a
+/// writer beside readers, and one with more than 64 readers, and no other.
 pub fn decode(bits: u64) -> Result<Word, BadWord>
-    ensures { MatchResult result (λ word. (word ≡ word_of bits) × (bits_of word ≡ bits) × IsPackable word) (λ bad. IsBad bits) }
+    ensures undoes { (word : Word) → IsPackable word → bits ≡ number_of word → result ≡ Ok word }
+    ensures gives { MatchResult result (λ word. (word ≡ word_of bits) × (number_of word ≡ bits) × IsPackable word) (λ bad. IsBad bits) }
 {
     let write = is_set(bits, WRITE);
     let readers = bits / READER;

@@ -1,10 +1,508 @@
-//! The numbers of lock words, by a table.
+//! Small walks step by step, the decisions by a word, and the new words.
 
+ghost use Rattle.std.specs.Prelude.{◌≡◌, ◌<◌};
+
+use crate::act::{Act, Change, Found};
 use crate::codec::{BadWord, decode, encode};
-use crate::word::Word;
+use crate::walk::{Next, Reply, Walk};
+use crate::word::{Bits, Leaving, Taking, Word};
+use ns_model::event::Mode;
+
+/// A walk from a place on, over a row of two cells: what it wants, what that finds, and where it
+/// goes.
+type WalkRow = (Walk, &'static [(Act, Found, Next)]);
+
+const WRITING: Word = Word {
+    write: true,
+    ..Word::FREE
+};
+
+/// Held by a writer, with a writer that waits and has no condition.
+const CONTENDED: Word = Word {
+    write: true,
+    waiting: true,
+    writer_waits: true,
+    ..Word::FREE
+};
+
+/// Held by a reader, with a writer that waits and has no condition.
+const STOOD_BACK: Word = Word {
+    waiting: true,
+    writer_waits: true,
+    readers: 1,
+    ..Word::FREE
+};
+
+/// The same while one has the queues.
+const STOOD_BACK_TAKEN: Word = Word {
+    spin: true,
+    ..STOOD_BACK
+};
+
+/// Held by a writer, with one that waits for a condition.
+const CONDITIONAL: Word = Word {
+    write: true,
+    waiting: true,
+    cond: true,
+    ..Word::FREE
+};
+
+const CONDITIONAL_TAKEN: Word = Word {
+    spin: true,
+    ..CONDITIONAL
+};
+
+const WALKS: [WalkRow; 9] = [
+    // a free lock is acquired
+    (
+        Walk::AcquireLoad(Mode::Write, false),
+        &[
+            (
+                Act::LoadWord,
+                Found::Word(Word::FREE),
+                Next::On(Walk::Acquire(Mode::Write, false, Word::FREE)),
+            ),
+            (
+                Act::Acquire(Mode::Write, false, Word::FREE),
+                Found::Made,
+                Next::Done(Reply::Ok),
+            ),
+        ],
+    ),
+    // a fresh reader stands back where a writer waits, and passes it once it was woken
+    (
+        Walk::AcquireLoad(Mode::Read, false),
+        &[
+            (
+                Act::LoadWord,
+                Found::Word(STOOD_BACK),
+                Next::On(Walk::TakeToQueue(Mode::Read, false, STOOD_BACK)),
+            ),
+            (
+                Act::TakeQueues(Taking::ToQueue(Mode::Read, false), STOOD_BACK),
+                Found::Made,
+                Next::On(Walk::Arm(Mode::Read, false, STOOD_BACK_TAKEN)),
+            ),
+            (
+                Act::ArmFlag,
+                Found::Made,
+                Next::On(Walk::Queue(Mode::Read, false, STOOD_BACK_TAKEN)),
+            ),
+            (
+                Act::ReturnQueues(Change::Queue(Mode::Read, false), STOOD_BACK_TAKEN),
+                Found::Word(CONDITIONAL_TAKEN),
+                Next::On(Walk::Queue(Mode::Read, false, CONDITIONAL_TAKEN)),
+            ),
+            (
+                Act::ReturnQueues(Change::Queue(Mode::Read, false), CONDITIONAL_TAKEN),
+                Found::Made,
+                Next::On(Walk::Round(Mode::Read)),
+            ),
+            (
+                Act::LoadFlag,
+                Found::Flag(1),
+                Next::Idle(Walk::Round(Mode::Read)),
+            ),
+            (
+                Act::LoadFlag,
+                Found::Flag(0),
+                Next::On(Walk::AcquireLoad(Mode::Read, true)),
+            ),
+            (
+                Act::LoadWord,
+                Found::Word(STOOD_BACK),
+                Next::On(Walk::Acquire(Mode::Read, true, STOOD_BACK)),
+            ),
+            (
+                Act::Acquire(Mode::Read, true, STOOD_BACK),
+                Found::Made,
+                Next::Done(Reply::Ok),
+            ),
+        ],
+    ),
+    // one that can't queue while another has the queues is idle
+    (
+        Walk::AcquireLoad(Mode::Write, true),
+        &[
+            (
+                Act::LoadWord,
+                Found::Word(STOOD_BACK_TAKEN),
+                Next::Idle(Walk::AcquireLoad(Mode::Write, true)),
+            ),
+            (
+                Act::LoadWord,
+                Found::Word(STOOD_BACK),
+                Next::On(Walk::TakeToQueue(Mode::Write, true, STOOD_BACK)),
+            ),
+            (
+                Act::TakeQueues(Taking::ToQueue(Mode::Write, true), STOOD_BACK),
+                Found::Word(Word::FREE),
+                Next::On(Walk::Acquire(Mode::Write, true, Word::FREE)),
+            ),
+        ],
+    ),
+    // a try is over at the first refusal
+    (
+        Walk::TryLoad(Mode::Write),
+        &[
+            (
+                Act::LoadWord,
+                Found::Word(Word::FREE),
+                Next::On(Walk::TryAcquire(Mode::Write, Word::FREE)),
+            ),
+            (
+                Act::Acquire(Mode::Write, false, Word::FREE),
+                Found::Word(WRITING),
+                Next::Done(Reply::Busy),
+            ),
+        ],
+    ),
+    (
+        Walk::TryLoad(Mode::Read),
+        &[(
+            Act::LoadWord,
+            Found::Word(STOOD_BACK),
+            Next::Done(Reply::Busy),
+        )],
+    ),
+    // a release that scans, looks again where it lost the exchange, and pays two wakes
+    (
+        Walk::ReleaseLoad(Leaving::Writer),
+        &[
+            (
+                Act::LoadWord,
+                Found::Word(CONDITIONAL),
+                Next::On(Walk::TakeToScan(Leaving::Writer, CONDITIONAL)),
+            ),
+            (
+                Act::TakeQueues(Taking::ToScan, CONDITIONAL),
+                Found::Made,
+                Next::On(Walk::ScanCells(Leaving::Writer, CONDITIONAL_TAKEN, 0)),
+            ),
+            (
+                Act::LoadCell(0),
+                Found::Cell(7),
+                Next::On(Walk::ScanCells(Leaving::Writer, CONDITIONAL_TAKEN, 1)),
+            ),
+            (
+                Act::LoadCell(1),
+                Found::Cell(0),
+                Next::On(Walk::ReleaseReturning(Leaving::Writer, CONDITIONAL_TAKEN)),
+            ),
+            (
+                Act::ReleaseReturning(Leaving::Writer, CONDITIONAL_TAKEN),
+                Found::Word(STOOD_BACK_TAKEN),
+                Next::On(Walk::ReleaseReturning(Leaving::Writer, STOOD_BACK_TAKEN)),
+            ),
+            (
+                Act::ReleaseReturning(Leaving::Writer, STOOD_BACK_TAKEN),
+                Found::Scanned {
+                    owes: true,
+                    tests: 1,
+                },
+                Next::On(Walk::Pay),
+            ),
+            (
+                Act::PayWake,
+                Found::Paid { owes: true },
+                Next::On(Walk::Pay),
+            ),
+            (
+                Act::PayWake,
+                Found::Paid { owes: false },
+                Next::Done(Reply::Ok),
+            ),
+        ],
+    ),
+    // a release that scans and wakes nobody, with no condition to test
+    (
+        Walk::TakeToScan(Leaving::Reader, STOOD_BACK),
+        &[
+            (
+                Act::TakeQueues(Taking::ToScan, STOOD_BACK),
+                Found::Made,
+                Next::On(Walk::ReleaseReturning(Leaving::Reader, STOOD_BACK_TAKEN)),
+            ),
+            (
+                Act::ReleaseReturning(Leaving::Reader, STOOD_BACK_TAKEN),
+                Found::Scanned {
+                    owes: false,
+                    tests: 0,
+                },
+                Next::Done(Reply::Ok),
+            ),
+        ],
+    ),
+    // a quiet release, and one that is refused
+    (
+        Walk::QuietCells(0),
+        &[
+            (
+                Act::LoadCell(0),
+                Found::Cell(2),
+                Next::On(Walk::QuietLast(1)),
+            ),
+            (
+                Act::JudgeQuiet(1),
+                Found::Quiet(true),
+                Next::On(Walk::ReleaseLoad(Leaving::QuietWriter)),
+            ),
+        ],
+    ),
+    (
+        Walk::QuietLast(1),
+        &[(
+            Act::JudgeQuiet(1),
+            Found::Quiet(false),
+            Next::Done(Reply::Noisy),
+        )],
+    ),
+];
+
+/// Where a release goes by the word that it loads.
+const RELEASES: [(Leaving, Word, Next); 10] = [
+    (
+        Leaving::Writer,
+        WRITING,
+        Next::On(Walk::Release(Leaving::Writer, WRITING)),
+    ),
+    (
+        Leaving::Writer,
+        CONTENDED,
+        Next::On(Walk::TakeToScan(Leaving::Writer, CONTENDED)),
+    ),
+    (
+        Leaving::Writer,
+        Word {
+            spin: true,
+            ..CONTENDED
+        },
+        Next::Idle(Walk::ReleaseLoad(Leaving::Writer)),
+    ),
+    // one is on its way already
+    (
+        Leaving::Writer,
+        Word {
+            desig: true,
+            ..CONTENDED
+        },
+        Next::On(Walk::Release(
+            Leaving::Writer,
+            Word {
+                desig: true,
+                ..CONTENDED
+            },
+        )),
+    ),
+    // the row may have changed, so the conditions are tested again, but for a quiet section
+    (
+        Leaving::Writer,
+        Word {
+            all_false: true,
+            ..CONDITIONAL
+        },
+        Next::On(Walk::TakeToScan(
+            Leaving::Writer,
+            Word {
+                all_false: true,
+                ..CONDITIONAL
+            },
+        )),
+    ),
+    (
+        Leaving::QuietWriter,
+        Word {
+            all_false: true,
+            ..CONDITIONAL
+        },
+        Next::On(Walk::Release(
+            Leaving::QuietWriter,
+            Word {
+                all_false: true,
+                ..CONDITIONAL
+            },
+        )),
+    ),
+    (
+        Leaving::QuietWriter,
+        CONDITIONAL,
+        Next::On(Walk::TakeToScan(Leaving::QuietWriter, CONDITIONAL)),
+    ),
+    // the last reader scans
+    (
+        Leaving::Reader,
+        STOOD_BACK,
+        Next::On(Walk::TakeToScan(Leaving::Reader, STOOD_BACK)),
+    ),
+    (
+        Leaving::Reader,
+        Word {
+            readers: 2,
+            ..STOOD_BACK
+        },
+        Next::On(Walk::Release(
+            Leaving::Reader,
+            Word {
+                readers: 2,
+                ..STOOD_BACK
+            },
+        )),
+    ),
+    (
+        Leaving::Reader,
+        Word {
+            waiting: true,
+            cond: true,
+            all_false: true,
+            readers: 1,
+            ..Word::FREE
+        },
+        Next::On(Walk::Release(
+            Leaving::Reader,
+            Word {
+                waiting: true,
+                cond: true,
+                all_false: true,
+                readers: 1,
+                ..Word::FREE
+            },
+        )),
+    ),
+];
+
+/// Whether the walk wants these acts, and goes where it should.
+fn goes(row: &WalkRow) -> bool {
+    let mut walk = row.0;
+    for (act, found, next) in row.1 {
+        if walk.want() != *act || walk.got::<2>(*found) != *next {
+            return false;
+        }
+        match *next {
+            Next::On(place) => walk = place,
+            Next::Idle(place) => walk = place,
+            Next::Done(_) => {}
+        }
+    }
+    true
+}
+
+#[test]
+fn walks_go_step_by_step(rt: HostRuntime) {
+    for (i, row) in WALKS.iter().enumerate() {
+        assert!(rt; goes(row), "walk {i}");
+    }
+}
+
+#[test]
+fn releases_decide_by_the_word(rt: HostRuntime) {
+    for (i, (leaving, word, next)) in RELEASES.iter().enumerate() {
+        assert_eq!(rt;
+            Walk::ReleaseLoad(*leaving).got::<2>(Found::Word(*word)),
+            *next,
+            "release {i}"
+        );
+    }
+}
+
+#[test]
+fn cells_are_read_and_stored(rt: HostRuntime) {
+    assert_eq!(rt;
+        Walk::Get(1).got::<2>(Found::Cell(5)),
+        Next::Done(Reply::Number(5))
+    );
+    assert_eq!(rt;
+        Walk::SetLoad(1, 9).got::<2>(Found::Cell(5)),
+        Next::On(Walk::SetStore(1, 9))
+    );
+    assert_eq!(rt; Walk::SetStore(1, 9).want(), Act::StoreCell(1, 9));
+    assert_eq!(rt;
+        Walk::SetStore(1, 9).got::<2>(Found::Made),
+        Next::Done(Reply::Ok)
+    );
+    assert_eq!(rt; Walk::quiet_release::<1>(), Walk::QuietLast(0));
+    assert_eq!(rt; Walk::quiet_release::<2>(), Walk::QuietCells(0));
+}
+
+#[test]
+fn new_words(rt: HostRuntime) {
+    let idle = Bits {
+        waiting: true,
+        conditional: true,
+        writer_waits: false,
+    };
+    let nobody = Bits {
+        waiting: false,
+        conditional: false,
+        writer_waits: false,
+    };
+    assert_eq!(rt; Word::FREE.acquired(Mode::Write, false), WRITING);
+    assert_eq!(rt;
+        Word {
+            desig: true,
+            ..Word::FREE
+        }
+        .acquired(Mode::Read, true),
+        Word {
+            readers: 1,
+            ..Word::FREE
+        }
+    );
+    assert_eq!(rt;
+        Word {
+            all_false: true,
+            ..CONDITIONAL
+        }
+        .released(Leaving::Writer),
+        Word {
+            write: false,
+            ..CONDITIONAL
+        }
+    );
+    // a scan that took nobody leaves the mark that all conditions are false, one that took the last nothing
+    let left = CONDITIONAL_TAKEN.released_returning(Leaving::Writer, false, idle);
+    assert_eq!(rt;
+        left,
+        Word {
+            waiting: true,
+            cond: true,
+            all_false: true,
+            ..Word::FREE
+        }
+    );
+    let woken = CONDITIONAL_TAKEN.released_returning(Leaving::Writer, true, nobody);
+    assert_eq!(rt;
+        woken,
+        Word {
+            desig: true,
+            ..Word::FREE
+        }
+    );
+    // a reader that came meanwhile stays
+    let word = Word {
+        readers: 2,
+        ..STOOD_BACK_TAKEN
+    };
+    assert_eq!(rt;
+        word.released_returning(Leaving::Reader, true, nobody),
+        Word {
+            desig: true,
+            readers: 1,
+            ..Word::FREE
+        }
+    );
+    assert_eq!(rt;
+        word.returned(idle),
+        Word {
+            waiting: true,
+            cond: true,
+            readers: 2,
+            ..Word::FREE
+        }
+    );
+}
 
 /// A waiting list of waiters whose conditions are all false.
-const ALL_FALSE: Word = Word {
+const ALL_WAIT_IN_VAIN: Word = Word {
     waiting: true,
     cond: true,
     all_false: true,
@@ -35,7 +533,7 @@ fn words_have_their_numbers(rt: HostRuntime) {
     };
     assert!(rt; has_number(Word::FREE, 0));
     assert!(rt; has_number(writer, 1));
-    assert!(rt; has_number(ALL_FALSE, 84));
+    assert!(rt; has_number(ALL_WAIT_IN_VAIN, 84));
     assert!(rt; has_number(read_by(2), 256));
     assert!(rt; has_number(read_by(64), 8192));
 }

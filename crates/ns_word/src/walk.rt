@@ -1,61 +1,80 @@
 //! The walks of the calls, one atomic step at a time.
 //!
-//! | call | walk |
-//! |---|---|
-//! | try to lock, to write or to read | load the word; `busy` if it may not be acquired, else exchange it; `busy` if that fails |
-//! | unlock, of a writer or a reader | load the word; exchange it, again with the word found where that fails |
-//! | get | load the cell |
-//! | set | load the cell, store it |
+//! | place | wants | where an answer leads |
+//! |---|---|---|
+//! | `TryLoad` | load the word | `TryAcquire`, or `Busy` if it may not be acquired |
+//! | `TryAcquire` | acquire | `Ok`; a failed exchange: `Busy` |
+//! | `AcquireLoad` | load the word | the acquire's decision |
+//! | `Acquire` | acquire | `Ok`; a failed exchange: the acquire's decision |
+//! | `TakeToQueue` | take the queues | `Arm`; a failed exchange: the acquire's decision |
+//! | `Arm` | set one's own flag | `Queue` |
+//! | `Queue` | put the queues back, oneself in the lock list | `Round`; a failed exchange: again, on the word found |
+//! | `Round` | load one's own flag | 0: `AcquireLoad`, now woken; else idle, and again |
+//! | `QuietCells`, `QuietLast` | load each cell | the last tells: `ReleaseLoad` of a quiet writer, or `Noisy` |
+//! | `ReleaseLoad` | load the word | the release's decision |
+//! | `Release` | release | `Ok`; a failed exchange: the release's decision |
+//! | `TakeToScan` | take the queues | `ScanCells` if a waiter has a condition, else `ReleaseReturning`; a failed exchange: the release's decision |
+//! | `ScanCells` | load each cell | after the last `ReleaseReturning` |
+//! | `ReleaseReturning` | scan, put the queues back and release | `Pay` if somebody was taken, else `Ok`; a failed exchange: again, on the word found |
+//! | `Pay` | clear the flag of the first who is owed a wake | again while wakes are owed, then `Ok` |
+//! | `Get` | load the cell | its value |
+//! | `SetLoad`, `SetStore` | load the cell, store it | `Ok` |
+//!
+//! The acquire's decision, by a word: `Acquire` where it may be acquired; else idle and from
+//! `AcquireLoad` again where the spinlock bit is set; else `TakeToQueue`. The release's decision:
+//! `Release` where no scan is needed; else idle and from `ReleaseLoad` again where the spinlock
+//! bit is set; else `TakeToScan`.
 
-ghost use Rattle.std.specs.Prelude.{◌≡◌};
-ghost use Rattle.ns_word.specs.Walks.{want_of, got_of};
+ghost use Rattle.std.specs.Prelude.{◌≡◌, ◌≤◌, if◌then◌else◌};
+ghost use Rattle.ns_word.specs.Walks.{want_of, got_of, acquire_by, release_by, quiet_place, scan_place};
 
-use crate::word::Word;
+use crate::act::{Act, Change, Found};
+use crate::word::{Leaving, Taking, Word};
 use ns_model::event::Mode;
 
-/// A place in a call.
+/// A place in a call. A word is the one last seen. The flag beside a mode tells whether the seat
+/// was woken from the lock list.
 #[derive(Clone, Copy, Debug, PartialEq, Eq)]
 pub enum Walk {
-    /// A try to lock that is about to load the word.
+    /// A try that is about to load the word.
     TryLoad(Mode),
-    /// A try to lock that has seen this word, which may be acquired.
+    /// A try that has seen this word, which may be acquired.
     TryAcquire(Mode, Word),
+    /// An acquire that is about to load the word.
+    AcquireLoad(Mode, bool),
+    /// An acquire that has seen this word, which may be acquired.
+    Acquire(Mode, bool, Word),
+    /// An acquire that has seen this word, which may not be acquired, and is about to take the
+    /// queues.
+    TakeToQueue(Mode, bool, Word),
+    /// An acquire that has the queues, and is about to set its flag.
+    Arm(Mode, bool, Word),
+    /// An acquire that is about to put the queues back with itself in the lock list.
+    Queue(Mode, bool, Word),
+    /// An acquire that waits to be woken.
+    Round(Mode),
+    /// A quiet release that is about to load this cell, which isn't the last.
+    QuietCells(u8),
+    /// A quiet release that is about to load this cell, the last.
+    QuietLast(u8),
     /// A release that is about to load the word.
-    ReleaseLoad(Mode),
-    /// A release that has seen this word.
-    Release(Mode, Word),
+    ReleaseLoad(Leaving),
+    /// A release that has seen this word, by which it needs no scan.
+    Release(Leaving, Word),
+    /// A release that has seen this word, and is about to take the queues.
+    TakeToScan(Leaving, Word),
+    /// A release that has the queues, and is about to load this cell.
+    ScanCells(Leaving, Word, u8),
+    /// A release that is about to put the queues back as a scan leaves them.
+    ReleaseReturning(Leaving, Word),
+    /// A release that owes wakes.
+    Pay,
     /// A read of a cell.
     Get(u8),
     /// A write that is about to load the cell's old value.
     SetLoad(u8, u64),
     /// A write that is about to store the value.
     SetStore(u8, u64),
-}
-
-/// One atomic step.
-#[derive(Clone, Copy, Debug, PartialEq, Eq)]
-pub enum Act {
-    /// Loads the lock word.
-    LoadWord,
-    /// Acquires in this mode, by a compare-exchange on this word.
-    Acquire(Mode, Word),
-    /// Releases and commits the section of this mode, by a compare-exchange on this word.
-    Release(Mode, Word),
-    /// Loads a cell.
-    LoadCell(u8),
-    /// Stores a value into a cell.
-    StoreCell(u8, u64),
-}
-
-/// What a step found.
-#[derive(Clone, Copy, Debug, PartialEq, Eq)]
-pub enum Found {
-    /// The lock word, by a load or by a compare-exchange that failed.
-    Word(Word),
-    /// The exchange or the store was made.
-    Made,
-    /// A cell's value.
-    Cell(u64),
 }
 
 /// What a call answers.
@@ -65,6 +84,8 @@ pub enum Reply {
     Ok,
     /// Not acquired.
     Busy,
+    /// Not released, since the section isn't quiet.
+    Noisy,
     /// A cell's value.
     Number(u64),
     /// The call's need was not met as it began. It made no step, and no walk answers it.
@@ -74,48 +95,251 @@ pub enum Reply {
 /// Where a walk goes.
 #[derive(Clone, Copy, Debug, PartialEq, Eq)]
 pub enum Next {
+    /// It goes on at this place.
     On(Walk),
+    /// It found nothing to go on with, and repeats from this place.
+    Idle(Walk),
+    /// It is over.
     Done(Reply),
 }
 
+/// Where an acquire goes by the word last seen.
+fn acquire_by(mode: Mode, woken: bool, word: Word) -> Next
+    ensures { result ≡ acquire_by mode woken word }
+{
+    if word.may_acquire(mode, woken) {
+        Next::On(Walk::Acquire(mode, woken, word))
+    } else if word.spin {
+        Next::Idle(Walk::AcquireLoad(mode, woken))
+    } else {
+        Next::On(Walk::TakeToQueue(mode, woken, word))
+    }
+}
+
+/// Where a release goes by the word last seen.
+fn release_by(leaving: Leaving, word: Word) -> Next
+    ensures { result ≡ release_by leaving word }
+{
+    if !word.needs_scan(leaving) {
+        Next::On(Walk::Release(leaving, word))
+    } else if word.spin {
+        Next::Idle(Walk::ReleaseLoad(leaving))
+    } else {
+        Next::On(Walk::TakeToScan(leaving, word))
+    }
+}
+
+/// Where a release with the queues goes that has loaded so many cells.
+fn scan_place<const N: usize>(leaving: Leaving, last: Word, loaded: usize) -> Walk
+    requires { N ≤ 16 }
+    ensures { result ≡ scan_place N leaving last loaded }
+{
+    if loaded < N {
+        Walk::ScanCells(leaving, last, loaded as u8)
+    } else {
+        Walk::ReleaseReturning(leaving, last)
+    }
+}
+
+/// Where a release goes that owes wakes, or none.
+fn pay(owes: bool) -> Next
+    ensures { result ≡ (if owes then Next.On Walk.Pay else Next.Done Reply.Ok) }
+{
+    if owes {
+        Next::On(Walk::Pay)
+    } else {
+        Next::Done(Reply::Ok)
+    }
+}
+
 impl Walk {
+    /// The first place of a quiet release of a row of `N` cells.
+    pub fn quiet_release<const N: usize>() -> Walk
+        requires { N ≤ 16 }
+        ensures { result ≡ quiet_place N 0 }
+    {
+        Walk::quiet_place::<N>(0)
+    }
+
+    /// Where a quiet release goes that has loaded so many cells.
+    fn quiet_place<const N: usize>(loaded: usize) -> Walk
+        requires { N ≤ 16 }
+        ensures { result ≡ quiet_place N loaded }
+    {
+        let last = N.saturating_sub(1);
+        if loaded < last {
+            Walk::QuietCells(loaded as u8)
+        } else {
+            Walk::QuietLast(last as u8)
+        }
+    }
+
     /// The step that the walk wants next.
     pub fn want(&self) -> Act
         ensures { result ≡ want_of self.now }
     {
         match *self {
             Walk::TryLoad(_) => Act::LoadWord,
-            Walk::TryAcquire(mode, last) => Act::Acquire(mode, last),
+            Walk::TryAcquire(mode, last) => Act::Acquire(mode, false, last),
+            Walk::AcquireLoad(_, _) => Act::LoadWord,
+            Walk::Acquire(mode, woken, last) => Act::Acquire(mode, woken, last),
+            Walk::TakeToQueue(mode, woken, last) => {
+                Act::TakeQueues(Taking::ToQueue(mode, woken), last)
+            }
+            Walk::Arm(_, _, _) => Act::ArmFlag,
+            Walk::Queue(mode, woken, last) => Act::ReturnQueues(Change::Queue(mode, woken), last),
+            Walk::Round(_) => Act::LoadFlag,
+            Walk::QuietCells(i) => Act::LoadCell(i),
+            Walk::QuietLast(i) => Act::JudgeQuiet(i),
             Walk::ReleaseLoad(_) => Act::LoadWord,
-            Walk::Release(mode, last) => Act::Release(mode, last),
+            Walk::Release(leaving, last) => Act::Release(leaving, last),
+            Walk::TakeToScan(_, last) => Act::TakeQueues(Taking::ToScan, last),
+            Walk::ScanCells(_, _, i) => Act::LoadCell(i),
+            Walk::ReleaseReturning(leaving, last) => Act::ReleaseReturning(leaving, last),
+            Walk::Pay => Act::PayWake,
             Walk::Get(i) => Act::LoadCell(i),
             Walk::SetLoad(i, _) => Act::LoadCell(i),
             Walk::SetStore(i, value) => Act::StoreCell(i, value),
         }
     }
 
-    /// Where the walk goes with what its step found. What no step of the place finds leaves it
-    /// where it is.
-    pub fn got(self, found: Found) -> Next
-        ensures { result ≡ got_of self found }
+    /// Where the walk goes with what its step found, over a row of `N` cells. What no step of the
+    /// place finds leaves it where it is.
+    ///
+    /// Needs a row of at most 16 cells, which every condition's law says.
+    pub fn got<const N: usize>(self, found: Found) -> Next
+        requires { N ≤ 16 }
+        ensures { result ≡ got_of N self found }
     {
-        match (self, found) {
-            (Walk::TryLoad(mode), Found::Word(word)) => {
-                if word.may_acquire(mode) {
+        match found {
+            Found::Word(word) => self.got_word::<N>(word),
+            Found::Made => self.got_made::<N>(),
+            Found::Cell(value) => self.got_cell::<N>(value),
+            Found::Quiet(is_quiet) => self.got_quiet::<N>(is_quiet),
+            Found::Scanned { owes, tests } => self.got_scanned::<N>(owes, tests),
+            Found::Paid { owes } => self.got_paid::<N>(owes),
+            Found::Flag(value) => self.got_flag::<N>(value),
+        }
+    }
+
+    /// Where the walk goes with this word, loaded or found by a compare-exchange that failed.
+    fn got_word<const N: usize>(self, word: Word) -> Next
+        ensures { result ≡ got_of N self (Found.Word word) }
+    {
+        match self {
+            Walk::TryLoad(mode) => {
+                if word.may_acquire(mode, false) {
                     Next::On(Walk::TryAcquire(mode, word))
                 } else {
                     Next::Done(Reply::Busy)
                 }
             }
-            (Walk::TryAcquire(_, _), Found::Word(_)) => Next::Done(Reply::Busy),
-            (Walk::TryAcquire(_, _), Found::Made) => Next::Done(Reply::Ok),
-            (Walk::ReleaseLoad(mode), Found::Word(word)) => Next::On(Walk::Release(mode, word)),
-            (Walk::Release(mode, _), Found::Word(word)) => Next::On(Walk::Release(mode, word)),
-            (Walk::Release(_, _), Found::Made) => Next::Done(Reply::Ok),
-            (Walk::Get(_), Found::Cell(value)) => Next::Done(Reply::Number(value)),
-            (Walk::SetLoad(i, value), Found::Cell(_)) => Next::On(Walk::SetStore(i, value)),
-            (Walk::SetStore(_, _), Found::Made) => Next::Done(Reply::Ok),
-            (walk, _) => Next::On(walk),
+            Walk::TryAcquire(_, _) => Next::Done(Reply::Busy),
+            Walk::AcquireLoad(mode, woken) => acquire_by(mode, woken, word),
+            Walk::Acquire(mode, woken, _) => acquire_by(mode, woken, word),
+            Walk::TakeToQueue(mode, woken, _) => acquire_by(mode, woken, word),
+            Walk::Queue(mode, woken, _) => Next::On(Walk::Queue(mode, woken, word)),
+            Walk::ReleaseLoad(leaving) => release_by(leaving, word),
+            Walk::Release(leaving, _) => release_by(leaving, word),
+            Walk::TakeToScan(leaving, _) => release_by(leaving, word),
+            Walk::ReleaseReturning(leaving, _) => Next::On(Walk::ReleaseReturning(leaving, word)),
+            walk => Next::On(walk),
+        }
+    }
+
+    /// Where the walk goes when its exchange or its store was made.
+    fn got_made<const N: usize>(self) -> Next
+        requires { N ≤ 16 }
+        ensures { result ≡ got_of N self Found.Made }
+    {
+        match self {
+            Walk::TryAcquire(_, _) => Next::Done(Reply::Ok),
+            Walk::Acquire(_, _, _) => Next::Done(Reply::Ok),
+            Walk::TakeToQueue(mode, woken, last) => {
+                let word = last.taken(Taking::ToQueue(mode, woken));
+                Next::On(Walk::Arm(mode, woken, word))
+            }
+            Walk::Arm(mode, woken, last) => Next::On(Walk::Queue(mode, woken, last)),
+            Walk::Queue(mode, _, _) => Next::On(Walk::Round(mode)),
+            Walk::Release(_, _) => Next::Done(Reply::Ok),
+            Walk::TakeToScan(leaving, last) => {
+                let word = last.taken(Taking::ToScan);
+                if last.cond {
+                    Next::On(scan_place::<N>(leaving, word, 0))
+                } else {
+                    Next::On(Walk::ReleaseReturning(leaving, word))
+                }
+            }
+            Walk::SetStore(_, _) => Next::Done(Reply::Ok),
+            walk => Next::On(walk),
+        }
+    }
+
+    /// Where the walk goes with a cell's value.
+    fn got_cell<const N: usize>(self, value: u64) -> Next
+        requires { N ≤ 16 }
+        ensures { result ≡ got_of N self (Found.Cell value) }
+    {
+        match self {
+            Walk::QuietCells(i) => Next::On(Walk::quiet_place::<N>(i as usize + 1)),
+            Walk::ScanCells(leaving, last, i) => {
+                Next::On(scan_place::<N>(leaving, last, i as usize + 1))
+            }
+            Walk::Get(_) => Next::Done(Reply::Number(value)),
+            Walk::SetLoad(i, value) => Next::On(Walk::SetStore(i, value)),
+            walk => Next::On(walk),
+        }
+    }
+
+    /// Where the walk goes when it is told whether its section is quiet.
+    fn got_quiet<const N: usize>(self, is_quiet: bool) -> Next
+        ensures { result ≡ got_of N self (Found.Quiet is_quiet) }
+    {
+        match self {
+            Walk::QuietLast(_) => {
+                if is_quiet {
+                    Next::On(Walk::ReleaseLoad(Leaving::QuietWriter))
+                } else {
+                    Next::Done(Reply::Noisy)
+                }
+            }
+            walk => Next::On(walk),
+        }
+    }
+
+    /// Where the walk goes when it has released with a scan, and owes wakes or none.
+    fn got_scanned<const N: usize>(self, owes: bool, tests: u32) -> Next
+        ensures { result ≡ got_of N self (Found.Scanned owes tests) }
+    {
+        match self {
+            Walk::ReleaseReturning(_, _) => pay(owes),
+            walk => Next::On(walk),
+        }
+    }
+
+    /// Where the walk goes when it has paid a wake, and owes more or none.
+    fn got_paid<const N: usize>(self, owes: bool) -> Next
+        ensures { result ≡ got_of N self (Found.Paid owes) }
+    {
+        match self {
+            Walk::Pay => pay(owes),
+            walk => Next::On(walk),
+        }
+    }
+
+    /// Where the walk goes with the value of its seat's flag.
+    fn got_flag<const N: usize>(self, value: u8) -> Next
+        ensures { result ≡ got_of N self (Found.Flag value) }
+    {
+        match self {
+            Walk::Round(mode) => {
+                if value == 0 {
+                    Next::On(Walk::AcquireLoad(mode, true))
+                } else {
+                    Next::Idle(Walk::Round(mode))
+                }
+            }
+            walk => Next::On(walk),
         }
     }
 }

@@ -1,34 +1,63 @@
-//! The lock word.
+//! The lock word, the decisions by it, and the words that the steps make of it.
+//!
+//! | part | tells |
+//! |---|---|
+//! | write | the lock is held in write mode |
+//! | spin | the spinlock bit: one seat has the queues |
+//! | waiting | somebody stands in the lock list |
+//! | desig | the designated waker: one taken from the lock list is on its way |
+//! | cond | a waiter with a condition stands in the lock list |
+//! | writer_waits | a writer without condition stands in the lock list |
+//! | all_false | each waiter of the lock list has a condition, and it is false |
+//! | readers | how many seats hold the lock in read mode |
+//!
+//! While the spinlock bit is set, `waiting`, `cond` and `writer_waits` may tell of one that is
+//! about to queue.
 
 ghost use Rattle.std.specs.Prelude.{◌≡◌, ◌≢◌, ◌<◌, true, false};
-ghost use Rattle.ns_word.specs.Walks.{may_acquire};
-ghost use Rattle.ns_word.specs.Steps.{word_acquired, word_released};
+ghost use Rattle.ns_word.specs.Words.{may_acquire, needs_scan, word_acquired, word_taken, word_returned, word_released, word_released_returning};
 
 use ns_model::event::Mode;
 
-/// The lock word: how the lock is held, and what is known of its waiters.
+/// The lock word, part by part.
 #[derive(Clone, Copy, Debug, PartialEq, Eq)]
 pub struct Word {
-    /// Held in write mode.
     pub write: bool,
-    /// One caller has the waiter queues.
     pub spin: bool,
-    /// The lock's list of waiters isn't empty.
     pub waiting: bool,
-    /// A designated waker, taken from the list of waiters, is on its way.
     pub desig: bool,
-    /// A waiter with a condition is in the list.
     pub cond: bool,
-    /// A writer without condition is in the list.
     pub writer_waits: bool,
-    /// Every waiter of the list has a condition, and it is false.
     pub all_false: bool,
-    /// How many seats hold the lock in read mode.
     pub readers: u8,
 }
 
+/// What the lock list holds: somebody, somebody with a condition, a writer without one.
+#[derive(Clone, Copy, Debug, PartialEq, Eq)]
+pub struct Bits {
+    pub waiting: bool,
+    pub conditional: bool,
+    pub writer_waits: bool,
+}
+
+/// How a section is released: a writer's, a writer's that changed the row quietly, a reader's.
+#[derive(Clone, Copy, Debug, PartialEq, Eq)]
+pub enum Leaving {
+    Writer,
+    QuietWriter,
+    Reader,
+}
+
+/// What the queues are taken for: to look for waiters to wake, or to queue oneself in this mode,
+/// where the flag tells whether one was woken from the lock list before.
+#[derive(Clone, Copy, Debug, PartialEq, Eq)]
+pub enum Taking {
+    ToScan,
+    ToQueue(Mode, bool),
+}
+
 impl Word {
-    /// The word of a free lock.
+    /// The word of a free lock for which nobody waits.
     pub const FREE: Word = Word {
         write: false,
         spin: false,
@@ -40,15 +69,29 @@ impl Word {
         readers: 0,
     };
 
-    /// Whether a lock with this word may be acquired in this mode: to write where nobody holds it, to read where
-    /// nobody writes and no writer waits.
-    pub fn may_acquire(self, mode: Mode) -> bool
-        ensures { result ≡ may_acquire mode self }
+    /// Whether a lock with this word may be acquired in the mode, fresh or `woken` from the lock
+    /// list. A fresh reader stands back where a writer waits; a woken one passes.
+    pub fn may_acquire(self, mode: Mode, woken: bool) -> bool
+        ensures { result ≡ may_acquire mode woken self }
     {
         match mode {
             Mode::Write => !self.write && self.readers == 0,
-            Mode::Read => !self.write && !self.writer_waits,
+            Mode::Read => !self.write && (woken || !self.writer_waits),
         }
+    }
+
+    /// Whether a release of a lock with this word has to look for waiters to wake. It need not
+    /// where nobody waits or one is on its way already; a reader also not where it isn't the last
+    /// or all conditions are known to be false, and a quiet writer not where they are.
+    pub fn needs_scan(self, leaving: Leaving) -> bool
+        ensures { result ≡ needs_scan leaving self }
+    {
+        let excused = match leaving {
+            Leaving::Writer => false,
+            Leaving::QuietWriter => self.all_false,
+            Leaving::Reader => self.readers > 1 || self.all_false,
+        };
+        self.waiting && !self.desig && !excused
     }
 
     /// Whether the words are the same, which a compare-exchange asks.
@@ -59,38 +102,94 @@ impl Word {
         self == other
     }
 
-    /// The word after an acquire. Needs fewer than 255 readers.
-    pub fn acquired(self, mode: Mode) -> Word
+    /// The word after an acquire in the mode. One that was `woken` is on its way no more.
+    ///
+    /// Needs a count of readers below 255; the law keeps it at 64 or below.
+    pub fn acquired(self, mode: Mode, woken: bool) -> Word
         requires { self.readers < 255 }
-        ensures { result ≡ word_acquired mode self }
+        ensures { result ≡ word_acquired mode woken self }
     {
+        let desig = self.desig && !woken;
         match mode {
             Mode::Write => Word {
                 write: true,
+                desig,
                 ..self
             },
             Mode::Read => Word {
                 readers: self.readers + 1,
+                desig,
                 ..self
             },
         }
     }
 
-    /// The word after the release of a section in this mode. With no reader, a reader's release leaves the count
-    /// at 0.
-    pub fn released(self, mode: Mode) -> Word
-        ensures { result ≡ word_released mode self }
+    /// The word after the queues were taken.
+    pub fn taken(self, taking: Taking) -> Word
+        ensures { result ≡ word_taken taking self }
     {
-        match mode {
-            Mode::Write => Word {
+        match taking {
+            Taking::ToScan => Word { spin: true, ..self },
+            Taking::ToQueue(mode, woken) => Word {
+                spin: true,
+                waiting: true,
+                desig: self.desig && !woken,
+                writer_waits: self.writer_waits || mode.is_write(),
+                all_false: false,
+                ..self
+            },
+        }
+    }
+
+    /// The word after the queues were put back, with a lock list that these bits tell of.
+    pub fn returned(self, bits: Bits) -> Word
+        ensures { result ≡ word_returned bits self }
+    {
+        Word {
+            spin: false,
+            waiting: bits.waiting,
+            cond: bits.conditional,
+            writer_waits: bits.writer_waits,
+            all_false: self.all_false && bits.waiting,
+            ..self
+        }
+    }
+
+    /// The word after a release without a scan.
+    pub fn released(self, leaving: Leaving) -> Word
+        ensures { result ≡ word_released leaving self }
+    {
+        match leaving {
+            Leaving::Writer => Word {
                 write: false,
                 all_false: false,
                 ..self
             },
-            Mode::Read => Word {
+            Leaving::QuietWriter => Word {
+                write: false,
+                ..self
+            },
+            Leaving::Reader => Word {
                 readers: self.readers.saturating_sub(1),
                 ..self
             },
+        }
+    }
+
+    /// The word after a release that puts the queues back, with a lock list that these bits tell
+    /// of. `took` says whether the scan took somebody: then one is on its way, else nobody who
+    /// stands in the list can go on.
+    pub fn released_returning(self, leaving: Leaving, took: bool, bits: Bits) -> Word
+        ensures { result ≡ word_released_returning leaving took bits self }
+    {
+        Word {
+            spin: false,
+            waiting: bits.waiting,
+            desig: took || self.desig,
+            cond: bits.conditional,
+            writer_waits: bits.writer_waits,
+            all_false: bits.waiting && !took,
+            ..self.released(leaving)
         }
     }
 }

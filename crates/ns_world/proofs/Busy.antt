@@ -3,7 +3,8 @@ use Rattle.std.proofs.Common.{◌≡◌, ◌≢◌, ℕ, zero, suc, ◌+◌, ◌
 use Rattle.std.proofs.lemmas.Bool.{cases_eq, ne_eqb}
 use Rattle.std.specs.Option.{option_map_or}
 use Rattle.ns_word.specs.declared.view.SeatView.{SeatView}
-use Rattle.ns_world.specs.World.{is_busy, seats_from}
+use Rattle.ns_word.specs.Begins.{fresh_views}
+use Rattle.ns_world.specs.World.{is_busy}
 
 and_false : (b : Bool) → (b && false) ≡ false
 and_false true = refl
@@ -43,7 +44,7 @@ module _ {C : Type 0} {N : ℕ} where
   pub busy_at : (views : List (SeatView C N)) (seat : ℕ) (view : SeatView C N) → slice_get views seat ≡ Some view → is_busy views seat ≡ is_some view.walk
   busy_at views seat view e = ap (λ o. option_map_or (λ (v : SeatView C N). is_some v.walk) o false) e
 
-pub idle_from : (C : Type 0) (N first n seat : ℕ) → is_busy (seats_from {C = C} {N = N} first n) seat ≡ false
+pub idle_from : (C : Type 0) (N first n seat : ℕ) → is_busy (fresh_views {C = C} {N = N} first n) seat ≡ false
 idle_from C N first zero seat = refl
 idle_from C N first (suc n) zero = refl
 idle_from C N first (suc n) (suc seat) = idle_from C N (first + 1) n seat

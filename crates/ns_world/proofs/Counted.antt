@@ -1,5 +1,5 @@
 -- No seat is past its last call.
-use Rattle.std.proofs.Common.{◌≡◌, ◌≢◌, ℕ, zero, suc, ◌+◌, ◌<◌, ◌≤◌, inl, inr, Bool, true, false, cond, List, [], ◌∷◌, Option, None, Some, is_some, Vec, Global, length, map, get_or, slice_set, slice_get, slice_index, replicate, refl, ap, sym, ◌∙◌, subst, arith}
+use Rattle.std.proofs.Common.{◌≡◌, ◌≢◌, ℕ, zero, suc, ◌+◌, ◌<◌, ◌≤◌, inl, inr, Bool, true, false, cond, List, [], ◌∷◌, is_some, Vec, Global, length, map, get_or, slice_set, slice_get, slice_index, replicate, refl, ap, sym, ◌∙◌, subst, arith}
 use Rattle.std.specs.Prelude.{All, IfSome}
 use Rattle.std.proofs.lemmas.Bool.{cases_eq}
 use Rattle.std.proofs.lemmas.List.{length-set, get_or-set_same, get_or-set_other}
@@ -8,13 +8,14 @@ use Rattle.std.proofs.lemmas.Option.{slice_get_within}
 use Rattle.ns_word.specs.declared.view.SeatView.{SeatView}
 use Rattle.ns_word.specs.declared.walk.Reply.{Reply}
 use Rattle.ns_word.specs.declared.walk.Next.{Next}
-use Rattle.ns_word.specs.declared.walk.Next.TheVariants.{On, Done}
-use Rattle.ns_word.specs.Walks.{got_of, walk_after, reply_of}
+use Rattle.ns_word.specs.declared.walk.Next.TheVariants.{On, Idle as Idles, Done}
+use Rattle.ns_word.specs.Walks.{got_of, walk_after}
 use Rattle.ns_world.specs.declared.call.Call.{Call}
 use Rattle.ns_world.specs.declared.schedule.Line.{Line}
 use Rattle.ns_world.specs.declared.step.Step.{Step}
-use Rattle.ns_world.specs.declared.step.Step.TheVariants.{Went, Finished, Nothing}
+use Rattle.ns_world.specs.declared.step.Step.TheVariants.{Went, Idle, Finished, Nothing}
 use Rattle.ns_world.specs.Calls.{CellFits}
+use Rattle.ns_world.specs.Performs.{step_of}
 use Rattle.ns_world.specs.World.{Now, Goes, is_busy}
 use Rattle.ns_world.specs.Runs.{Progress, progress, progressed, calls_of, Leads, TurnOf, Counts, IsCounted, ListFits}
 use Rattle.ns_world.proofs.Busy.{busy_set_same, busy_set_other}
@@ -41,8 +42,9 @@ bit_most true = omega arith
 bit_most false = omega arith
 
 -- a call that is over leaves its seat idle
-over_idle : (next : Next) (reply : Reply) → Some reply ≡ reply_of next → is_some (walk_after next) ≡ false
+over_idle : (next : Next) (reply : Reply) → Finished reply ≡ step_of next → is_some (walk_after next) ≡ false
 over_idle (On walk) reply e = absurd (cc)
+over_idle (Idles walk) reply e = absurd (cc)
 over_idle (Done answer) reply e = refl
 
 set_others : (over : List ℕ) (seat n other : ℕ) → other ≢ seat → slice_index (slice_set over seat n) other ≡ slice_index over other
@@ -66,12 +68,12 @@ module _ {C : Type 0} {N : ℕ} where
       ]
 
   -- what a step leaves of who is busy
-  goes_others : (old new : Now C N) (seat : ℕ) (reply : Option Reply) → Goes old new seat reply → (other : ℕ) → other ≢ seat → is_busy new.state.views other ≡ is_busy old.state.views other
-  goes_others old new seat reply goes other ne = ap (λ views. is_busy views other) goes.others ∙ busy_set_other old.state.views seat _ other ne
+  goes_others : (old new : Now C N) (seat : ℕ) (step : Step) → Goes old new seat step → (other : ℕ) → other ≢ seat → is_busy new.state.views other ≡ is_busy old.state.views other
+  goes_others old new seat step goes other ne = ap (λ views. is_busy views other) goes.others ∙ busy_set_other old.state.views seat _ other ne
 
-  goes_over : (old new : Now C N) (seat : ℕ) (reply : Reply) → Goes old new seat (Some reply) → is_busy new.state.views seat ≡ false
+  goes_over : (old new : Now C N) (seat : ℕ) (reply : Reply) → Goes old new seat (Finished reply) → is_busy new.state.views seat ≡ false
   goes_over old new seat reply goes =
-      ap (λ views. is_busy views seat) goes.others ∙ busy_set_same old.state.views seat _ (slice_get_within old.state.views seat goes.view goes.at) ∙ over_idle (got_of goes.step.walk goes.found) reply goes.replies
+      ap (λ views. is_busy views seat) goes.others ∙ busy_set_same old.state.views seat _ (slice_get_within old.state.views seat goes.view goes.at) ∙ over_idle (got_of N goes.makes.walk goes.found) reply goes.answers
 
   -- a call that goes on or begins is one of the seat's, so it is not past its last
   leads_below : (lists : List (List Call)) (p : Progress C N) (seat : ℕ) (begun : Now C N) → length (calls_of lists seat) ≤ 256 → Leads lists p seat begun →
@@ -96,7 +98,16 @@ module _ {C : Type 0} {N : ℕ} where
       subst (λ (x : Progress C N). IsCounted x.world x.over) (sym t.after) (record {
         many = c.many;
         most = changes p.world.state.views t.world.state.views p.over p.over seat
-            (λ other ne. goes_others t.begun t.world seat None t.steps other ne ∙ leads_others lists p seat t.begun t.leads other ne)
+            (λ other ne. goes_others t.begun t.world seat Went t.steps other ne ∙ leads_others lists p seat t.begun t.leads other ne)
+            (λ other ne. refl)
+            (let below = leads_below lists p seat t.begun few t.leads (c.most seat) in omega (arith, below, bit_most (is_busy t.world.state.views seat)))
+            c.most;
+      })
+  turn_counted lists p q seat Idle few low (inl t) c =
+      subst (λ (x : Progress C N). IsCounted x.world x.over) (sym t.after) (record {
+        many = c.many;
+        most = changes p.world.state.views t.world.state.views p.over p.over seat
+            (λ other ne. goes_others t.begun t.world seat Idle t.steps other ne ∙ leads_others lists p seat t.begun t.leads other ne)
             (λ other ne. refl)
             (let below = leads_below lists p seat t.begun few t.leads (c.most seat) in omega (arith, below, bit_most (is_busy t.world.state.views seat)))
             c.most;
@@ -105,7 +116,7 @@ module _ {C : Type 0} {N : ℕ} where
       subst (λ (x : Progress C N). IsCounted x.world x.over) (sym t.after) (record {
         many = length-set p.over seat _ ∙ c.many;
         most = changes p.world.state.views t.world.state.views p.over (slice_set p.over seat (slice_index p.over seat + 1)) seat
-            (λ other ne. goes_others t.begun t.world seat (Some reply) t.steps other ne ∙ leads_others lists p seat t.begun t.leads other ne)
+            (λ other ne. goes_others t.begun t.world seat (Finished reply) t.steps other ne ∙ leads_others lists p seat t.begun t.leads other ne)
             (λ other ne. set_others p.over seat (slice_index p.over seat + 1) other ne)
             (rw (goes_over t.begun t.world seat reply t.steps, get_or-set_same p.over seat (slice_index p.over seat + 1) 0 (omega (arith, c.many, low)))
             (let below = leads_below lists p seat t.begun few t.leads (c.most seat) in omega (arith, below)))
@@ -129,14 +140,15 @@ module _ {C : Type 0} {N : ℕ} where
   pub start_counted : (world : Now C N) → ((seat : ℕ) → is_busy world.state.views seat ≡ false) → IsCounted world (replicate 64 0)
   start_counted world idle = record { many = refl; most = λ seat. rw (idle seat, zeros 64 seat) (omega arith) }
 
-  -- what was counted is what the turn leaves
-  pub counts_progress : (world new : Now C N) (over over' : List ℕ) (lines lines' : List Line) (seat : ℕ) (step : Step) → Counts over lines seat step over' lines' →
+  counts_now : (world new : Now C N) (over over' : List ℕ) (lines lines' : List Line) (seat : ℕ) (step : Step) → Counts over lines seat step (slice_index new.tests seat) over' lines' →
       progress new over' lines' ≡ progressed (progress world over lines) seat step new
-  counts_progress world new over over' lines lines' seat Went e = ap (λ o. progress new o lines') e.0 ∙ ap (λ l. progress new over l) e.1
-  counts_progress world new over over' lines lines' seat Nothing e = ap (λ o. progress new o lines') e.0 ∙ ap (λ l. progress new over l) e.1
-  counts_progress world new over over' lines lines' seat (Finished reply) e = ap (λ o. progress new o lines') e.0 ∙ ap (λ l. progress new (slice_set over seat (slice_index over seat + 1)) l) e.1
+  counts_now world new over over' lines lines' seat Went e = ap (λ o. progress new o lines') e.0 ∙ ap (λ l. progress new over l) e.1
+  counts_now world new over over' lines lines' seat Idle e = ap (λ o. progress new o lines') e.0 ∙ ap (λ l. progress new over l) e.1
+  counts_now world new over over' lines lines' seat Nothing e = ap (λ o. progress new o lines') e.0 ∙ ap (λ l. progress new over l) e.1
+  counts_now world new over over' lines lines' seat (Finished reply) e = ap (λ o. progress new o lines') e.0 ∙ ap (λ l. progress new (slice_set over seat (slice_index over seat + 1)) l) e.1
 
-  pub progressed_world : (p : Progress C N) (seat : ℕ) (step : Step) (new : Now C N) → (progressed p seat step new).world ≡ new
-  progressed_world p seat Went new = refl
-  progressed_world p seat Nothing new = refl
-  progressed_world p seat (Finished reply) new = refl
+  -- what was counted, with the count of tests of the world after, is what the turn leaves
+  pub counts_progress : (world new : Now C N) (over over' : List ℕ) (lines lines' : List Line) (seat tests : ℕ) (step : Step) → tests ≡ slice_index new.tests seat → Counts over lines seat step tests over' lines' →
+      progress new over' lines' ≡ progressed (progress world over lines) seat step new
+  counts_progress world new over over' lines lines' seat tests step same e =
+      counts_now world new over over' lines lines' seat step (subst (λ n. Counts over lines seat step n over' lines') same e)

@@ -1,10 +1,14 @@
 pub mod Busy
 pub mod Counted
+pub mod Fresh
 pub mod Lists
+pub mod Mapped
 pub mod Numbers
 pub mod Packable
 pub mod Places
+pub mod Released
 pub mod Schedules
-pub mod Starts
+pub mod Showing
+pub mod States
 pub mod Turns
 pub mod Worlds

@@ -1,27 +1,16 @@
 -- The word of a lawful world has a number.
-use Rattle.std.proofs.Common.{◌≡◌, ℕ, ◌+◌, ◌/◌, ◌≤◌, Bool, true, false, cond, List, [], ◌∷◌, length, inl, inr, arith}
+use Rattle.std.proofs.Common.{◌≡◌, ℕ, ◌/◌, ◌≤◌, length, inl, inr, arith}
 use Rattle.ns_word.specs.Codec.{word_of, IsPackable, IsBad}
-use Rattle.ns_word.specs.declared.view.SeatView.{SeatView}
-use Rattle.ns_word.specs.Lawful.{readers, is_reading}
+use Rattle.ns_word.specs.Views.{readers}
+use Rattle.ns_word.proofs.Ranges.{readers_most}
 use Rattle.ns_world.specs.World.{Now, IsLawfulWorld}
 
-one_most : (b : Bool) → cond b 1 0 ≤ 1
-one_most true = omega arith
-one_most false = omega arith
-
-readers_most : {C : Type 0} {N : ℕ} (views : List (SeatView C N)) → readers views ≤ length views
-readers_most [] = omega arith
-readers_most (view ∷ views) = let here = one_most (is_reading view.held) in let rest = readers_most views in omega (arith, here, rest)
-
-pub packable : {C : Type 0} {N : ℕ} (holds : C → List ℕ → Bool) (world : Now C N) → IsLawfulWorld holds world → IsPackable world.state.word
-packable holds world p =
-    let count : world.state.word.readers ≡ readers world.state.views = p.lawful.readers_counted in
-    let most = readers_most world.state.views in
+pub packable : {C : Type 0} {N : ℕ} (world : Now C N) → IsLawfulWorld world → IsPackable world.state.word
+packable world p =
+    let most = readers_most world.truths (length world.state.views) world.history world.state p.lawful in
     let few : length world.state.views ≤ 64 = p.few in
-    record {
-      few = omega (arith, count, most, few);
-      alone = λ e. let none : readers world.state.views ≡ 0 = p.lawful.one_writer.alone e in omega (arith, count, none);
-    }
+    let count : world.state.word.readers ≡ readers world.state.views = p.lawful.readers_counted in
+    record { few = omega (arith, most, few); alone = λ e. let none : readers world.state.views ≡ 0 = p.lawful.one_writer.alone e in omega (arith, count, none) }
 
 -- and such a number is not refused
 pub not_bad : (bits : ℕ) → IsPackable (word_of bits) → IsBad bits → ⊥

@@ -1,7 +1,10 @@
 pub mod Begins
 pub mod Calls
+pub mod Commits
 pub mod Performs
+pub mod Room
 pub mod Runs
+pub mod Shows
 pub mod World
 pub use Rattle.ns_model.specs.Histories
 pub use Rattle.ns_model.specs.Seats

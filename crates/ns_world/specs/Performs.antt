@@ -1,31 +1,67 @@
--- One step on the word, the cells and a seat's view.
-use Rattle.std.specs.Prelude.{◌≡◌, ℕ, List, ◌++◌, Option}
+-- One step on the parts of a world.
+use Rattle.std.specs.Prelude.{◌≡◌, ℕ, List, ◌++◌, Option, get_or}
 use Rattle.ns_model.specs.declared.event.Event.{Event}
+use Rattle.ns_queue.specs.Queues.{Lists}
 use Rattle.ns_word.specs.declared.word.Word.{Word}
 use Rattle.ns_word.specs.declared.view.Held.{Held}
 use Rattle.ns_word.specs.declared.view.SeatView.{SeatView}
 use Rattle.ns_word.specs.declared.walk.Walk.{Walk}
-use Rattle.ns_word.specs.declared.walk.Act.{Act}
-use Rattle.ns_word.specs.declared.walk.Found.{Found}
-use Rattle.ns_word.specs.declared.walk.Reply.{Reply}
-use Rattle.ns_word.specs.Walks.{want_of, got_of, walk_after, reply_of}
-use Rattle.ns_word.specs.Steps.{Part, Effect}
+use Rattle.ns_word.specs.declared.walk.Next.{Next}
+use Rattle.ns_word.specs.declared.walk.Next.TheVariants.{On, Idle as Idles, Done}
+use Rattle.ns_word.specs.declared.act.Act.{Act}
+use Rattle.ns_word.specs.declared.act.Found.{Found}
+use Rattle.ns_word.specs.declared.act.Found.TheVariants.{Scanned}
+use Rattle.ns_word.specs.Walks.{want_of, got_of, walk_after}
+use Rattle.ns_word.specs.Steps.{Truths, Part, Effect}
+use Rattle.ns_world.specs.declared.seat.Seat.{Seat}
+use Rattle.ns_world.specs.declared.step.Step.{Step}
+use Rattle.ns_world.specs.declared.step.Step.TheVariants.{Went, Idle, Finished}
 
-abbrev pub part : {C : Type 0} {N : ℕ} → Word → List ℕ → Option (Held C N) → Part C N
-part word row held = record { word = word; row = row; held = held }
+-- the machine's view of a seat
+abbrev pub view_of : {C : Type 0} {N : ℕ} → Seat C N → SeatView C N
+view_of seat = record { seat = seat.number; walk = seat.walk; held = seat.held; owed = seat.owed.items }
+
+-- the flags of a list
+abbrev pub flag_at : List ℕ → ℕ → ℕ
+flag_at flags seat = get_or flags seat 0
+
+abbrev pub part : {C : Type 0} {N : ℕ} → Word → List ℕ → Lists C → List ℕ → Option (Held C N) → List ℕ → Part C N
+part word row queues flags held owed = record { word = word; row = row; lock = queues.lock; flags = flag_at flags; held = held; owed = owed }
 
 -- the act was made, and what it commits stands at the end of the history
-pub record Makes {C : Type 0} {N : ℕ} (seat : ℕ) (act : Act) (old : Part C N) (history : List (Event C N)) (found : Found) (new : Part C N) (history' : List (Event C N)) : Type 0 where
+pub record Makes {C : Type 0} {N : ℕ} (truths : Truths C) (seat : ℕ) (act : Act) (old : Part C N) (history : List (Event C N)) (found : Found) (new : Part C N) (history' : List (Event C N)) : Type 0 where
   pub commits : List (Event C N)
-  pub effect : Effect seat act old found new commits
+  pub effect : Effect truths seat act old found new commits
   pub grows : history' ≡ history ++ commits
 
--- the step of the walk was made, and the view is where it leads
-pub record Performs {C : Type 0} {N : ℕ} (word : Word) (row : List ℕ) (view : SeatView C N) (history : List (Event C N)) (walk : Walk) (word' : Word) (row' : List ℕ) (view' : SeatView C N) (history' : List (Event C N)) (reply : Option Reply) : Type 0 where
+-- the seat has this number, place and count of tests
+pub record IsSeat {C : Type 0} {N : ℕ} (n : ℕ) (place : Option Walk) (count : ℕ) (seat : Seat C N) : Type 0 where
+  pub number : seat.number ≡ n
+  pub walk : seat.walk ≡ place
+  pub tests : seat.tests ≡ count
+
+-- how many conditions the scan of a seat's call tested
+abbrev pub tests_after : Found → ℕ → ℕ
+tests_after (Scanned owes tests) before = tests
+tests_after found before = before
+
+-- what a step was, by where it leads
+abbrev pub step_of : Next → Step
+step_of (On walk) = Went
+step_of (Idles walk) = Idle
+step_of (Done reply) = Finished reply
+
+-- a seat's part of a world
+abbrev pub seat_part : {C : Type 0} {N : ℕ} → Word → List ℕ → Lists C → List ℕ → Seat C N → Part C N
+seat_part word row queues flags seat = part word row queues flags seat.held seat.owed.items
+
+-- the step of the walk was made, and the seat is where it leads
+pub record Performs {C : Type 0} {N : ℕ} (truths : Truths C) (old : Part C N) (seat : Seat C N) (history : List (Event C N)) (walk : Walk) (new : Part C N) (seat' : Seat C N) (history' : List (Event C N)) (step : Step) : Type 0 where
   pub found : Found
   pub commits : List (Event C N)
-  pub effect : Effect view.seat (want_of walk) (part word row view.held) found (part word' row' view'.held) commits
-  pub seat : view'.seat ≡ view.seat
-  pub goes : view'.walk ≡ walk_after (got_of walk found)
+  pub effect : Effect truths seat.number (want_of walk) old found new commits
+  pub number : seat'.number ≡ seat.number
+  pub goes : seat'.walk ≡ walk_after (got_of N walk found)
+  pub tests : seat'.tests ≡ tests_after found seat.tests
   pub grows : history' ≡ history ++ commits
-  pub replies : reply ≡ reply_of (got_of walk found)
+  pub answers : step ≡ step_of (got_of N walk found)

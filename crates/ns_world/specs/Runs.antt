@@ -10,7 +10,7 @@ use Rattle.ns_world.specs.declared.schedule.Turn.{Turn}
 use Rattle.ns_world.specs.declared.schedule.Line.{Line}
 use Rattle.ns_world.specs.declared.step.Begun.TheVariants.{Started, Misuse}
 use Rattle.ns_world.specs.declared.step.Step.{Step}
-use Rattle.ns_world.specs.declared.step.Step.TheVariants.{Went, Finished, Nothing}
+use Rattle.ns_world.specs.declared.step.Step.TheVariants.{Went, Idle, Finished, Nothing}
 use Rattle.ns_world.specs.Begins.{Begins}
 use Rattle.ns_world.specs.Calls.{CellFits}
 use Rattle.ns_world.specs.World.{Now, IsIdle, IsBusy, StepOf, is_busy}
@@ -38,25 +38,31 @@ calls_of lists seat = unwrap_or (slice_get lists seat) []
 abbrev pub next_call : {C : Type 0} {N : ℕ} → List (List Call) → Progress C N → ℕ → Option Call
 next_call lists p seat = slice_get (calls_of lists seat) (slice_index p.over seat)
 
+-- how many conditions a call's scan tested, by the count of its seat; a misused call made none
+abbrev pub tests_told : Reply → ℕ → ℕ
+tests_told Misused tests = 0
+tests_told reply tests = tests
+
 -- the seat's call is over, with this answer
 abbrev pub finished : {C : Type 0} {N : ℕ} → Progress C N → ℕ → Reply → Now C N → Progress C N
 finished p seat reply world = record {
   world = world;
   over = slice_set p.over seat (slice_index p.over seat + 1);
-  lines = p.lines ++ record { thread = seat; call = slice_index p.over seat; reply = reply; tests = 0 } ∷ [];
+  lines = p.lines ++ record { thread = seat; call = slice_index p.over seat; reply = reply; tests = tests_told reply (slice_index world.tests seat) } ∷ [];
 }
 
 -- what a seat's step leaves of the progress
 abbrev pub progressed : {C : Type 0} {N : ℕ} → Progress C N → ℕ → Step → Now C N → Progress C N
 progressed p seat Went world = record p { world = world }
+progressed p seat Idle world = record p { world = world }
 progressed p seat Nothing world = record p { world = world }
 progressed p seat (Finished reply) world = finished p seat reply world
 
 -- the same of the counts and the lines alone, in whatever world
-abbrev pub Counts : List ℕ → List Line → ℕ → Step → List ℕ → List Line → Type 0
-Counts over lines seat (Finished reply) over' lines' =
-    (over' ≡ slice_set over seat (slice_index over seat + 1)) × (lines' ≡ lines ++ record { thread = seat; call = slice_index over seat; reply = reply; tests = 0 } ∷ [])
-Counts over lines seat step over' lines' = (over' ≡ over) × (lines' ≡ lines)
+abbrev pub Counts : List ℕ → List Line → ℕ → Step → ℕ → List ℕ → List Line → Type 0
+Counts over lines seat (Finished reply) tests over' lines' =
+    (over' ≡ slice_set over seat (slice_index over seat + 1)) × (lines' ≡ lines ++ record { thread = seat; call = slice_index over seat; reply = reply; tests = tests_told reply tests } ∷ [])
+Counts over lines seat step tests over' lines' = (over' ≡ over) × (lines' ≡ lines)
 
 -- A seat with a call in progress goes on with it; one with none begins its next, if the call's need is met.
 abbrev pub Leads : {C : Type 0} {N : ℕ} → List (List Call) → Progress C N → ℕ → Now C N → Type 0
@@ -131,9 +137,10 @@ word_items turn = replicate turn.times (record { seat = turn.thread; whole = tur
 abbrev pub items_of : List Turn → List Item
 items_of schedule = flat_map word_items schedule
 
--- an item ends with this turn of its seat: each does but a whole one whose call goes on
+-- an item ends with this turn of its seat: each does but a whole one whose call goes on and isn't idle
 abbrev pub is_end : Bool → Step → Bool
 is_end whole Went = not whole
+is_end whole Idle = true
 is_end whole Nothing = true
 is_end whole (Finished reply) = true
 

@@ -6,12 +6,16 @@
 #![tactic(auto)]
 
 pub mod call;
+mod exchanges;
 pub mod fault;
 mod packed;
 pub mod perform;
+mod room;
 pub mod run;
 pub mod schedule;
+mod seat;
 pub mod seats;
+mod shows;
 pub mod step;
 #[cfg(test)]
 mod tests;

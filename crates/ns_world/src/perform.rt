@@ -1,83 +1,36 @@
-//! One atomic step on the word, the cells and a seat's section, as the seat's walk wants it.
+//! One atomic step on the parts of a world, as the seat's walk wants it.
 
-ghost use Rattle.std.specs.Prelude.{◌≡◌, ◌<◌, ◌≤◌, Some, IfOk, OnErr, ℕ, []};
-ghost use Rattle.ns_word.specs.Lawful.{ActFits, HasMode};
-ghost use Rattle.ns_word.specs.Steps.{Effect, Commits};
-ghost use Rattle.ns_word.specs.Walks.{want_of};
-ghost use Rattle.ns_world.specs.Performs.{part, Makes, Performs};
+ghost use Rattle.std.specs.Prelude.{◌≡◌, ◌<◌, ◌≤◌, Some, IfOk, OnErr, ℕ, List, [], replicate};
+ghost use Rattle.ns_model.specs.declared.event.Mode.TheVariants.{Write};
+ghost use Rattle.ns_word.specs.Places.{ActFits, HasMode, OwesOne};
+ghost use Rattle.ns_word.specs.Steps.{Effect, truths};
+ghost use Rattle.ns_word.specs.Walks.{want_of, got_of, walk_after};
+ghost use Rattle.ns_world.specs.Commits.{Commits};
+ghost use Rattle.ns_world.specs.Performs.{part, seat_part, step_of, tests_after, IsSeat, Makes, Performs};
 
-use ns_model::event::{Entry, Event, Exit, Mode};
-use ns_word::room::Fits;
-use ns_word::view::{Held, SeatView};
-use ns_word::walk::{Act, Found, Next, Reply, Walk};
+use crate::exchanges::{acquire, release, release_returning, return_queues, take_queues};
+use crate::room::Seated;
+use crate::seat::Seat;
+use crate::step::Step;
+use arrayvec::ArrayVec;
+use ns_model::event::Event;
+use ns_queue::queues::Queues;
+use ns_word::act::{Act, Found};
+use ns_word::view::Held;
+use ns_word::walk::{Next, Walk};
 use ns_word::word::Word;
 use std::alloc::AllocError;
 
-/// Acquires in this mode, if the word is the one last seen.
-fn acquire<C: Fits<N>, const N: usize>(
-    word: &mut Word,
-    row: &[u64; N],
-    held: &mut Option<Held<C, N>>,
-    mode: Mode,
-    last: Word,
-) -> Found
-    requires fits { ActFits (Act.Acquire mode last) held.old }
-    requires few { word.old.readers ≤ 64 }
-    ensures { (seat : ℕ) → Effect seat (Act.Acquire mode last) (part word.old row.now held.old) result (part word.new row.now held.new) [] }
-{
-    if !word.is_same(last) {
-        return Found::Word(*word);
-    }
-    *word = word.acquired(mode);
-    *held = Some(Held {
-        mode,
-        entry: Entry::Plain,
-        before: *row,
-        row: *row,
-    });
-    Found::Made
-}
-
-/// Releases and commits the section, if the word is the one last seen. The event goes to the
-/// history first: where that is refused, nothing has changed.
-fn release<C: Fits<N>, const N: usize>(
-    seat: u8,
-    word: &mut Word,
-    held: &mut Option<Held<C, N>>,
-    history: &mut Vec<Event<C, N>>,
-    mode: Mode,
-    last: Word,
-) -> Result<Found, AllocError>
-    requires { HasMode mode held.old }
-    ensures ok { IfOk result (λ found. (row : _) → Makes seat (Act.Release mode last) (part word.old row held.old) history.old.items found (part word.new row held.new) history.new.items) }
-    ensures err { OnErr result ((last ≡ word.old) × (word.new ≡ word.old) × (held.new ≡ held.old) × (history.new.items ≡ history.old.items)) }
-{
-    if !word.is_same(last) {
-        return Ok(Found::Word(*word));
-    }
-    let Some(section) = *held else { unreachable!() };
-    history.push(Event::Section {
-        who: seat,
-        mode: section.mode,
-        entry: section.entry,
-        before: section.before,
-        after: section.row,
-        exit: Exit::Plain,
-    })?;
-    *word = word.released(mode);
-    *held = None;
-    Ok(Found::Made)
-}
-
 /// Stores a value into a cell, and into the section's row.
-fn store<C: Fits<N>, const N: usize>(
+fn store<C: Seated<N>, const N: usize>(
     row: &mut [u64; N],
     held: &mut Option<Held<C, N>>,
     i: u8,
     value: u64,
 ) -> Found
-    requires { ActFits (Act.StoreCell i value) held.old }
-    ensures { (seat : ℕ) (word : _) → Effect seat (Act.StoreCell i value) (part word row.old held.old) result (part word row.new held.new) [] }
+    requires mode { HasMode Write held.old }
+    requires cell { i < N }
+    ensures { (seat : ℕ) (word queues : _) (flags owed : List ℕ) → Effect (truths C.holds C.is_same C.is_quiet) seat (Act.StoreCell i value) (part word row.old queues flags held.old owed) result (part word row.new queues flags held.new owed) [] }
 {
     let Some(mut section) = *held else {
         unreachable!()
@@ -88,56 +41,129 @@ fn store<C: Fits<N>, const N: usize>(
     Found::Made
 }
 
+/// Whether the section in hand is quiet.
+fn judge<C: Seated<N>, const N: usize>(held: &Option<Held<C, N>>, i: u8) -> Found
+    requires { HasMode Write held.now }
+    ensures { (seat : ℕ) (word row queues : _) (flags owed : List ℕ) → Effect (truths C.holds C.is_same C.is_quiet) seat (Act.JudgeQuiet i) (part word row queues flags held.now owed) result (part word row queues flags held.now owed) [] }
+{
+    let Some(section) = *held else { unreachable!() };
+    Found::Quiet(C::quiet(&section.before, &section.row))
+}
+
+/// Clears the flag of the first to whom a wake is owed.
+fn pay_wake<C: Seated<N>, const N: usize>(
+    flags: &mut [u8; 64],
+    owed: &mut ArrayVec<u8, 64>,
+) -> Found
+    requires { OwesOne 64 owed.old.items }
+    ensures { (seat : ℕ) (word row queues held : _) → Effect {N = N} (truths C.holds C.is_same C.is_quiet) seat Act.PayWake (part word row queues flags.old held owed.old.items) result (part word row queues flags.new held owed.new.items) [] }
+{
+    let woken = owed.remove(0);
+    flags[woken as usize] = 0;
+    Found::Paid {
+        owes: !owed.is_empty(),
+    }
+}
+
+/// Sets the seat's own flag.
+fn arm_flag<C: Seated<N>, const N: usize>(flags: &mut [u8; 64], seat: u8) -> Found
+    requires { seat < 64 }
+    ensures { (word row queues held : _) (owed : List ℕ) → Effect {N = N} (truths C.holds C.is_same C.is_quiet) seat Act.ArmFlag (part word row queues flags.old held owed) result (part word row queues flags.new held owed) [] }
+{
+    flags[seat as usize] = 1;
+    Found::Made
+}
+
 /// Makes the act.
-fn make<C: Fits<N>, const N: usize>(
+fn make<C: Seated<N>, const N: usize>(
     word: &mut Word,
     row: &mut [u64; N],
-    view: &mut SeatView<C, N>,
+    queues: &mut Queues<C, N>,
+    flags: &mut [u8; 64],
+    seat: &mut Seat<C, N>,
     history: &mut Vec<Event<C, N>>,
     act: Act,
 ) -> Result<Found, AllocError>
-    requires fits { ActFits act view.old.held }
-    requires few { word.old.readers ≤ 64 }
-    ensures ok { IfOk result (λ found. Makes view.old.seat act (part word.old row.old view.old.held) history.old.items found (part word.new row.new view.new.held) history.new.items) }
-    ensures kept { (view.new.seat ≡ view.old.seat) × (view.new.walk ≡ view.old.walk) }
-    ensures err { OnErr result ((Commits act word.old) × (word.new ≡ word.old) × (row.new ≡ row.old) × (view.new ≡ view.old) × (history.new.items ≡ history.old.items)) }
+    requires fits { ActFits (truths C.holds C.is_same C.is_quiet) 64 seat.old.number act (seat_part word.old row.old queues.old flags.old seat.old) }
+    requires no_variables { queues.old.cvs ≡ replicate 4 [] }
+    ensures ok { IfOk result (λ found. Makes (truths C.holds C.is_same C.is_quiet) seat.old.number act (seat_part word.old row.old queues.old flags.old seat.old) history.old.items found (seat_part word.new row.new queues.new flags.new seat.new) history.new.items) }
+    ensures kept { IsSeat seat.old.number seat.old.walk seat.old.tests seat.new }
+    ensures others { queues.new.cvs ≡ queues.old.cvs }
+    ensures err { OnErr result ((Commits act word.old) × (word.new ≡ word.old) × (row.new ≡ row.old) × (queues.new ≡ queues.old) × (flags.new ≡ flags.old) × (seat.new ≡ seat.old) × (history.new.items ≡ history.old.items)) }
 {
     let found = match act {
         Act::LoadWord => Found::Word(*word),
-        Act::Acquire(mode, last) => acquire(word, row, &mut view.held, mode, last),
-        Act::Release(mode, last) => release(view.seat, word, &mut view.held, history, mode, last)?,
+        Act::Acquire(mode, woken, last) => { acquire(word, row, &mut seat.held, mode, woken, last) }
+        Act::TakeQueues(taking, last) => take_queues::<C, N>(word, taking, last),
+        Act::ReturnQueues(change, last) => {
+            return_queues(word, queues, seat.number, change, last)
+        }
+        Act::Release(leaving, last) => {
+            release(seat.number, word, &mut seat.held, history, leaving, last)?
+        }
+        Act::ReleaseReturning(leaving, last) => {
+            release_returning(word, row, queues, seat, history, leaving, last)?
+        }
         Act::LoadCell(i) => Found::Cell(row[i as usize]),
-        Act::StoreCell(i, value) => store(row, &mut view.held, i, value),
+        Act::JudgeQuiet(i) => judge(&seat.held, i),
+        Act::StoreCell(i, value) => store(row, &mut seat.held, i, value),
+        Act::ArmFlag => arm_flag::<C, N>(flags, seat.number),
+        Act::PayWake => pay_wake::<C, N>(flags, &mut seat.owed),
+        Act::LoadFlag => Found::Flag(flags[seat.number as usize]),
     };
     Ok(found)
 }
 
-/// Makes the step that the seat's walk wants. Answers the call's reply where it is over. Only
-/// the release of a section takes memory, for its event; where that is refused, nothing has
-/// changed.
-pub(crate) fn perform<C: Fits<N>, const N: usize>(
-    word: &mut Word,
-    row: &mut [u64; N],
-    view: &mut SeatView<C, N>,
-    history: &mut Vec<Event<C, N>>,
-    walk: Walk,
-) -> Result<Option<Reply>, AllocError>
-    requires walks { view.old.walk ≡ Some walk }
-    requires fits { ActFits (want_of walk) view.old.held }
-    requires few { word.old.readers ≤ 64 }
-    ensures ok { IfOk result (λ reply. Performs word.old row.old view.old history.old.items walk word.new row.new view.new history.new.items reply) }
-    ensures err { OnErr result ((Commits (want_of walk) word.old) × (word.new ≡ word.old) × (row.new ≡ row.old) × (view.new ≡ view.old) × (history.new.items ≡ history.old.items)) }
+/// How many conditions the scan of a seat's call tested, after a step that found this.
+fn tests_after(found: Found, before: u32) -> u32
+    ensures { result ≡ tests_after found before }
 {
-    let act = walk.want();
-    let found = make(word, row, view, history, act)?;
-    match walk.got(found) {
-        Next::On(next) => {
-            view.walk = Some(next);
-            Ok(None)
+    match found {
+        Found::Scanned { tests, .. } => tests,
+        _ => before,
+    }
+}
+
+/// Puts the seat where its walk goes, and tells what the step was.
+fn settle<C: Seated<N>, const N: usize>(seat: &mut Seat<C, N>, next: Next) -> Step
+    ensures step { result ≡ step_of next }
+    ensures seat { seat.new ≡ record seat.old { walk = walk_after next } }
+{
+    match next {
+        Next::On(walk) => {
+            seat.walk = Some(walk);
+            Step::Went
+        }
+        Next::Idle(walk) => {
+            seat.walk = Some(walk);
+            Step::Idle
         }
         Next::Done(reply) => {
-            view.walk = None;
-            Ok(Some(reply))
+            seat.walk = None;
+            Step::Finished(reply)
         }
     }
+}
+
+/// Makes the step that the seat's walk wants. Only a release takes memory, for its event; where
+/// that is refused, nothing has changed.
+pub(crate) fn perform<C: Seated<N>, const N: usize>(
+    word: &mut Word,
+    row: &mut [u64; N],
+    queues: &mut Queues<C, N>,
+    flags: &mut [u8; 64],
+    seat: &mut Seat<C, N>,
+    history: &mut Vec<Event<C, N>>,
+    walk: Walk,
+) -> Result<Step, AllocError>
+    requires walks { seat.old.walk ≡ Some walk }
+    requires fits { ActFits (truths C.holds C.is_same C.is_quiet) 64 seat.old.number (want_of walk) (seat_part word.old row.old queues.old flags.old seat.old) }
+    requires no_variables { queues.old.cvs ≡ replicate 4 [] }
+    ensures ok { IfOk result (λ step. Performs (truths C.holds C.is_same C.is_quiet) (seat_part word.old row.old queues.old flags.old seat.old) seat.old history.old.items walk (seat_part word.new row.new queues.new flags.new seat.new) seat.new history.new.items step) }
+    ensures others { queues.new.cvs ≡ queues.old.cvs }
+    ensures err { OnErr result ((Commits (want_of walk) word.old) × (word.new ≡ word.old) × (row.new ≡ row.old) × (queues.new ≡ queues.old) × (flags.new ≡ flags.old) × (seat.new ≡ seat.old) × (history.new.items ≡ history.old.items)) }
+{
+    let found = make(word, row, queues, flags, seat, history, walk.want())?;
+    seat.tests = tests_after(found, seat.tests);
+    Ok(settle(seat, walk.got::<N>(found)))
 }

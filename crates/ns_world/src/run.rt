@@ -3,14 +3,16 @@
 
 ghost use Rattle.std.specs.Prelude.{◌≡◌, ◌≤◌, ◌<◌, ◌+◌, ◌∷◌, [], Some, IfSome, IfOk, IfErr, OnOk, All, map, slice_get, slice_index, replicate, MatchResult, ◌^◌, ◌++◌};
 ghost use Rattle.ns_world.specs.Calls.{CellFits};
-ghost use Rattle.ns_world.specs.Runs.{calls_of, Counts, progress, progressed, is_end, TurnsWith, TurnFault, TurnOf, Advances, Stops, Runs, RunFault, AllIdle, IsCounted, ListFits, items_of};
+ghost use Rattle.ns_word.specs.Steps.{truths};
+ghost use Rattle.ns_world.specs.World.{seen};
+ghost use Rattle.ns_world.specs.Runs.{calls_of, Counts, progress, progressed, is_end, TurnsWith, tests_told, TurnFault, TurnOf, Advances, Stops, Runs, RunFault, AllIdle, IsCounted, ListFits, items_of};
 
 use crate::call::Call;
 use crate::fault::Fault;
+use crate::room::Seated;
 use crate::schedule::{Line, Turn};
 use crate::step::{Begun, Step};
 use crate::world::World;
-use ns_word::room::Fits;
 use ns_word::walk::Reply;
 use std::alloc::{AllocError, Global};
 
@@ -33,14 +35,14 @@ fn next_call(lists: &[Vec<Call>], seat: u8, over: u16) -> Option<Call>
 }
 
 /// A turn of the seat: starts its next call where it is idle, and makes one step.
-fn turn<C: Fits<N>, const N: usize>(
+fn turn<C: Seated<N>, const N: usize>(
     world: &mut World<C, N>,
     next: Option<Call>,
     seat: u8,
 ) -> Result<Step, Fault>
     requires { IfSome next (CellFits N) }
-    ensures ok { IfOk result (λ step. TurnsWith next world.old seat step world.new) }
-    ensures err { IfErr result (λ fault. (world.new ≡ world.old) × TurnFault world.old seat fault) }
+    ensures ok { IfOk result (λ step. TurnsWith next (seen (truths C.holds C.is_same C.is_quiet) world.old) seat step (seen (truths C.holds C.is_same C.is_quiet) world.new)) }
+    ensures err { IfErr result (λ fault. ((seen (truths C.holds C.is_same C.is_quiet) world.new) ≡ (seen (truths C.holds C.is_same C.is_quiet) world.old)) × TurnFault (seen (truths C.holds C.is_same C.is_quiet) world.old) seat fault) }
 {
     let Some(call) = next else {
         return world.step(seat);
@@ -58,17 +60,29 @@ fn is_end(whole: bool, step: Step) -> bool
 {
     match step {
         Step::Went => !whole,
+        Step::Idle => true,
         Step::Finished(_) => true,
         Step::Nothing => true,
     }
 }
 
+/// How many conditions a finished call's scan tested, by what the seat's last scan did. A misused
+/// call made none.
+fn tests_told(reply: Reply, tests: u32) -> u32
+    ensures { result ≡ tests_told reply tests }
+{
+    match reply {
+        Reply::Misuse => 0,
+        _ => tests,
+    }
+}
+
 /// Counts a turn that was made, and the call that it finished.
-fn count(tally: &mut Tally, seat: u8, step: Step) -> Result<(), AllocError>
+fn count(tally: &mut Tally, seat: u8, step: Step, tests: u32) -> Result<(), AllocError>
     requires seat { seat < 64 }
     requires over { slice_index tally.old.over seat ≤ 256 }
     requires turns { tally.old.turns + 1 < 2 ^ 32 }
-    ensures ok { OnOk result (Counts tally.old.over tally.old.lines.items seat step tally.new.over tally.new.lines.items) }
+    ensures ok { OnOk result (Counts tally.old.over tally.old.lines.items seat step tests tally.new.over tally.new.lines.items) }
     ensures turns { tally.new.turns ≡ tally.old.turns + 1 }
 {
     tally.turns += 1;
@@ -78,7 +92,7 @@ fn count(tally: &mut Tally, seat: u8, step: Step) -> Result<(), AllocError>
             thread: seat,
             call,
             reply,
-            tests: 0,
+            tests: tests_told(reply, tests),
         })?;
         tally.over[seat as usize] = call + 1;
     }
@@ -86,7 +100,7 @@ fn count(tally: &mut Tally, seat: u8, step: Step) -> Result<(), AllocError>
 }
 
 /// One turn of the seat, counted: its step, where the run goes on.
-fn counted_turn<C: Fits<N>, const N: usize>(
+fn counted_turn<C: Seated<N>, const N: usize>(
     world: &mut World<C, N>,
     lists: &[Vec<Call>],
     tally: &mut Tally,
@@ -94,14 +108,14 @@ fn counted_turn<C: Fits<N>, const N: usize>(
     limit: u32,
 ) -> Result<Step, Fault>
     requires lists { All (λ calls. ListFits N calls.items) lists.now }
-    requires counted { IsCounted world.old tally.old.over }
+    requires counted { IsCounted (seen (truths C.holds C.is_same C.is_quiet) world.old) tally.old.over }
     requires turns { tally.old.turns ≤ limit }
     ensures ok { IfOk result (λ step. let calls = map (λ calls. calls.items) lists.now in
-        TurnOf calls (progress world.old tally.old.over tally.old.lines.items) seat step (progress world.new tally.new.over tally.new.lines.items)) }
-    ensures counted { OnOk result (IsCounted world.new tally.new.over) }
+        TurnOf calls (progress (seen (truths C.holds C.is_same C.is_quiet) world.old) tally.old.over tally.old.lines.items) seat step (progress (seen (truths C.holds C.is_same C.is_quiet) world.new) tally.new.over tally.new.lines.items)) }
+    ensures counted { OnOk result (IsCounted (seen (truths C.holds C.is_same C.is_quiet) world.new) tally.new.over) }
     ensures turns { OnOk result ((tally.new.turns ≡ tally.old.turns + 1) × (tally.new.turns ≤ limit)) }
     ensures err { IfErr result (λ fault. let calls = map (λ calls. calls.items) lists.now in
-        (whole : _) → Stops calls limit (progress world.old tally.old.over tally.old.lines.items) tally.old.turns (record { seat = seat; whole = whole } ∷ []) world.new fault) }
+        (whole : _) → Stops calls limit (progress (seen (truths C.holds C.is_same C.is_quiet) world.old) tally.old.over tally.old.lines.items) tally.old.turns (record { seat = seat; whole = whole } ∷ []) (seen (truths C.holds C.is_same C.is_quiet) world.new) fault) }
 {
     if seat as usize >= world.seats() {
         return Err(Fault::NoSuchSeat);
@@ -111,12 +125,12 @@ fn counted_turn<C: Fits<N>, const N: usize>(
     }
     let next = next_call(lists, seat, tally.over[seat as usize]);
     let step = turn(world, next, seat)?;
-    count(tally, seat, step)?;
+    count(tally, seat, step, world.tests(seat))?;
     Ok(step)
 }
 
-/// An item of the seat: a turn, and for a `whole` one further turns until its call returns.
-fn item<C: Fits<N>, const N: usize>(
+/// An item of the seat: a turn, and for a `whole` one further turns until its call returns or is idle.
+fn item<C: Seated<N>, const N: usize>(
     world: &mut World<C, N>,
     lists: &[Vec<Call>],
     tally: &mut Tally,
@@ -125,13 +139,13 @@ fn item<C: Fits<N>, const N: usize>(
     limit: u32,
 ) -> Result<(), Fault>
     requires lists { All (λ calls. ListFits N calls.items) lists.now }
-    requires counted { IsCounted world.old tally.old.over }
+    requires counted { IsCounted (seen (truths C.holds C.is_same C.is_quiet) world.old) tally.old.over }
     requires turns { tally.old.turns ≤ limit }
     ensures ok { OnOk result (let calls = map (λ calls. calls.items) lists.now in
-        Advances calls limit (progress world.old tally.old.over tally.old.lines.items) tally.old.turns (record { seat = seat; whole = whole } ∷ []) [] (progress world.new tally.new.over tally.new.lines.items) tally.new.turns) }
-    ensures counted { OnOk result (IsCounted world.new tally.new.over) }
+        Advances calls limit (progress (seen (truths C.holds C.is_same C.is_quiet) world.old) tally.old.over tally.old.lines.items) tally.old.turns (record { seat = seat; whole = whole } ∷ []) [] (progress (seen (truths C.holds C.is_same C.is_quiet) world.new) tally.new.over tally.new.lines.items) tally.new.turns) }
+    ensures counted { OnOk result (IsCounted (seen (truths C.holds C.is_same C.is_quiet) world.new) tally.new.over) }
     ensures err { IfErr result (λ fault. let calls = map (λ calls. calls.items) lists.now in
-        Stops calls limit (progress world.old tally.old.over tally.old.lines.items) tally.old.turns (record { seat = seat; whole = whole } ∷ []) world.new fault) }
+        Stops calls limit (progress (seen (truths C.holds C.is_same C.is_quiet) world.old) tally.old.over tally.old.lines.items) tally.old.turns (record { seat = seat; whole = whole } ∷ []) (seen (truths C.holds C.is_same C.is_quiet) world.new) fault) }
 {
     loop {
         let step = counted_turn(world, lists, tally, seat, limit)?;
@@ -142,7 +156,7 @@ fn item<C: Fits<N>, const N: usize>(
 }
 
 /// The items of a word of the schedule.
-fn word<C: Fits<N>, const N: usize>(
+fn word<C: Seated<N>, const N: usize>(
     world: &mut World<C, N>,
     lists: &[Vec<Call>],
     tally: &mut Tally,
@@ -150,13 +164,13 @@ fn word<C: Fits<N>, const N: usize>(
     limit: u32,
 ) -> Result<(), Fault>
     requires lists { All (λ calls. ListFits N calls.items) lists.now }
-    requires counted { IsCounted world.old tally.old.over }
+    requires counted { IsCounted (seen (truths C.holds C.is_same C.is_quiet) world.old) tally.old.over }
     requires turns { tally.old.turns ≤ limit }
     ensures ok { OnOk result (let calls = map (λ calls. calls.items) lists.now in
-        Advances calls limit (progress world.old tally.old.over tally.old.lines.items) tally.old.turns (items_of (turn.now ∷ [])) [] (progress world.new tally.new.over tally.new.lines.items) tally.new.turns) }
-    ensures counted { OnOk result (IsCounted world.new tally.new.over) }
+        Advances calls limit (progress (seen (truths C.holds C.is_same C.is_quiet) world.old) tally.old.over tally.old.lines.items) tally.old.turns (items_of (turn.now ∷ [])) [] (progress (seen (truths C.holds C.is_same C.is_quiet) world.new) tally.new.over tally.new.lines.items) tally.new.turns) }
+    ensures counted { OnOk result (IsCounted (seen (truths C.holds C.is_same C.is_quiet) world.new) tally.new.over) }
     ensures err { IfErr result (λ fault. let calls = map (λ calls. calls.items) lists.now in
-        Stops calls limit (progress world.old tally.old.over tally.old.lines.items) tally.old.turns (items_of (turn.now ∷ [])) world.new fault) }
+        Stops calls limit (progress (seen (truths C.holds C.is_same C.is_quiet) world.old) tally.old.over tally.old.lines.items) tally.old.turns (items_of (turn.now ∷ [])) (seen (truths C.holds C.is_same C.is_quiet) world.new) fault) }
 {
     for _ in 0..turn.times {
         item(world, lists, tally, turn.thread, turn.whole, limit)?;
@@ -164,7 +178,7 @@ fn word<C: Fits<N>, const N: usize>(
     Ok(())
 }
 
-impl<C: Fits<N>, const N: usize> World<C, N> {
+impl<C: Seated<N>, const N: usize> World<C, N> {
     /// Runs the schedule, where thread `t` makes the calls of the list `t` from seat `t`, in
     /// order. Answers the calls that finished, in the order of finishing. A call may be left in
     /// progress.
@@ -180,10 +194,10 @@ impl<C: Fits<N>, const N: usize> World<C, N> {
         schedule: &[Turn],
         limit: u32,
     ) -> Result<Vec<Line>, Fault>
-        requires idle { AllIdle self.old }
+        requires idle { AllIdle (seen (truths C.holds C.is_same C.is_quiet) self.old) }
         requires lists { All (λ calls. ListFits N calls.items) lists.now }
-        ensures { MatchResult result (λ lines. Runs (map (λ calls. calls.items) lists.now) schedule.now limit self.old self.new lines.items)
-            (RunFault (map (λ calls. calls.items) lists.now) schedule.now limit self.old self.new) }
+        ensures { MatchResult result (λ lines. Runs (map (λ calls. calls.items) lists.now) schedule.now limit (seen (truths C.holds C.is_same C.is_quiet) self.old) (seen (truths C.holds C.is_same C.is_quiet) self.new) lines.items)
+            (RunFault (map (λ calls. calls.items) lists.now) schedule.now limit (seen (truths C.holds C.is_same C.is_quiet) self.old) (seen (truths C.holds C.is_same C.is_quiet) self.new)) }
     {
         let mut tally = Tally {
             over: [0; 64],

@@ -1,40 +1,46 @@
 //! The seats of a new world, and which of a world's seats have a call in progress.
 
-ghost use Rattle.std.specs.Prelude.{◌≡◌, ◌≤◌, ℕ, length, IfOk};
+ghost use Rattle.std.specs.Prelude.{◌≡◌, ◌≤◌, ℕ, length, map, replicate, IfOk};
 ghost use Rattle.ns_model.specs.Seats.{is_in};
-ghost use Rattle.ns_world.specs.World.{seats_from, is_busy};
+ghost use Rattle.ns_word.specs.Begins.{fresh_views};
+ghost use Rattle.ns_world.specs.Performs.{view_of};
+ghost use Rattle.ns_world.specs.World.{is_busy};
 
+use crate::room::Seated;
+use crate::seat::Seat;
+use arrayvec::ArrayVec;
 use ns_model::seats::Seats;
-use ns_word::room::Fits;
-use ns_word::view::SeatView;
 use std::alloc::{AllocError, Global};
 
-/// So many seats with no call in progress and no section.
-pub(crate) fn new_seats<C: Fits<N>, const N: usize>(
+/// So many seats with no call in progress, no section and no wake to pay.
+pub(crate) fn new_seats<C: Seated<N>, const N: usize>(
     alloc: Global,
     seats: u8,
-) -> Result<Vec<SeatView<C, N>>, AllocError>
-    ensures { IfOk result (λ views. views.items ≡ seats_from 0 seats) }
+) -> Result<Vec<Seat<C, N>>, AllocError>
+    ensures views { IfOk result (λ made. map view_of made.items ≡ fresh_views 0 seats) }
+    ensures tests { IfOk result (λ made. map (λ seat. seat.tests) made.items ≡ replicate seats 0) }
 {
-    let mut views = Vec::new(alloc);
-    for seat in 0..seats {
-        views.push(SeatView {
-            seat,
+    let mut made = Vec::new(alloc);
+    for number in 0..seats {
+        made.push(Seat {
+            number,
             walk: None,
             held: None,
+            owed: ArrayVec::new(),
+            tests: 0,
         })?;
     }
-    Ok(views)
+    Ok(made)
 }
 
 /// The seats with a call in progress.
-pub(crate) fn busy_seats<C: Fits<N>, const N: usize>(views: &[SeatView<C, N>]) -> Seats
-    requires { length views.now ≤ 64 }
-    ensures { (seat : ℕ) → is_in result seat ≡ is_busy views.now seat }
+pub(crate) fn busy_seats<C: Seated<N>, const N: usize>(seats: &[Seat<C, N>]) -> Seats
+    requires { length seats.now ≤ 64 }
+    ensures { (seat : ℕ) → is_in result seat ≡ is_busy (map view_of seats.now) seat }
 {
     let mut busy = Seats::none();
-    for (at, view) in views.iter().enumerate() {
-        if view.walk.is_some() {
+    for (at, seat) in seats.iter().enumerate() {
+        if seat.walk.is_some() {
             busy = busy.with(at as u8);
         }
     }

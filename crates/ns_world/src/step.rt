@@ -2,18 +2,21 @@
 
 ghost use Rattle.std.specs.Prelude.{◌≡◌, IfOk, IfErr};
 ghost use Rattle.ns_word.specs.Codec.{word_of};
+ghost use Rattle.ns_word.specs.Steps.{truths};
 ghost use Rattle.ns_world.specs.Begins.{Begins, BeginFault};
 ghost use Rattle.ns_world.specs.Calls.{CellFits, mode_of};
-ghost use Rattle.ns_world.specs.World.{now, step_of, IsLawfulWorld, StepOf, StepFault};
+ghost use Rattle.ns_world.specs.World.{now, IsLawfulWorld, StepOf, StepFault};
 
 use crate::call::Call;
 use crate::fault::Fault;
 use crate::packed::unpacked;
 use crate::perform::perform;
+use crate::room::Seated;
+use crate::seat::Seat;
 use ns_model::event::{Event, Mode};
+use ns_queue::queues::Queues;
 use ns_word::codec::encode;
-use ns_word::room::Fits;
-use ns_word::view::{Held, SeatView};
+use ns_word::view::Held;
 use ns_word::walk::Reply;
 
 /// What a seat's step was.
@@ -21,6 +24,8 @@ use ns_word::walk::Reply;
 pub enum Step {
     /// A step was made, and the call goes on.
     Went,
+    /// A step was made, and found nothing to go on with: the call repeats until it does.
+    Idle,
     /// A step was made, and the call is over with this answer.
     Finished(Reply),
     /// No call was in progress.
@@ -39,7 +44,7 @@ pub enum Begun {
 }
 
 /// The mode of the section in hand.
-fn mode_of<C: Fits<N>, const N: usize>(held: &Option<Held<C, N>>) -> Option<Mode>
+fn mode_of<C: Seated<N>, const N: usize>(held: &Option<Held<C, N>>) -> Option<Mode>
     ensures { result ≡ mode_of held.now }
 {
     match held {
@@ -49,76 +54,76 @@ fn mode_of<C: Fits<N>, const N: usize>(held: &Option<Held<C, N>>) -> Option<Mode
 }
 
 /// Begins a call of the seat.
-pub(crate) fn begin_at<C: Fits<N>, const N: usize>(
+pub(crate) fn begin_at<C: Seated<N>, const N: usize>(
     word: &u64,
     row: &[u64; N],
-    views: &mut Vec<SeatView<C, N>>,
+    queues: &Queues<C, N>,
+    flags: &[u8; 64],
+    seats: &mut Vec<Seat<C, N>>,
     history: &Vec<Event<C, N>>,
-    seat: u8,
+    number: u8,
     call: Call,
 ) -> Result<Begun, Fault>
-    requires lawful { IsLawfulWorld C.holds (now (word_of word.now) row.now views.old.items history.now.items) }
+    requires lawful { IsLawfulWorld (now (truths C.holds C.is_same C.is_quiet) (word_of word.now) row.now queues.now flags.now seats.old.items history.now.items) }
     requires cell { CellFits N call }
-    ensures lawful { IsLawfulWorld C.holds (now (word_of word.now) row.now views.new.items history.now.items) }
-    ensures ok { IfOk result (λ begun. Begins (now (word_of word.now) row.now views.old.items history.now.items) (now (word_of word.now) row.now views.new.items history.now.items) seat call begun) }
-    ensures err { IfErr result (λ fault. (now (word_of word.now) row.now views.new.items history.now.items ≡ now (word_of word.now) row.now views.old.items history.now.items) × BeginFault (now (word_of word.now) row.now views.old.items history.now.items) seat fault) }
+    ensures lawful { IsLawfulWorld (now (truths C.holds C.is_same C.is_quiet) (word_of word.now) row.now queues.now flags.now seats.new.items history.now.items) }
+    ensures ok { IfOk result (λ begun. Begins (now (truths C.holds C.is_same C.is_quiet) (word_of word.now) row.now queues.now flags.now seats.old.items history.now.items) (now (truths C.holds C.is_same C.is_quiet) (word_of word.now) row.now queues.now flags.now seats.new.items history.now.items) number call begun) }
+    ensures err { IfErr result (λ fault. (now (truths C.holds C.is_same C.is_quiet) (word_of word.now) row.now queues.now flags.now seats.new.items history.now.items ≡ now (truths C.holds C.is_same C.is_quiet) (word_of word.now) row.now queues.now flags.now seats.old.items history.now.items) × BeginFault (now (truths C.holds C.is_same C.is_quiet) (word_of word.now) row.now queues.now flags.now seats.old.items history.now.items) number fault) }
 {
-    let at = seat as usize;
-    if at >= views.len() {
+    let at = number as usize;
+    if at >= seats.len() {
         return Err(Fault::NoSuchSeat);
     }
-    let view = views[at];
-    if view.walk.is_some() {
+    let seat = &seats[at];
+    if seat.walk.is_some() {
         return Ok(Begun::Busy);
     }
-    match call.start(mode_of(&view.held)) {
+    match call.start::<N>(mode_of(&seat.held)) {
         None => Ok(Begun::Misuse),
         Some(start) => {
-            views[at] = SeatView {
-                seat: view.seat,
-                walk: Some(start),
-                held: view.held,
-            };
+            let seat = &mut seats[at];
+            seat.walk = Some(start);
+            seat.tests = 0;
             Ok(Begun::Started)
         }
     }
 }
 
-/// What a step was after which the call goes on, or is over with an answer.
-fn step_of(reply: Option<Reply>) -> Step
-    ensures { result ≡ step_of reply }
-{
-    match reply {
-        None => Step::Went,
-        Some(reply) => Step::Finished(reply),
-    }
-}
-
 /// Makes one step of the seat's call, if one is in progress.
-pub(crate) fn step_at<C: Fits<N>, const N: usize>(
+pub(crate) fn step_at<C: Seated<N>, const N: usize>(
     word: &mut u64,
     row: &mut [u64; N],
-    views: &mut Vec<SeatView<C, N>>,
+    queues: &mut Queues<C, N>,
+    flags: &mut [u8; 64],
+    seats: &mut Vec<Seat<C, N>>,
     history: &mut Vec<Event<C, N>>,
-    seat: u8,
+    number: u8,
 ) -> Result<Step, Fault>
-    requires { IsLawfulWorld C.holds (now (word_of word.old) row.old views.old.items history.old.items) }
-    ensures lawful { IsLawfulWorld C.holds (now (word_of word.new) row.new views.new.items history.new.items) }
-    ensures ok { IfOk result (λ step. StepOf (now (word_of word.old) row.old views.old.items history.old.items) (now (word_of word.new) row.new views.new.items history.new.items) seat step) }
-    ensures err { IfErr result (λ fault. (now (word_of word.new) row.new views.new.items history.new.items ≡ now (word_of word.old) row.old views.old.items history.old.items) × StepFault (now (word_of word.old) row.old views.old.items history.old.items) seat fault) }
+    requires { IsLawfulWorld (now (truths C.holds C.is_same C.is_quiet) (word_of word.old) row.old queues.old flags.old seats.old.items history.old.items) }
+    ensures lawful { IsLawfulWorld (now (truths C.holds C.is_same C.is_quiet) (word_of word.new) row.new queues.new flags.new seats.new.items history.new.items) }
+    ensures ok { IfOk result (λ step. StepOf (now (truths C.holds C.is_same C.is_quiet) (word_of word.old) row.old queues.old flags.old seats.old.items history.old.items) (now (truths C.holds C.is_same C.is_quiet) (word_of word.new) row.new queues.new flags.new seats.new.items history.new.items) number step) }
+    ensures err { IfErr result (λ fault. (now (truths C.holds C.is_same C.is_quiet) (word_of word.new) row.new queues.new flags.new seats.new.items history.new.items ≡ now (truths C.holds C.is_same C.is_quiet) (word_of word.old) row.old queues.old flags.old seats.old.items history.old.items) × StepFault (now (truths C.holds C.is_same C.is_quiet) (word_of word.old) row.old queues.old flags.old seats.old.items history.old.items) number fault) }
 {
-    let at = seat as usize;
-    if at >= views.len() {
+    let at = number as usize;
+    if at >= seats.len() {
         return Err(Fault::NoSuchSeat);
     }
-    let Some(walk) = views[at].walk else {
+    let Some(walk) = seats[at].walk else {
         return Ok(Step::Nothing);
     };
     let mut found = unpacked(*word);
-    match perform(&mut found, row, &mut views[at], history, walk) {
-        Ok(reply) => {
+    match perform(
+        &mut found,
+        row,
+        queues,
+        flags,
+        &mut seats[at],
+        history,
+        walk,
+    ) {
+        Ok(step) => {
             *word = encode(found);
-            Ok(step_of(reply))
+            Ok(step)
         }
         Err(_) => Err(Fault::OutOfMemory),
     }

@@ -178,6 +178,55 @@ fn readers_are_counted(rt: HostRuntime) -> Result<(), Fail> {
     Ok(())
 }
 
+/// A writer that finds the lock held queues, shows in the state as it does so, is woken by the
+/// release, and acquires.
+#[test]
+fn a_writer_waits_and_is_woken(rt: HostRuntime) -> Result<(), Fail> {
+    let mut world = World::<Never, 8>::new(rt.alloc(), 2, &[], 0)?;
+    for call in [Call::RLock] {
+        let _ = world.begin(0, call)?;
+        let _ = world.step(0)?;
+        let step = world.step(0)?;
+        assert_eq!(rt; step, Step::Finished(Reply::Ok));
+    }
+    let _ = world.begin(1, Call::Lock)?;
+    for _ in 0..2 {
+        let step = world.step(1)?;
+        assert_eq!(rt; step, Step::Went);
+    }
+    let taken = world.state();
+    assert!(rt; taken.word.spin && taken.word.waiting && taken.lock.is_empty());
+    let _ = world.step(1)?;
+    let queued = world.state();
+    assert!(rt; queued.word.spin && queued.lock.len() == 1 && queued.lock[0].seat == 1);
+    let _ = world.step(1)?;
+    let step = world.step(1)?;
+    assert_eq!(rt; step, Step::Idle);
+    let waiting = world.state();
+    assert!(rt; !waiting.word.spin && waiting.word.writer_waits && waiting.busy.contains(1));
+    let _ = world.begin(0, Call::RUnlock)?;
+    for _ in 0..3 {
+        let step = world.step(0)?;
+        assert_eq!(rt; step, Step::Went);
+    }
+    let owing = world.state();
+    assert!(rt; owing.lock.is_empty() && owing.owed.len() == 1 && owing.owed[0] == (0, 1));
+    let step = world.step(0)?;
+    assert_eq!(rt; step, Step::Finished(Reply::Ok));
+    for expected in [Step::Went, Step::Went, Step::Finished(Reply::Ok)] {
+        let step = world.step(1)?;
+        assert_eq!(rt; step, expected);
+    }
+    assert_eq!(rt;
+        world.state().word,
+        Word {
+            write: true,
+            ..Word::FREE
+        }
+    );
+    Ok(())
+}
+
 #[test]
 fn seats_are_refused_by_name(rt: HostRuntime) -> Result<(), Fail> {
     let many = World::<Never, 8>::new(rt.alloc(), 65, &[], 0);

@@ -1,26 +1,32 @@
 //! The world: a lock, its row and its seats, one step at a time.
 
-ghost use Rattle.std.specs.Prelude.{◌≡◌, ◌≤◌, ℕ, [], length, map, MatchResult, IfOk, IfErr, All};
+ghost use Rattle.std.specs.Prelude.{◌≡◌, ◌≤◌, ◌<◌, ℕ, [], length, map, slice_index, MatchResult, IfOk, IfErr, All};
+ghost use Rattle.std.specs.List.{flat_map};
 ghost use Rattle.ns_model.specs.Histories.{IsLegal, IsBySeats};
 ghost use Rattle.ns_model.specs.Seats.{is_in};
+ghost use Rattle.ns_queue.specs.Waiters.{shown_of};
 ghost use Rattle.ns_word.specs.Lawful.{IsLawful};
+ghost use Rattle.ns_word.specs.Steps.{truths};
 ghost use Rattle.ns_world.specs.Begins.{Begins, BeginFault};
 ghost use Rattle.ns_world.specs.Calls.{CellFits};
-ghost use Rattle.ns_world.specs.World.{fresh, now, is_busy, IsLawfulWorld, NewFault, StepOf, StepFault};
+ghost use Rattle.ns_world.specs.Shows.{lock_shown, wakes_owed};
+ghost use Rattle.ns_world.specs.World.{fresh, seen, is_busy, NewFault, StepOf, StepFault};
 
 use crate::call::Call;
 use crate::fault::Fault;
 use crate::packed::unpacked;
+use crate::room::Seated;
+use crate::seat::Seat;
 use crate::seats::{busy_seats, new_seats};
+use crate::shows::{owed_wakes, shown_lock};
 use crate::step::{Begun, Step, begin_at, step_at};
 use arrayvec::ArrayVec;
 use ns_model::condition::Condition;
 use ns_model::event::Event;
 use ns_model::seats::Seats;
+use ns_queue::queues::Queues;
 use ns_queue::waiter::Shown;
 use ns_word::codec::encode;
-use ns_word::room::Fits;
-use ns_word::view::SeatView;
 use ns_word::word::Word;
 use std::alloc::Global;
 use std::marker::Model;
@@ -28,38 +34,43 @@ use std::marker::Model;
 /// A lock with a row of `N` cells, up to 64 seats, and all that has happened.
 ///
 /// Its contracts speak of the word, the row, each seat's view, and the history. Between any two
-/// calls the law of the lock holds of them: the write bit is set exactly where one seat has a
-/// write section in hand; and the history is legal, by seats of this world, and each section in
-/// hand begins where the history left the row.
+/// calls the law of the lock holds of them, which `ns_word` states: one writer or readers, the
+/// queues in one hand, each waiter placed, nobody forgotten, and one legal history by seats of
+/// this world.
 #[derive(Drop)]
 pub struct World<C: Condition<N>, const N: usize> {
     word: u64,
     row: [u64; N],
-    views: Vec<SeatView<C, N>>,
+    queues: Queues<C, N>,
+    flags: [u8; 64],
+    seats: Vec<Seat<C, N>>,
     history: Vec<Event<C, N>>,
 }
 
 impl<C: Condition<N>, const N: usize> Model for World<C, N> {
     ghost use Rattle.ns_word.specs.Codec.{word_of};
-    ghost use Rattle.ns_world.specs.World.{Now, now, IsLawfulWorld};
+    ghost use Rattle.ns_word.specs.Steps.{truths};
+    ghost use Rattle.ns_world.specs.World.{Kept, kept, now, IsLawfulWorld};
 
-    ghost Value = { Now C N };
+    ghost Value = { Kept C N };
 
-    ghost view = { λ w. now (word_of w.word) w.row w.views.items w.history.items };
+    ghost view = { λ w. kept (word_of w.word) w.row w.queues w.flags w.seats.items w.history.items };
 
-    ghost invariant = { λ w. IsLawfulWorld C.holds (now (word_of w.word) w.row w.views.items w.history.items) };
+    ghost invariant = { λ w. IsLawfulWorld (now (truths C.holds C.is_same C.is_quiet) (word_of w.word) w.row w.queues w.flags w.seats.items w.history.items) };
 }
 
 /// A world as it stands.
-#[derive(Clone, Drop)]
+#[derive(Drop)]
 pub struct State<const N: usize> {
     /// The lock word.
     pub word: Word,
-    /// Who waits for the lock, front first. No call of a world waits yet.
+    /// Who stands in the lock list, front first: as the caller that has the queues in its hand has
+    /// it, else as it stands at home.
     pub lock: ArrayVec<Shown, 64>,
-    /// Who waits for each condition variable, front first. No call of a world waits yet.
+    /// Who waits for each condition variable, front first. No call of a world waits for one yet.
     pub cvs: [ArrayVec<Shown, 64>; 4],
-    /// The wakes that are owed: who owes one, and whom, in the order in which they will be paid. None is yet.
+    /// The wakes that are owed: who owes one, and whom; by the seats that owe them, then in the
+    /// order in which each pays.
     pub owed: ArrayVec<(u8, u8), 64>,
     /// The row's cells.
     pub row: [u64; N],
@@ -67,7 +78,7 @@ pub struct State<const N: usize> {
     pub busy: Seats,
 }
 
-impl<C: Fits<N>, const N: usize> World<C, N> {
+impl<C: Seated<N>, const N: usize> World<C, N> {
     /// A free lock over a row of zeros, with so many seats, before any event.
     ///
     /// Needs at most 16 counters and at most 16 once cells; no call of a world reads them yet.
@@ -75,16 +86,18 @@ impl<C: Fits<N>, const N: usize> World<C, N> {
     pub fn new(alloc: Global, seats: usize, counters: &[u32], onces: usize) -> Result<Self, Fault>
         requires counters { length counters.now ≤ 16 }
         requires onces { onces ≤ 16 }
-        ensures { MatchResult result (λ world. (world ≡ fresh seats) × (seats ≤ 64)) (NewFault seats) }
+        ensures { MatchResult result (λ world. (seen (truths C.holds C.is_same C.is_quiet) world ≡ fresh (truths C.holds C.is_same C.is_quiet) seats) × (seats ≤ 64)) (NewFault seats) }
     {
         if seats > 64 {
             return Err(Fault::TooManySeats);
         }
-        let views = new_seats(alloc, seats as u8)?;
+        let seats = new_seats(alloc, seats as u8)?;
         Ok(World {
             word: encode(Word::FREE),
             row: [0; N],
-            views,
+            queues: Queues::new(),
+            flags: [0; 64],
+            seats,
             history: Vec::new(alloc),
         })
     }
@@ -95,13 +108,15 @@ impl<C: Fits<N>, const N: usize> World<C, N> {
     /// and then nothing has changed.
     pub fn begin(&mut self, seat: u8, call: Call) -> Result<Begun, Fault>
         requires { CellFits N call }
-        ensures ok { IfOk result (λ begun. Begins self.old self.new seat call begun) }
-        ensures err { IfErr result (λ fault. (self.new ≡ self.old) × BeginFault self.old seat fault) }
+        ensures ok { IfOk result (λ begun. Begins (seen (truths C.holds C.is_same C.is_quiet) self.old) (seen (truths C.holds C.is_same C.is_quiet) self.new) seat call begun) }
+        ensures err { IfErr result (λ fault. (seen (truths C.holds C.is_same C.is_quiet) self.new ≡ seen (truths C.holds C.is_same C.is_quiet) self.old) × BeginFault (seen (truths C.holds C.is_same C.is_quiet) self.old) seat fault) }
     {
         begin_at(
             &self.word,
             &self.row,
-            &mut self.views,
+            &self.queues,
+            &self.flags,
+            &mut self.seats,
             &self.history,
             seat,
             call,
@@ -114,13 +129,15 @@ impl<C: Fits<N>, const N: usize> World<C, N> {
     /// which can only come where a release is made, whose event is to be kept; then nothing has
     /// changed.
     pub fn step(&mut self, seat: u8) -> Result<Step, Fault>
-        ensures ok { IfOk result (λ step. StepOf self.old self.new seat step) }
-        ensures err { IfErr result (λ fault. (self.new ≡ self.old) × StepFault self.old seat fault) }
+        ensures ok { IfOk result (λ step. StepOf (seen (truths C.holds C.is_same C.is_quiet) self.old) (seen (truths C.holds C.is_same C.is_quiet) self.new) seat step) }
+        ensures err { IfErr result (λ fault. (seen (truths C.holds C.is_same C.is_quiet) self.new ≡ seen (truths C.holds C.is_same C.is_quiet) self.old) × StepFault (seen (truths C.holds C.is_same C.is_quiet) self.old) seat fault) }
     {
         step_at(
             &mut self.word,
             &mut self.row,
-            &mut self.views,
+            &mut self.queues,
+            &mut self.flags,
+            &mut self.seats,
             &mut self.history,
             seat,
         )
@@ -130,39 +147,50 @@ impl<C: Fits<N>, const N: usize> World<C, N> {
     pub fn history(&self) -> &[Event<C, N>]
         ensures all { result.now ≡ self.now.history }
         ensures legal { IsLegal C.holds result.now }
-        ensures by_seats { IsBySeats (length self.now.state.views) result.now }
+        ensures by_seats { IsBySeats (length self.now.views) result.now }
     {
         self.history.as_slice()
     }
 
     /// The world as it stands, of which the law of the lock holds.
     pub fn state(&self) -> State<N>
-        ensures word { result.word ≡ self.now.state.word }
-        ensures lists { (result.lock.items ≡ []) × All (λ list. list.items ≡ []) result.cvs × (result.owed.items ≡ []) }
-        ensures row { result.row ≡ self.now.state.row }
-        ensures busy { (seat : ℕ) → is_in result.busy seat ≡ is_busy self.now.state.views seat }
-        ensures lawful { IsLawful C.holds (length self.now.state.views) self.now.history self.now.state }
+        ensures word { result.word ≡ self.now.word }
+        ensures lock { result.lock.items ≡ map shown_of (lock_shown (seen (truths C.holds C.is_same C.is_quiet) self.now)) }
+        ensures variables { All (λ list. list.items ≡ []) result.cvs }
+        ensures owed { result.owed.items ≡ wakes_owed self.now.views }
+        ensures row { result.row ≡ self.now.row }
+        ensures busy { (seat : ℕ) → is_in result.busy seat ≡ is_busy self.now.views seat }
+        ensures lawful { IsLawful (truths C.holds C.is_same C.is_quiet) (length self.now.views) self.now.history (seen (truths C.holds C.is_same C.is_quiet) self.now).state }
     {
         State {
             word: unpacked(self.word),
-            lock: ArrayVec::new(),
+            lock: shown_lock(&self.queues, &self.seats, &self.row),
             cvs: [
                 ArrayVec::new(),
                 ArrayVec::new(),
                 ArrayVec::new(),
                 ArrayVec::new(),
             ],
-            owed: ArrayVec::new(),
+            owed: owed_wakes(&self.seats),
             row: self.row,
-            busy: busy_seats(&self.views),
+            busy: busy_seats(&self.seats),
         }
     }
 
     /// How many seats there are.
     pub(crate) fn seats(&self) -> usize
-        ensures count { result ≡ length self.now.state.views }
+        ensures count { result ≡ length self.now.views }
         ensures few { result ≤ 64 }
     {
-        self.views.len()
+        self.seats.len()
+    }
+
+    /// How many conditions the scan of the seat's call tested, of its last one where none is in
+    /// progress.
+    pub(crate) fn tests(&self, seat: u8) -> u32
+        requires { seat < length self.now.views }
+        ensures { result ≡ slice_index self.now.tests seat }
+    {
+        self.seats[seat as usize].tests
     }
 }

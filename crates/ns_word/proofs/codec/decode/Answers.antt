@@ -3,9 +3,9 @@ use Rattle.ns_word.specs.Codec.{word_of}
 use Rattle.ns_word.proofs.Codes.{read_back}
 use Rattle.ns_word.proofs.codec.decode.Goals as goal
 
-pub returns : goal.returns
+pub returns-clause-gives : goal.returns-clause-gives
 unfolding word_of
-returns c = read_back c.args.bits _
+returns-clause-gives c = read_back c.args.bits _
     (rw (
       c.is_set-write.ensures,
       c.is_set.ensures,

@@ -1,18 +1,74 @@
-use Rattle.std.proofs.Common.{[], refl, sym}
+use Rattle.std.proofs.Common.{rules, [], refl, sym}
 use Rattle.std.proofs.lemmas.List.{append-nil}
 use Rattle.ns_world.proofs.perform.make.Goals as goal
+
+pub release_returning-requires : goal.release_returning-requires
+release_returning-requires g c = (search rules, (search rules, (search rules, (search rules, (rw c.in-ReleaseReturning.is at c.requires.fits).0))))
+
+pub store-found-requires : goal.store-found-requires
+store-found-requires g c = let fits = rw c.in-StoreCell.is at c.requires.fits in (search rules, (search rules, (fits.0, fits.1)))
 
 pub returns-in-LoadWord-clause-ok : goal.returns-in-LoadWord-clause-ok
 returns-in-LoadWord-clause-ok g c = rw c.in-LoadWord.is (record { commits = []; effect = (refl, refl, refl); grows = sym (append-nil _) })
 
 pub returns-in-Acquire-clause-ok : goal.returns-in-Acquire-clause-ok
-returns-in-Acquire-clause-ok g c = rw c.in-Acquire.is (record { commits = []; effect = c.acquire-found.ensures c.args.view.now.seat; grows = sym (append-nil _) })
+returns-in-Acquire-clause-ok g c = rw c.in-Acquire.is (record {
+  commits = [];
+  effect = c.acquire-found.ensures c.args.seat.now.number c.args.queues.now c.args.flags.now c.args.seat.now.owed.items;
+  grows = sym (append-nil _);
+})
+
+pub returns-in-TakeQueues-clause-ok : goal.returns-in-TakeQueues-clause-ok
+returns-in-TakeQueues-clause-ok g c = rw c.in-TakeQueues.is (record {
+  commits = [];
+  effect = c.take_queues-found.ensures c.args.seat.now.number c.args.queues.now c.args.row.now c.args.flags.now c.args.seat.now.owed.items c.args.seat.now.held;
+  grows = sym (append-nil _);
+})
+
+pub returns-in-ReturnQueues-clause-ok : goal.returns-in-ReturnQueues-clause-ok
+returns-in-ReturnQueues-clause-ok g c = rw c.in-ReturnQueues.is (record {
+  commits = [];
+  effect = c.return_queues-found.ensures.made c.args.row.now c.args.flags.now c.args.seat.now.owed.items c.args.seat.now.held;
+  grows = sym (append-nil _);
+})
 
 pub returns-in_ok-found-in-Release-clause-ok : goal.returns-in_ok-found-in-Release-clause-ok
-returns-in_ok-found-in-Release-clause-ok g c = rw c.in-Release.is (c.in_ok-found-in-Release.ensures.ok c.args.row.now)
+returns-in_ok-found-in-Release-clause-ok g c =
+    rw c.in-Release.is (c.in_ok-found-in-Release.ensures.ok c.args.row.now c.args.flags.now c.args.seat.now.owed.items c.args.queues.now)
+
+pub returns-in_ok-found-in-ReleaseReturning-clause-ok : goal.returns-in_ok-found-in-ReleaseReturning-clause-ok
+returns-in_ok-found-in-ReleaseReturning-clause-ok g c = rw c.in-ReleaseReturning.is (c.in_ok-found-in-ReleaseReturning.ensures.ok c.args.flags.now)
 
 pub returns-in-LoadCell-clause-ok : goal.returns-in-LoadCell-clause-ok
 returns-in-LoadCell-clause-ok g c = rw c.in-LoadCell.is (record { commits = []; effect = (refl, refl, refl); grows = sym (append-nil _) })
 
+pub returns-in-JudgeQuiet-clause-ok : goal.returns-in-JudgeQuiet-clause-ok
+returns-in-JudgeQuiet-clause-ok g c = rw c.in-JudgeQuiet.is (record {
+  commits = [];
+  effect = c.judge-found.ensures c.args.seat.now.number c.args.word.now c.args.row.now c.args.queues.now c.args.flags.now c.args.seat.now.owed.items;
+  grows = sym (append-nil _);
+})
+
 pub returns-in-StoreCell-clause-ok : goal.returns-in-StoreCell-clause-ok
-returns-in-StoreCell-clause-ok g c = rw c.in-StoreCell.is (record { commits = []; effect = c.store-found.ensures c.args.view.now.seat c.args.word.now; grows = sym (append-nil _) })
+returns-in-StoreCell-clause-ok g c = rw c.in-StoreCell.is (record {
+  commits = [];
+  effect = c.store-found.ensures c.args.seat.now.number c.args.word.now c.args.queues.now c.args.flags.now c.args.seat.now.owed.items;
+  grows = sym (append-nil _);
+})
+
+pub returns-in-ArmFlag-clause-ok : goal.returns-in-ArmFlag-clause-ok
+returns-in-ArmFlag-clause-ok g c = rw c.in-ArmFlag.is (record {
+  commits = [];
+  effect = c.arm_flag-found.ensures c.args.word.now c.args.row.now c.args.queues.now c.args.seat.now.held c.args.seat.now.owed.items;
+  grows = sym (append-nil _);
+})
+
+pub returns-in-PayWake-clause-ok : goal.returns-in-PayWake-clause-ok
+returns-in-PayWake-clause-ok g c = rw c.in-PayWake.is (record {
+  commits = [];
+  effect = c.pay_wake-found.ensures c.args.seat.now.number c.args.word.now c.args.row.now c.args.queues.now c.args.seat.now.held;
+  grows = sym (append-nil _);
+})
+
+pub returns-in-LoadFlag-clause-ok : goal.returns-in-LoadFlag-clause-ok
+returns-in-LoadFlag-clause-ok g c = rw c.in-LoadFlag.is (record { commits = []; effect = (refl, refl, refl); grows = sym (append-nil _) })

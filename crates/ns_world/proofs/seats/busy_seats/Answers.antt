@@ -1,5 +1,6 @@
-use Rattle.std.proofs.Common.{◌≡◌, ◌+◌, length, take, arith, refl, sym, ap, ◌∙◌, Bool, true, false, ◌||◌, ◌&&◌, eqb, is_some, length-take}
-use Rattle.std.proofs.lemmas.List.{take_more}
+use Rattle.std.proofs.Common.{◌≡◌, ◌+◌, length, take, map, arith, refl, sym, ap, ◌∙◌, Bool, true, false, ◌||◌, ◌&&◌, eqb, is_some, length-take}
+use Rattle.std.proofs.lemmas.List.{take_more, map-append, length-map}
+use Rattle.ns_world.specs.Performs.{view_of}
 use Rattle.ns_world.specs.World.{is_busy}
 use Rattle.ns_world.proofs.Busy.{busy_push}
 use Rattle.ns_world.proofs.seats.busy_seats.Goals as goal
@@ -15,15 +16,15 @@ alone false e true p = absurd (cc)
 alone false e false p = refl
 
 pub loop-at-preserved : goal.loop-at-preserved
-loop-at-preserved g c = λ seat.
-    let views = c.args.views.now in
-    let view = c.index-views-at.result in
+loop-at-preserved g c = λ number.
+    let seats = c.args.seats.now in
+    let seat = c.index-seats-at.result in
     let at = c.loop-at.at in
-    let front : length (take at views) ≡ at = simp length-take (omega arith) in
-    let more : is_busy (take (at + 1) views) seat ≡ (is_busy (take at views) seat || (is_some view.walk && eqb seat at)) =
-    rw (take_more views at view c.loop-at-test.true, ← c.index-views-at.is) (busy_push (take at views) view seat ∙ ap (λ n. is_busy (take at views) seat || (is_some view.walk && eqb seat n)) front) in
-    let before = c.loop-at.invariant seat in
+    let front : length (map view_of (take at seats)) ≡ at = length-map (take at seats) view_of ∙ simp length-take (omega arith) in
+    let more : is_busy (map view_of (take (at + 1) seats)) number ≡ (is_busy (map view_of (take at seats)) number || (is_some seat.walk && eqb number at)) =
+    rw (take_more seats at seat c.loop-at-test.true, ← c.index-seats-at.is, map-append view_of (take at seats) _) (busy_push (map view_of (take at seats)) (view_of seat) number ∙ ap (λ n. is_busy (map view_of (take at seats)) number || (is_some seat.walk && eqb number n)) front) in
+    let before = c.loop-at.invariant number in
     elim c.if-is_some.branch [
-      | then-is_some w ↦ rw w.busy-is (w.with-busy.ensures seat ∙ ap (λ b. b || eqb seat at) before ∙ joined (is_busy (take at views) seat) (eqb seat at) (is_some view.walk) (sym c.is_some.ensures ∙ w.if-is_some.true) ∙ sym more)
-      | else-is_some w ↦ rw w.busy-is (before ∙ alone (is_busy (take at views) seat) (eqb seat at) (is_some view.walk) (sym c.is_some.ensures ∙ w.if-is_some.false) ∙ sym more)
+      | then-is_some w ↦ rw w.busy-is (w.with-busy.ensures number ∙ ap (λ b. b || eqb number at) before ∙ joined (is_busy (map view_of (take at seats)) number) (eqb number at) (is_some seat.walk) (sym c.is_some.ensures ∙ w.if-is_some.true) ∙ sym more)
+      | else-is_some w ↦ rw w.busy-is (before ∙ alone (is_busy (map view_of (take at seats)) number) (eqb number at) (is_some seat.walk) (sym c.is_some.ensures ∙ w.if-is_some.false) ∙ sym more)
     ]

@@ -1,8 +1,9 @@
-use Rattle.std.proofs.Common.{◌≡◌, ℕ, take}
+use Rattle.std.proofs.Common.{◌≡◌, ℕ, take, map}
 use Rattle.ns_model.specs.Seats.{is_in}
+use Rattle.ns_world.specs.Performs.{view_of}
 use Rattle.ns_world.specs.World.{is_busy}
 use Rattle.ns_world.proofs.seats.busy_seats.Given as goal
 
 -- the seats so far
 abbrev pub invariant-loop-at : goal.invariant-loop-at
-invariant-loop-at g l = (seat : ℕ) → is_in l.busy seat ≡ is_busy (take l.at l.views) seat
+invariant-loop-at g l = (seat : ℕ) → is_in l.busy seat ≡ is_busy (map view_of (take l.at l.seats)) seat

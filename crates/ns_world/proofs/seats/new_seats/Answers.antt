@@ -1,16 +1,24 @@
-use Rattle.std.proofs.Common.{◌≡◌, ◌+◌, ◌-◌, sym, ◌∙◌, arith}
+use Rattle.std.proofs.Common.{◌≡◌, ◌+◌, ◌-◌, ◌++◌, [], map, replicate, refl, sym, ◌∙◌, arith}
 use Rattle.std.proofs.lemmas.List.{append-nil}
-use Rattle.std.proofs.lemmas.Grind.{common_steps}
-use Rattle.ns_world.proofs.Starts.{seats_next}
+use Rattle.ns_world.specs.Performs.{view_of}
+use Rattle.ns_world.proofs.Fresh.{tests_next, moved, seat_moved}
 use Rattle.ns_world.proofs.seats.new_seats.Goals as goal
 
-pub loop-seat-preserved : goal.loop-seat-preserved
-loop-seat-preserved g c =
-    let next = seats_next g.row.C.Denot g.row.N c.loop-seat.seat (c.args.seats - c.loop-seat.seat) (omega arith) in
-    let count : c.args.seats - (c.loop-seat.seat + 1) ≡ c.args.seats - c.loop-seat.seat - 1 = omega arith in
-    grind (arith, common_steps, next, count, c.loop-seat.invariant)
+pub loop-number-preserved : goal.loop-number-preserved
+loop-number-preserved g c =
+    let n = c.loop-number.number in
+    let count : c.args.seats - (n + 1) ≡ c.args.seats - n - 1 = omega arith in
+    rw (c.in_ok-push.ensures.items, count) (
+      seat_moved c.loop-number.made.items _ n (c.args.seats - n) _ refl refl refl c.new.ensures (omega arith) c.loop-number.invariant.0,
+      moved (λ s. s.tests) c.loop-number.made.items _ _ _ _ (tests_next (c.args.seats - n) (omega arith)) c.loop-number.invariant.1,
+    )
 
-pub returns : goal.returns
-returns g c =
-    let past : c.args.seats - c.loop-seat.seat ≡ 0 = omega arith in
-    sym (append-nil c.loop-seat.views.items) ∙ rw past at c.loop-seat.invariant
+pub returns-clause-views : goal.returns-clause-views
+returns-clause-views g c =
+    let past : c.args.seats - c.loop-number.number ≡ 0 = omega arith in
+    sym (append-nil (map view_of c.loop-number.made.items)) ∙ rw past at c.loop-number.invariant.0
+
+pub returns-clause-tests : goal.returns-clause-tests
+returns-clause-tests g c =
+    let past : c.args.seats - c.loop-number.number ≡ 0 = omega arith in
+    sym (append-nil (map (λ s. s.tests) c.loop-number.made.items)) ∙ rw past at c.loop-number.invariant.1

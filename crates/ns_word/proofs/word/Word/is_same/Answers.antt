@@ -1,6 +1,6 @@
 use Rattle.std.proofs.Common.{◌∙◌, sym}
-use Rattle.ns_word.proofs.Alike.{alike}
+use Rattle.ns_word.proofs.Same.{same_word}
 use Rattle.ns_word.proofs.word.Word.is_same.Goals as goal
 
 pub returns-clause-same : goal.returns-clause-same
-returns-clause-same c = λ e. alike c.args.self c.args.other (sym c.eq.ensures ∙ e)
+returns-clause-same c = λ same. same_word c.args.self c.args.other (sym c.eq.ensures ∙ same)

@@ -1,9 +1,37 @@
+use Rattle.std.proofs.Common.{rules, sym, ◌∙◌}
+use Rattle.ns_word.specs.Codec.{word_of}
+use Rattle.ns_word.specs.Steps.{truths}
 use Rattle.ns_world.proofs.Lists.{all_empty}
 use Rattle.ns_world.proofs.Packable.{packable}
+use Rattle.ns_world.proofs.States.{number_below, nowhere, few_seats, wakes_few}
 use Rattle.ns_world.proofs.world.World.state.Goals as goal
 
 pub unpacked-requires : goal.unpacked-requires
-unpacked-requires g c = packable g.C.Condition.holds _ c.self.invariant
+unpacked-requires g c = packable _ c.self.invariant
 
-pub returns-clause-lists : goal.returns-clause-lists
-returns-clause-lists g c = (c.new.ensures, all_empty c.new-2.result c.new-3.result c.new-4.result c.new-5.result c.new-2.ensures c.new-3.ensures c.new-4.ensures c.new-5.ensures, c.new-6.ensures)
+pub shown_lock-requires : goal.shown_lock-requires
+shown_lock-requires g c = (
+  search rules,
+  (
+    g.met.C.Seated.seat_fits,
+    (
+      search rules,
+      rw c.deref.ensures.value (
+        λ i seat at. number_below (truths g.C.Condition.holds g.C.Condition.is_same g.C.Condition.is_quiet) (word_of c.self.inside.word) c.self.inside.row c.self.inside.queues c.self.inside.flags c.self.inside.seats.items c.self.inside.history.items c.self.invariant i seat at,
+        λ i seat at. nowhere (truths g.C.Condition.holds g.C.Condition.is_same g.C.Condition.is_quiet) (word_of c.self.inside.word) c.self.inside.row c.self.inside.queues c.self.inside.flags c.self.inside.seats.items c.self.inside.history.items c.self.invariant i seat at,
+      ),
+    ),
+  ),
+)
+
+pub owed_wakes-requires : goal.owed_wakes-requires
+owed_wakes-requires g c = (g.met.C.Seated.seat_fits, rw c.deref-2.ensures.value (wakes_few _ _ _ _ c.self.invariant.few c.self.invariant.lawful))
+
+pub busy_seats-requires : goal.busy_seats-requires
+busy_seats-requires g c = (g.met.C.Seated.seat_fits, rw c.deref-3.ensures.value (few_seats (truths g.C.Condition.holds g.C.Condition.is_same g.C.Condition.is_quiet) (word_of c.self.inside.word) c.self.inside.row c.self.inside.queues c.self.inside.flags c.self.inside.seats.items c.self.inside.history.items c.self.invariant))
+
+pub returns-clause-busy : goal.returns-clause-busy
+returns-clause-busy g c = λ seat. rw (← c.self.view_is) (rw c.deref-3.ensures.value at (c.busy_seats.ensures seat))
+
+pub returns-clause-variables : goal.returns-clause-variables
+returns-clause-variables g c = all_empty c.new.result c.new-2.result c.new-3.result c.new-4.result c.new.ensures c.new-2.ensures c.new-3.ensures c.new-4.ensures

@@ -1,0 +1,62 @@
+-- The law in four groups, as its proof goes by them.
+use Rattle.std.proofs.Common.{◌≡◌, ℕ, Bool, false, List}
+use Rattle.ns_model.specs.declared.event.Event.{Event}
+use Rattle.ns_model.specs.Histories.{standing_after}
+use Rattle.ns_queue.specs.declared.waiter.Waiter.{Waiter}
+use Rattle.ns_word.specs.declared.word.Word.{Word}
+use Rattle.ns_word.specs.declared.view.SeatView.{SeatView}
+use Rattle.ns_word.specs.Lists.{has_some, bits_of}
+use Rattle.ns_word.specs.Views.{queuers, AreApart}
+use Rattle.ns_word.specs.Steps.{Truths, State}
+use Rattle.ns_word.specs.Lawful.{OneWriter, ReadersCounted, OneHistory, SpinHeldOnce, bits_in, WaitersPlaced, WaitersOwn, DesigOnItsWay, IdleWaitersFalse, AllfalseTrue, IsLawful}
+
+-- the sections
+pub record Safe {C : Type 0} {N : ℕ} (truths : Truths C) (seats : ℕ) (history : List (Event C N)) (word : Word) (row : List ℕ) (views : List (SeatView C N)) : Type 0 where
+  pub one_writer : OneWriter word views
+  pub count : ReadersCounted word views
+  pub one_history : OneHistory truths seats history word row views
+  pub apart : AreApart views
+
+-- where the queues are
+pub record Homed {C : Type 0} {N : ℕ} (word : Word) (lock : List (Waiter C)) (views : List (SeatView C N)) : Type 0 where
+  pub spin : SpinHeldOnce word views
+  pub bits : word.spin ≡ false → bits_in word ≡ bits_of lock
+
+-- that nobody is forgotten; `now` is the row after the history
+pub record Known {C : Type 0} {N : ℕ} (holds : C → List ℕ → Bool) (word : Word) (now : List ℕ) (lock : List (Waiter C)) (views : List (SeatView C N)) : Type 0 where
+  pub on_way : DesigOnItsWay word lock views
+  pub idle : AllfalseTrue holds now word lock views
+  pub free : IdleWaitersFalse holds now word lock views
+  pub empty : word.waiting ≡ false → (has_some lock ≡ false) × (queuers views ≡ 0)
+
+pub record Groups {C : Type 0} {N : ℕ} (truths : Truths C) (seats : ℕ) (history : List (Event C N)) (s : State C N) : Type 0 where
+  pub safe : Safe truths seats history s.word s.row s.views
+  pub homed : Homed s.word s.lock s.views
+  pub placed : WaitersPlaced s.lock s.flags s.views
+  pub own : WaitersOwn s.lock s.views
+  pub known : Known truths.holds s.word (standing_after history).row s.lock s.views
+
+module _ {C : Type 0} {N : ℕ} (truths : Truths C) (seats : ℕ) (history : List (Event C N)) (s : State C N) where
+  pub groups_of : IsLawful truths seats history s → Groups truths seats history s
+  groups_of p = record {
+    safe = record { one_writer = p.one_writer; count = p.readers_counted; one_history = p.one_history; apart = p.apart };
+    homed = record { spin = p.spin_held_once; bits = p.bits_tell.at_home };
+    placed = p.waiters_placed;
+    own = p.waiters_own;
+    known = record { on_way = p.desig_on_its_way; idle = p.allfalse_true; free = p.idle_waiters_false; empty = p.bits_tell.nobody };
+  }
+
+  pub lawful_by : Groups truths seats history s → IsLawful truths seats history s
+  lawful_by p = record {
+    one_writer = p.safe.one_writer;
+    readers_counted = p.safe.count;
+    one_history = p.safe.one_history;
+    spin_held_once = p.homed.spin;
+    bits_tell = record { at_home = p.homed.bits; nobody = p.known.empty };
+    waiters_placed = p.placed;
+    waiters_own = p.own;
+    desig_on_its_way = p.known.on_way;
+    idle_waiters_false = p.known.free;
+    allfalse_true = p.known.idle;
+    apart = p.safe.apart;
+  }

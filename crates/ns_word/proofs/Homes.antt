@@ -1,0 +1,57 @@
+-- What the steps leave of the queues' place and of the bits that tell of them.
+use Rattle.std.proofs.Common.{◌≡◌, ℕ, ◌+◌, ◌≤◌, true, false, List, ◌∷◌, ◌++◌, Option, ap, sym, ◌∙◌, arith}
+use Rattle.ns_queue.specs.declared.waiter.Waiter.{Waiter}
+use Rattle.ns_word.specs.declared.word.Word.{Word}
+use Rattle.ns_word.specs.declared.view.Held.{Held}
+use Rattle.ns_word.specs.declared.view.SeatView.{SeatView}
+use Rattle.ns_word.specs.declared.walk.Walk.{Walk}
+use Rattle.ns_word.specs.Lists.{bits_of}
+use Rattle.ns_word.specs.Walks.{has_queues}
+use Rattle.ns_word.specs.Views.{takers}
+use Rattle.ns_word.specs.Lawful.{bits_in}
+use Rattle.ns_word.proofs.Groups.{Homed}
+use Rattle.ns_word.proofs.Views.{one_if, one_most, view_of, takers_at}
+
+module _ {C : Type 0} {N : ℕ} (front : List (SeatView C N)) (who : ℕ) (walk : Option Walk) (held : Option (Held C N)) (owed : List ℕ) (walk' : Option Walk) (held' : Option (Held C N)) (owed' : List ℕ) (back : List (SeatView C N)) where
+  abbrev olds : List (SeatView C N)
+  olds = front ++ view_of who walk held owed ∷ back
+
+  abbrev news : List (SeatView C N)
+  news = front ++ view_of who walk' held' owed' ∷ back
+
+  was : takers olds ≡ takers front + (one_if (has_queues walk) + takers back)
+  was = takers_at front (view_of who walk held owed) back
+
+  is : takers news ≡ takers front + (one_if (has_queues walk') + takers back)
+  is = takers_at front (view_of who walk' held' owed') back
+
+  -- the queues stay where they are
+  pub at_home : (word word' : Word) (lock : List (Waiter C)) → word'.spin ≡ word.spin → bits_in word' ≡ bits_in word →
+      has_queues walk' ≡ has_queues walk → Homed word lock olds → Homed word' lock news
+  at_home word word' lock s bits same p = record {
+    spin = is ∙ rw same (sym was ∙ p.spin ∙ ap one_if (sym s));
+    bits = λ e. bits ∙ p.bits (sym s ∙ e);
+  }
+
+  -- one takes them
+  pub away : (word word' : Word) (lock : List (Waiter C)) → word.spin ≡ false → word'.spin ≡ true → has_queues walk ≡ false → has_queues walk' ≡ true → Homed word lock olds → Homed word' lock news
+  away word word' lock none set a a' p = record {
+    spin = let before : takers olds ≡ 0 = p.spin ∙ ap one_if none in
+        let one : one_if word'.spin ≡ 1 = ap one_if set in
+        let here : one_if (has_queues walk) ≡ 0 = ap one_if a in
+        let here' : one_if (has_queues walk') ≡ 1 = ap one_if a' in
+        omega (arith, before, one, here, here', was, is);
+    bits = λ e. absurd (cc);
+  }
+
+  -- one puts them back
+  pub back_home : (word word' : Word) (lock lock' : List (Waiter C)) → word'.spin ≡ false → bits_in word' ≡ bits_of lock' → has_queues walk ≡ true → has_queues walk' ≡ false → Homed word lock olds → Homed word' lock' news
+  back_home word word' lock lock' clear tells a a' p = record {
+    spin = let before : takers olds ≡ one_if word.spin = p.spin in
+        let most : one_if word.spin ≤ 1 = one_most word.spin in
+        let none : one_if word'.spin ≡ 0 = ap one_if clear in
+        let here : one_if (has_queues walk) ≡ 1 = ap one_if a in
+        let here' : one_if (has_queues walk') ≡ 0 = ap one_if a' in
+        omega (arith, before, none, here, here', was, is, most);
+    bits = λ e. tells;
+  }

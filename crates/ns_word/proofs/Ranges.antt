@@ -1,0 +1,169 @@
+-- Which seats the law speaks of, and how many: those that wait or are owed a wake are seats, each stands once, and not all of 64 read while one asks to.
+use Rattle.std.proofs.Common.{◌≡◌, ℕ, ◌+◌, ◌<◌, ◌≤◌, true, false, cond, eqb, ◌⊎◌, inl, inr, List, [], ◌∷◌, ◌++◌, length, None, get_or, set, refl, ap, sym, ◌∙◌, subst, arith, eq-eqb}
+use Rattle.std.proofs.lemmas.Bool.{ne_eqb, cases_eq}
+use Rattle.std.proofs.lemmas.List.{get_or-set_same, get_or-set_other}
+use Rattle.ns_model.specs.declared.event.Mode.TheVariants.{Read}
+use Rattle.ns_model.specs.declared.event.Event.{Event}
+use Rattle.ns_model.specs.Histories.{Standing, standing_after}
+use Rattle.ns_queue.specs.declared.waiter.Waiter.{Waiter}
+use Rattle.ns_queue.specs.Waiters.{times_in}
+use Rattle.ns_queue.proofs.Seats.{times_in-cons, few, room_for}
+use Rattle.ns_word.specs.declared.view.SeatView.{SeatView}
+use Rattle.ns_word.specs.Lists.{times_among}
+use Rattle.ns_word.specs.Walks.{awaits}
+use Rattle.ns_word.specs.Views.{is_reading, readers, owed_to, walk_at, NoneIs, AreApart}
+use Rattle.ns_word.specs.Steps.{Truths, State, flags_with}
+use Rattle.ns_word.specs.Lawful.{EachFits, WaitersPlaced, IsLawful, is_due}
+use Rattle.ns_word.proofs.Views.{one_if, one_most, owed_at, none_parts, each_parts}
+use Rattle.ns_word.proofs.Knows.{due_awaits}
+
+-- ---- seats that wait
+
+module _ {C : Type 0} {N : ℕ} (truths : Truths C) (seats : ℕ) (now : Standing C) (row : List ℕ) where
+  pub waiting_below : (seat : ℕ) (views : List (SeatView C N)) → EachFits truths seats now row views → awaits (walk_at seat views) ≡ true → seat < seats
+  waiting_below seat [] p a = absurd (cc)
+  waiting_below seat (u ∷ views) p a = elim (cases_eq u.seat seat) [
+    | inl e ↦ subst (λ s. s < seats) e p.0.in_range
+    | inr ne ↦ waiting_below seat views p.1 (subst (λ b. awaits (cond b u.walk (walk_at seat views)) ≡ true) (ne_eqb u.seat seat ne) a)
+  ]
+
+module _ {C : Type 0} {N : ℕ} (lock : List (Waiter C)) (flags : ℕ → ℕ) (views : List (SeatView C N)) where
+  -- a seat that waits is in one of three ways
+  pub waits_so : (seat : ℕ) → WaitersPlaced lock flags views → awaits (walk_at seat views) ≡ true →
+      ((times_in seat lock ≡ 1) × (owed_to seat views ≡ 0) × (flags seat ≡ 1))
+      ⊎ ((times_in seat lock ≡ 0) × (owed_to seat views ≡ 1) × (flags seat ≡ 1))
+      ⊎ ((times_in seat lock ≡ 0) × (owed_to seat views ≡ 0) × (flags seat ≡ 0))
+  waits_so seat p a =
+      let sum : times_in seat lock + owed_to seat views ≡ one_if (is_due (walk_at seat views) (flags seat)) = p.placed seat in
+      elim (cases_eq (flags seat) 1) [
+        | inl e ↦ let one : one_if (is_due (walk_at seat views) (flags seat)) ≡ 1 = rw a (rw e refl) in
+            elim (cases_eq (times_in seat lock) 0) [
+              | inl none ↦ inr (inl (none, omega (arith, sum, one, none), e))
+              | inr some ↦ inl (omega (arith, sum, one, some), omega (arith, sum, one, some), e)
+            ]
+        | inr ne ↦ let zero : one_if (is_due (walk_at seat views) (flags seat)) ≡ 0 = rw a (rw (ne_eqb (flags seat) 1 ne) refl) in
+            inr (inr (omega (arith, sum, zero), omega (arith, sum, zero), omega (arith, p.flag seat, ne)))
+      ]
+
+  -- any other stands nowhere, and is owed nothing
+  pub else_not : (seat : ℕ) → WaitersPlaced lock flags views → awaits (walk_at seat views) ≡ false → (times_in seat lock ≡ 0) × (owed_to seat views ≡ 0)
+  else_not seat p a =
+      let sum : times_in seat lock + owed_to seat views ≡ 0 = p.placed seat ∙ rw a refl in (omega (arith, sum), omega (arith, sum))
+
+  -- so one that stands somewhere or is owed a wake waits
+  pub placed_awaits : (seat : ℕ) → WaitersPlaced lock flags views → 1 ≤ times_in seat lock + owed_to seat views → awaits (walk_at seat views) ≡ true
+  placed_awaits seat p some =
+      let sum : times_in seat lock + owed_to seat views ≡ one_if (is_due (walk_at seat views) (flags seat)) = p.placed seat in
+      due_awaits (walk_at seat views) (flags seat) (omega (arith, sum, some))
+
+module _ {C : Type 0} {N : ℕ} (truths : Truths C) (seats : ℕ) (h : List (Event C N)) (s : State C N) (p : IsLawful truths seats h s) where
+  -- no seat stands in the lock list twice
+  pub stands_once : (seat : ℕ) → times_in seat s.lock ≤ 1
+  stands_once seat =
+      let sum : times_in seat s.lock + owed_to seat s.views ≡ one_if (is_due (walk_at seat s.views) (s.flags seat)) = p.waiters_placed.placed seat in
+      let most = one_most (is_due (walk_at seat s.views) (s.flags seat)) in
+      omega (arith, sum, most)
+
+  pub placed_below : (seat : ℕ) → 1 ≤ times_in seat s.lock + owed_to seat s.views → seat < seats
+  placed_below seat some = waiting_below truths seats (standing_after h) s.row seat s.views p.one_history.each (placed_awaits s.lock s.flags s.views seat p.waiters_placed some)
+
+  -- and only seats do
+  pub stands_below : (seat : ℕ) → seats ≤ seat → times_in seat s.lock ≡ 0
+  stands_below seat high = elim (cases_eq (times_in seat s.lock) 0) [
+    | inl none ↦ none
+    | inr some ↦ let low = placed_below seat (omega (arith, some)) in absurd (omega (arith, low, high))
+  ]
+
+  -- a seat that a view owes a wake is one
+  pub owed_below : (front : List (SeatView C N)) (view : SeatView C N) (back : List (SeatView C N)) → s.views ≡ front ++ view ∷ back → (seat : ℕ) → 1 ≤ times_among seat view.owed → seat < seats
+  owed_below front view back split seat some =
+      let all : owed_to seat s.views ≡ owed_to seat front + (times_among seat view.owed + owed_to seat back) = ap (owed_to seat) split ∙ owed_at seat front view back in
+      placed_below seat (omega (arith, all, some))
+
+-- ---- how many read
+
+module _ {C : Type 0} {N : ℕ} where
+  abbrev reader : SeatView C N → Waiter C
+  reader view = record { seat = view.seat; mode = Read; cond = None }
+
+  -- the seats that read
+  reading : List (SeatView C N) → List (Waiter C)
+  reading [] = []
+  reading (view ∷ views) = cond (is_reading view.held) (record { seat = view.seat; mode = Read; cond = None } ∷ reading views) (reading views)
+
+  reading_length : (views : List (SeatView C N)) → length (reading views) ≡ readers views
+  unfolding reading
+  reading_length [] = refl
+  reading_length (u ∷ views) =
+      let rest = reading_length views in
+      elim (is_reading u.held) as (λ b. length (cond b (record { seat = u.seat; mode = Read; cond = None } ∷ reading views) (reading views)) ≡ cond b 1 0 + readers views) [ true ↦ omega (arith, rest) | false ↦ omega (arith, rest) ]
+
+  -- one more view may stand in it, once
+  reading_more : (seat : ℕ) (u : SeatView C N) (views : List (SeatView C N)) → times_in seat (reading (u ∷ views)) ≤ one_if (eqb u.seat seat) + times_in seat (reading views)
+  unfolding reading
+  reading_more seat u views =
+      elim (is_reading u.held) as (λ b. times_in seat (cond b (record { seat = u.seat; mode = Read; cond = None } ∷ reading views) (reading views)) ≤ one_if (eqb u.seat seat) + times_in seat (reading views))
+      [ true ↦ omega (arith, times_in-cons seat (record { seat = u.seat; mode = Read; cond = None }) (reading views)) | false ↦ omega arith ]
+
+  reading_none : (seat : ℕ) (views : List (SeatView C N)) → NoneIs seat views → times_in seat (reading views) ≡ 0
+  unfolding reading
+  reading_none seat [] p = refl
+  reading_none seat (u ∷ views) p =
+      let here : one_if (eqb u.seat seat) ≡ 0 = rw (ne_eqb u.seat seat p.0) refl in
+      omega (arith, reading_more seat u views, reading_none seat views p.1, here)
+
+  reading_once : (seat : ℕ) (views : List (SeatView C N)) → AreApart views → times_in seat (reading views) ≤ 1
+  unfolding reading
+  reading_once seat [] p = omega arith
+  reading_once seat (u ∷ views) p = elim (cases_eq u.seat seat) [
+    | inl e ↦ let none = reading_none seat views (subst (λ x. NoneIs x views) e p.0) in omega (arith, reading_more seat u views, none, one_most (eqb u.seat seat))
+    | inr ne ↦ let here : one_if (eqb u.seat seat) ≡ 0 = rw (ne_eqb u.seat seat ne) refl in omega (arith, reading_more seat u views, reading_once seat views p.1, here)
+  ]
+
+  reading_below : (truths : Truths C) (seats : ℕ) (now : Standing C) (row : List ℕ) (seat : ℕ) (views : List (SeatView C N)) → EachFits truths seats now row views → seats ≤ seat → times_in seat (reading views) ≡ 0
+  unfolding reading
+  reading_below truths seats now row seat [] p high = refl
+  reading_below truths seats now row seat (u ∷ views) p high =
+      let low = p.0.in_range in
+      let here : one_if (eqb u.seat seat) ≡ 0 = rw (ne_eqb u.seat seat (λ e. absurd (omega (arith, low, high, e)))) refl in
+      omega (arith, reading_more seat u views, reading_below truths seats now row seat views p.1 high, here)
+
+  -- a seat without a section isn't among them
+  reading_not : (front : List (SeatView C N)) (view : SeatView C N) (back : List (SeatView C N)) → AreApart (front ++ view ∷ back) → view.held ≡ None → times_in view.seat (reading (front ++ view ∷ back)) ≡ 0
+  unfolding reading
+  reading_not [] view back p none = rw none (reading_none view.seat back p.0)
+  reading_not (u ∷ front) view back p none =
+      let here : one_if (eqb u.seat view.seat) ≡ 0 = rw (ne_eqb u.seat view.seat (λ e. (none_parts u.seat front view back p.0).1 (sym e))) refl in
+      omega (arith, reading_more view.seat u (front ++ view ∷ back), reading_not front view back p.1 none, here)
+
+module _ {C : Type 0} {N : ℕ} (truths : Truths C) (seats : ℕ) (h : List (Event C N)) (s : State C N) (p : IsLawful truths seats h s) where
+  -- the word counts no more readers than there are seats
+  pub readers_most : s.word.readers ≤ seats
+  readers_most =
+      let length_is = reading_length s.views in
+      let most = few seats (reading s.views) (λ seat. reading_once seat s.views p.apart) (λ seat high. reading_below truths seats (standing_after h) s.row seat s.views p.one_history.each high) in
+      omega (arith, p.readers_counted, length_is, most)
+
+  -- and fewer where a seat has no section in hand
+  pub readers_fewer : (front : List (SeatView C N)) (view : SeatView C N) (back : List (SeatView C N)) → s.views ≡ front ++ view ∷ back → view.held ≡ None → s.word.readers < seats
+  readers_fewer front view back split none =
+      let views = front ++ view ∷ back in
+      let apart = subst (λ vs. AreApart vs) split p.apart in
+      let each = subst (λ vs. EachFits truths seats (standing_after h) s.row vs) split p.one_history.each in
+      let count : s.word.readers ≡ readers views = p.readers_counted ∙ ap (λ vs. readers vs) split in
+      let here = (each_parts truths seats (standing_after h) s.row front view back each).1 in
+      let room = room_for seats (reading views) (reader view) (λ seat. reading_once seat views apart) (λ seat high. reading_below truths seats (standing_after h) s.row seat views each high) here.in_range (reading_not front view back apart none) in
+      omega (arith, count, reading_length views, room)
+
+-- ---- flags in an array
+
+-- a store into a list of flags
+pub stored_flag : (flags : List ℕ) (who value : ℕ) → who < length flags → (seat : ℕ) → get_or (set flags who value) seat 0 ≡ flags_with (λ s. get_or flags s 0) who value seat
+stored_flag flags who value within seat = elim (cases_eq who seat) [
+  | inl e ↦ rw (eq-eqb who seat e) (subst (λ s. get_or (set flags who value) s 0 ≡ value) e (get_or-set_same flags who value 0 within))
+  | inr ne ↦ rw (ne_eqb who seat ne) (get_or-set_other flags who seat value 0 (λ e. ne (sym e)))
+]
+
+-- and as functions
+pub stored_flags : (flags : List ℕ) (who value : ℕ) → who < length flags → ◌≡◌ {A = ℕ → ℕ} (λ seat. get_or (set flags who value) seat 0) (flags_with (λ s. get_or flags s 0) who value)
+stored_flags flags who value within i seat = stored_flag flags who value within seat i

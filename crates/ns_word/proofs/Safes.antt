@@ -1,0 +1,272 @@
+-- What the steps leave of the sections.
+use Rattle.std.proofs.Common.{◌≡◌, ◌≢◌, ℕ, ◌+◌, ◌-◌, ◌<◌, ◌≤◌, Bool, true, false, cond, inl, inr, List, [], ◌∷◌, ◌++◌, length, Option, None, Some, slice_set, refl, ap, sym, ◌∙◌, arith, eq-eqb}
+use Rattle.std.proofs.lemmas.List.{length-set}
+use Rattle.std.proofs.lemmas.Bool.{ne_eqb, both_ways}
+use Rattle.ns_model.specs.declared.event.Mode.{Mode}
+use Rattle.ns_model.specs.declared.event.Mode.TheVariants.{Write, Read}
+use Rattle.ns_model.specs.declared.event.Entry.{Entry}
+use Rattle.ns_model.specs.declared.event.Exit.TheVariants.{Plain as Released}
+use Rattle.ns_model.specs.declared.event.Event.{Event}
+use Rattle.ns_model.specs.declared.phase.Phase.TheVariants.{Idle}
+use Rattle.ns_model.specs.Sections.{ModeFits}
+use Rattle.ns_model.specs.Histories.{first_standing, standing_after, standing_next, IsLegal, IsBySeats, who_of}
+use Rattle.ns_model.proofs.Histories.{legal_append, standing_from-append}
+use Rattle.ns_word.specs.declared.word.Word.{Word}
+use Rattle.ns_word.specs.declared.view.Held.{Held}
+use Rattle.ns_word.specs.declared.view.SeatView.{SeatView}
+use Rattle.ns_word.specs.declared.walk.Walk.{Walk}
+use Rattle.ns_word.specs.Lists.{has_some}
+use Rattle.ns_word.specs.Walks.{pays}
+use Rattle.ns_word.specs.Views.{writers, readers}
+use Rattle.ns_word.specs.Steps.{Truths, section_of, newly_held}
+use Rattle.ns_word.specs.Places.{PlaceFits}
+use Rattle.ns_word.specs.Lawful.{HeldFits}
+use Rattle.ns_word.proofs.Groups.{Safe}
+use Rattle.ns_word.proofs.Views.{view_of, writers_at, readers_at, apart_parts, apart_moves, each_parts, each_join, each_moves}
+
+pub by_seats_more : {C : Type 0} {N : ℕ} (seats : ℕ) (h : List (Event C N)) (e : Event C N) → IsBySeats seats h → who_of e < seats → IsBySeats seats (h ++ e ∷ [])
+by_seats_more seats [] e p q = (q, tt)
+by_seats_more seats (d ∷ h) e p q = (p.0, by_seats_more seats h e p.1 q)
+
+bit_set : (b : Bool) → 0 < cond b 1 0 → b ≡ true
+bit_set true p = refl
+bit_set false p = absurd (omega (arith, p))
+
+abbrev pub section : {C : Type 0} {N : ℕ} → Mode → Entry C → List ℕ → List ℕ → Held C N
+section mode entry before row = record { mode = mode; entry = entry; before = before; row = row }
+
+module _ {C : Type 0} {N : ℕ} (truths : Truths C) (seats : ℕ) (h : List (Event C N)) where
+  module _ (front : List (SeatView C N)) (who : ℕ) (walk : Option Walk) (owed : List ℕ) (walk' : Option Walk) (owed' : List ℕ) (back : List (SeatView C N)) where
+    -- a step that leaves the sections
+    pub unchanged : (word word' : Word) (row : List ℕ) (held : Option (Held C N)) → word'.write ≡ word.write → word'.readers ≡ word.readers →
+        PlaceFits truths walk' held → has_some owed' ≡ pays walk' →
+        Safe truths seats h word row (front ++ view_of who walk held owed ∷ back) → Safe truths seats h word' row (front ++ view_of who walk' held owed' ∷ back)
+    unchanged word word' row held same_write same_readers place owes p =
+        let view = view_of who walk held owed in
+        let view' = view_of who walk' held owed' in
+        let parts = each_parts truths seats (standing_after h) row front view back p.one_history.each in
+        let w : writers (front ++ view' ∷ back) ≡ writers (front ++ view ∷ back) = writers_at front view' back ∙ sym (writers_at front view back) in
+        let r : readers (front ++ view' ∷ back) ≡ readers (front ++ view ∷ back) = readers_at front view' back ∙ sym (readers_at front view back) in
+        record {
+          one_writer = record { bit = w ∙ p.one_writer.bit ∙ ap (λ b. cond b 1 0) (sym same_write); alone = λ e. r ∙ p.one_writer.alone (sym same_write ∙ e) };
+          count = same_readers ∙ p.count ∙ sym r;
+          one_history = record {
+            legal = p.one_history.legal;
+            by_seats = p.one_history.by_seats;
+            each = each_join truths seats (standing_after h) row front view' back parts.0
+                (record { in_range = parts.1.in_range; place = place; owes = owes; section = parts.1.section }) parts.2;
+            free = λ e. p.one_history.free (sym same_write ∙ e);
+            cells = p.one_history.cells;
+            cells_after = p.one_history.cells_after;
+          };
+          apart = apart_moves front view view' back refl p.apart;
+        }
+
+    -- a write acquire
+    pub acquired_write : (word word' : Word) (row : List ℕ) → word.write ≡ false → word.readers ≡ 0 → word'.write ≡ true → word'.readers ≡ word.readers →
+        PlaceFits truths walk' (Some (newly_held {C = C} {N = N} Write row)) → has_some owed' ≡ pays walk' →
+        Safe truths seats h word row (front ++ view_of who walk None owed ∷ back) →
+        Safe truths seats h word' row (front ++ view_of who walk' (Some (newly_held Write row)) owed' ∷ back)
+    acquired_write word word' row no_writer no_reader write' readers' place owes p =
+        let view = view_of {C = C} {N = N} who walk None owed in
+        let view' = view_of {C = C} {N = N} who walk' (Some (newly_held Write row)) owed' in
+        let parts = each_parts truths seats (standing_after h) row front view back p.one_history.each in
+        let none : writers (front ++ view ∷ back) ≡ 0 = p.one_writer.bit ∙ ap (λ b. cond b 1 0) no_writer in
+        let unit : ◌≡◌ {A = ℕ} (cond word'.write 1 0) 1 = rw write' refl in
+        let w = writers_at front view back in
+        let w' = writers_at front view' back in
+        let r = readers_at front view back in
+        let r' = readers_at front view' back in
+        let count : word.readers ≡ readers (front ++ view ∷ back) = p.count in
+        record {
+          one_writer = record { bit = omega (arith, none, unit, w, w'); alone = λ e. omega (arith, r, r', count, no_reader) };
+          count = omega (arith, r, r', count, no_reader, readers');
+          one_history = record {
+            legal = p.one_history.legal;
+            by_seats = p.one_history.by_seats;
+            each = each_join truths seats (standing_after h) row front view' back parts.0
+                (record {
+                  in_range = parts.1.in_range;
+                  place = place;
+                  owes = owes;
+                  section = record { starts = p.one_history.free no_writer; enters = rw parts.1.section tt; cells = refl; reads = λ e. refl };
+                }) parts.2;
+            free = λ e. absurd (cc);
+            cells = p.one_history.cells;
+            cells_after = p.one_history.cells_after;
+          };
+          apart = apart_moves front view view' back refl p.apart;
+        }
+
+    -- a read acquire
+    pub acquired_read : (word word' : Word) (row : List ℕ) → word.write ≡ false → word'.write ≡ false → word'.readers ≡ word.readers + 1 →
+        PlaceFits truths walk' (Some (newly_held {C = C} {N = N} Read row)) → has_some owed' ≡ pays walk' →
+        Safe truths seats h word row (front ++ view_of who walk None owed ∷ back) →
+        Safe truths seats h word' row (front ++ view_of who walk' (Some (newly_held Read row)) owed' ∷ back)
+    acquired_read word word' row no_writer write' readers' place owes p =
+        let view = view_of {C = C} {N = N} who walk None owed in
+        let view' = view_of {C = C} {N = N} who walk' (Some (newly_held Read row)) owed' in
+        let parts = each_parts truths seats (standing_after h) row front view back p.one_history.each in
+        let r = readers_at front view back in
+        let r' = readers_at front view' back in
+        let count : word.readers ≡ readers (front ++ view ∷ back) = p.count in
+        record {
+          one_writer = record { bit = writers_at front view' back ∙ sym (writers_at front view back) ∙ p.one_writer.bit ∙ ap (λ b. cond b 1 0) (no_writer ∙ sym write'); alone = λ e. absurd (cc) };
+          count = omega (arith, r, r', count, readers');
+          one_history = record {
+            legal = p.one_history.legal;
+            by_seats = p.one_history.by_seats;
+            each = each_join truths seats (standing_after h) row front view' back parts.0
+                (record {
+                  in_range = parts.1.in_range;
+                  place = place;
+                  owes = owes;
+                  section = record { starts = p.one_history.free no_writer; enters = rw parts.1.section tt; cells = refl; reads = λ e. refl };
+                }) parts.2;
+            free = λ e. p.one_history.free no_writer;
+            cells = p.one_history.cells;
+            cells_after = p.one_history.cells_after;
+          };
+          apart = apart_moves front view view' back refl p.apart;
+        }
+
+    -- a store into a cell, by the writer
+    pub stored : (word : Word) (row : List ℕ) (entry : Entry C) (before cells : List ℕ) (i v : ℕ) →
+        PlaceFits truths walk' (Some (section {C = C} {N = N} Write entry before (slice_set cells i v))) → has_some owed' ≡ pays walk' →
+        Safe truths seats h word row (front ++ view_of who walk (Some (section Write entry before cells)) owed ∷ back) →
+        Safe truths seats h word (slice_set row i v) (front ++ view_of who walk' (Some (section Write entry before (slice_set cells i v))) owed' ∷ back)
+    stored word row entry before cells i v place owes p =
+        let view = view_of {C = C} {N = N} who walk (Some (section Write entry before cells)) owed in
+        let view' = view_of {C = C} {N = N} who walk' (Some (section Write entry before (slice_set cells i v))) owed' in
+        let now = standing_after h in
+        let parts = each_parts truths seats now row front view back p.one_history.each in
+        let apart = apart_parts front view back p.apart in
+        let w = writers_at front view back in
+        let r = readers_at front view back in
+        let write : word.write ≡ true = bit_set word.write (omega (arith, p.one_writer.bit)) in
+        let unit : ◌≡◌ {A = ℕ} (cond word.write 1 0) 1 = rw write refl in
+        let nobody : readers (front ++ view ∷ back) ≡ 0 = p.one_writer.alone write in
+        let set : writers (front ++ view ∷ back) ≡ cond word.write 1 0 = p.one_writer.bit in
+        let others_front : writers front + readers front ≡ 0 = omega (arith, w, r, set, unit, nobody) in
+        let others_back : writers back + readers back ≡ 0 = omega (arith, w, r, set, unit, nobody) in
+        record {
+          one_writer = record { bit = writers_at front view' back ∙ sym w ∙ p.one_writer.bit; alone = λ e. readers_at front view' back ∙ sym r ∙ nobody };
+          count = p.count ∙ r ∙ sym (readers_at front view' back);
+          one_history = record {
+            legal = p.one_history.legal;
+            by_seats = p.one_history.by_seats;
+            each = each_join truths seats now (slice_set row i v) front view' back
+                (each_moves truths seats now now row (slice_set row i v) who front apart.0 (λ seat ne. refl) (inr others_front) parts.0)
+                (record {
+                  in_range = parts.1.in_range;
+                  place = place;
+                  owes = owes;
+                  section = record { starts = parts.1.section.starts; enters = parts.1.section.enters; cells = ap (λ xs. slice_set xs i v) parts.1.section.cells; reads = λ e. absurd (cc) };
+                })
+                (each_moves truths seats now now row (slice_set row i v) who back apart.1 (λ seat ne. refl) (inr others_back) parts.2);
+            free = λ e. absurd (cc);
+            cells = length-set row i v ∙ p.one_history.cells;
+            cells_after = p.one_history.cells_after;
+          };
+          apart = apart_moves front view view' back refl p.apart;
+        }
+
+  -- what the release of a section leaves of the seats
+  phases_left : (who : ℕ) (held : Held C N) (seat : ℕ) → seat ≢ who →
+      (standing_next (standing_after h) (section_of who held Released)).phases seat ≡ (standing_after h).phases seat
+  phases_left who held seat ne = rw (ne_eqb who seat (λ e. ne (sym e))) refl
+
+  idle_left : (who : ℕ) (held : Held C N) → (standing_next (standing_after h) (section_of who held Released)).phases who ≡ Idle
+  idle_left who held = rw (eq-eqb who who refl) refl
+
+  pub left_by : (who : ℕ) (held : Held C N) → standing_after (h ++ section_of who held Released ∷ []) ≡ standing_next (standing_after h) (section_of who held Released)
+  left_by who held = standing_from-append (first_standing N) h (section_of who held Released ∷ [])
+
+  keeps_row : (mode : Mode) (before row : List ℕ) → (mode ≡ Read → row ≡ before) → ModeFits mode before row
+  keeps_row Write before row e = tt
+  keeps_row Read before row e = e refl
+
+  commits : (who : ℕ) (row : List ℕ) (held : Held C N) → who < 64 → HeldFits truths.holds (standing_after h) row who held → IsLegal truths.holds h → IsLegal truths.holds (h ++ section_of who held Released ∷ [])
+  commits who row held few fits legal =
+      legal_append truths.holds (first_standing N) h (section_of who held Released ∷ []) legal
+      ((few, record { starts = fits.starts; keeps = keeps_row held.mode held.before held.row fits.reads; enters = fits.enters; leaves = tt }), tt)
+
+  module _ (front : List (SeatView C N)) (who : ℕ) (walk : Option Walk) (owed : List ℕ) (walk' : Option Walk) (owed' : List ℕ) (back : List (SeatView C N)) where
+    -- a release
+    pub released : (mode : Mode) (word word' : Word) (row : List ℕ) (entry : Entry C) (before cells : List ℕ) → seats ≤ 64 →
+        (mode ≡ Write → word'.write ≡ false) → (mode ≡ Read → word'.write ≡ word.write) → (mode ≡ Write → word'.readers ≡ word.readers) → (mode ≡ Read → word'.readers ≡ word.readers - 1) →
+        PlaceFits {C = C} {N = N} truths walk' None → has_some owed' ≡ pays walk' →
+        Safe truths seats h word row (front ++ view_of who walk (Some (section mode entry before cells)) owed ∷ back) →
+        Safe truths seats (h ++ section_of who (section mode entry before cells) Released ∷ []) word' row (front ++ view_of who walk' None owed' ∷ back)
+    released Write word word' row entry before cells few ww rw' wr rr place owes p =
+        let held = section Write entry before cells in
+        let view = view_of who walk (Some held) owed in
+        let view' = view_of {C = C} {N = N} who walk' None owed' in
+        let now = standing_after h in
+        let next = standing_next now (section_of who held Released) in
+        let left = left_by who held in
+        let parts = each_parts truths seats now row front view back p.one_history.each in
+        let apart = apart_parts front view back p.apart in
+        let w = writers_at front view back in
+        let r = readers_at front view back in
+        let w' = writers_at front view' back in
+        let r' = readers_at front view' back in
+        let write : word.write ≡ true = bit_set word.write (omega (arith, p.one_writer.bit)) in
+        let unit : ◌≡◌ {A = ℕ} (cond word.write 1 0) 1 = rw write refl in
+        let unit' : ◌≡◌ {A = ℕ} (cond word'.write 1 0) 0 = rw (ww refl) refl in
+        let nobody : readers (front ++ view ∷ back) ≡ 0 = p.one_writer.alone write in
+        let set : writers (front ++ view ∷ back) ≡ cond word.write 1 0 = p.one_writer.bit in
+        let count : word.readers ≡ readers (front ++ view ∷ back) = p.count in
+        let count' : word'.readers ≡ word.readers = wr refl in
+        let others_front : writers front + readers front ≡ 0 = omega (arith, w, r, set, unit, nobody) in
+        let others_back : writers back + readers back ≡ 0 = omega (arith, w, r, set, unit, nobody) in
+        record {
+          one_writer = record { bit = omega (arith, w', unit', others_front, others_back); alone = λ e. absurd (both_ways word'.write (ww refl) e) };
+          count = omega (arith, r, r', count, count');
+          one_history = record {
+            legal = commits who row held (omega (arith, parts.1.in_range)) parts.1.section p.one_history.legal;
+            by_seats = by_seats_more seats h (section_of who held Released) p.one_history.by_seats parts.1.in_range;
+            each = rw left (each_join truths seats next row front view' back
+                (each_moves truths seats now next row row who front apart.0 (phases_left who held) (inr others_front) parts.0)
+                (record { in_range = parts.1.in_range; place = place; owes = owes; section = idle_left who held })
+                (each_moves truths seats now next row row who back apart.1 (phases_left who held) (inr others_back) parts.2));
+            free = λ e. sym parts.1.section.cells ∙ sym (ap (λ s. s.row) left);
+            cells = p.one_history.cells;
+            cells_after = ap (λ s. length s.row) left ∙ ap length parts.1.section.cells ∙ p.one_history.cells;
+          };
+          apart = apart_moves front view view' back refl p.apart;
+        }
+    released Read word word' row entry before cells few ww rw' wr rr place owes p =
+        let held = section Read entry before cells in
+        let view = view_of who walk (Some held) owed in
+        let view' = view_of {C = C} {N = N} who walk' None owed' in
+        let now = standing_after h in
+        let next = standing_next now (section_of who held Released) in
+        let left = left_by who held in
+        let parts = each_parts truths seats now row front view back p.one_history.each in
+        let apart = apart_parts front view back p.apart in
+        let w = writers_at front view back in
+        let r = readers_at front view back in
+        let w' = writers_at front view' back in
+        let r' = readers_at front view' back in
+        let count : word.readers ≡ readers (front ++ view ∷ back) = p.count in
+        let count' : word'.readers ≡ word.readers - 1 = rr refl in
+        let set : writers (front ++ view ∷ back) ≡ cond word.write 1 0 = p.one_writer.bit in
+        let set' : ◌≡◌ {A = ℕ} (cond word'.write 1 0) (cond word.write 1 0) = ap (λ b. cond b 1 0) (rw' refl) in
+        let same : next.row ≡ now.row = parts.1.section.reads refl ∙ parts.1.section.starts in
+        record {
+          one_writer = record { bit = omega (arith, w, w', set, set'); alone = λ e. let nobody : readers (front ++ view ∷ back) ≡ 0 = p.one_writer.alone (sym (rw' refl) ∙ e) in omega (arith, r, nobody) };
+          count = omega (arith, r, r', count, count');
+          one_history = record {
+            legal = commits who row held (omega (arith, parts.1.in_range)) parts.1.section p.one_history.legal;
+            by_seats = by_seats_more seats h (section_of who held Released) p.one_history.by_seats parts.1.in_range;
+            each = rw left (each_join truths seats next row front view' back
+                (each_moves truths seats now next row row who front apart.0 (phases_left who held) (inl (same, refl)) parts.0)
+                (record { in_range = parts.1.in_range; place = place; owes = owes; section = idle_left who held })
+                (each_moves truths seats now next row row who back apart.1 (phases_left who held) (inl (same, refl)) parts.2));
+            free = λ e. sym parts.1.section.cells ∙ sym (ap (λ s. s.row) left);
+            cells = p.one_history.cells;
+            cells_after = ap (λ s. length s.row) left ∙ ap length parts.1.section.cells ∙ p.one_history.cells;
+          };
+          apart = apart_moves front view view' back refl p.apart;
+        }

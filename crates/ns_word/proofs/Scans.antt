@@ -1,0 +1,118 @@
+-- How often a seat stands in the lists that a scan makes of one, and who is in them.
+use Rattle.std.proofs.Common.{◌≡◌, ℕ, ◌+◌, ◌<◌, ◌≤◌, Bool, true, false, not, ◌&&◌, ◌||◌, cond, eqb, List, [], ◌∷◌, length, Option, None, Some, refl, ap, subst, arith, eq-eqb}
+use Rattle.std.specs.List.{filter, list_any}
+use Rattle.std.proofs.lemmas.Bool.{ne_eqb, or_parts, both_ways, false_from_ne_true}
+use Rattle.ns_model.specs.declared.event.Mode.{Mode}
+use Rattle.ns_queue.specs.declared.waiter.Waiter.{Waiter}
+use Rattle.ns_queue.specs.Waiters.{seats_of, times_in, reads, writes, has_condition}
+use Rattle.ns_queue.specs.Scans.{is_met, is_eligible, woken_of, left_of}
+use Rattle.ns_queue.proofs.Seats.{times_in-cons, times_in-append}
+use Rattle.ns_word.specs.Lists.{has_some, has_eligible, bits_of, times_among, queued}
+
+-- whether a list has somebody, by its length
+pub some_length : {A : Type 0} (xs : List A) (b : Bool) → (b ≡ true → 0 < length xs) → (0 < length xs → b ≡ true) → b ≡ has_some xs
+some_length [] true is has = absurd (let less = is refl in omega (arith, less))
+some_length [] false is has = refl
+some_length (x ∷ xs) b is has = has (omega arith)
+
+pub some_counted : {A : Type 0} (xs : List A) → not (eqb (length xs) 0) ≡ has_some xs
+some_counted [] = refl
+some_counted (x ∷ xs) = rw (ne_eqb (length (x ∷ xs)) 0 (λ e. absurd (omega (arith, e)))) refl
+
+module _ {C : Type 0} where
+  -- what a list's bits are, by what was told of it
+  pub bits_told : (lock : List (Waiter C)) (waiting conditional writer_waits : Bool) → (waiting ≡ true → 0 < length lock) → (0 < length lock → waiting ≡ true) →
+      conditional ≡ list_any has_condition lock → writer_waits ≡ list_any (λ w. writes w && not (has_condition w)) lock →
+      record { waiting = waiting; conditional = conditional; writer_waits = writer_waits } ≡ bits_of lock
+  bits_told lock waiting conditional writer_waits is has b c = λ i. record { waiting = some_length lock waiting is has i; conditional = b i; writer_waits = c i }
+
+  pub times_seats : (seat : ℕ) (ws : List (Waiter C)) → times_among seat (seats_of ws) ≡ times_in seat ws
+  times_seats seat [] = refl
+  times_seats seat (w ∷ ws) = let rest = times_seats seat ws in omega (arith, rest, times_in-cons seat w ws)
+
+  pub some_seats : (ws : List (Waiter C)) → has_some (seats_of ws) ≡ has_some ws
+  some_seats [] = refl
+  some_seats (w ∷ ws) = refl
+
+  -- a list falls into what passes a test and what doesn't
+  times_filter : (seat : ℕ) (test : Waiter C → Bool) (ws : List (Waiter C)) →
+      times_in seat (filter test ws) + times_in seat (filter (λ w. not (test w)) ws) ≡ times_in seat ws
+  times_filter seat test [] = refl
+  times_filter seat test (w ∷ ws) =
+      let rest = times_filter seat test ws in
+      let all = times_in-cons seat w ws in
+      elim (test w) as (λ b. times_in seat (cond b (w ∷ filter test ws) (filter test ws)) + times_in seat (cond (not b) (w ∷ filter (λ w. not (test w)) ws) (filter (λ w. not (test w)) ws)) ≡ times_in seat (w ∷ ws))
+      [ true ↦ omega (arith, rest, all, times_in-cons seat w (filter test ws)) | false ↦ omega (arith, rest, all, times_in-cons seat w (filter (λ w. not (test w)) ws)) ]
+
+  abbrev is_reader : (C → Bool) → Waiter C → Bool
+  is_reader meets v = reads v && is_eligible meets v
+
+  -- and into what a scan takes and leaves
+  pub times_scan : (seat : ℕ) (meets : C → Bool) (ws : List (Waiter C)) → times_in seat (woken_of meets ws) + times_in seat (left_of meets ws) ≡ times_in seat ws
+  times_scan seat meets [] = refl
+  times_scan seat meets (w ∷ ws) =
+      let rest = times_scan seat meets ws in
+      let later = times_filter seat (is_reader meets) ws in
+      let all = times_in-cons seat w ws in
+      elim (is_eligible meets w) as (λ b. times_in seat (cond b (w ∷ cond (writes w) [] (filter (is_reader meets) ws)) (woken_of meets ws))
+      + times_in seat (cond b (cond (writes w) ws (filter (λ v. not (is_reader meets v)) ws)) (w ∷ left_of meets ws)) ≡ times_in seat (w ∷ ws)) [
+        | true ↦ elim (writes w) as (λ c. times_in seat (w ∷ cond c [] (filter (is_reader meets) ws)) + times_in seat (cond c ws (filter (λ v. not (is_reader meets v)) ws)) ≡ times_in seat (w ∷ ws))
+            [ true ↦ omega (arith, all, times_in-cons seat w []) | false ↦ omega (arith, later, all, times_in-cons seat w (filter (is_reader meets) ws)) ]
+        | false ↦ omega (arith, rest, all, times_in-cons seat w (left_of meets ws))
+      ]
+
+  -- one more
+  pub times_queued : (seat who : ℕ) (mode : Mode) (woken : Bool) (ws : List (Waiter C)) → times_in seat (queued who mode woken ws) ≡ cond (eqb who seat) 1 0 + times_in seat ws
+  times_queued seat who mode true ws = times_in-cons seat (record { seat = who; mode = mode; cond = None }) ws
+  times_queued seat who mode false ws =
+      let one : Waiter C = record { seat = who; mode = mode; cond = None } in
+      omega (arith, times_in-append seat ws (one ∷ []), times_in-cons seat one [])
+
+  pub some_queued : (who : ℕ) (mode : Mode) (woken : Bool) (ws : List (Waiter C)) → has_some (queued who mode woken ws) ≡ true
+  some_queued who mode true ws = refl
+  some_queued who mode false [] = refl
+  some_queued who mode false (w ∷ ws) = refl
+
+  -- ---- who can go on
+
+  -- a writer without condition can
+  pub writer_eligible : (meets : C → Bool) (ws : List (Waiter C)) → has_eligible meets ws ≡ false → list_any (λ w. writes w && not (has_condition w)) ws ≡ false
+  writer_eligible meets [] e = refl
+  writer_eligible meets (w ∷ ws) e = go (writer_eligible meets ws) w.cond e where
+    go : (has_eligible meets ws ≡ false → list_any (λ w. writes w && not (has_condition w)) ws ≡ false) → (c : Option C) → (is_met meets c || has_eligible meets ws) ≡ false →
+        ((writes w && not (has_condition (record w { cond = c }))) || list_any (λ w. writes w && not (has_condition w)) ws) ≡ false
+    go rest None f = absurd (cc)
+    go rest (Some c) f = elim (writes w) as (λ b. ((b && false) || list_any (λ w. writes w && not (has_condition w)) ws) ≡ false) [ true ↦ rest (or_parts _ _ f).1 | false ↦ rest (or_parts _ _ f).1 ]
+
+  pub none_eligible : (meets : C → Bool) (ws : List (Waiter C)) → has_some ws ≡ false → has_eligible meets ws ≡ false
+  none_eligible meets [] e = refl
+  none_eligible meets (w ∷ ws) e = absurd (cc)
+
+  -- a scan takes nobody just where nobody can go on, and then leaves all
+  pub woken_none : (meets : C → Bool) (ws : List (Waiter C)) → has_some (woken_of meets ws) ≡ false → (has_eligible meets ws ≡ false) × (left_of meets ws ≡ ws)
+  woken_none meets [] e = (refl, refl)
+  woken_none meets (w ∷ ws) e = go (woken_none meets ws) (is_eligible meets w) refl where
+    go : (has_some (woken_of meets ws) ≡ false → (has_eligible meets ws ≡ false) × (left_of meets ws ≡ ws)) → (b : Bool) → is_eligible meets w ≡ b → (has_eligible meets (w ∷ ws) ≡ false) × (left_of meets (w ∷ ws) ≡ w ∷ ws)
+    go ih true f = let bad : true ≡ false = subst (λ b. has_some (cond b (w ∷ cond (writes w) [] (filter (is_reader meets) ws)) (woken_of meets ws)) ≡ false) f e in absurd (cc)
+    go ih false f =
+        let rest = ih (subst (λ b. has_some (cond b (w ∷ cond (writes w) [] (filter (is_reader meets) ws)) (woken_of meets ws)) ≡ false) f e) in
+        rw f (rest.0, ap (λ vs. w ∷ vs) rest.1)
+
+  -- one that a scan takes
+  pub woken_some : (meets : C → Bool) (ws : List (Waiter C)) → has_some (woken_of meets ws) ≡ true → (seat : ℕ) × (1 ≤ times_in seat (woken_of meets ws))
+  woken_some meets ws e = pick (woken_of meets ws) e where
+    pick : (vs : List (Waiter C)) → has_some vs ≡ true → (seat : ℕ) × (1 ≤ times_in seat vs)
+    pick [] f = absurd (cc)
+    pick (v ∷ vs) f = let one : ◌≡◌ {A = ℕ} (cond (eqb v.seat v.seat) 1 0) 1 = rw (eq-eqb v.seat v.seat refl) refl in (v.seat, omega (arith, times_in-cons v.seat v vs, one))
+
+  -- where none is true of a row, and a quiet change makes another of it, none is true of that
+  pub quiet_eligible : (holds : C → List ℕ → Bool) (before after : List ℕ) → ((c : C) → holds c after ≡ true → holds c before ≡ true) → (ws : List (Waiter C)) →
+      has_eligible (λ c. holds c before) ws ≡ false → has_eligible (λ c. holds c after) ws ≡ false
+  quiet_eligible holds before after quiet [] e = refl
+  quiet_eligible holds before after quiet (w ∷ ws) e =
+      let parts = or_parts (is_eligible (λ c. holds c before) w) (has_eligible (λ c. holds c before) ws) e in
+      let here : is_eligible (λ c. holds c after) w ≡ false = one w.cond parts.0 in
+      rw here (quiet_eligible holds before after quiet ws parts.1) where
+        one : (c : Option C) → is_met (λ c. holds c before) c ≡ false → is_met (λ c. holds c after) c ≡ false
+        one None f = f
+        one (Some c) f = false_from_ne_true (holds c after) (λ t. both_ways (holds c before) f (quiet c t))

@@ -1,0 +1,111 @@
+-- A fresh lock is lawful, and so is one where a call begins.
+use Rattle.std.proofs.Common.{◌≡◌, ℕ, Bool, zero, suc, ◌+◌, ◌-◌, ◌<◌, ◌≤◌, true, false, cond, eqb, ltb, List, [], ◌∷◌, ◌++◌, None, Some, refl, sym, subst, arith}
+use Rattle.std.proofs.lemmas.List.{length-replicate}
+use Rattle.std.proofs.lemmas.Bool.{both_ways, ltb-false}
+use Rattle.ns_model.specs.declared.event.Event.{Event}
+use Rattle.ns_model.specs.Histories.{first_standing, first_row}
+use Rattle.ns_word.specs.declared.view.SeatView.{SeatView}
+use Rattle.ns_word.specs.declared.walk.Walk.{Walk}
+use Rattle.ns_word.specs.declared.walk.Walk.TheVariants.{TryLoad, AcquireLoad, QuietCells, QuietLast, ReleaseLoad, Get, SetLoad}
+use Rattle.ns_word.specs.Walks.{has_armed, is_queuing, quiet_place}
+use Rattle.ns_word.specs.Views.{writers, readers, takers, queuers, owed_to, walk_at, NoneIs, AreApart}
+use Rattle.ns_word.specs.Steps.{Truths, State}
+use Rattle.ns_word.specs.Lawful.{EachFits, IsLawful}
+use Rattle.ns_word.specs.Begins.{fresh_views, fresh_state, IsFirst, Begins}
+use Rattle.ns_word.proofs.Groups.{groups_of, lawful_by}
+use Rattle.ns_word.proofs.Views.{view_of}
+use Rattle.ns_word.proofs.Keeps.{Same, Way, rests}
+
+module _ (C : Type 0) (N : ℕ) where
+  abbrev fresh : ℕ → ℕ → List (SeatView C N)
+  fresh first n = fresh_views first n
+
+  no_writers : (first n : ℕ) → writers (fresh first n) ≡ 0
+  no_writers first zero = refl
+  no_writers first (suc n) = let rest = no_writers (first + 1) n in omega arith
+
+  no_readers : (first n : ℕ) → readers (fresh first n) ≡ 0
+  no_readers first zero = refl
+  no_readers first (suc n) = let rest = no_readers (first + 1) n in omega arith
+
+  no_takers : (first n : ℕ) → takers (fresh first n) ≡ 0
+  no_takers first zero = refl
+  no_takers first (suc n) = let rest = no_takers (first + 1) n in omega arith
+
+  no_queuers : (first n : ℕ) → queuers (fresh first n) ≡ 0
+  no_queuers first zero = refl
+  no_queuers first (suc n) = let rest = no_queuers (first + 1) n in omega arith
+
+  none_owed : (seat first n : ℕ) → owed_to seat (fresh first n) ≡ 0
+  none_owed seat first zero = refl
+  none_owed seat first (suc n) = let rest = none_owed seat (first + 1) n in omega arith
+
+  no_walk : (seat first n : ℕ) → walk_at seat (fresh first n) ≡ None
+  no_walk seat first zero = refl
+  no_walk seat first (suc n) = elim (eqb first seat) as (λ b. cond b None (walk_at seat (fresh (first + 1) n)) ≡ None) [ true ↦ refl | false ↦ no_walk seat (first + 1) n ]
+
+  none_is : (seat first n : ℕ) → seat < first → NoneIs seat (fresh first n)
+  none_is seat first zero less = tt
+  none_is seat first (suc n) less = (λ e. absurd (omega arith), none_is seat (first + 1) n (omega arith))
+
+  apart : (first n : ℕ) → AreApart (fresh first n)
+  apart first zero = tt
+  apart first (suc n) = (none_is first (first + 1) n (omega arith), apart (first + 1) n)
+
+  each : (truths : Truths C) (seats first n : ℕ) (row : List ℕ) → first + n ≤ seats → EachFits truths seats (first_standing N) row (fresh first n)
+  each truths seats first zero row few = tt
+  each truths seats first (suc n) row few = (record { in_range = omega arith; place = tt; owes = refl; section = refl }, each truths seats (first + 1) n row (omega arith))
+
+  pub lawful_fresh : (truths : Truths C) (seats : ℕ) → seats ≤ 64 → IsLawful truths seats [] (fresh_state {C = C} {N = N} seats)
+  lawful_fresh truths seats few = record {
+    one_writer = record { bit = no_writers 0 seats; alone = λ e. absurd (cc) };
+    readers_counted = sym (no_readers 0 seats);
+    one_history = record {
+      legal = tt;
+      by_seats = tt;
+      each = each truths seats 0 seats (first_row N) (omega arith);
+      free = λ e. refl;
+      cells = length-replicate N 0;
+      cells_after = length-replicate N 0;
+    };
+    spin_held_once = no_takers 0 seats;
+    bits_tell = record { at_home = λ e. refl; nobody = λ e. (refl, no_queuers 0 seats) };
+    waiters_placed = record {
+      placed = λ seat. let none = none_owed seat 0 seats in rw (no_walk seat 0 seats) (omega (arith, none));
+      armed = λ seat e. absurd (both_ways (has_armed (walk_at seat (fresh 0 seats))) (rw (no_walk seat 0 seats) refl) e);
+      flag = λ seat. omega arith;
+    };
+    waiters_own = tt;
+    desig_on_its_way = λ e. absurd (cc);
+    idle_waiters_false = λ e f g. (refl, no_queuers 0 seats);
+    allfalse_true = λ e. absurd (cc);
+    apart = apart 0 seats;
+  }
+
+-- a quiet release begins at the first cell
+quiet_first_at : (N : ℕ) (b : Bool) → ltb 0 (N - 1) ≡ b → IsFirst N (cond b (QuietCells 0) (QuietLast (N - 1)))
+quiet_first_at N true e = refl
+quiet_first_at N false e = let most = ltb-false 0 (N - 1) e in omega (arith, most)
+
+pub quiet_first : (N : ℕ) → IsFirst N (quiet_place N 0)
+quiet_first N = quiet_first_at N (ltb 0 (N - 1)) refl
+
+module _ {C : Type 0} {N : ℕ} (truths : Truths C) (seats : ℕ) (h : List (Event C N)) where
+  -- a first place tells nothing that no place doesn't
+  first_place : (walk : Walk) → IsFirst N walk → Same None (Some walk) × (is_queuing (Some walk) ≡ false) × Way None (Some walk)
+  first_place (TryLoad mode) e = ((refl, refl, refl, refl), refl, λ n f. absurd (cc))
+  first_place (AcquireLoad mode woken) e = ((refl, refl, refl, refl), refl, λ n f. absurd (cc))
+  first_place (QuietCells i) e = ((refl, refl, refl, refl), refl, λ n f. absurd (cc))
+  first_place (QuietLast i) e = ((refl, refl, refl, refl), refl, λ n f. absurd (cc))
+  first_place (ReleaseLoad leaving) e = ((refl, refl, refl, refl), refl, λ n f. absurd (cc))
+  first_place (Get i) e = ((refl, refl, refl, refl), refl, λ n f. absurd (cc))
+  first_place (SetLoad i v) e = ((refl, refl, refl, refl), refl, λ n f. absurd (cc))
+  first_place _ e = absurd e
+
+  pub begins : (old : State C N) (view : SeatView C N) (walk : Walk) (new : State C N) → Begins truths old view walk new → IsLawful truths seats h old → IsLawful truths seats h new
+  begins old view walk new b p =
+      let start = subst (λ views. IsLawful truths seats h (record { word = old.word; row = old.row; lock = old.lock; flags = old.flags; views = views })) b.was p in
+      let here = subst (λ w. IsLawful truths seats h (record { word = old.word; row = old.row; lock = old.lock; flags = old.flags; views = b.front ++ view_of view.seat w view.held view.owed ∷ b.back })) b.over start in
+      let tells = first_place walk b.first in
+      let moved = rests truths seats h b.front view.seat None (Some walk) b.back old.word old.row old.lock old.flags view.held view.owed b.fits tells.0 tells.1 tells.2 (groups_of truths seats h _ here) in
+      subst (λ s. IsLawful truths seats h s) (sym b.becomes) (lawful_by truths seats h _ moved)

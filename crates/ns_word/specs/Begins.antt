@@ -1,0 +1,51 @@
+-- How a lock begins, and how a seat's call begins.
+use Rattle.std.specs.Prelude.{◌≡◌, ℕ, zero, suc, ◌+◌, false, List, [], ◌∷◌, ◌++◌, None, Some}
+use Rattle.ns_model.specs.declared.event.Event.{Event}
+use Rattle.ns_model.specs.Histories.{first_row}
+use Rattle.ns_word.specs.declared.word.Word.{Word}
+use Rattle.ns_word.specs.declared.view.SeatView.{SeatView}
+use Rattle.ns_word.specs.declared.walk.Walk.{Walk}
+use Rattle.ns_word.specs.declared.walk.Walk.TheVariants.{TryLoad, AcquireLoad, QuietCells, QuietLast, ReleaseLoad, Get, SetLoad}
+use Rattle.ns_word.specs.declared.act.Found.{Found}
+use Rattle.ns_word.specs.Steps.{Truths, State, Step}
+use Rattle.ns_word.specs.Places.{PlaceFits}
+
+-- the word of a free lock for which nobody waits
+abbrev pub free_word : Word
+free_word = record { write = false; spin = false; waiting = false; desig = false; cond = false; writer_waits = false; all_false = false; readers = 0 }
+
+-- seats with no call in progress, no section and no wake to pay, numbered from here on
+abbrev pub fresh_views : {C : Type 0} {N : ℕ} → ℕ → ℕ → List (SeatView C N)
+fresh_views first zero = []
+fresh_views first (suc n) = record { seat = first; walk = None; held = None; owed = [] } ∷ fresh_views (first + 1) n
+
+-- a free lock with so many seats, over a row of zeros
+abbrev pub fresh_state : {C : Type 0} {N : ℕ} → ℕ → State C N
+fresh_state {C} {N} seats = record { word = free_word; row = first_row N; lock = []; flags = λ seat. 0; views = fresh_views 0 seats }
+
+-- the first place of a call, over a row of N cells
+abbrev pub IsFirst : ℕ → Walk → Type 0
+IsFirst N (TryLoad mode) = Unit {0}
+IsFirst N (AcquireLoad mode woken) = woken ≡ false
+IsFirst N (QuietCells i) = i ≡ 0
+IsFirst N (QuietLast i) = i ≡ 0
+IsFirst N (ReleaseLoad leaving) = Unit {0}
+IsFirst N (Get i) = Unit {0}
+IsFirst N (SetLoad i v) = Unit {0}
+IsFirst N walk = ⊥
+
+-- A seat whose last call is over begins one whose need is met: its place in a call changes, and nothing else.
+pub record Begins {C : Type 0} {N : ℕ} (truths : Truths C) (old : State C N) (view : SeatView C N) (walk : Walk) (new : State C N) : Type 0 where
+  pub over : view.walk ≡ None
+  pub first : IsFirst N walk
+  pub fits : PlaceFits truths (Some walk) view.held
+  pub front : List (SeatView C N)
+  pub back : List (SeatView C N)
+  pub was : old.views ≡ front ++ view ∷ back
+  pub becomes : new ≡ record old { views = front ++ record view { walk = Some walk } ∷ back }
+
+-- A seat begins a call and makes its first step at once.
+pub record FirstStep {C : Type 0} {N : ℕ} (truths : Truths C) (old : State C N) (view : SeatView C N) (walk : Walk) (found : Found) (new : State C N) (commits : List (Event C N)) : Type 0 where
+  pub between : State C N
+  pub begins : Begins truths old view walk between
+  pub step : Step truths between (record view { walk = Some walk }) found new commits

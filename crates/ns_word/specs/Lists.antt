@@ -1,0 +1,36 @@
+-- The lock list, and lists of seats.
+use Rattle.std.specs.Prelude.{ℕ, ◌+◌, ◌==◌, Bool, true, false, not, ◌&&◌, ◌||◌, if◌then◌else◌, List, [], ◌∷◌, ◌++◌, None}
+use Rattle.std.specs.List.{list_any}
+use Rattle.ns_model.specs.declared.event.Mode.{Mode}
+use Rattle.ns_queue.specs.declared.waiter.Waiter.{Waiter}
+use Rattle.ns_queue.specs.Waiters.{has_condition, writes}
+use Rattle.ns_queue.specs.Scans.{is_eligible}
+use Rattle.ns_word.specs.declared.word.Bits.{Bits}
+
+abbrev pub has_some : {A : Type 0} → List A → Bool
+has_some [] = false
+has_some (x ∷ xs) = true
+
+-- what the word tells of a lock list
+abbrev pub bits_of : {C : Type 0} → List (Waiter C) → Bits
+bits_of lock = record {
+  waiting = has_some lock;
+  conditional = list_any has_condition lock;
+  writer_waits = list_any (λ w. writes w && not (has_condition w)) lock;
+}
+
+-- some waiter has no condition, or one that is true
+abbrev pub has_eligible : {C : Type 0} → (C → Bool) → List (Waiter C) → Bool
+has_eligible meets [] = false
+has_eligible meets (w ∷ ws) = is_eligible meets w || has_eligible meets ws
+
+-- how often a seat stands among these
+abbrev pub times_among : ℕ → List ℕ → ℕ
+times_among seat [] = 0
+times_among seat (x ∷ xs) = (if x == seat then 1 else 0) + times_among seat xs
+
+-- the list with a seat in it, without condition: at the front if it was woken from it before, else at the back
+abbrev pub queued : {C : Type 0} → ℕ → Mode → Bool → List (Waiter C) → List (Waiter C)
+queued seat mode woken lock =
+    if woken then record { seat = seat; mode = mode; cond = None } ∷ lock
+    else lock ++ record { seat = seat; mode = mode; cond = None } ∷ []

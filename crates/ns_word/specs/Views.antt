@@ -1,0 +1,52 @@
+-- What is counted over the seats' views, and one of them among the others.
+use Rattle.std.specs.Prelude.{◌≢◌, ℕ, ◌+◌, ◌==◌, Bool, false, not, if◌then◌else◌, List, [], ◌∷◌, Option, None, Some}
+use Rattle.ns_model.specs.Phases.{is_write}
+use Rattle.ns_word.specs.declared.view.Held.{Held}
+use Rattle.ns_word.specs.declared.view.SeatView.{SeatView}
+use Rattle.ns_word.specs.declared.walk.Walk.{Walk}
+use Rattle.ns_word.specs.Lists.{times_among}
+use Rattle.ns_word.specs.Walks.{has_queues, is_queuing}
+
+abbrev pub is_writing : {C : Type 0} {N : ℕ} → Option (Held C N) → Bool
+is_writing None = false
+is_writing (Some held) = is_write held.mode
+
+abbrev pub is_reading : {C : Type 0} {N : ℕ} → Option (Held C N) → Bool
+is_reading None = false
+is_reading (Some held) = not (is_write held.mode)
+
+-- how many seats have a write section in hand, how many a read section, how many the queues, and how many have taken them to queue
+abbrev pub writers : {C : Type 0} {N : ℕ} → List (SeatView C N) → ℕ
+writers [] = 0
+writers (view ∷ views) = (if is_writing view.held then 1 else 0) + writers views
+
+abbrev pub readers : {C : Type 0} {N : ℕ} → List (SeatView C N) → ℕ
+readers [] = 0
+readers (view ∷ views) = (if is_reading view.held then 1 else 0) + readers views
+
+abbrev pub takers : {C : Type 0} {N : ℕ} → List (SeatView C N) → ℕ
+takers [] = 0
+takers (view ∷ views) = (if has_queues view.walk then 1 else 0) + takers views
+
+abbrev pub queuers : {C : Type 0} {N : ℕ} → List (SeatView C N) → ℕ
+queuers [] = 0
+queuers (view ∷ views) = (if is_queuing view.walk then 1 else 0) + queuers views
+
+-- how many wakes a seat is owed, by all seats
+abbrev pub owed_to : {C : Type 0} {N : ℕ} → ℕ → List (SeatView C N) → ℕ
+owed_to seat [] = 0
+owed_to seat (view ∷ views) = times_among seat view.owed + owed_to seat views
+
+-- the place of a seat in its call
+abbrev pub walk_at : {C : Type 0} {N : ℕ} → ℕ → List (SeatView C N) → Option Walk
+walk_at seat [] = None
+walk_at seat (view ∷ views) = if view.seat == seat then view.walk else walk_at seat views
+
+-- no number stands twice
+abbrev pub NoneIs : {C : Type 0} {N : ℕ} → ℕ → List (SeatView C N) → Type 0
+NoneIs seat [] = Unit {0}
+NoneIs seat (view ∷ views) = (view.seat ≢ seat) × NoneIs seat views
+
+abbrev pub AreApart : {C : Type 0} {N : ℕ} → List (SeatView C N) → Type 0
+AreApart [] = Unit {0}
+AreApart (view ∷ views) = NoneIs view.seat views × AreApart views

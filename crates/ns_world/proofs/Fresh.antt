@@ -1,0 +1,54 @@
+-- A new world's seats, one after another.
+use Rattle.std.proofs.Common.{◌≡◌, ℕ, zero, suc, ◌+◌, ◌-◌, ◌<◌, List, [], ◌∷◌, ◌++◌, None, map, replicate, refl, sym, ap, ◌∙◌, arith, sub-one, get_or, length, ◌≤◌}
+use Rattle.std.proofs.lemmas.List.{map-append, append_assoc}
+use Rattle.ns_word.specs.declared.view.SeatView.{SeatView}
+use Rattle.ns_word.specs.Begins.{fresh_views}
+use Rattle.ns_world.specs.declared.seat.Seat.{Seat}
+use Rattle.ns_word.specs.Steps.{Truths}
+use Rattle.ns_word.proofs.Starts.{lawful_fresh}
+use Rattle.ns_world.specs.Performs.{view_of, flag_at}
+use Rattle.ns_world.specs.World.{AreNumbered, IsLawfulWorld, fresh}
+
+pub views_next : {C : Type 0} {N : ℕ} (first n : ℕ) → 0 < n → fresh_views {C = C} {N = N} first n ≡ record { seat = first; walk = None; held = None; owed = [] } ∷ fresh_views (first + 1) (n - 1)
+views_next first zero some = absurd (omega arith)
+views_next first (suc n) some = rw sub-one refl
+
+pub tests_next : (n : ℕ) → 0 < n → replicate {A = ℕ} n 0 ≡ 0 ∷ replicate {A = ℕ} (n - 1) 0
+tests_next zero some = absurd (omega arith)
+tests_next (suc n) some = rw sub-one refl
+
+-- one more is made of those to come
+pub moved : {A B : Type 0} (f : A → B) (made : List A) (x : A) (left rest all : List B) → left ≡ f x ∷ rest → map f made ++ left ≡ all → map f (made ++ x ∷ []) ++ rest ≡ all
+moved f made x left rest all next p = rw (map-append f made (x ∷ [])) (append_assoc (map f made) (f x ∷ []) rest ∙ ap (λ ys. map f made ++ ys) (sym next) ∙ p)
+
+pub seat_moved : {C : Type 0} {N : ℕ} (made : List (Seat C N)) (x : Seat C N) (first n : ℕ) (all : List (SeatView C N)) → x.number ≡ first → x.walk ≡ None → x.held ≡ None → x.owed.items ≡ [] → 0 < n →
+    map view_of made ++ fresh_views first n ≡ all → map view_of (made ++ x ∷ []) ++ fresh_views (first + 1) (n - 1) ≡ all
+seat_moved {C} {N} made x first n all number walk held owed some p =
+    let is : view_of x ≡ record { seat = first; walk = None; held = None; owed = [] } = rw (number, walk, held, owed) refl in
+    moved view_of made x (fresh_views first n) (fresh_views (first + 1) (n - 1)) all (views_next first n some ∙ ap (λ v. v ∷ fresh_views {C = C} {N = N} (first + 1) (n - 1)) (sym is)) p
+
+-- no flag is set
+no_flag : (n seat : ℕ) → ◌≡◌ {A = ℕ} (get_or (replicate n 0) seat 0) 0
+no_flag zero seat = refl
+no_flag (suc n) zero = refl
+no_flag (suc n) (suc seat) = no_flag n seat
+
+pub no_flags : ◌≡◌ {A = ℕ → ℕ} (flag_at (replicate 64 0)) (λ seat. 0)
+no_flags i seat = no_flag 64 seat i
+
+module _ (C : Type 0) (N : ℕ) where
+  pub length_views : (first n : ℕ) → length (fresh_views {C = C} {N = N} first n) ≡ n
+  length_views first zero = refl
+  length_views first (suc n) = ap suc (length_views (first + 1) n)
+
+  numbered : (first n : ℕ) → AreNumbered first (fresh_views {C = C} {N = N} first n)
+  numbered first zero = tt
+  numbered first (suc n) = (refl, numbered (first + 1) n)
+
+  pub lawful_new : (truths : Truths C) (n : ℕ) → n ≤ 64 → IsLawfulWorld (fresh {C = C} {N = N} truths n)
+  lawful_new truths n few = record {
+    few = rw (length_views 0 n) few;
+    numbered = numbered 0 n;
+    no_variables = refl;
+    lawful = rw (length_views 0 n) (lawful_fresh C N truths n few);
+  }

@@ -1,0 +1,68 @@
+-- The exchanges that were made, over plain data.
+use Rattle.std.proofs.Common.{◌≡◌, ◌≢◌, ℕ, ◌+◌, Bool, true, false, not, List, [], ◌∷◌, ◌++◌, length, map, Option, None, Some, refl, ap, sym, ◌∙◌, subst, eqb, arith, is_some}
+use Rattle.std.specs.Prelude.{IfSome, ◌==◌}
+use Rattle.std.proofs.lemmas.List.{append-nil}
+use Rattle.std.proofs.lemmas.Bool.{ne_eqb}
+use Rattle.ns_model.specs.declared.event.Event.{Event}
+use Rattle.ns_model.specs.declared.event.Exit.TheVariants.{Plain as Released}
+use Rattle.ns_queue.specs.declared.waiter.Waiter.{Waiter}
+use Rattle.ns_queue.specs.declared.waiter.Which.TheVariants.{Lock}
+use Rattle.ns_queue.specs.Queues.{Lists, with_waiters}
+use Rattle.ns_queue.specs.Waiters.{seats_of}
+use Rattle.ns_queue.specs.Scans.{woken_of, left_of, tests_of}
+use Rattle.ns_word.specs.declared.word.Word.{Word}
+use Rattle.ns_word.specs.declared.word.Bits.{Bits}
+use Rattle.ns_word.specs.declared.word.Leaving.{Leaving}
+use Rattle.ns_word.specs.declared.view.Held.{Held}
+use Rattle.ns_word.specs.declared.act.Act.TheVariants.{Release, ReleaseReturning}
+use Rattle.ns_word.specs.declared.act.Found.TheVariants.{Word as Saw, Made, Scanned}
+use Rattle.ns_word.specs.Lists.{has_some, bits_of}
+use Rattle.ns_word.specs.Words.{word_released, word_released_returning}
+use Rattle.ns_word.specs.Steps.{Truths, meets_at, section_of}
+use Rattle.ns_word.specs.Places.{CanLeave}
+use Rattle.ns_world.specs.Performs.{part, Makes}
+
+-- a list that isn't empty has somebody
+pub some_left : {A : Type 0} (xs : List A) → not (length xs == 0) ≡ has_some xs
+some_left [] = refl
+some_left (x ∷ xs) = rw (ne_eqb (length (x ∷ xs)) 0 (λ e. absurd (omega (arith, e)))) refl
+
+pub some_seats : {C : Type 0} (ws : List (Waiter C)) → has_some (seats_of ws) ≡ has_some ws
+some_seats [] = refl
+some_seats (w ∷ ws) = refl
+
+-- a section that may be left is in hand
+pub can_some : {C : Type 0} {N : ℕ} (truths : Truths C) (leaving : Leaving) (held : Option (Held C N)) → CanLeave truths leaving held → is_some held ≡ true
+can_some truths leaving None can = absurd can
+can_some truths leaving (Some held) can = refl
+
+module _ {C : Type 0} {N : ℕ} (truths : Truths C) (seat : ℕ) (leaving : Leaving) (last word word' : Word) (row : List ℕ) (flags : List ℕ) (h h' : List (Event C N)) where
+  pub released : (queues : Lists C) (owed : List ℕ) (held held' : Option (Held C N)) → CanLeave truths leaving held → IfSome held (λ section. h' ≡ h ++ section_of seat section Released ∷ []) →
+      word ≡ last → word' ≡ word_released leaving last → held' ≡ None →
+      Makes truths seat (Release leaving last) (part word row queues flags held owed) h Made (part word' row queues flags held' owed) h'
+  released queues owed None held' can grows same becomes over = absurd can
+  released queues owed (Some held) held' can grows same becomes over = record {
+    commits = section_of seat held Released ∷ [];
+    effect = (held, refl, can.0, sym same, rw (becomes, over) refl, refl);
+    grows = grows;
+  }
+
+  pub scanned : (queues queues' : Lists C) (owed owed' : List ℕ) (held held' : Option (Held C N)) (owes : Bool) (tests : ℕ) (bits : Bits) → CanLeave truths leaving held → IfSome held (λ section. h' ≡ h ++ section_of seat section Released ∷ []) →
+      word ≡ last → word' ≡ word_released_returning leaving owes bits last → held' ≡ None →
+      queues' ≡ with_waiters queues Lock (left_of (meets_at truths row) queues.lock) → owed' ≡ seats_of (woken_of (meets_at truths row) queues.lock) →
+      owes ≡ has_some owed' → bits ≡ bits_of queues'.lock → tests ≡ tests_of truths.same (meets_at truths row) queues.lock →
+      Makes truths seat (ReleaseReturning leaving last) (part word row queues flags held owed) h (Scanned owes tests) (part word' row queues' flags held' owed') h'
+  scanned queues queues' owed owed' None held' owes tests bits can grows same becomes over left woken some tell count = absurd can
+  scanned queues queues' owed owed' (Some held) held' owes tests bits can grows same becomes over left woken some tell count =
+      let owing : owes ≡ has_some (woken_of (meets_at truths row) queues.lock) = some ∙ ap has_some woken ∙ some_seats (woken_of (meets_at truths row) queues.lock) in
+      let lock : queues'.lock ≡ left_of (meets_at truths row) queues.lock = ap (λ q. q.lock) left in
+      record {
+        commits = section_of seat held Released ∷ [];
+        effect = (held, refl, can.0, sym same, rw (becomes, over, tell, lock, woken, owing) refl, some ∙ ap has_some woken, count, refl);
+        grows = grows;
+      }
+
+  -- one that failed
+  pub missed : (queues : Lists C) (owed : List ℕ) (held : Option (Held C N)) → word ≢ last →
+      Makes truths seat (ReleaseReturning leaving last) (part word row queues flags held owed) h (Saw word) (part word row queues flags held owed) h
+  missed queues owed held other = record { commits = []; effect = (refl, other, refl, refl); grows = sym (append-nil h) }

@@ -1,0 +1,115 @@
+-- What a lawful world gives to those who show it.
+use Rattle.std.proofs.Common.{◌≡◌, ℕ, suc, ◌+◌, ◌<◌, ◌≤◌, Bool, true, false, List, [], ◌∷◌, ◌++◌, Option, Some, None, length, map, get_or, take, drop, slice_get, replicate, sum_by, refl, ap, sym, ◌∙◌, subst, arith, cond, inl, inr}
+use Rattle.std.proofs.lemmas.Option.{slice_get-get_or, slice_get_within}
+use Rattle.std.proofs.lemmas.Bool.{cases_eq}
+use Rattle.std.proofs.lemmas.List.{length-append, length-map}
+use Rattle.ns_model.specs.declared.event.Mode.TheVariants.{Read}
+use Rattle.ns_model.specs.declared.event.Event.{Event}
+use Rattle.ns_queue.specs.declared.waiter.Waiter.{Waiter}
+use Rattle.ns_queue.specs.Queues.{Lists, times}
+use Rattle.ns_queue.specs.Waiters.{times_in}
+use Rattle.ns_queue.proofs.Seats.{times_in-cons, few}
+use Rattle.ns_word.specs.declared.word.Word.{Word}
+use Rattle.ns_word.specs.declared.view.SeatView.{SeatView}
+use Rattle.ns_word.specs.declared.walk.Walk.{Walk}
+use Rattle.ns_word.specs.declared.walk.Walk.TheVariants.{Arm, Queue}
+use Rattle.ns_word.specs.Lists.{times_among}
+use Rattle.ns_word.specs.Walks.{awaits, is_queuing}
+use Rattle.ns_word.specs.Views.{owed_to, walk_at}
+use Rattle.ns_word.specs.Steps.{Truths, State}
+use Rattle.ns_word.specs.Lawful.{IsLawful, is_due}
+use Rattle.ns_word.proofs.Acts.{view_fits, stands_nowhere}
+use Rattle.ns_word.proofs.Ranges.{placed_below}
+use Rattle.ns_world.specs.declared.seat.Seat.{Seat}
+use Rattle.ns_world.specs.Performs.{view_of}
+use Rattle.ns_world.specs.Shows.{wakes_owed}
+use Rattle.ns_world.specs.World.{now, IsLawfulWorld}
+use Rattle.ns_world.proofs.Worlds.{split}
+
+-- a seat that is about to queue doesn't wait
+queuing_rests : (walk : Option Walk) → is_queuing walk ≡ true → awaits walk ≡ false
+queuing_rests (Some (Arm mode woken last)) e = refl
+queuing_rests (Some (Queue mode woken last)) e = refl
+queuing_rests walk e = absurd (cc)
+
+module _ {C : Type 0} {N : ℕ} (truths : Truths C) (word : Word) (row : List ℕ) (queues : Lists C) (flags : List ℕ) (seats : List (Seat C N)) (history : List (Event C N)) (lawful : IsLawfulWorld (now truths word row queues flags seats history)) where
+  abbrev state : State C N
+  state = (now truths word row queues flags seats history).state
+
+  module _ (i : ℕ) (seat : Seat C N) (at : slice_get seats i ≡ Some seat) where
+    within : i < length seats
+    within = slice_get_within seats i seat at
+
+    is : get_or seats i seat ≡ seat
+    is = let same : Some (get_or seats i seat) ≡ Some seat = sym (slice_get-get_or seats i seat within) ∙ at in cc
+
+    parts : map view_of seats ≡ map view_of (take i seats) ++ view_of seat ∷ map view_of (drop (suc i) seats)
+    parts = split seats i seat within ∙ ap (λ s. map view_of (take i seats) ++ view_of s ∷ map view_of (drop (suc i) seats)) is
+
+    -- a seat's number is one
+    pub number_below : seat.number < 64
+    number_below =
+        let fits = view_fits truths (length (map view_of seats)) lawful.few history state (map view_of (take i seats)) (view_of seat) (map view_of (drop (suc i) seats)) parts lawful.lawful in
+        omega (arith, fits.in_range, lawful.few)
+
+    -- one that is about to queue stands nowhere
+    pub nowhere : is_queuing seat.walk ≡ true → times seat.number queues ≡ 0
+    nowhere queuing =
+        let none : times_in seat.number queues.lock ≡ 0 = stands_nowhere truths (length (map view_of seats)) lawful.few history state (map view_of (take i seats)) (view_of seat) (map view_of (drop (suc i) seats)) parts lawful.lawful (queuing_rests seat.walk queuing) in
+        let others : sum_by (times_in seat.number) queues.cvs ≡ 0 = rw lawful.no_variables refl in
+        omega (arith, none, others)
+
+  pub few_seats : length seats ≤ 64
+  few_seats = omega (arith, lawful.few, length-map seats view_of)
+
+-- ---- the wakes that are owed
+
+abbrev wake : {C : Type 0} → ℕ → Waiter C
+wake woken = record { seat = woken; mode = Read; cond = None }
+
+-- as many waiters as wakes
+owing : {C : Type 0} {N : ℕ} → List (SeatView C N) → List (Waiter C)
+owing [] = []
+owing (view ∷ views) = map wake view.owed ++ owing views
+
+times_front : {C : Type 0} (seat : ℕ) (owed : List ℕ) (rest : List (Waiter C)) → times_in seat (map wake owed ++ rest) ≡ times_among seat owed + times_in seat rest
+times_front seat [] rest = omega arith
+times_front {C} seat (x ∷ xs) rest =
+    let more = times_in-cons seat (wake {C = C} x) (map (wake {C = C}) xs ++ rest) in
+    let others = times_front seat xs rest in
+    omega (arith, more, others)
+
+one_most : (b : Bool) → cond b 1 0 ≤ 1
+one_most true = omega arith
+one_most false = omega arith
+
+module _ {C : Type 0} {N : ℕ} where
+  times_owing : (seat : ℕ) (views : List (SeatView C N)) → times_in seat (owing views) ≡ owed_to seat views
+  unfolding owing
+  times_owing seat [] = refl
+  times_owing seat (view ∷ views) = times_front seat view.owed (owing views) ∙ ap (λ n. times_among seat view.owed + n) (times_owing seat views)
+
+  length_owing : (views : List (SeatView C N)) → length (owing views) ≡ length (wakes_owed views)
+  unfolding owing
+  length_owing [] = refl
+  length_owing (view ∷ views) =
+      length-append (map (wake {C = C}) view.owed) (owing views) ∙ ap (λ n. length (map (wake {C = C}) view.owed) + n) (length_owing views)
+      ∙ ap (λ n. n + length (wakes_owed views)) (length-map view.owed (wake {C = C}) ∙ sym (length-map view.owed (λ woken. (view.seat, woken))))
+      ∙ sym (length-append (map (λ woken. (view.seat, woken)) view.owed) (wakes_owed views))
+
+  -- a number that is no seat's is owed nothing
+  none_owed : (truths : Truths C) (seats : ℕ) (h : List (Event C N)) (s : State C N) → IsLawful truths seats h s → (seat : ℕ) → seats ≤ seat → owed_to seat s.views ≡ 0
+  none_owed truths seats h s p seat high = elim (cases_eq (owed_to seat s.views) 0) [
+    | inl none ↦ none
+    | inr some ↦ let low = placed_below truths seats h s p seat (omega (arith, some)) in absurd (omega (arith, low, high))
+  ]
+
+  -- no more wakes are owed than there are seats
+  pub wakes_few : (truths : Truths C) (seats : ℕ) (h : List (Event C N)) (s : State C N) → seats ≤ 64 → IsLawful truths seats h s → length (wakes_owed s.views) ≤ 64
+  wakes_few truths seats h s most p =
+      let long = length_owing s.views in
+      let some = few seats (owing s.views)
+      (λ seat. let sum : times_in seat s.lock + owed_to seat s.views ≡ cond (is_due (walk_at seat s.views) (s.flags seat)) 1 0 = p.waiters_placed.placed seat in
+      omega (arith, times_owing seat s.views, sum, one_most (is_due (walk_at seat s.views) (s.flags seat))))
+      (λ seat high. times_owing seat s.views ∙ none_owed truths seats h s p seat high) in
+      omega (arith, long, some, most)

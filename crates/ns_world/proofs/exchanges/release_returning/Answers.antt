@@ -1,0 +1,26 @@
+use Rattle.std.proofs.Common.{rules, refl, sym, ◌∙◌, ap, not}
+use Rattle.std.proofs.lemmas.Result.{err_from_is_err_and}
+use Rattle.ns_word.specs.Steps.{truths}
+use Rattle.ns_world.proofs.Released.{scanned, missed, some_left, can_some}
+use Rattle.ns_world.proofs.exchanges.release_returning.Goals as goal
+
+pub returns-then-not-is_same-clause-ok : goal.returns-then-not-is_same-clause-ok
+returns-then-not-is_same-clause-ok g c = λ flags.
+    missed _ c.args.seat.now.number c.args.leaving c.args.last c.args.word.now c.args.word.now c.args.row.now flags c.args.history.now.items c.args.history.now.items c.args.queues.now c.args.seat.now.owed.items c.args.seat.now.held
+    (c.if-not-is_same.ensures.another refl)
+
+pub commit-requires : goal.commit-requires
+commit-requires g c = (search rules, (search rules, can_some (truths g.C.Condition.holds g.C.Condition.is_same g.C.Condition.is_quiet) c.args.leaving c.args.seat.now.held c.requires))
+
+pub returns-in_err-commit-clause-err : goal.returns-in_err-commit-clause-err
+returns-in_err-commit-clause-err g c =
+    let p = err_from_is_err_and c.from_residual.result c.from_residual.ensures.1 in
+    let err = c.in_err-commit.ensures.err in
+    rw p.1 (sym (c.if-not-is_same.ensures.same refl), refl, refl, rw err.0 refl, err.1)
+
+pub returns-clause-ok : goal.returns-clause-ok
+returns-clause-ok g c = λ flags.
+    scanned _ c.args.seat.now.number c.args.leaving c.args.last c.args.word.now c.released_returning.result c.args.row.now flags c.args.history.now.items c.commit.new.history.items
+    c.args.queues.now c.scan-scan.new.self c.args.seat.now.owed.items c.scan-scan.result.woken.items c.args.seat.now.held c.commit.new.held (not c.is_empty-owes.result) c.scan-scan.result.tests c.bits.result
+    c.requires c.in_ok-commit.ensures.ok (c.if-not-is_same.ensures.same refl) c.released_returning.ensures c.in_ok-commit.ensures.over
+    c.scan-scan.ensures.left c.scan-scan.ensures.woken (ap not c.is_empty-owes.ensures ∙ some_left _) c.bits.ensures c.scan-scan.ensures.tests

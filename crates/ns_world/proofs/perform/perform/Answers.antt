@@ -1,0 +1,22 @@
+use Rattle.std.proofs.Common.{rules, refl, sym, ap, ◌∙◌}
+use Rattle.ns_word.specs.Walks.{walk_after}
+use Rattle.ns_world.specs.Performs.{step_of, tests_after}
+use Rattle.ns_world.proofs.perform.perform.Goals as goal
+
+pub make-requires : goal.make-requires
+make-requires g c = (search rules, (search rules, (search rules, (search rules, (rw c.want.ensures c.requires.fits, c.requires.no_variables)))))
+
+pub returns-clause-ok : goal.returns-clause-ok
+returns-clause-ok g c =
+    let made = c.in_ok-found.ensures.ok in
+    let kept = c.in_ok-found.ensures.kept in
+    rw c.settle.ensures.seat (record {
+      found = c.in_ok-found.found;
+      commits = made.commits;
+      effect = rw (← c.want.ensures) made.effect;
+      number = kept.number;
+      goes = ap walk_after c.got.ensures;
+      tests = c.tests_after-seat.ensures ∙ ap (tests_after c.in_ok-found.found) kept.tests;
+      grows = made.grows;
+      answers = c.settle.ensures.step ∙ ap step_of c.got.ensures;
+    })

@@ -1,0 +1,130 @@
+//! What a world shows of its queues and its owed wakes.
+
+ghost use Rattle.std.specs.Prelude.{◌≡◌, ◌≤◌, ◌<◌, ◌++◌, ◌+◌, ℕ, Some, true, length, map, slice_get, replicate};
+ghost use Rattle.ns_queue.specs.Queues.{times};
+ghost use Rattle.ns_queue.specs.Waiters.{shown_of};
+ghost use Rattle.ns_word.specs.Steps.{in_hand, truths};
+ghost use Rattle.ns_word.specs.Walks.{has_queues, is_queuing};
+ghost use Rattle.ns_world.specs.Performs.{view_of};
+ghost use Rattle.ns_world.specs.Shows.{hand_of, lock_by, wakes_of, wakes_owed};
+
+use crate::exchanges::queue_self;
+use crate::room::Seated;
+use crate::seat::Seat;
+use arrayvec::ArrayVec;
+use ns_queue::queues::Queues;
+use ns_queue::waiter::{Shown, Waiter, Which};
+use ns_word::walk::Walk;
+
+/// Whether a seat at this place has the queues.
+fn has_queues(walk: Option<Walk>) -> bool
+    ensures { result ≡ has_queues walk }
+{
+    match walk {
+        Some(Walk::Arm(_, _, _)) => true,
+        Some(Walk::Queue(_, _, _)) => true,
+        Some(Walk::ScanCells(_, _, _)) => true,
+        Some(Walk::ReleaseReturning(_, _)) => true,
+        _ => false,
+    }
+}
+
+/// Does to the queues what the walk of a seat at this place has done to them in hand.
+fn change_in_hand<C: Seated<N>, const N: usize>(
+    queues: &mut Queues<C, N>,
+    seat: u8,
+    walk: Walk,
+    row: &[u64; N],
+)
+    requires below { seat < 64 }
+    requires free { is_queuing (Some walk) ≡ true → times seat queues.old ≡ 0 }
+    ensures { queues.new.lock ≡ in_hand (truths C.holds C.is_same C.is_quiet) seat walk row.now queues.old.lock }
+{
+    match walk {
+        Walk::Queue(mode, woken, _) => queue_self(queues, seat, mode, woken),
+        Walk::ReleaseReturning(_, _) => {
+            let _ = queues.scan(row);
+        }
+        _ => (),
+    }
+}
+
+/// The queues as a seat at this place has them in hand.
+fn in_hand<C: Seated<N>, const N: usize>(
+    queues: &Queues<C, N>,
+    seat: u8,
+    walk: Option<Walk>,
+    row: &[u64; N],
+) -> Queues<C, N>
+    requires below { seat < 64 }
+    requires free { is_queuing walk ≡ true → times seat queues.now ≡ 0 }
+    ensures { result.lock ≡ hand_of (truths C.holds C.is_same C.is_quiet) seat walk row.now queues.now.lock }
+{
+    let mut hand = queues.copied();
+    if let Some(place) = walk {
+        change_in_hand(&mut hand, seat, place, row);
+    }
+    hand
+}
+
+/// Waiters in the form in which they are shown.
+fn shown_all<C: Seated<N>, const N: usize>(waiters: &[Waiter<C>]) -> ArrayVec<Shown, 64>
+    requires { length waiters.now ≤ 64 }
+    ensures { result.items ≡ map shown_of waiters.now }
+{
+    let mut all = ArrayVec::new();
+    for waiter in waiters {
+        all.push(waiter.shown());
+    }
+    all
+}
+
+/// The waiters of the lock list, in the form in which they are shown.
+fn shown<C: Seated<N>, const N: usize>(queues: &Queues<C, N>) -> ArrayVec<Shown, 64>
+    ensures { result.items ≡ map shown_of queues.now.lock }
+{
+    let waiters = queues.waiters(Which::Lock);
+    shown_all(waiters.as_slice())
+}
+
+/// The lock list as the seat that has the queues has it in hand, else as it stands at home.
+pub(crate) fn shown_lock<C: Seated<N>, const N: usize>(
+    queues: &Queues<C, N>,
+    seats: &[Seat<C, N>],
+    row: &[u64; N],
+) -> ArrayVec<Shown, 64>
+    requires below { (i : ℕ) (seat : _) → slice_get seats.now i ≡ Some seat → seat.number < 64 }
+    requires free { (i : ℕ) (seat : _) → slice_get seats.now i ≡ Some seat → is_queuing seat.walk ≡ true → times seat.number queues.now ≡ 0 }
+    ensures { result.items ≡ map shown_of (lock_by (truths C.holds C.is_same C.is_quiet) row.now queues.now.lock (map view_of seats.now)) }
+{
+    for seat in seats {
+        if has_queues(seat.walk) {
+            return shown(&in_hand(queues, seat.number, seat.walk, row));
+        }
+    }
+    shown(queues)
+}
+
+/// Adds the wakes that a seat owes.
+fn push_wakes(all: &mut ArrayVec<(u8, u8), 64>, seat: u8, owed: &[u8])
+    requires { length all.old.items + length owed.now ≤ 64 }
+    ensures { all.new.items ≡ all.old.items ++ map (λ woken. (seat, woken)) owed.now }
+{
+    for woken in owed {
+        all.push((seat, *woken));
+    }
+}
+
+/// The wakes that the seats owe, by the seats that owe them.
+pub(crate) fn owed_wakes<C: Seated<N>, const N: usize>(
+    seats: &[Seat<C, N>],
+) -> ArrayVec<(u8, u8), 64>
+    requires { length (wakes_owed (map view_of seats.now)) ≤ 64 }
+    ensures { result.items ≡ wakes_owed (map view_of seats.now) }
+{
+    let mut all = ArrayVec::new();
+    for seat in seats {
+        push_wakes(&mut all, seat.number, seat.owed.as_slice());
+    }
+    all
+}
