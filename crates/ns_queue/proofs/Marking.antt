@@ -1,7 +1,7 @@
 -- One place further along a list.
 use Rattle.std.proofs.Common.{◌≡◌, ℕ, suc, ◌+◌, ◌≤◌, ◌<◌, Bool, true, false, List, [], ◌∷◌, ◌++◌, length, get_or, take, drop, set, refl, ap, sym, ◌∙◌, arith, append_assoc, add-one}
 use Rattle.std.proofs.Math.Seq.{drop-cons}
-use Rattle.std.proofs.lemmas.List.{take_more_set, drop-set-lt}
+use Rattle.std.proofs.lemmas.List.{take_more, take_more_set, drop-set-lt}
 use Rattle.ns_queue.specs.declared.waiter.Waiter.{Waiter}
 use Rattle.ns_queue.specs.declared.signal.Wanted.{Wanted}
 use Rattle.ns_queue.specs.Marks.{marked, unmarked, is_wanted, wanted_after, signal_marks}
@@ -43,6 +43,15 @@ module _ {A : Type 0} where
       rw (drop-set-lt (i + 1) xs kept x (omega arith))
       (pushed_on (take kept xs) (take (kept + 1) (set xs kept x)) (unmarked (drop i ms) (drop i xs)) (unmarked (drop (i + 1) ms) (drop (i + 1) xs)) whole x
       (take_more_set xs kept x (omega arith)) (unmarked_no ms xs i b x w v m is) before)
+
+  -- where nobody in front was taken, the next stands in its place already
+  pub kept_here : (ms : List Bool) (xs whole : List A) (kept i : ℕ) (b : Bool) → kept ≡ i → i < length ms → i < length xs → get_or ms i b ≡ false →
+      take kept xs ++ unmarked (drop i ms) (drop i xs) ≡ whole → take (kept + 1) xs ++ unmarked (drop (i + 1) ms) (drop (i + 1) xs) ≡ whole
+  kept_here ms xs whole kept i b same w v m before =
+      let d = some_item xs i v in
+      let more = take_more xs kept d (omega (arith, same, v)) ∙ ap (λ n. take kept xs ++ get_or xs n d ∷ []) same in
+      pushed_on (take kept xs) (take (kept + 1) xs) (unmarked (drop i ms) (drop i xs)) (unmarked (drop (i + 1) ms) (drop (i + 1) xs)) whole (get_or xs i d) more
+      (rw (drop_step ms i b false w m, drop_step xs i d (get_or xs i d) v refl) refl) before
 
 module _ {C : Type 0} where
   pub signal_on : (ws : List (Waiter C)) (i : ℕ) (w : Waiter C) (wanted wanted' : Wanted) (b : Bool) (got got' whole : List Bool) → i < length ws → w ≡ get_or ws i w →

@@ -57,7 +57,8 @@ pub(crate) fn drop_marked<C: Queueable<N>, const N: usize>(
     waiters.truncate(kept);
 }
 
-/// Moves those without a mark to the front, in order, and counts them.
+/// Moves those without a mark to the front, in order, and counts them. A condition may be large, so
+/// those in front of the first that goes aren't copied.
 fn keep_unmarked<C: Queueable<N>, const N: usize>(
     waiters: &mut [Waiter<C>],
     marks: &[bool],
@@ -68,8 +69,9 @@ fn keep_unmarked<C: Queueable<N>, const N: usize>(
     let mut kept = 0;
     for i in 0..waiters.len() {
         if !marks[i] {
-            let waiter = waiters[i];
-            waiters[kept] = waiter;
+            if kept != i {
+                waiters[kept] = waiters[i];
+            }
             kept += 1;
         }
     }

@@ -176,15 +176,17 @@ fn drop_seat<C: Queueable<N>, const N: usize>(waiters: &mut ArrayVec<Waiter<C>, 
     waiters.truncate(kept);
 }
 
-/// Moves those of other seats to the front, in order, and counts them.
+/// Moves those of other seats to the front, in order, and counts them. A condition may be large, so
+/// those in front of the first that goes aren't copied.
 fn keep_others<C: Queueable<N>, const N: usize>(waiters: &mut [Waiter<C>], seat: u8) -> usize
     ensures { take result waiters.new ≡ without_in seat waiters.old }
 {
     let mut kept = 0;
     for i in 0..waiters.len() {
-        let waiter = waiters[i];
-        if waiter.seat != seat {
-            waiters[kept] = waiter;
+        if waiters[i].seat != seat {
+            if kept != i {
+                waiters[kept] = waiters[i];
+            }
             kept += 1;
         }
     }
