@@ -3,6 +3,7 @@ use Rattle.std.proofs.Common.{◌≡◌, ℕ, ◌+◌, ◌≤◌, ◌<◌, ◌�
 use Rattle.std.specs.Prelude.{unwrap_or}
 use Rattle.ns_queue.specs.declared.waiter.Waiter.{Waiter}
 use Rattle.ns_queue.specs.declared.stage.Stage.{Stage}
+use Rattle.ns_queue.specs.declared.stage.Stage.TheVariants.{Ended}
 use Rattle.ns_queue.specs.Scans.{is_met, is_alike}
 use Rattle.ns_queue.specs.Marks.{needs, takes, stage_next, stage_after, asked_for, asking, scan_marks, tests_from}
 use Rattle.ns_queue.proofs.Marking.{drop_step, pushed_on}
@@ -80,3 +81,19 @@ module _ {C : Type 0} (same : C → C → Bool) (meets : C → Bool) where
       let cut = ap (tests_from same meets stage first (is_some truth)) (drop_step ws i w w within (sym is)) in
       let step = tests_entered stage w (drop (i + 1) ws) first truth first' truth' enters in
       rw (after, mark, told, counts, need) (omega (arith, cut, step, before))
+
+  -- behind a writer that was taken nobody is taken, and nothing is tested
+  ended_tests : (first : Option C) (known : Bool) (ws : List (Waiter C)) → tests_from same meets Ended first known ws ≡ 0
+  ended_tests first known [] = refl
+  ended_tests first known (w ∷ ws) = elim (is_alike same w.cond first) as (λ b. cond b (0 + tests_from same meets Ended first known ws) (0 + tests_from same meets Ended w.cond false ws) ≡ 0)
+      [ true ↦ omega (arith, ended_tests first known ws) | false ↦ omega (arith, ended_tests w.cond false ws) ]
+
+  pub marks_ended : (ws : List (Waiter C)) (i : ℕ) (w : Waiter C) (stage : Stage) (got got' whole : List Bool) → stage ≡ Ended → i < length ws → w ≡ get_or ws i w →
+      got' ≡ got ++ false ∷ [] → got ++ scan_marks meets stage (drop i ws) ≡ whole → got' ++ scan_marks meets stage (drop (i + 1) ws) ≡ whole
+  marks_ended ws i w stage got got' whole over within is push before = marks_on ws i w stage stage false got got' whole within is (rw over refl) (rw over refl) push before
+
+  pub tests_ended : (ws : List (Waiter C)) (i : ℕ) (stage : Stage) (first : Option C) (known : Bool) (tests whole : ℕ) → stage ≡ Ended →
+      tests + tests_from same meets stage first known (drop i ws) ≡ whole → tests + tests_from same meets stage first known (drop (i + 1) ws) ≡ whole
+  tests_ended ws i stage first known tests whole over before =
+      let was = rw over at before in
+      rw over (omega (arith, was, ended_tests first known (drop i ws), ended_tests first known (drop (i + 1) ws)))

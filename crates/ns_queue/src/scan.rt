@@ -80,6 +80,11 @@ fn choose<C: Queueable<N>, const N: usize>(waiters: &[Waiter<C>], row: &[u64; N]
     let mut marks = ArrayVec::new();
     let mut tests = 0;
     for waiter in waiters {
+        // Behind a writer that was taken nothing is needed, so no condition is looked at.
+        if matches!(stage, Stage::Ended) {
+            marks.push(false);
+            continue;
+        }
         if !is_alike(waiter, first) {
             first = waiter.cond.as_ref();
             truth = None;

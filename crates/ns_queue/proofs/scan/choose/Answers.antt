@@ -1,12 +1,13 @@
-use Rattle.std.proofs.Common.{◌≡◌, ◌&&◌, Bool, inl, inr, true, false, refl, ap, sym, ◌∙◌, arith}
+use Rattle.std.proofs.Common.{◌≡◌, ◌&&◌, Bool, inl, inr, true, false, is_some, true≢false, refl, ap, sym, ◌∙◌, arith}
 use Rattle.std.specs.Prelude.{unwrap_or}
 use Rattle.std.specs.Option.{option_copied}
 use Rattle.ns_queue.specs.Marks.{takes}
 use Rattle.ns_queue.specs.Scans.{is_met}
-use Rattle.ns_queue.proofs.Asking.{Enters, knows_entered, met_entered, knows_asked, taken_asked, asking_most, marks_on, tests_on}
+use Rattle.ns_queue.specs.declared.stage.Stage.TheVariants.{Ended}
+use Rattle.ns_queue.proofs.Asking.{Enters, knows_entered, met_entered, knows_asked, taken_asked, asking_most, marks_on, tests_on, marks_ended, tests_ended}
 use Rattle.ns_queue.proofs.scan.choose.Given.{Over}
 use Rattle.ns_queue.proofs.scan.choose.Goals as goal
-use Rattle.ns_queue.proofs.scan.choose.Goals.{then-not-is_alike, else-not-is_alike, then-needed, else-needed}
+use Rattle.ns_queue.proofs.scan.choose.Goals.{in-Ended, in_default, then-not-is_alike, else-not-is_alike, then-needed, else-needed}
 
 enters : (g : Over) (c : goal.After-after-stage g) → Enters g.C.Condition.is_same (λ d. g.C.Condition.holds d c.args.row.now) c.waiter-item.result.cond (option_copied c.loop-waiter.first) c.loop-waiter.truth (option_copied c.if-not-is_alike.first) c.if-not-is_alike.truth
 enters g c = elim c.if-not-is_alike.branch [
@@ -38,11 +39,25 @@ loop-waiter-preserved g c =
     let known = knows_entered same meets c.waiter-item.result.cond (option_copied c.loop-waiter.first) c.loop-waiter.truth (option_copied c.if-not-is_alike.first) c.if-not-is_alike.truth (enters g c) c.loop-waiter.invariant.known in
     record {
       so_far = marks_on same meets c.args.waiters.now c.loop-waiter.waiter-index c.waiter-item.result c.loop-waiter.stage c.after-stage.result c.if-needed.taken _ _ _
-          c.loop-waiter-test.true c.waiter-item.is (knows g c) c.after-stage.ensures c.push.ensures.items c.loop-waiter.invariant.so_far;
-      many = omega (arith, c.push.ensures.len, c.loop-waiter.invariant.many);
+          c.loop-waiter-test.true c.waiter-item.is (knows g c) c.after-stage.ensures c.push-in-loop-waiter.ensures.items c.loop-waiter.invariant.so_far;
+      many = omega (arith, c.push-in-loop-waiter.ensures.len, c.loop-waiter.invariant.many);
       counted = tests_on same meets c.args.waiters.now c.loop-waiter.waiter-index c.waiter-item.result c.loop-waiter.stage c.after-stage.result c.if-needed.taken c.needs-needed.result
           (option_copied c.loop-waiter.first) (option_copied c.if-not-is_alike.first) c.loop-waiter.truth c.if-not-is_alike.truth c.ask-answer.result.0 c.loop-waiter.tests c.ask-answer.result.1 _
           c.loop-waiter-test.true c.waiter-item.is (knows g c) c.after-stage.ensures c.needs-needed.ensures (enters g c) c.ask-answer.ensures.truth c.ask-answer.ensures.tests c.loop-waiter.invariant.counted;
       few = omega (arith, asking_most same meets c.needs-needed.result (option_copied c.if-not-is_alike.first) c.if-not-is_alike.truth, c.ask-answer.ensures.tests, c.loop-waiter.invariant.few);
       known = rw c.ask-answer.ensures.truth (knows_asked same meets c.needs-needed.result (option_copied c.if-not-is_alike.first) c.if-not-is_alike.truth known);
+    }
+
+-- behind a writer that was taken
+pub loop-waiter-preserved-then-matches : goal.loop-waiter-preserved-then-matches
+loop-waiter-preserved-then-matches g c =
+    let meets = λ (d : g.row.C.Denot). g.C.Condition.holds d c.args.row.now in
+    let same = g.C.Condition.is_same in
+    let over : c.loop-waiter.stage ≡ Ended = elim c.match-matches.branch [ in-Ended w ↦ w.in-Ended.is | in_default w ↦ absurd (true≢false (sym c.if-matches.true ∙ w.matches-is)) ] in
+    record {
+      so_far = marks_ended same meets c.args.waiters.now c.loop-waiter.waiter-index c.waiter-item.result c.loop-waiter.stage _ _ _ over c.loop-waiter-test.true c.waiter-item.is c.push.ensures.items c.loop-waiter.invariant.so_far;
+      many = omega (arith, c.push.ensures.len, c.loop-waiter.invariant.many);
+      counted = tests_ended same meets c.args.waiters.now c.loop-waiter.waiter-index c.loop-waiter.stage (option_copied c.loop-waiter.first) (is_some c.loop-waiter.truth) c.loop-waiter.tests _ over c.loop-waiter.invariant.counted;
+      few = omega (arith, c.loop-waiter.invariant.few);
+      known = c.loop-waiter.invariant.known;
     }
