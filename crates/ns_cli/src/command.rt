@@ -21,7 +21,7 @@ fn replay_command<'a>(alloc: Global) -> Result<Command<'a>, AllocError> {
     let history = flag(
         alloc,
         "history",
-        "Print each section, signal and broadcast, as: section 0 w plain plain 0,0,0,0,0,0,0,0 5,0,0,0,0,0,0,0",
+        "Print each section that was committed, as: section 0 w plain plain 0,0,0,0,0,0,0,0 5,0,0,0,0,0,0,0",
     );
     let tests = flag(
         alloc,
@@ -31,7 +31,7 @@ fn replay_command<'a>(alloc: Global) -> Result<Command<'a>, AllocError> {
     let state = flag(
         alloc,
         "state",
-        "Print the lock word and its queue, as: word write readers=0",
+        "Print the lock word, its queue and the wakes that are owed, as: word write readers=0",
     );
     let limit = Arg::new(alloc, "limit")
         .long("limit")

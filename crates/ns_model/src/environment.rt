@@ -9,24 +9,34 @@
 pub enum EnvEvent {
     /// The caller takes the next number.
     Take {
+        /// The caller's seat.
         who: u8,
+        /// The number.
         note: u8,
     },
     /// The caller makes the note whose number it has taken.
     New {
+        /// The caller's seat.
         who: u8,
+        /// The note's number.
         note: u8,
+        /// The number of the note that it stands below, if it stands below one.
         parent: Option<u8>,
+        /// The moment from which on it is notified, in ticks, if it has one.
         deadline: Option<u64>,
     },
     /// The caller notifies the note.
     Notify {
+        /// The caller's seat.
         who: u8,
+        /// The note's number.
         note: u8,
     },
     /// The caller moves the clock on to the moment, or leaves it where it stands later.
     Advance {
+        /// The caller's seat.
         who: u8,
+        /// The moment, in ticks.
         to: u64,
     },
 }

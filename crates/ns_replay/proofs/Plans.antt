@@ -1,6 +1,6 @@
 -- What a script that was read is known to be.
 use Rattle.std.proofs.Common.{◌≡◌, ℕ, ◌+◌, ◌<◌, ◌≤◌, Bool, true, false, cond, List, [], ◌∷◌, length, map, Option, Some, None, Result, Ok, Err, refl, subst, arith}
-use Rattle.std.specs.Prelude.{nat_le, nat_lt, option_map, option_and_then, bytes_eq, codes, All}
+use Rattle.std.specs.Prelude.{nat_le, nat_lt, option_map, option_and_then, bytes_eq, codes, All, IfSome, ◌^◌}
 use Rattle.std.proofs.lemmas.Bool.Decides.{nat_tests}
 use Rattle.std.specs.Global.{Vec}
 use Rattle.std.proofs.lemmas.List.{length-map}
@@ -8,14 +8,18 @@ use Rattle.std.proofs.lemmas.List.Elements.{All-nil, All-cons}
 use Rattle.serde_json.specs.Data.{Data}
 use Rattle.serde_json.specs.Find.{get, as_str, as_array}
 use Rattle.ns_world.specs.declared.call.Call.{Call}
-use Rattle.ns_world.specs.declared.call.Call.TheVariants.{Lock, RLock, TryLock, TryRLock, Unlock, RUnlock, UnlockQuiet, Get, Set}
+use Rattle.ns_world.specs.declared.call.Call.TheVariants.{Lock, RLock, TryLock, TryRLock, Unlock, RUnlock, UnlockQuiet, Get, Set, Wait, NewNote, Notify, Advance, IsNotified, Expiry, NoteWait}
 use Rattle.ns_world.specs.declared.schedule.Turn.{Turn}
-use Rattle.ns_world.specs.Calls.{CellFits}
+use Rattle.ns_world.specs.Calls.{CallInRange, IsNoteNumber, IsMoment}
 use Rattle.ns_replay.specs.declared.place.Place.{Place}
 use Rattle.ns_replay.specs.declared.place.Place.TheVariants as at
 use Rattle.ns_replay.specs.declared.fault.Fault.{Fault}
 use Rattle.ns_replay.specs.Faults.{◌>>=◌, need, each_from}
-use Rattle.ns_replay.specs.Words.{parts, number_of, below, call_of, plain_call_of, actor_of, turn_of}
+use Rattle.ns_replay.specs.declared.condition.ScriptCondition.{ScriptCondition}
+use Rattle.ns_word.specs.declared.limits.Limits.{Limits}
+use Rattle.ns_replay.specs.Words.{parts, number_of, below, moment_of, moment_or_none_of, note_or_none_of}
+use Rattle.ns_replay.specs.Waits.{condition_of, note_limit_of, limits_of, wait_of}
+use Rattle.ns_replay.specs.Calls.{call_of, brief_call_of, plain_call_of, short_call_of, long_call_of, actor_of, turn_of}
 use Rattle.ns_replay.specs.Script.{Plan, list_of, at_most, list_in, call_at, calls_at, threads_of, words_of, turn_at, schedule_of, members_of, version_of, plan_in, json_of, script_of}
 use Rattle.ns_replay.specs.Runnable.{IsShort, IsRunnable}
 
@@ -80,36 +84,133 @@ below_some limit o n e =
     let small : nat_lt k limit ≡ true = p.0 in
     rw (← is) (grind (arith, nat_tests))
 
+-- what the word writes, where it isn't a dash
+or_none_by : (P : ℕ → Type 0) (dash : Bool) (number : Option ℕ) (o : Option ℕ) → ((n : ℕ) → number ≡ Some n → P n) → cond dash (Some None) (option_map (λ n. Some n) number) ≡ Some o → IfSome o P
+or_none_by P true number o h e = let is : None ≡ o = cc in subst (λ x. IfSome x P) is tt
+or_none_by P false number o h e = let (n, some, is) = map_some (λ n. Some n) number o e in subst (λ x. IfSome x P) is (h n some)
+
+moment_fits : (word : List ℕ) (n : ℕ) → moment_of word ≡ Some n → IsMoment n
+moment_fits word n e = below_some (2 ^ 54) (number_of word) n e
+
+moment_or_none_fits : (word : List ℕ) (o : Option ℕ) → moment_or_none_of word ≡ Some o → IfSome o IsMoment
+moment_or_none_fits word o e = or_none_by IsMoment (bytes_eq word (codes "-")) (moment_of word) o (moment_fits word) e
+
+note_fits : (word : List ℕ) (n : ℕ) → below 64 (number_of word) ≡ Some n → IsNoteNumber n
+note_fits word n e = below_some 64 (number_of word) n e
+
+note_or_none_fits : (word : List ℕ) (o : Option ℕ) → note_or_none_of word ≡ Some o → IfSome o IsNoteNumber
+note_or_none_fits word o e = or_none_by IsNoteNumber (bytes_eq word (codes "-")) (below 64 (number_of word)) o (note_fits word) e
+
+-- one or another
+chosen : {A : Type 0} (P : A → Type 0) (b : Bool) (here rest : Option A) (x : A) → (here ≡ Some x → P x) → (rest ≡ Some x → P x) → cond b here rest ≡ Some x → P x
+chosen P true here rest x fits others e = fits e
+chosen P false here rest x fits others e = others e
+
 -- one name after another
-named : (b : Bool) (c : Call) (rest : Option Call) (call : Call) → CellFits 8 c → (rest ≡ Some call → CellFits 8 call) → cond b (Some c) rest ≡ Some call → CellFits 8 call
-named true c rest call fits others e = let is : c ≡ call = cc in subst (CellFits 8) is fits
-named false c rest call fits others e = others e
+named : (b : Bool) (here rest : Option (Call ScriptCondition)) (call : Call ScriptCondition) → (here ≡ Some call → CallInRange 8 call) → (rest ≡ Some call → CallInRange 8 call) → cond b here rest ≡ Some call → CallInRange 8 call
+named b here rest call fits others e = chosen (CallInRange 8) b here rest call fits others e
 
-plain_fits : (name : List ℕ) (call : Call) → plain_call_of name ≡ Some call → CellFits 8 call
+itself : (c call : Call ScriptCondition) → CallInRange 8 c → Some c ≡ Some call → CallInRange 8 call
+itself c call fits e = let is : c ≡ call = cc in subst (CallInRange 8) is fits
+
+-- a call of one number
+of_one : (f : ℕ → Call ScriptCondition) (o : Option ℕ) (call : Call ScriptCondition) → ((n : ℕ) → o ≡ Some n → CallInRange 8 (f n)) → option_map f o ≡ Some call → CallInRange 8 call
+of_one f o call fits e = let (n, some, is) = map_some f o call e in subst (CallInRange 8) is (fits n some)
+
+-- a call of two parts
+of_two : {A B : Type 0} (f : A → B → Call ScriptCondition) (o : Option A) (p : Option B) (call : Call ScriptCondition) → ((x : A) (y : B) → o ≡ Some x → p ≡ Some y → CallInRange 8 (f x y)) → option_and_then (λ x. option_map (f x) p) o ≡ Some call → CallInRange 8 call
+of_two f o p call fits e =
+    let (x, first, more) = then_some (λ x. option_map (f x) p) o call e in
+    let (y, second, is) = map_some (f x) p call more in
+    subst (CallInRange 8) is (fits x y first second)
+
+plain_fits : (name : List ℕ) (call : Call ScriptCondition) → plain_call_of name ≡ Some call → CallInRange 8 call
 plain_fits name call =
-    named (bytes_eq name (codes "lock")) Lock _ call tt
-    (named (bytes_eq name (codes "rlock")) RLock _ call tt
-    (named (bytes_eq name (codes "trylock")) TryLock _ call tt
-    (named (bytes_eq name (codes "rtrylock")) TryRLock _ call tt
-    (named (bytes_eq name (codes "unlock")) Unlock _ call tt
-    (named (bytes_eq name (codes "runlock")) RUnlock _ call tt
-    (named (bytes_eq name (codes "unlockquiet")) UnlockQuiet _ call tt (λ e. absurd cc)))))))
+    named (bytes_eq name (codes "lock")) (Some Lock) _ call (itself Lock call tt)
+    (named (bytes_eq name (codes "rlock")) (Some RLock) _ call (itself RLock call tt)
+    (named (bytes_eq name (codes "trylock")) (Some TryLock) _ call (itself TryLock call tt)
+    (named (bytes_eq name (codes "rtrylock")) (Some TryRLock) _ call (itself TryRLock call tt)
+    (named (bytes_eq name (codes "unlock")) (Some Unlock) _ call (itself Unlock call tt)
+    (named (bytes_eq name (codes "runlock")) (Some RUnlock) _ call (itself RUnlock call tt)
+    (named (bytes_eq name (codes "unlockquiet")) (Some UnlockQuiet) _ call (itself UnlockQuiet call tt) (λ e. absurd cc)))))))
 
-call_fits : (words : List (List ℕ)) (call : Call) → call_of words ≡ Some call → CellFits 8 call
+short_fits : (name word : List ℕ) (call : Call ScriptCondition) → short_call_of name word ≡ Some call → CallInRange 8 call
+short_fits name word call =
+    named (bytes_eq name (codes "get")) _ _ call (of_one Get (below 8 (number_of word)) call (below_some 8 (number_of word)))
+    (named (bytes_eq name (codes "notify")) _ _ call (of_one Notify (below 64 (number_of word)) call (note_fits word))
+    (named (bytes_eq name (codes "advance")) _ _ call (of_one Advance (moment_of word) call (moment_fits word))
+    (named (bytes_eq name (codes "isnotified")) _ _ call (of_one IsNotified (below 64 (number_of word)) call (note_fits word))
+    (named (bytes_eq name (codes "expiry")) _ _ call (of_one Expiry (below 64 (number_of word)) call (note_fits word)) (λ e. absurd cc)))))
+
+long_fits : (name first second : List ℕ) (call : Call ScriptCondition) → long_call_of name first second ≡ Some call → CallInRange 8 call
+long_fits name first second call =
+    named (bytes_eq name (codes "set")) _ _ call (of_two Set (below 8 (number_of first)) (number_of second) call (λ i v cell value. below_some 8 (number_of first) i cell))
+    (named (bytes_eq name (codes "newnote")) _ _ call (of_two NewNote (note_or_none_of first) (moment_or_none_of second) call (λ o p parent deadline. (note_or_none_fits first o parent, moment_or_none_fits second p deadline)))
+    (named (bytes_eq name (codes "notewait")) _ _ call (of_two NoteWait (below 64 (number_of first)) (moment_or_none_of second) call (λ n p note deadline. (note_fits first n note, moment_or_none_fits second p deadline))) (λ e. absurd cc)))
+
+brief_fits : (words : List (List ℕ)) (call : Call ScriptCondition) → brief_call_of words ≡ Some call → CallInRange 8 call
+unfolding brief_call_of
+brief_fits [] call e = absurd cc
+brief_fits (name ∷ []) call e = plain_fits name call e
+brief_fits (name ∷ word ∷ []) call e = short_fits name word call e
+brief_fits (name ∷ first ∷ second ∷ []) call e = long_fits name first second call e
+brief_fits (name ∷ first ∷ second ∷ third ∷ words) call e = absurd cc
+
+-- ---- the limits of waits
+
+note_limit_fits : (words : List (List ℕ)) (o : Option ℕ) → note_limit_of words ≡ Some o → IfSome o IsNoteNumber
+unfolding note_limit_of
+note_limit_fits [] o e = let is : None ≡ o = cc in subst (λ x. IfSome x IsNoteNumber) is tt
+note_limit_fits (name ∷ []) o e = absurd cc
+note_limit_fits (name ∷ word ∷ []) o e =
+    let (n, some, is) = map_some (λ n. Some n) (below 64 (number_of word)) o (if_some (bytes_eq name (codes "note")) (option_map (λ n. Some n) (below 64 (number_of word))) o e).1 in
+    subst (λ x. IfSome x IsNoteNumber) is (note_fits word n some)
+note_limit_fits (name ∷ word ∷ more ∷ words) o e = absurd cc
+
+-- the note is one of 64, and the deadline is a moment
+abbrev LimitsFit : Limits → Type 0
+LimitsFit l = IfSome l.note IsNoteNumber × IfSome l.deadline IsMoment
+
+abbrev limits_by : Option ℕ → Option ℕ → Limits
+limits_by deadline note = record { deadline = deadline; note = note }
+
+undated_fits : (words : List (List ℕ)) (l : Limits) → option_map (limits_by None) (note_limit_of words) ≡ Some l → LimitsFit l
+undated_fits words l e =
+    let (n, note, is) = map_some (limits_by None) (note_limit_of words) l e in
+    subst LimitsFit is (note_limit_fits words n note, tt)
+
+dated_fits : (word : List ℕ) (words : List (List ℕ)) (l : Limits) → option_and_then (λ t. option_map (limits_by (Some t)) (note_limit_of words)) (moment_of word) ≡ Some l → LimitsFit l
+dated_fits word words l e =
+    let (t, moment, more) = then_some (λ t. option_map (limits_by (Some t)) (note_limit_of words)) (moment_of word) l e in
+    let (n, note, is) = map_some (limits_by (Some t)) (note_limit_of words) l more in
+    subst LimitsFit is (note_limit_fits words n note, moment_fits word t moment)
+
+limits_fit : (words : List (List ℕ)) (l : Limits) → limits_of words ≡ Some l → LimitsFit l
+unfolding limits_of
+limits_fit [] l e = undated_fits [] l e
+limits_fit (name ∷ []) l e = undated_fits (name ∷ []) l e
+limits_fit (name ∷ word ∷ rest) l e = chosen LimitsFit (bytes_eq name (codes "deadline")) _ _ l (dated_fits word rest l) (undated_fits (name ∷ word ∷ rest) l) e
+
+wait_fits : (words : List (List ℕ)) (w : ScriptCondition × Limits) → wait_of words ≡ Some w → LimitsFit w.1
+unfolding wait_of
+wait_fits [] w e = absurd cc
+wait_fits (condition ∷ rest) w e =
+    let by : ScriptCondition → Option (ScriptCondition × Limits) = λ c. option_map (λ l. (c, l)) (limits_of rest) in
+    let (c, first, more) = then_some by (condition_of (parts 38 condition)) w e in
+    let (l, limits, is) = map_some (λ l. (c, l)) (limits_of rest) w more in
+    subst (λ x. LimitsFit x.1) is (limits_fit rest l limits)
+
+wait_call_fits : (words : List (List ℕ)) (call : Call ScriptCondition) → option_map (λ w. Wait w.0 w.1) (wait_of words) ≡ Some call → CallInRange 8 call
+wait_call_fits words call e =
+    let (w, limits, is) = map_some (λ w. Wait w.0 w.1) (wait_of words) call e in
+    subst (CallInRange 8) is (wait_fits words w limits)
+
+call_fits : (words : List (List ℕ)) (call : Call ScriptCondition) → call_of words ≡ Some call → CallInRange 8 call
 unfolding call_of
 call_fits [] call e = absurd cc
-call_fits (name ∷ []) call e = plain_fits name call e
-call_fits (name ∷ cell ∷ []) call e =
-    let (i, number, is) = map_some Get _ call (if_some (bytes_eq name (codes "get")) (option_map Get (below 8 (number_of cell))) call e).1 in
-    subst (CellFits 8) is (below_some 8 (number_of cell) i number)
-call_fits (name ∷ cell ∷ value ∷ []) call e =
-    let set : ℕ → Option Call = λ i. option_map (Set i) (number_of value) in
-    let (i, number, more) = then_some set (below 8 (number_of cell)) call (if_some (bytes_eq name (codes "set")) (option_and_then set (below 8 (number_of cell))) call e).1 in
-    let (v, other, is) = map_some (Set i) (number_of value) call more in
-    subst (CellFits 8) is (below_some 8 (number_of cell) i number)
-call_fits (name ∷ cell ∷ value ∷ word ∷ words) call e = absurd cc
+call_fits (name ∷ words) call e = named (bytes_eq name (codes "wait")) _ _ call (wait_call_fits words call) (brief_fits (name ∷ words) call) e
 
-call_at_fits : (thread number : ℕ) (d : Data) (call : Call) → call_at thread number d ≡ Ok call → CellFits 8 call
+call_at_fits : (thread number : ℕ) (d : Data) (call : Call ScriptCondition) → call_at thread number d ≡ Ok call → CallInRange 8 call
 unfolding call_at
 call_at_fits thread number d call e =
     let (text, is, more) = bind_ok (need (at.Call thread number) (as_str d)) _ call e in
@@ -123,28 +224,28 @@ list_few limit place d ds e =
     let (list, is, few) = bind_ok (need place (option_map list_of (option_and_then as_array d))) (at_most limit place) ds e in
     at_most_few limit place list ds few
 
-calls_short : (thread : ℕ) (d : Data) (calls : List Call) → calls_at thread d ≡ Ok calls → IsShort calls
+calls_short : (thread : ℕ) (d : Data) (calls : List (Call ScriptCondition)) → calls_at thread d ≡ Ok calls → IsShort calls
 unfolding calls_at
 calls_short thread d calls e =
     let (list, is, each) = bind_ok (list_in 256 (at.Thread thread) (Some d)) _ calls e in
     record {
       few = rw (each_length (call_at thread) 0 list calls each) (list_few 256 _ _ list is);
-      cells = each_all (CellFits 8) (call_at thread) (call_at_fits thread) 0 list calls each;
+      in_range = each_all (CallInRange 8) (call_at thread) (call_at_fits thread) 0 list calls each;
     }
 
-pub few_threads : (d : Data) (threads : List (List Call)) → threads_of d ≡ Ok threads → length threads ≤ 64
+pub few_threads : (d : Data) (threads : List (List (Call ScriptCondition))) → threads_of d ≡ Ok threads → length threads ≤ 64
 unfolding threads_of
 few_threads d threads e =
     let (list, is, each) = bind_ok (list_in 64 at.Threads (get (codes "threads") d)) _ threads e in
     rw (each_length calls_at 0 list threads each) (list_few 64 _ _ list is)
 
-pub few_lists : (d : Data) (threads : List (Vec Call)) → threads_of d ≡ Ok (map (λ w. w.items) threads) → length threads ≤ 64
+pub few_lists : (d : Data) (threads : List (Vec (Call ScriptCondition))) → threads_of d ≡ Ok (map (λ w. w.items) threads) → length threads ≤ 64
 few_lists d threads e =
     let few = few_threads d (map (λ w. w.items) threads) e in
-    let same : length (map (λ (w : Vec Call). w.items) threads) ≡ length threads = search (arith, length-map) in
+    let same : length (map (λ (w : Vec (Call ScriptCondition)). w.items) threads) ≡ length threads = search (arith, length-map) in
     rw (← same) few
 
-threads_short : (d : Data) (threads : List (List Call)) → threads_of d ≡ Ok threads → All IsShort threads
+threads_short : (d : Data) (threads : List (List (Call ScriptCondition))) → threads_of d ≡ Ok threads → All IsShort threads
 unfolding threads_of
 threads_short d threads e =
     let (list, is, each) = bind_ok (list_in 64 at.Threads (get (codes "threads") d)) _ threads e in

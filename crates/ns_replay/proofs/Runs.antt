@@ -1,5 +1,5 @@
 -- Runs of scripts that were read: what they need, and why they fail.
-use Rattle.std.proofs.Common.{◌≡◌, ℕ, ◌<◌, ◌≤◌, ◌⊎◌, inl, inr, Bool, true, false, cond, List, [], ◌∷◌, length, replicate, map, Option, Some, None, refl, sym, ap, ◌∙◌, subst, arith}
+use Rattle.std.proofs.Common.{◌≡◌, ℕ, zero, suc, ◌+◌, ◌<◌, ◌≤◌, ◌⊎◌, inl, inr, Bool, true, false, cond, List, [], ◌∷◌, length, replicate, map, Option, Some, None, refl, sym, ap, ◌∙◌, subst, arith}
 use Rattle.std.specs.Prelude.{◌==◌, All}
 use Rattle.std.specs.List.{AllByRecursion}
 use Rattle.std.specs.Global.{Vec}
@@ -11,10 +11,18 @@ use Rattle.ns_world.specs.declared.step.Step.{Step}
 use Rattle.ns_world.specs.declared.step.Step.TheVariants.{Went, Idle, Finished, Nothing}
 use Rattle.ns_world.specs.declared.fault.Fault.{Fault as WorldFault}
 use Rattle.ns_world.specs.declared.fault.Fault.TheVariants as world
-use Rattle.ns_world.specs.World.{Now, StepOf, fresh, is_busy}
+use Rattle.ns_word.specs.declared.env_walk.EnvNext.{EnvNext}
+use Rattle.ns_word.specs.declared.env_walk.EnvNext.TheVariants.{On, Idle as EnvIdle, Done, Saw}
+use Rattle.ns_word.specs.EnvWalks.{env_got_of}
+use Rattle.ns_word.specs.Begins.{fresh_views}
+use Rattle.ns_word.specs.declared.view.SeatView.{SeatView}
+use Rattle.ns_world.specs.declared.call.Start.{Start}
+use Rattle.ns_world.specs.declared.call.Start.TheVariants.{Lock as OnLock, Ask}
+use Rattle.ns_world.specs.Begins.{begun_at}
+use Rattle.ns_world.specs.Calls.{start_of, mode_of}
+use Rattle.ns_world.specs.World.{Now, Goes, LookGoes, Moves, StepOf, fresh, is_walking, is_asking, is_busy}
 use Rattle.ns_world.specs.Runs.{Progress, Leads, TurnOf, TurnsOf, Turned, Item, items_of, rest_of, is_end, progressed, start, StopsFor, RunFault, ListFits}
 use Rattle.ns_world.proofs.Fresh.{length_views}
-use Rattle.ns_world.proofs.Busy.{idle_from}
 use Rattle.ns_replay.specs.Condition.{script_truths}
 use Rattle.ns_replay.specs.declared.condition.ScriptCondition.{ScriptCondition}
 use Rattle.ns_replay.specs.Faults.{fault_of_world}
@@ -29,15 +37,33 @@ module _ {C : Type 0} {N : ℕ} where
   abbrev pub seats_of : Now C N → ℕ
   seats_of now = length now.state.views
 
+  goes_keeps : (old new : Now C N) (seat : ℕ) (step : Step) → Goes old new seat step → seats_of new ≡ seats_of old
+  goes_keeps old new seat step goes = rw goes.others (length-set _ _ _)
+
+  look_keeps : (next : EnvNext) (old new : Now C N) (seat : ℕ) (step : Step) → LookGoes next old new seat step → seats_of new ≡ seats_of old
+  look_keeps (On next) old new seat step (is, went) = ap seats_of is
+  look_keeps (Saw cause) old new seat step (goes, looked) = goes_keeps old new seat step goes
+  look_keeps (EnvIdle next) old new seat step h = absurd h
+  look_keeps (Done reply) old new seat step h = absurd h
+
+  moves_keep : (old new : Now C N) (seat : ℕ) (step : Step) → Moves old new seat step → seats_of new ≡ seats_of old
+  moves_keep old new seat step (inl (goes, unasked)) = goes_keeps old new seat step goes
+  moves_keep old new seat step (inr (inl asks)) = ap seats_of asks.others
+  moves_keep old new seat step (inr (inr looks)) = look_keeps (env_got_of looks.place looks.found) old new seat step looks.goes
+
+  begun_keeps : (old : Now C N) (seat : ℕ) (view : SeatView C N) (start : Start C) → seats_of (begun_at old seat view start) ≡ seats_of old
+  begun_keeps old seat view (OnLock walk) = length-set _ _ _
+  begun_keeps old seat view (Ask walk) = refl
+
   step_keeps : (old new : Now C N) (seat : ℕ) (step : Step) → StepOf old new seat step → seats_of new ≡ seats_of old
-  step_keeps old new seat Went h = rw h.others (length-set _ _ _)
-  step_keeps old new seat Idle h = rw h.others (length-set _ _ _)
-  step_keeps old new seat (Finished reply) h = rw h.others (length-set _ _ _)
+  step_keeps old new seat Went h = moves_keep old new seat Went h
+  step_keeps old new seat Idle h = moves_keep old new seat Idle h
+  step_keeps old new seat (Finished reply) h = moves_keep old new seat (Finished reply) h
   step_keeps old new seat Nothing h = rw h.0 refl
 
-  leads_keeps : (lists : List (List Call)) (p : Progress C N) (seat : ℕ) (now : Now C N) → Leads lists p seat now → seats_of now ≡ seats_of p.world
+  leads_keeps : (lists : List (List (Call C))) (p : Progress C N) (seat : ℕ) (now : Now C N) → Leads lists p seat now → seats_of now ≡ seats_of p.world
   leads_keeps lists p seat now (inl (busy, e)) = rw e refl
-  leads_keeps lists p seat now (inr (call, next, starts)) = rw starts.begins (length-set _ _ _)
+  leads_keeps lists p seat now (inr (call, next, starts)) = ap seats_of starts.begins ∙ begun_keeps p.world seat starts.view (start_of N (mode_of starts.view.held) call)
 
   progressed_world : (p : Progress C N) (seat : ℕ) (step : Step) (now : Now C N) → (progressed p seat step now).world ≡ now
   progressed_world p seat Went now = refl
@@ -45,13 +71,13 @@ module _ {C : Type 0} {N : ℕ} where
   progressed_world p seat (Finished reply) now = refl
   progressed_world p seat Nothing now = refl
 
-  turn_keeps : (lists : List (List Call)) (p : Progress C N) (seat : ℕ) (step : Step) (q : Progress C N) → TurnOf lists p seat step q → seats_of q.world ≡ seats_of p.world
+  turn_keeps : (lists : List (List (Call C))) (p : Progress C N) (seat : ℕ) (step : Step) (q : Progress C N) → TurnOf lists p seat step q → seats_of q.world ≡ seats_of p.world
   turn_keeps lists p seat step q (inl m) =
       ap (λ (r : Progress C N). seats_of r.world) m.after ∙ ap seats_of (progressed_world p seat step m.world) ∙ step_keeps m.begun m.world seat step m.steps ∙ leads_keeps lists p seat m.begun m.leads
   turn_keeps lists p seat step q (inr (inl m)) = ap (λ (r : Progress C N). seats_of r.world) m.after
   turn_keeps lists p seat step q (inr (inr r)) = ap (λ (r : Progress C N). seats_of r.world) r.after
 
-  turns_keep : (lists : List (List Call)) (p : Progress C N) (turns : List Turned) (q : Progress C N) → TurnsOf lists p turns q → seats_of q.world ≡ seats_of p.world
+  turns_keep : (lists : List (List (Call C))) (p : Progress C N) (turns : List Turned) (q : Progress C N) → TurnsOf lists p turns q → seats_of q.world ≡ seats_of p.world
   turns_keep lists p [] q e = ap (λ (r : Progress C N). seats_of r.world) e
   turns_keep lists p (turned ∷ turns) q (r, first, more) = turns_keep lists r turns q more ∙ turn_keeps lists p turned.seat turned.step r first
 
@@ -108,22 +134,35 @@ script_fails limit script old now fault runnable first stops = run_fails limit (
 
 -- ---- what a run needs
 
-lists_by : (lists : List (Vec Call)) → AllByRecursion IsShort (map (λ calls. calls.items) lists) → AllByRecursion (λ calls. ListFits 8 calls.items) lists
+lists_by : (lists : List (Vec (Call ScriptCondition))) → AllByRecursion IsShort (map (λ calls. calls.items) lists) → AllByRecursion (λ calls. ListFits 8 calls.items) lists
 lists_by [] h = tt
-lists_by (calls ∷ lists) h = ((h.0.few, h.0.cells), lists_by lists h.1)
+lists_by (calls ∷ lists) h = ((h.0.few, h.0.in_range), lists_by lists h.1)
 
 pub few_threads : (script : Script) → IsRunnable (plan_of script) → length script.threads.items ≤ 64
 few_threads script runnable =
-    let same : length (map (λ (calls : Vec Call). calls.items) script.threads.items) ≡ length script.threads.items = length-map script.threads.items (λ calls. calls.items) in
+    let same : length (map (λ (calls : Vec (Call ScriptCondition)). calls.items) script.threads.items) ≡ length script.threads.items = length-map script.threads.items (λ calls. calls.items) in
     rw (← same) runnable.few
 
 pub world_is : (script : Script) (n : ℕ) (now : Now ScriptCondition 8) → n ≡ length script.threads.items → now ≡ fresh script_truths n → now ≡ world_for (plan_of script)
 world_is script n now count first =
-    let same : length (map (λ (calls : Vec Call). calls.items) script.threads.items) ≡ length script.threads.items = length-map script.threads.items (λ calls. calls.items) in
+    let same : length (map (λ (calls : Vec (Call ScriptCondition)). calls.items) script.threads.items) ≡ length script.threads.items = length-map script.threads.items (λ calls. calls.items) in
     first ∙ ap (λ (m : ℕ). fresh script_truths m) (count ∙ sym same)
 
-pub idle_world : (n seat : ℕ) (now : Now ScriptCondition 8) → now ≡ fresh script_truths n → is_busy now.state.views seat ≡ false
-idle_world n seat now first = rw first (idle_from ScriptCondition 8 0 n seat)
+unwalked : (first n seat : ℕ) → is_walking (fresh_views {C = ScriptCondition} {N = 8} first n) seat ≡ false
+unwalked first zero seat = refl
+unwalked first (suc n) zero = refl
+unwalked first (suc n) (suc seat) = unwalked (first + 1) n seat
 
-pub lists_fit : (lists : List (Vec Call)) → All IsShort (map (λ calls. calls.items) lists) → All (λ calls. ListFits 8 calls.items) lists
+unasked : (n seat : ℕ) → is_asking (replicate n None) seat ≡ false
+unasked zero seat = refl
+unasked (suc n) zero = refl
+unasked (suc n) (suc seat) = unasked n seat
+
+idle_fresh : (n seat : ℕ) → is_busy (fresh_views {C = ScriptCondition} {N = 8} 0 n) (replicate n None) seat ≡ false
+idle_fresh n seat = rw (unwalked 0 n seat, unasked n seat) refl
+
+pub idle_world : (n seat : ℕ) (now : Now ScriptCondition 8) → now ≡ fresh script_truths n → is_busy now.state.views now.asking seat ≡ false
+idle_world n seat now first = rw first (idle_fresh n seat)
+
+pub lists_fit : (lists : List (Vec (Call ScriptCondition))) → All IsShort (map (λ calls. calls.items) lists) → All (λ calls. ListFits 8 calls.items) lists
 lists_fit lists h = All-from_recursion _ lists (lists_by lists (recursion_from_All _ _ h))

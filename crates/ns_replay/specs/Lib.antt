@@ -1,3 +1,4 @@
+pub mod Calls
 pub mod Condition
 pub mod ConditionLaws
 pub mod Faults
@@ -7,4 +8,5 @@ pub mod Script
 pub mod Streams
 pub mod Text
 pub mod Transfer
+pub mod Waits
 pub mod Words

@@ -12,11 +12,13 @@ use Rattle.ns_replay.specs.declared.place.Place.TheVariants as at
 use Rattle.ns_replay.specs.declared.fault.Fault.{Fault}
 use Rattle.ns_replay.specs.declared.fault.Fault.TheVariants.{NotJson, BadScript, TooMany}
 use Rattle.ns_replay.specs.Faults.{◌>>=◌, need, each_from}
-use Rattle.ns_replay.specs.Words.{parts, call_of, turn_of}
+use Rattle.ns_replay.specs.declared.condition.ScriptCondition.{ScriptCondition}
+use Rattle.ns_replay.specs.Words.{parts}
+use Rattle.ns_replay.specs.Calls.{call_of, turn_of}
 
 -- what to run: the calls of each thread, and whose turn it is
 pub record Plan : Type 0 where
-  pub threads : List (List Call)
+  pub threads : List (List (Call ScriptCondition))
   pub schedule : List Turn
 
 abbrev pub plan_of : Script → Plan
@@ -34,19 +36,19 @@ unfoldable pub list_in : ℕ → Place → Option Data → Result (List Data) Fa
 list_in limit place d = need place (option_map list_of (option_and_then as_array d)) >>= at_most limit place
 
 -- a call: a text of words parted by one space
-unfoldable pub call_at : ℕ → ℕ → Data → Result Call Fault
+unfoldable pub call_at : ℕ → ℕ → Data → Result (Call ScriptCondition) Fault
 call_at thread number d = do
   text ← need (at.Call thread number) (as_str d)
   need (at.Call thread number) (call_of (parts 32 text))
 
 -- a thread: at most 256 calls
-unfoldable pub calls_at : ℕ → Data → Result (List Call) Fault
+unfoldable pub calls_at : ℕ → Data → Result (List (Call ScriptCondition)) Fault
 calls_at thread d = do
   list ← list_in 256 (at.Thread thread) (Some d)
   each_from (call_at thread) 0 list
 
 -- `threads`: at most 64 of them
-unfoldable pub threads_of : Data → Result (List (List Call)) Fault
+unfoldable pub threads_of : Data → Result (List (List (Call ScriptCondition))) Fault
 threads_of d = do
   list ← list_in 64 at.Threads (get (codes "threads") d)
   each_from calls_at 0 list

@@ -16,9 +16,9 @@ use Rattle.ns_model.specs.Seats.{is_in}
 use Rattle.ns_queue.specs.declared.waiter.Shown.{Shown}
 use Rattle.ns_word.specs.declared.word.Word.{Word}
 use Rattle.ns_word.specs.declared.walk.Reply.{Reply}
-use Rattle.ns_word.specs.declared.walk.Reply.TheVariants.{Ok as Went, Busy, Noisy, Number, Misuse}
+use Rattle.ns_word.specs.declared.walk.Reply.TheVariants.{Ok as Went, Busy, Noisy, Number, NotesFull, Is, Expiry, Answered, Misuse}
 use Rattle.ns_world.specs.declared.call.Call.{Call}
-use Rattle.ns_world.specs.declared.call.Call.TheVariants.{Lock, RLock, TryLock, TryRLock, Unlock, RUnlock, UnlockQuiet, Get, Set}
+use Rattle.ns_world.specs.declared.call.Call.TheVariants.{Unlock, RUnlock, UnlockQuiet}
 use Rattle.ns_world.specs.declared.schedule.Line.{Line}
 use Rattle.ns_replay.specs.declared.condition.ScriptCondition.{ScriptCondition}
 use Rattle.ns_queue.specs.Waiters.{shown_of}
@@ -29,45 +29,56 @@ use Rattle.ns_replay.specs.declared.options.Options.{Options}
 
 -- ---- finished calls
 
+-- how a wait ended
+abbrev pub answer_text : Answer → List ℕ
+answer_text Met = codes "0"
+answer_text TimedOut = codes "ETIMEDOUT"
+answer_text Canceled = codes "ECANCELED"
+
+abbrev pub truth_text : Bool → List ℕ
+truth_text true = codes "true"
+truth_text false = codes "false"
+
+-- a moment, or `never` for none
+abbrev pub expiry_text : Option ℕ → List ℕ
+expiry_text None = codes "never"
+expiry_text (Some moment) = decimal moment
+
 abbrev pub reply_text : Reply → List ℕ
 reply_text Went = codes "ok"
 reply_text Busy = codes "busy"
 reply_text Noisy = codes "noisy"
 reply_text (Number n) = decimal n
+reply_text NotesFull = codes "notesfull"
+reply_text (Is truth) = truth_text truth
+reply_text (Expiry moment) = expiry_text moment
+reply_text (Answered answer) = answer_text answer
 reply_text Misuse = codes "misuse"
 
 abbrev pub is_ok : Reply → Bool
 is_ok Went = true
-is_ok Busy = false
-is_ok Noisy = false
-is_ok (Number n) = false
-is_ok Misuse = false
+is_ok reply = false
 
-abbrev pub is_unlock : Option Call → Bool
+abbrev pub is_unlock : Option (Call ScriptCondition) → Bool
 is_unlock None = false
-is_unlock (Some Lock) = false
-is_unlock (Some RLock) = false
-is_unlock (Some TryLock) = false
-is_unlock (Some TryRLock) = false
 is_unlock (Some Unlock) = true
 is_unlock (Some RUnlock) = true
 is_unlock (Some UnlockQuiet) = true
-is_unlock (Some (Get i)) = false
-is_unlock (Some (Set i v)) = false
+is_unlock (Some call) = false
 
 -- the call that the line is the end of releases
-abbrev pub is_release : List (List Call) → Line → Bool
+abbrev pub is_release : List (List (Call ScriptCondition)) → Line → Bool
 is_release threads line = is_unlock (option_and_then (λ calls. slice_get calls line.call) (slice_get threads line.thread))
 
 -- ` tests K` after the `ok` of a release, where that is asked for
-abbrev pub tests_text : Bool → List (List Call) → Line → List ℕ
+abbrev pub tests_text : Bool → List (List (Call ScriptCondition)) → Line → List ℕ
 tests_text asked threads line = if asked && is_ok line.reply && is_release threads line then codes " tests " ++ decimal line.tests else []
 
 -- `T C ANSWER`
-abbrev pub line_text : Bool → List (List Call) → Line → List ℕ
+abbrev pub line_text : Bool → List (List (Call ScriptCondition)) → Line → List ℕ
 line_text tests threads line = decimal line.thread ++ codes " " ++ decimal line.call ++ codes " " ++ reply_text line.reply ++ tests_text tests threads line ++ codes "\n"
 
-abbrev pub lines_text : Bool → List (List Call) → List Line → List ℕ
+abbrev pub lines_text : Bool → List (List (Call ScriptCondition)) → List Line → List ℕ
 lines_text tests threads lines = flat_map (line_text tests threads) lines
 
 -- ---- calls in progress
@@ -105,11 +116,6 @@ numbers_text (n ∷ ns) = decimal n ++ flat_map after_comma ns
 abbrev pub mode_text : Mode → List ℕ
 mode_text mode.Write = codes "w"
 mode_text mode.Read = codes "r"
-
-abbrev pub answer_text : Answer → List ℕ
-answer_text Met = codes "0"
-answer_text TimedOut = codes "ETIMEDOUT"
-answer_text Canceled = codes "ECANCELED"
 
 abbrev pub entry_text : Entry ScriptCondition → List ℕ
 entry_text Plain = codes "plain"
@@ -201,10 +207,10 @@ state_text asked word waiters wakes = if asked then lock_text word waiters wakes
 -- ---- a run
 
 -- The text of a run with these calls: the lines that it finished, and what its world is after it.
-unfoldable pub text_of : Options → List (List Call) → List Line → Now ScriptCondition 8 → List ℕ
+unfoldable pub text_of : Options → List (List (Call ScriptCondition)) → List Line → Now ScriptCondition 8 → List ℕ
 text_of options threads lines world =
     lines_text options.tests threads lines
-    ++ lefts_text (is_busy world.state.views) lines (length threads)
+    ++ lefts_text (is_busy world.state.views world.asking) lines (length threads)
     ++ row_text world.state.row
     ++ history_text options.history world.history
     ++ state_text options.state world.state.word (map shown_of (lock_shown world)) (wakes_owed world.state.views)

@@ -1,18 +1,19 @@
 //! What the words of a call and of a schedule write.
 
 ghost use Rattle.std.specs.Prelude.{◌≡◌, map, IfOk};
-ghost use Rattle.ns_replay.specs.Words.{plain_call_of, call_of, actor_of, turn_of, repeats_of};
+ghost use Rattle.ns_replay.specs.Calls.{plain_call_of, short_call_of, long_call_of, brief_call_of, call_of, actor_of, turn_of, repeats_of};
 
-use crate::words::{number, number_below, parts_at};
+use crate::condition::ScriptCondition;
+use crate::waits::wait;
+use crate::words::{
+    CELLS, NOTES, moment, moment_or_none, note_or_none, number, number_below, parts_at,
+};
 use ns_world::call::Call;
 use ns_world::schedule::Turn;
 use std::alloc::{AllocError, Global};
 
-/// How many cells a row has.
-const CELLS: u8 = 8;
-
 /// The call that one word writes.
-fn plain_call(name: &str) -> Option<Call>
+fn plain_call(name: &str) -> Option<Call<ScriptCondition>>
     ensures { result ≡ plain_call_of name.now }
 {
     match name {
@@ -27,36 +28,94 @@ fn plain_call(name: &str) -> Option<Call>
     }
 }
 
-/// The call that words write: one of one word, `get I` or `set I V`.
-#[tactic(auto, unfolding(crate::specs::Words::call_of))]
-pub fn call(words: &[&str]) -> Option<Call>
-    ensures { result ≡ call_of (map (λ x. x.now) words.now) }
+/// The call that a name and a word write.
+fn short_call(name: &str, word: &str) -> Option<Call<ScriptCondition>>
+    ensures { result ≡ short_call_of name.now word.now }
 {
-    match words {
-        [name] => plain_call(name),
-        [name, cell] => {
-            if *name == "get" {
-                let cell = number_below(cell, CELLS)?;
-                Some(Call::Get(cell))
-            } else {
-                None
-            }
+    match name {
+        "get" => {
+            let cell = number_below(word, CELLS)?;
+            Some(Call::Get(cell))
         }
-        [name, cell, value] => {
-            if *name == "set" {
-                let cell = number_below(cell, CELLS)?;
-                let value = number(value)?;
-                Some(Call::Set(cell, value))
-            } else {
-                None
-            }
+        "notify" => {
+            let note = number_below(word, NOTES)?;
+            Some(Call::Notify(note))
+        }
+        "advance" => {
+            let moment = moment(word)?;
+            Some(Call::Advance(moment))
+        }
+        "isnotified" => {
+            let note = number_below(word, NOTES)?;
+            Some(Call::IsNotified(note))
+        }
+        "expiry" => {
+            let note = number_below(word, NOTES)?;
+            Some(Call::Expiry(note))
         }
         _ => None,
     }
 }
 
+/// The call that a name and two words write.
+fn long_call(name: &str, first: &str, second: &str) -> Option<Call<ScriptCondition>>
+    ensures { result ≡ long_call_of name.now first.now second.now }
+{
+    match name {
+        "set" => {
+            let cell = number_below(first, CELLS)?;
+            let value = number(second)?;
+            Some(Call::Set(cell, value))
+        }
+        "newnote" => {
+            let parent = note_or_none(first)?;
+            let deadline = moment_or_none(second)?;
+            Some(Call::NewNote(parent, deadline))
+        }
+        "notewait" => {
+            let note = number_below(first, NOTES)?;
+            let deadline = moment_or_none(second)?;
+            Some(Call::NoteWait(note, deadline))
+        }
+        _ => None,
+    }
+}
+
+/// The call that a name and at most two words after it write.
+#[tactic(auto, unfolding(crate::specs::Calls::brief_call_of))]
+fn brief_call(words: &[&str]) -> Option<Call<ScriptCondition>>
+    ensures { result ≡ brief_call_of (map (λ x. x.now) words.now) }
+{
+    match words {
+        [name] => plain_call(name),
+        [name, word] => short_call(name, word),
+        [name, first, second] => long_call(name, first, second),
+        _ => None,
+    }
+}
+
+/// The call that words write.
+#[tactic(auto, unfolding(crate::specs::Calls::call_of))]
+pub fn call(alloc: Global, words: &[&str]) -> Result<Option<Call<ScriptCondition>>, AllocError>
+    ensures { IfOk result (λ o. o ≡ call_of (map (λ x. x.now) words.now)) }
+{
+    match words {
+        [name, rest @ ..] => {
+            if *name == "wait" {
+                match wait(alloc, rest)? {
+                    Some((condition, limits)) => Ok(Some(Call::Wait(condition, limits))),
+                    None => Ok(None),
+                }
+            } else {
+                Ok(brief_call(words))
+            }
+        }
+        _ => Ok(None),
+    }
+}
+
 /// The thread that the parts at `!` name, and whether its call is to end.
-#[tactic(auto, unfolding(crate::specs::Words::actor_of))]
+#[tactic(auto, unfolding(crate::specs::Calls::actor_of))]
 pub fn actor(words: &[&str], threads: u8) -> Option<(u8, bool)>
     ensures { result ≡ actor_of threads (map (λ x. x.now) words.now) }
 {
@@ -90,7 +149,7 @@ pub fn repeats(word: &str) -> Option<u32>
 }
 
 /// The turns that the parts at `*` write: `A`, `A!`, `A*R` or `A!*R`.
-#[tactic(auto, unfolding(crate::specs::Words::turn_of))]
+#[tactic(auto, unfolding(crate::specs::Calls::turn_of))]
 pub fn turn(alloc: Global, words: &[&str], threads: u8) -> Result<Option<Turn>, AllocError>
     ensures { IfOk result (λ o. o ≡ turn_of threads (map (λ x. x.now) words.now)) }
 {

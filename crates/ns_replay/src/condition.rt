@@ -1,7 +1,4 @@
 //! The conditions of scripts: one cell, or two cells, at least a value.
-//!
-//! No call of a script reads one yet, but worlds that run scripts hold them, and their events
-//! print them.
 
 ghost use Rattle.std.proofs.Common.{rules};
 ghost use Rattle.std.specs.Prelude.{◌≡◌};

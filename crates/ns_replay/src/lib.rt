@@ -18,6 +18,7 @@ mod script;
 mod streams;
 mod text;
 mod transfer;
+mod waits;
 mod words;
 
 pub use adapters::{OverRead, OverWrite};

@@ -12,6 +12,7 @@ ghost use Rattle.ns_replay.specs.Faults.{Gives, each_from};
 ghost use Rattle.ns_replay.specs.Script.{is_known, list_in, call_at, calls_at, threads_of, words_of, turn_at, schedule_of, members_of, version_of, plan_in, plan_of, json_of, script_of};
 
 use crate::calls;
+use crate::condition::ScriptCondition;
 use crate::fault::Fault;
 use crate::place::Place;
 use crate::words::parts_at;
@@ -23,7 +24,7 @@ use std::alloc::{AllocError, Global};
 /// What to run: the calls of each thread, and whose turn it is.
 #[derive(Drop)]
 pub struct Script {
-    pub threads: Vec<Vec<Call>>,
+    pub threads: Vec<Vec<Call<ScriptCondition>>>,
     pub schedule: Vec<Turn>,
 }
 
@@ -46,7 +47,12 @@ fn list<'a>(value: Option<&'a Value>, place: Place, limit: usize) -> Result<&'a 
 
 /// A call.
 #[tactic(auto, unfolding(crate::specs::Script::call_at))]
-fn call_in(alloc: Global, value: &Value, thread: usize, number: usize) -> Result<Call, Fault>
+fn call_in(
+    alloc: Global,
+    value: &Value,
+    thread: usize,
+    number: usize,
+) -> Result<Call<ScriptCondition>, Fault>
     ensures { Gives (λ c. c) result (call_at thread number (view value.now)) }
 {
     let place = Place::Call(thread, number);
@@ -54,14 +60,18 @@ fn call_in(alloc: Global, value: &Value, thread: usize, number: usize) -> Result
         return Err(Fault::BadScript(place));
     };
     let words = parts_at(alloc, text, ' ')?;
-    match calls::call(&words) {
+    match calls::call(alloc, &words)? {
         Some(call) => Ok(call),
         None => Err(Fault::BadScript(place)),
     }
 }
 
 /// The calls of a thread, one by one.
-fn each_call(alloc: Global, values: &[Value], thread: usize) -> Result<Vec<Call>, Fault>
+fn each_call(
+    alloc: Global,
+    values: &[Value],
+    thread: usize,
+) -> Result<Vec<Call<ScriptCondition>>, Fault>
     ensures { Gives (λ v. v.items) result (each_from (call_at thread) 0 (map view values.now)) }
 {
     let mut calls = Vec::new(alloc);
@@ -74,7 +84,7 @@ fn each_call(alloc: Global, values: &[Value], thread: usize) -> Result<Vec<Call>
 
 /// The calls of a thread.
 #[tactic(auto, unfolding(crate::specs::Script::calls_at))]
-fn calls(alloc: Global, value: &Value, thread: usize) -> Result<Vec<Call>, Fault>
+fn calls(alloc: Global, value: &Value, thread: usize) -> Result<Vec<Call<ScriptCondition>>, Fault>
     ensures { Gives (λ v. v.items) result (calls_at thread (view value.now)) }
 {
     let values = list(Some(value), Place::Thread(thread), 256)?;
@@ -82,7 +92,7 @@ fn calls(alloc: Global, value: &Value, thread: usize) -> Result<Vec<Call>, Fault
 }
 
 /// The threads, one by one.
-fn each_thread(alloc: Global, values: &[Value]) -> Result<Vec<Vec<Call>>, Fault>
+fn each_thread(alloc: Global, values: &[Value]) -> Result<Vec<Vec<Call<ScriptCondition>>>, Fault>
     ensures { Gives (λ v. map (λ w. w.items) v.items) result (each_from calls_at 0 (map view values.now)) }
 {
     let mut threads = Vec::new(alloc);
@@ -95,7 +105,7 @@ fn each_thread(alloc: Global, values: &[Value]) -> Result<Vec<Vec<Call>>, Fault>
 
 /// The threads of a script.
 #[tactic(auto, unfolding(crate::specs::Script::threads_of))]
-fn threads(alloc: Global, value: &Value) -> Result<Vec<Vec<Call>>, Fault>
+fn threads(alloc: Global, value: &Value) -> Result<Vec<Vec<Call<ScriptCondition>>>, Fault>
     ensures { Gives (λ v. map (λ w. w.items) v.items) result (threads_of (view value.now)) }
 {
     let values = list(value.get("threads"), Place::Threads, 64)?;

@@ -2,6 +2,8 @@
 //! that fail at each place.
 
 mod memory;
+mod notes;
+mod waits;
 
 use self::memory::{Expects, Interrupted, Pieces};
 use super::*;
@@ -22,6 +24,20 @@ const EMPTY: &str = "{\"version\":1,\"threads\":[],\"schedule\":\"\"}";
 const PLAIN: Options = Options {
     history: false,
     tests: false,
+    state: false,
+    limit: 1_000_000,
+};
+
+const HISTORY: Options = Options {
+    history: true,
+    tests: false,
+    state: false,
+    limit: 1_000_000,
+};
+
+const TESTS: Options = Options {
+    history: false,
+    tests: true,
     state: false,
     limit: 1_000_000,
 };
@@ -203,6 +219,17 @@ fn blocking(rt: HostRuntime) {
             STATE,
             "0 0 ok\n0 1 left\n1 0 left\nrow 0 0 0 0 0 0 0 0\nword desig readers=0\nqueue\nowed 0>1\n",
         ),
+        // The release finds another reader when it puts the queues back, and looks at that word.
+        (
+            "{\"version\":1,\"threads\":[[\"lock\",\"unlock\"],[\"rlock\",\"runlock\"],[\"rlock\"],[\"lock\"]],\"schedule\":\"0! 1! 2! 3! 0! 1! 1*2 2! 1 1!\"}",
+            STATE,
+            "0 0 ok\n0 1 ok\n1 0 ok\n2 0 ok\n1 1 ok\n3 0 left\nrow 0 0 0 0 0 0 0 0\nword desig readers=1\nqueue\n",
+        ),
+        (
+            "{\"version\":1,\"threads\":[[\"lock\",\"set 0 1\",\"unlockquiet\",\"unlock\",\"lock\",\"unlockquiet\"]],\"schedule\":\"0!*6\"}",
+            TESTS,
+            "0 0 ok\n0 1 ok\n0 2 noisy\n0 3 ok tests 0\n0 4 ok\n0 5 ok tests 0\nrow 1 0 0 0 0 0 0 0\n",
+        ),
         (
             "{\"version\":1,\"threads\":[[\"rlock\"],[\"rlock\"],[\"rlock\"],[\"rlock\"],[\"rlock\"],[\"rlock\"],[\"rlock\"],[\"rlock\"],[\"rlock\"],[\"rlock\"],[\"rlock\"],[\"rlock\"],[\"rlock\"],[\"rlock\"],[\"rlock\"],[\"rlock\"],[\"rlock\"],[\"rlock\"],[\"rlock\"],[\"rlock\"],[\"rlock\"],[\"rlock\"],[\"rlock\"],[\"rlock\"],[\"rlock\"],[\"rlock\"],[\"rlock\"],[\"rlock\"],[\"rlock\"],[\"rlock\"],[\"rlock\"],[\"rlock\"],[\"rlock\"],[\"rlock\"],[\"rlock\"],[\"rlock\"],[\"rlock\"],[\"rlock\"],[\"rlock\"],[\"rlock\"],[\"rlock\"],[\"rlock\"],[\"rlock\"],[\"rlock\"],[\"rlock\"],[\"rlock\"],[\"rlock\"],[\"rlock\"],[\"rlock\"],[\"rlock\"],[\"rlock\"],[\"rlock\"],[\"rlock\"],[\"rlock\"],[\"rlock\"],[\"rlock\"],[\"rlock\"],[\"rlock\"],[\"rlock\"],[\"rlock\"],[\"rlock\"],[\"rlock\"],[\"rlock\"],[\"rlock\"]],\"schedule\":\"0! 1! 2! 3! 4! 5! 6! 7! 8! 9! 10! 11! 12! 13! 14! 15! 16! 17! 18! 19! 20! 21! 22! 23! 24! 25! 26! 27! 28! 29! 30! 31! 32! 33! 34! 35! 36! 37! 38! 39! 40! 41! 42! 43! 44! 45! 46! 47! 48! 49! 50! 51! 52! 53! 54! 55! 56! 57! 58! 59! 60! 61! 62! 63!\"}",
             STATE,
@@ -257,10 +284,6 @@ fn refusals(rt: HostRuntime) {
         ),
         (
             "{\"version\":1,\"threads\":[[\"sing\"]],\"schedule\":\"\"}",
-            Fault::BadScript(Place::Call(0, 0)),
-        ),
-        (
-            "{\"version\":1,\"threads\":[[\"wait 0>=1\"]],\"schedule\":\"\"}",
             Fault::BadScript(Place::Call(0, 0)),
         ),
         (

@@ -5,7 +5,7 @@
 
 ghost use Rattle.std.specs.Prelude.{◌≡◌, ◌≤◌, ◌<◌, ◌++◌, ◌||◌, map, flat_map, string_bytes, OnOk, IfOk};
 ghost use Rattle.ns_model.specs.Seats.{is_in};
-ghost use Rattle.ns_replay.specs.Text.{reply_text, is_release, tests_text, line_text, lines_text, finished_calls, left_text, lefts_text, row_text, after_comma, numbers_text, mode_text, answer_text, entry_text, exit_text, section_text, rows_text, seat_text, seats_text, event_words, event_text, events_text, history_text, bit_text, bits_text, word_text, waiter_text, queue_text, wake_text, wakes_text, lock_text, state_text};
+ghost use Rattle.ns_replay.specs.Text.{truth_text, expiry_text, reply_text, is_release, tests_text, line_text, lines_text, finished_calls, left_text, lefts_text, row_text, after_comma, numbers_text, mode_text, answer_text, entry_text, exit_text, section_text, rows_text, seat_text, seats_text, event_words, event_text, events_text, history_text, bit_text, bits_text, word_text, waiter_text, queue_text, wake_text, wakes_text, lock_text, state_text};
 
 use crate::condition::ScriptCondition;
 use ns_model::event::{Answer, Entry, Event, Exit, Mode};
@@ -17,6 +17,38 @@ use ns_world::call::Call;
 use ns_world::schedule::Line;
 use std::alloc::AllocError;
 
+/// How a wait ended.
+fn push_answer(out: &mut String, answer: Answer) -> Result<(), AllocError>
+    ensures { OnOk result (string_bytes out.new ≡ string_bytes out.old ++ answer_text answer) }
+{
+    match answer {
+        Answer::Met => out.push_str("0"),
+        Answer::TimedOut => out.push_str("ETIMEDOUT"),
+        Answer::Canceled => out.push_str("ECANCELED"),
+    }
+}
+
+/// Whether it is so.
+fn push_truth(out: &mut String, truth: bool) -> Result<(), AllocError>
+    ensures { OnOk result (string_bytes out.new ≡ string_bytes out.old ++ truth_text truth) }
+{
+    if truth {
+        out.push_str("true")
+    } else {
+        out.push_str("false")
+    }
+}
+
+/// The moment of an expiry, if there is one.
+fn push_expiry(out: &mut String, expiry: Option<u64>) -> Result<(), AllocError>
+    ensures { OnOk result (string_bytes out.new ≡ string_bytes out.old ++ expiry_text expiry) }
+{
+    match expiry {
+        Some(moment) => write!(out, "{moment}"),
+        None => out.push_str("never"),
+    }
+}
+
 /// What a call answered.
 fn push_reply(out: &mut String, reply: Reply) -> Result<(), AllocError>
     ensures { OnOk result (string_bytes out.new ≡ string_bytes out.old ++ reply_text reply) }
@@ -26,12 +58,16 @@ fn push_reply(out: &mut String, reply: Reply) -> Result<(), AllocError>
         Reply::Busy => out.push_str("busy"),
         Reply::Noisy => out.push_str("noisy"),
         Reply::Number(number) => write!(out, "{number}"),
+        Reply::NotesFull => out.push_str("notesfull"),
+        Reply::Is(truth) => push_truth(out, truth),
+        Reply::Expiry(expiry) => push_expiry(out, expiry),
+        Reply::Answered(answer) => push_answer(out, answer),
         Reply::Misuse => out.push_str("misuse"),
     }
 }
 
 /// Whether the line is the end of a release.
-fn ends_release(threads: &[Vec<Call>], line: &Line) -> bool
+fn ends_release(threads: &[Vec<Call<ScriptCondition>>], line: &Line) -> bool
     ensures { result ≡ is_release (map (λ v. v.items) threads.now) line.now }
 {
     let Some(calls) = threads.get(line.thread as usize) else {
@@ -47,7 +83,7 @@ fn ends_release(threads: &[Vec<Call>], line: &Line) -> bool
 fn push_tests(
     out: &mut String,
     asked: bool,
-    threads: &[Vec<Call>],
+    threads: &[Vec<Call<ScriptCondition>>],
     line: &Line,
 ) -> Result<(), AllocError>
     ensures { OnOk result (string_bytes out.new ≡ string_bytes out.old ++ tests_text asked (map (λ v. v.items) threads.now) line.now) }
@@ -63,7 +99,7 @@ fn push_tests(
 fn push_line(
     out: &mut String,
     tests: bool,
-    threads: &[Vec<Call>],
+    threads: &[Vec<Call<ScriptCondition>>],
     line: &Line,
 ) -> Result<(), AllocError>
     ensures { OnOk result (string_bytes out.new ≡ string_bytes out.old ++ line_text tests (map (λ v. v.items) threads.now) line.now) }
@@ -79,7 +115,7 @@ fn push_line(
 pub fn push_lines(
     out: &mut String,
     tests: bool,
-    threads: &[Vec<Call>],
+    threads: &[Vec<Call<ScriptCondition>>],
     lines: &[Line],
 ) -> Result<(), AllocError>
     ensures { OnOk result (string_bytes out.new ≡ string_bytes out.old ++ lines_text tests (map (λ v. v.items) threads.now) lines.now) }
@@ -166,17 +202,6 @@ fn push_mode(out: &mut String, mode: Mode) -> Result<(), AllocError>
     match mode {
         Mode::Write => out.push_str("w"),
         Mode::Read => out.push_str("r"),
-    }
-}
-
-/// How a wait ended.
-fn push_answer(out: &mut String, answer: Answer) -> Result<(), AllocError>
-    ensures { OnOk result (string_bytes out.new ≡ string_bytes out.old ++ answer_text answer) }
-{
-    match answer {
-        Answer::Met => out.push_str("0"),
-        Answer::TimedOut => out.push_str("ETIMEDOUT"),
-        Answer::Canceled => out.push_str("ECANCELED"),
     }
 }
 

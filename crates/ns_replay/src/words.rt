@@ -1,9 +1,18 @@
 //! The words of a text: its parts between separators, and the numbers that they write.
 
 ghost use Rattle.std.specs.Prelude.{◌≡◌, ◌<◌, map, IfOk};
-ghost use Rattle.ns_replay.specs.Words.{parts, number_of, below};
+ghost use Rattle.ns_replay.specs.Words.{parts, number_of, below, moment_of, moment_or_none_of, note_or_none_of};
 
 use std::alloc::{AllocError, Global};
+
+/// How many cells a row has.
+pub const CELLS: u8 = 8;
+
+/// How many notes there may be.
+pub const NOTES: u8 = 64;
+
+/// The first number that is no moment.
+const MOMENTS: u64 = 1 << 54;
 
 /// The parts of a text between the separators.
 pub fn parts_at(alloc: Global, text: &str, separator: char) -> Result<Vec<&str>, AllocError>
@@ -35,4 +44,34 @@ pub fn number_below(word: &str, limit: u8) -> Option<u8>
     } else {
         None
     }
+}
+
+/// The moment that a word writes, in ticks.
+pub fn moment(word: &str) -> Option<u64>
+    ensures { result ≡ moment_of word.now }
+{
+    let n = number(word)?;
+    if n < MOMENTS { Some(n) } else { None }
+}
+
+/// The moment that a word writes, or none for a dash.
+pub fn moment_or_none(word: &str) -> Option<Option<u64>>
+    ensures { result ≡ moment_or_none_of word.now }
+{
+    if word == "-" {
+        return Some(None);
+    }
+    let n = moment(word)?;
+    Some(Some(n))
+}
+
+/// The number of a note that a word writes, or none for a dash.
+pub fn note_or_none(word: &str) -> Option<Option<u8>>
+    ensures { result ≡ note_or_none_of word.now }
+{
+    if word == "-" {
+        return Some(None);
+    }
+    let n = number_below(word, NOTES)?;
+    Some(Some(n))
 }

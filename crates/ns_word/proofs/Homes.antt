@@ -12,7 +12,7 @@ use Rattle.ns_word.specs.Lawful.{bits_in}
 use Rattle.ns_word.proofs.Groups.{Homed}
 use Rattle.ns_word.proofs.Views.{one_if, one_most, view_of, takers_at}
 
-module _ {C : Type 0} {N : ℕ} (front : List (SeatView C N)) (who : ℕ) (walk : Option Walk) (held : Option (Held C N)) (owed : List ℕ) (walk' : Option Walk) (held' : Option (Held C N)) (owed' : List ℕ) (back : List (SeatView C N)) where
+module _ {C : Type 0} {N : ℕ} (front : List (SeatView C N)) (who : ℕ) (walk : Option (Walk C)) (held : Option (Held C N)) (owed : List ℕ) (walk' : Option (Walk C)) (held' : Option (Held C N)) (owed' : List ℕ) (back : List (SeatView C N)) where
   abbrev olds : List (SeatView C N)
   olds = front ++ view_of who walk held owed ∷ back
 

@@ -1,6 +1,10 @@
 pub mod Acts
 pub mod Codes
 pub mod Dispatch
+pub mod EnvBegins
+pub mod EnvKeeps
+pub mod EnvLooks
+pub mod EnvRanges
 pub mod Groups
 pub mod Homes
 pub mod Keeps
@@ -8,6 +12,7 @@ pub mod Knows
 pub mod Leads
 pub mod Made
 pub mod Owns
+pub mod Phases
 pub mod Ranges
 pub mod Safes
 pub mod Same

@@ -1,10 +1,10 @@
 -- What the steps leave of the waiters: each is its seat's own.
-use Rattle.std.proofs.Common.{◌≡◌, ◌≢◌, ℕ, ◌+◌, Bool, true, false, not, ◌&&◌, cond, eqb, inl, inr, List, [], ◌∷◌, ◌++◌, Option, None, Some, refl, ap, sym, ◌∙◌, subst, arith, eq-eqb}
+use Rattle.std.proofs.Common.{◌≡◌, ◌≢◌, ℕ, ◌+◌, Bool, true, false, not, ◌&&◌, cond, eqb, inl, inr, List, [], ◌∷◌, ◌++◌, Option, Some, refl, ap, sym, ◌∙◌, subst, arith, eq-eqb}
 use Rattle.std.specs.List.{filter}
 use Rattle.std.proofs.lemmas.Bool.{cases_eq}
 use Rattle.ns_model.specs.declared.event.Mode.{Mode}
 use Rattle.ns_queue.specs.declared.waiter.Waiter.{Waiter}
-use Rattle.ns_queue.specs.Waiters.{times_in, reads, writes}
+use Rattle.ns_queue.specs.Waiters.{times_in, is_of, without_in, reads, writes}
 use Rattle.ns_queue.specs.Scans.{is_eligible, left_of}
 use Rattle.ns_queue.proofs.Seats.{times_in-cons}
 use Rattle.ns_word.specs.declared.view.Held.{Held}
@@ -13,9 +13,9 @@ use Rattle.ns_word.specs.declared.walk.Walk.{Walk}
 use Rattle.ns_word.specs.Lists.{queued}
 use Rattle.ns_word.specs.Walks.{waits_in}
 use Rattle.ns_word.specs.Views.{owed_to, walk_at, NoneIs}
-use Rattle.ns_word.specs.Lawful.{is_due, WaitersPlaced, WaiterFits, WaitersOwn}
+use Rattle.ns_word.specs.Lawful.{is_due, stance_of, WaitersPlaced, WaiterFits, WaitersOwn}
 use Rattle.ns_word.proofs.Views.{one_if, view_of, walk_here, walk_there}
-use Rattle.ns_word.proofs.Scans.{times_scan}
+use Rattle.ns_word.proofs.Scans.{times_scan, times_without}
 
 module _ {C : Type 0} {N : ℕ} where
   own_filter : (test : Waiter C → Bool) (ws : List (Waiter C)) (views : List (SeatView C N)) → WaitersOwn ws views → WaitersOwn (filter test ws) views
@@ -35,7 +35,7 @@ module _ {C : Type 0} {N : ℕ} where
   own_append [] vs views p q = q
   own_append (w ∷ ws) vs views p q = (p.0, own_append ws vs views p.1 q)
 
-module _ {C : Type 0} {N : ℕ} (front : List (SeatView C N)) (who : ℕ) (walk : Option Walk) (held : Option (Held C N)) (owed : List ℕ) (walk' : Option Walk) (held' : Option (Held C N)) (owed' : List ℕ) (back : List (SeatView C N)) where
+module _ {C : Type 0} {N : ℕ} (front : List (SeatView C N)) (who : ℕ) (walk : Option (Walk C)) (held : Option (Held C N)) (owed : List ℕ) (walk' : Option (Walk C)) (held' : Option (Held C N)) (owed' : List ℕ) (back : List (SeatView C N)) where
   abbrev olds : List (SeatView C N)
   olds = front ++ view_of who walk held owed ∷ back
 
@@ -48,7 +48,7 @@ module _ {C : Type 0} {N : ℕ} (front : List (SeatView C N)) (who : ℕ) (walk 
   own_stays (w ∷ ws) none p =
       let sum = times_in-cons who w ws in
       let other : who ≢ w.seat = λ e. let one : one_if (eqb w.seat who) ≡ 1 = rw (eq-eqb w.seat who (sym e)) refl in absurd (omega (arith, sum, one, none)) in (
-        record { mode = ap waits_in (walk_there w.seat front (view_of who walk held owed) (view_of who walk' held' owed') back other refl) ∙ p.0.mode; plain = p.0.plain },
+        ap waits_in (walk_there w.seat front (view_of who walk held owed) (view_of who walk' held' owed') back other refl) ∙ p.0,
         own_stays ws (omega (arith, sum, none)) p.1,
       )
 
@@ -56,15 +56,12 @@ module _ {C : Type 0} {N : ℕ} (front : List (SeatView C N)) (who : ℕ) (walk 
   pub own_same : (ws : List (Waiter C)) → NoneIs who front → waits_in walk' ≡ waits_in walk → WaitersOwn ws olds → WaitersOwn ws news
   own_same [] apart same p = tt
   own_same (w ∷ ws) apart same p = (
-    record {
-      mode = elim (cases_eq who w.seat) [
-        | inl e ↦ subst (λ s. waits_in (walk_at s news) ≡ Some w.mode) e
-            (ap waits_in (walk_here front (view_of who walk' held' owed') back apart) ∙ same ∙ sym (ap waits_in (walk_here front (view_of who walk held owed) back apart))
-            ∙ subst (λ s. waits_in (walk_at s olds) ≡ Some w.mode) (sym e) p.0.mode)
-        | inr ne ↦ ap waits_in (walk_there w.seat front (view_of who walk held owed) (view_of who walk' held' owed') back ne refl) ∙ p.0.mode
-      ];
-      plain = p.0.plain;
-    },
+    elim (cases_eq who w.seat) [
+      | inl e ↦ subst (λ s. waits_in (walk_at s news) ≡ Some (stance_of w)) e
+          (ap waits_in (walk_here front (view_of who walk' held' owed') back apart) ∙ same ∙ sym (ap waits_in (walk_here front (view_of who walk held owed) back apart))
+          ∙ subst (λ s. waits_in (walk_at s olds) ≡ Some (stance_of w)) (sym e) p.0)
+      | inr ne ↦ ap waits_in (walk_there w.seat front (view_of who walk held owed) (view_of who walk' held' owed') back ne refl) ∙ p.0
+    ],
     own_same ws apart same p.1,
   )
 
@@ -75,12 +72,23 @@ module _ {C : Type 0} {N : ℕ} (front : List (SeatView C N)) (who : ℕ) (walk 
       omega (arith, sum)
 
   -- a seat puts itself in
-  pub own_queued : (mode : Mode) (woken : Bool) (ws : List (Waiter C)) → NoneIs who front → times_in who ws ≡ 0 → waits_in walk' ≡ Some mode → WaitersOwn ws olds → WaitersOwn (queued who mode woken ws) news
-  own_queued mode woken ws apart none waits p =
-      let self : WaiterFits news (record { seat = who; mode = mode; cond = None }) = record { mode = ap waits_in (walk_here front (view_of who walk' held' owed') back apart) ∙ waits; plain = refl } in
+  pub own_queued : (mode : Mode) (c : Option C) (woken : Bool) (ws : List (Waiter C)) → NoneIs who front → times_in who ws ≡ 0 → waits_in walk' ≡ Some (record { mode = mode; cond = c }) →
+      WaitersOwn ws olds → WaitersOwn (queued who mode c woken ws) news
+  own_queued mode c woken ws apart none waits p =
+      let self : WaiterFits news (record { seat = who; mode = mode; cond = c }) = ap waits_in (walk_here front (view_of who walk' held' owed') back apart) ∙ waits in
       let rest = own_stays ws none p in
-      elim woken as (λ b. WaitersOwn (queued who mode b ws) news) [ true ↦ (self, rest) | false ↦ own_append ws (record { seat = who; mode = mode; cond = None } ∷ []) news rest (self, tt) ]
+      elim woken as (λ b. WaitersOwn (queued who mode c b ws) news) [ true ↦ (self, rest) | false ↦ own_append ws (record { seat = who; mode = mode; cond = c } ∷ []) news rest (self, tt) ]
 
   -- a scan takes some, and the seat stands nowhere
   pub own_scanned : (meets : C → Bool) (ws : List (Waiter C)) → times_in who ws ≡ 0 → WaitersOwn ws olds → WaitersOwn (left_of meets ws) news
   own_scanned meets ws none p = let parts = times_scan who meets ws in own_stays (left_of meets ws) (omega (arith, parts, none)) (own_left meets ws olds p)
+
+  -- and puts itself in as it does
+  pub own_waited : (meets : C → Bool) (mode : Mode) (c : Option C) (again : Bool) (ws : List (Waiter C)) → NoneIs who front → times_in who ws ≡ 0 → waits_in walk' ≡ Some (record { mode = mode; cond = c }) →
+      WaitersOwn ws olds → WaitersOwn (queued who mode c again (left_of meets ws)) news
+  own_waited meets mode c again ws apart none waits p =
+      let parts = times_scan who meets ws in own_queued mode c again (left_of meets ws) apart (omega (arith, parts, none)) waits (own_left meets ws olds p)
+
+  -- the seat stands there no more
+  pub own_without : (ws : List (Waiter C)) → WaitersOwn ws olds → WaitersOwn (without_in who ws) news
+  own_without ws p = own_stays (without_in who ws) (times_without who ws) (own_filter (λ w. not (is_of who w)) ws olds p)

@@ -1,26 +1,30 @@
 -- What the steps leave of the sections.
-use Rattle.std.proofs.Common.{◌≡◌, ◌≢◌, ℕ, ◌+◌, ◌-◌, ◌<◌, ◌≤◌, Bool, true, false, cond, inl, inr, List, [], ◌∷◌, ◌++◌, length, Option, None, Some, slice_set, refl, ap, sym, ◌∙◌, arith, eq-eqb}
+use Rattle.std.proofs.Common.{◌≡◌, ◌≢◌, ℕ, ◌+◌, ◌-◌, ◌<◌, ◌≤◌, Bool, true, false, cond, inl, inr, List, [], ◌∷◌, ◌++◌, length, Option, None, Some, slice_set, refl, ap, sym, ◌∙◌, subst, arith, eq-eqb}
 use Rattle.std.proofs.lemmas.List.{length-set}
 use Rattle.std.proofs.lemmas.Bool.{ne_eqb, both_ways}
 use Rattle.ns_model.specs.declared.event.Mode.{Mode}
 use Rattle.ns_model.specs.declared.event.Mode.TheVariants.{Write, Read}
-use Rattle.ns_model.specs.declared.event.Entry.{Entry}
-use Rattle.ns_model.specs.declared.event.Exit.TheVariants.{Plain as Released}
+use Rattle.ns_model.specs.declared.event.Answer.TheVariants.{Met}
+use Rattle.ns_model.specs.declared.event.Exit.{Exit}
 use Rattle.ns_model.specs.declared.event.Event.{Event}
-use Rattle.ns_model.specs.declared.phase.Phase.TheVariants.{Idle}
-use Rattle.ns_model.specs.Sections.{ModeFits}
-use Rattle.ns_model.specs.Histories.{first_standing, standing_after, standing_next, IsLegal, IsBySeats, who_of}
+use Rattle.ns_model.specs.Sections.{is_met, ModeFits, EntryFits, ExitFits, phase_after}
+use Rattle.ns_model.specs.Histories.{Standing, first_standing, standing_after, standing_next, IsLegal, IsBySeats, who_of}
 use Rattle.ns_model.proofs.Histories.{legal_append, standing_from-append}
 use Rattle.ns_word.specs.declared.word.Word.{Word}
+use Rattle.ns_word.specs.declared.limits.Cause.{Cause}
+use Rattle.ns_word.specs.declared.limits.Cause.TheVariants.{Deadline, Note}
+use Rattle.ns_word.specs.declared.view.Opening.{Opening}
+use Rattle.ns_word.specs.declared.view.Opening.TheVariants.{Plain, Waited}
 use Rattle.ns_word.specs.declared.view.Held.{Held}
 use Rattle.ns_word.specs.declared.view.SeatView.{SeatView}
 use Rattle.ns_word.specs.declared.walk.Walk.{Walk}
 use Rattle.ns_word.specs.Lists.{has_some}
-use Rattle.ns_word.specs.Walks.{pays}
-use Rattle.ns_word.specs.Views.{writers, readers}
-use Rattle.ns_word.specs.Steps.{Truths, section_of, newly_held}
+use Rattle.ns_word.specs.Waits.{answer_of}
+use Rattle.ns_word.specs.Walks.{pays, phase_by}
+use Rattle.ns_word.specs.Views.{is_writing, is_reading, writers, readers}
+use Rattle.ns_word.specs.Steps.{Truths, entry_of, section_of}
 use Rattle.ns_word.specs.Places.{PlaceFits}
-use Rattle.ns_word.specs.Lawful.{HeldFits}
+use Rattle.ns_word.specs.Lawful.{HeldFits, SectionFits, phase_before}
 use Rattle.ns_word.proofs.Groups.{Safe}
 use Rattle.ns_word.proofs.Views.{view_of, writers_at, readers_at, apart_parts, apart_moves, each_parts, each_join, each_moves}
 
@@ -32,21 +36,41 @@ bit_set : (b : Bool) → 0 < cond b 1 0 → b ≡ true
 bit_set true p = refl
 bit_set false p = absurd (omega (arith, p))
 
-abbrev pub section : {C : Type 0} {N : ℕ} → Mode → Entry C → List ℕ → List ℕ → Held C N
+abbrev pub section : {C : Type 0} {N : ℕ} → Mode → Opening C → List ℕ → List ℕ → Held C N
 section mode entry before row = record { mode = mode; entry = entry; before = before; row = row }
 
+-- what a section in hand tells stays, but for the answer that is open; without one the phase of the place stays
+pub record SameSection {C : Type 0} {N : ℕ} (walk : Option (Walk C)) (held : Option (Held C N)) (walk' : Option (Walk C)) (held' : Option (Held C N)) : Type 0 where
+  pub writing : is_writing held' ≡ is_writing held
+  pub reading : is_reading held' ≡ is_reading held
+  pub fits : (now : Standing C) (row : List ℕ) (seat : ℕ) → SectionFits now row seat walk held → SectionFits now row seat walk' held'
+
+pub same_section : {C : Type 0} {N : ℕ} (walk walk' : Option (Walk C)) (held : Option (Held C N)) → (held ≡ None → phase_by walk' ≡ phase_by walk) → SameSection walk held walk' held
+same_section walk walk' None phase = record { writing = refl; reading = refl; fits = λ now row seat p. p ∙ sym (phase refl) }
+same_section walk walk' (Some held) phase = record { writing = refl; reading = refl; fits = λ now row seat p. p }
+
+met_of : (b : Bool) (cause : Cause) → b ≡ is_met (cond b Met (answer_of cause))
+met_of true cause = refl
+met_of false Deadline = refl
+met_of false Note = refl
+
+-- the entry of a section is settled so that it fits the phase that it comes from
+pub entry_fits : {C : Type 0} (holds : C → List ℕ → Bool) (before : List ℕ) (mode : Mode) (entry : Opening C) → EntryFits holds before mode (entry_of holds before entry) (phase_before mode entry)
+entry_fits holds before mode Plain = tt
+entry_fits holds before mode (Waited c cause) = (refl, met_of (holds c before) cause, met_of (holds c before) cause)
+
 module _ {C : Type 0} {N : ℕ} (truths : Truths C) (seats : ℕ) (h : List (Event C N)) where
-  module _ (front : List (SeatView C N)) (who : ℕ) (walk : Option Walk) (owed : List ℕ) (walk' : Option Walk) (owed' : List ℕ) (back : List (SeatView C N)) where
-    -- a step that leaves the sections
-    pub unchanged : (word word' : Word) (row : List ℕ) (held : Option (Held C N)) → word'.write ≡ word.write → word'.readers ≡ word.readers →
-        PlaceFits truths walk' held → has_some owed' ≡ pays walk' →
-        Safe truths seats h word row (front ++ view_of who walk held owed ∷ back) → Safe truths seats h word' row (front ++ view_of who walk' held owed' ∷ back)
-    unchanged word word' row held same_write same_readers place owes p =
+  module _ (front : List (SeatView C N)) (who : ℕ) (walk : Option (Walk C)) (owed : List ℕ) (walk' : Option (Walk C)) (owed' : List ℕ) (back : List (SeatView C N)) where
+    -- a step that leaves the sections, but for how one is said to have begun
+    pub unchanged : (word word' : Word) (row : List ℕ) (held held' : Option (Held C N)) → word'.write ≡ word.write → word'.readers ≡ word.readers →
+        PlaceFits truths walk' held' → has_some owed' ≡ pays walk' → SameSection walk held walk' held' →
+        Safe truths seats h word row (front ++ view_of who walk held owed ∷ back) → Safe truths seats h word' row (front ++ view_of who walk' held' owed' ∷ back)
+    unchanged word word' row held held' same_write same_readers place owes same p =
         let view = view_of who walk held owed in
-        let view' = view_of who walk' held owed' in
+        let view' = view_of who walk' held' owed' in
         let parts = each_parts truths seats (standing_after h) row front view back p.one_history.each in
-        let w : writers (front ++ view' ∷ back) ≡ writers (front ++ view ∷ back) = writers_at front view' back ∙ sym (writers_at front view back) in
-        let r : readers (front ++ view' ∷ back) ≡ readers (front ++ view ∷ back) = readers_at front view' back ∙ sym (readers_at front view back) in
+        let w : writers (front ++ view' ∷ back) ≡ writers (front ++ view ∷ back) = writers_at front view' back ∙ ap (λ b. writers front + (cond b 1 0 + writers back)) same.writing ∙ sym (writers_at front view back) in
+        let r : readers (front ++ view' ∷ back) ≡ readers (front ++ view ∷ back) = readers_at front view' back ∙ ap (λ b. readers front + (cond b 1 0 + readers back)) same.reading ∙ sym (readers_at front view back) in
         record {
           one_writer = record { bit = w ∙ p.one_writer.bit ∙ ap (λ b. cond b 1 0) (sym same_write); alone = λ e. r ∙ p.one_writer.alone (sym same_write ∙ e) };
           count = same_readers ∙ p.count ∙ sym r;
@@ -54,7 +78,7 @@ module _ {C : Type 0} {N : ℕ} (truths : Truths C) (seats : ℕ) (h : List (Eve
             legal = p.one_history.legal;
             by_seats = p.one_history.by_seats;
             each = each_join truths seats (standing_after h) row front view' back parts.0
-                (record { in_range = parts.1.in_range; place = place; owes = owes; section = parts.1.section }) parts.2;
+                (record { in_range = parts.1.in_range; place = place; owes = owes; section = same.fits (standing_after h) row who parts.1.section }) parts.2;
             free = λ e. p.one_history.free (sym same_write ∙ e);
             cells = p.one_history.cells;
             cells_after = p.one_history.cells_after;
@@ -63,13 +87,13 @@ module _ {C : Type 0} {N : ℕ} (truths : Truths C) (seats : ℕ) (h : List (Eve
         }
 
     -- a write acquire
-    pub acquired_write : (word word' : Word) (row : List ℕ) → word.write ≡ false → word.readers ≡ 0 → word'.write ≡ true → word'.readers ≡ word.readers →
-        PlaceFits truths walk' (Some (newly_held {C = C} {N = N} Write row)) → has_some owed' ≡ pays walk' →
+    pub acquired_write : (word word' : Word) (row : List ℕ) (entry : Opening C) → phase_by walk ≡ phase_before Write entry → word.write ≡ false → word.readers ≡ 0 → word'.write ≡ true → word'.readers ≡ word.readers →
+        PlaceFits truths walk' (Some (section {C = C} {N = N} Write entry row row)) → has_some owed' ≡ pays walk' →
         Safe truths seats h word row (front ++ view_of who walk None owed ∷ back) →
-        Safe truths seats h word' row (front ++ view_of who walk' (Some (newly_held Write row)) owed' ∷ back)
-    acquired_write word word' row no_writer no_reader write' readers' place owes p =
+        Safe truths seats h word' row (front ++ view_of who walk' (Some (section Write entry row row)) owed' ∷ back)
+    acquired_write word word' row entry phase no_writer no_reader write' readers' place owes p =
         let view = view_of {C = C} {N = N} who walk None owed in
-        let view' = view_of {C = C} {N = N} who walk' (Some (newly_held Write row)) owed' in
+        let view' = view_of {C = C} {N = N} who walk' (Some (section Write entry row row)) owed' in
         let parts = each_parts truths seats (standing_after h) row front view back p.one_history.each in
         let none : writers (front ++ view ∷ back) ≡ 0 = p.one_writer.bit ∙ ap (λ b. cond b 1 0) no_writer in
         let unit : ◌≡◌ {A = ℕ} (cond word'.write 1 0) 1 = rw write' refl in
@@ -89,7 +113,7 @@ module _ {C : Type 0} {N : ℕ} (truths : Truths C) (seats : ℕ) (h : List (Eve
                   in_range = parts.1.in_range;
                   place = place;
                   owes = owes;
-                  section = record { starts = p.one_history.free no_writer; enters = rw parts.1.section tt; cells = refl; reads = λ e. refl };
+                  section = record { starts = p.one_history.free no_writer; enters = parts.1.section ∙ phase; cells = refl; reads = λ e. refl };
                 }) parts.2;
             free = λ e. absurd (cc);
             cells = p.one_history.cells;
@@ -99,13 +123,13 @@ module _ {C : Type 0} {N : ℕ} (truths : Truths C) (seats : ℕ) (h : List (Eve
         }
 
     -- a read acquire
-    pub acquired_read : (word word' : Word) (row : List ℕ) → word.write ≡ false → word'.write ≡ false → word'.readers ≡ word.readers + 1 →
-        PlaceFits truths walk' (Some (newly_held {C = C} {N = N} Read row)) → has_some owed' ≡ pays walk' →
+    pub acquired_read : (word word' : Word) (row : List ℕ) (entry : Opening C) → phase_by walk ≡ phase_before Read entry → word.write ≡ false → word'.write ≡ false → word'.readers ≡ word.readers + 1 →
+        PlaceFits truths walk' (Some (section {C = C} {N = N} Read entry row row)) → has_some owed' ≡ pays walk' →
         Safe truths seats h word row (front ++ view_of who walk None owed ∷ back) →
-        Safe truths seats h word' row (front ++ view_of who walk' (Some (newly_held Read row)) owed' ∷ back)
-    acquired_read word word' row no_writer write' readers' place owes p =
+        Safe truths seats h word' row (front ++ view_of who walk' (Some (section Read entry row row)) owed' ∷ back)
+    acquired_read word word' row entry phase no_writer write' readers' place owes p =
         let view = view_of {C = C} {N = N} who walk None owed in
-        let view' = view_of {C = C} {N = N} who walk' (Some (newly_held Read row)) owed' in
+        let view' = view_of {C = C} {N = N} who walk' (Some (section Read entry row row)) owed' in
         let parts = each_parts truths seats (standing_after h) row front view back p.one_history.each in
         let r = readers_at front view back in
         let r' = readers_at front view' back in
@@ -121,7 +145,7 @@ module _ {C : Type 0} {N : ℕ} (truths : Truths C) (seats : ℕ) (h : List (Eve
                   in_range = parts.1.in_range;
                   place = place;
                   owes = owes;
-                  section = record { starts = p.one_history.free no_writer; enters = rw parts.1.section tt; cells = refl; reads = λ e. refl };
+                  section = record { starts = p.one_history.free no_writer; enters = parts.1.section ∙ phase; cells = refl; reads = λ e. refl };
                 }) parts.2;
             free = λ e. p.one_history.free no_writer;
             cells = p.one_history.cells;
@@ -131,7 +155,7 @@ module _ {C : Type 0} {N : ℕ} (truths : Truths C) (seats : ℕ) (h : List (Eve
         }
 
     -- a store into a cell, by the writer
-    pub stored : (word : Word) (row : List ℕ) (entry : Entry C) (before cells : List ℕ) (i v : ℕ) →
+    pub stored : (word : Word) (row : List ℕ) (entry : Opening C) (before cells : List ℕ) (i v : ℕ) →
         PlaceFits truths walk' (Some (section {C = C} {N = N} Write entry before (slice_set cells i v))) → has_some owed' ≡ pays walk' →
         Safe truths seats h word row (front ++ view_of who walk (Some (section Write entry before cells)) owed ∷ back) →
         Safe truths seats h word (slice_set row i v) (front ++ view_of who walk' (Some (section Write entry before (slice_set cells i v))) owed' ∷ back)
@@ -171,40 +195,50 @@ module _ {C : Type 0} {N : ℕ} (truths : Truths C) (seats : ℕ) (h : List (Eve
           apart = apart_moves front view view' back refl p.apart;
         }
 
-  -- what the release of a section leaves of the seats
-  phases_left : (who : ℕ) (held : Held C N) (seat : ℕ) → seat ≢ who →
-      (standing_next (standing_after h) (section_of who held Released)).phases seat ≡ (standing_after h).phases seat
-  phases_left who held seat ne = rw (ne_eqb who seat (λ e. ne (sym e))) refl
+  -- what the end of a section leaves of the seats
+  phases_left : (who : ℕ) (held : Held C N) (exit : Exit C) (seat : ℕ) → seat ≢ who →
+      (standing_next (standing_after h) (section_of truths.holds who held exit)).phases seat ≡ (standing_after h).phases seat
+  phases_left who held exit seat ne = rw (ne_eqb who seat (λ e. ne (sym e))) refl
 
-  idle_left : (who : ℕ) (held : Held C N) → (standing_next (standing_after h) (section_of who held Released)).phases who ≡ Idle
-  idle_left who held = rw (eq-eqb who who refl) refl
+  phase_left : (who : ℕ) (held : Held C N) (exit : Exit C) → (standing_next (standing_after h) (section_of truths.holds who held exit)).phases who ≡ phase_after held.mode exit
+  phase_left who held exit = rw (eq-eqb who who refl) refl
 
-  pub left_by : (who : ℕ) (held : Held C N) → standing_after (h ++ section_of who held Released ∷ []) ≡ standing_next (standing_after h) (section_of who held Released)
-  left_by who held = standing_from-append (first_standing N) h (section_of who held Released ∷ [])
+  pub left_by : (who : ℕ) (held : Held C N) (exit : Exit C) → standing_after (h ++ section_of truths.holds who held exit ∷ []) ≡ standing_next (standing_after h) (section_of truths.holds who held exit)
+  left_by who held exit = standing_from-append (first_standing N) h (section_of truths.holds who held exit ∷ [])
 
   keeps_row : (mode : Mode) (before row : List ℕ) → (mode ≡ Read → row ≡ before) → ModeFits mode before row
   keeps_row Write before row e = tt
   keeps_row Read before row e = e refl
 
-  commits : (who : ℕ) (row : List ℕ) (held : Held C N) → who < 64 → HeldFits truths.holds (standing_after h) row who held → IsLegal truths.holds h → IsLegal truths.holds (h ++ section_of who held Released ∷ [])
-  commits who row held few fits legal =
-      legal_append truths.holds (first_standing N) h (section_of who held Released ∷ []) legal
-      ((few, record { starts = fits.starts; keeps = keeps_row held.mode held.before held.row fits.reads; enters = fits.enters; leaves = tt }), tt)
+  commits : (who : ℕ) (row : List ℕ) (held : Held C N) (exit : Exit C) → who < 64 → ExitFits truths.holds held.row exit → HeldFits (standing_after h) row who held → IsLegal truths.holds h → IsLegal truths.holds (h ++ section_of truths.holds who held exit ∷ [])
+  commits who row held exit few leaves fits legal =
+      legal_append truths.holds (first_standing N) h (section_of truths.holds who held exit ∷ []) legal (
+        (
+          few,
+          record {
+            starts = fits.starts;
+            keeps = keeps_row held.mode held.before held.row fits.reads;
+            enters = subst (λ phase. EntryFits truths.holds held.before held.mode (entry_of truths.holds held.before held.entry) phase) (sym fits.enters) (entry_fits truths.holds held.before held.mode held.entry);
+            leaves = leaves;
+          },
+        ),
+        tt,
+      )
 
-  module _ (front : List (SeatView C N)) (who : ℕ) (walk : Option Walk) (owed : List ℕ) (walk' : Option Walk) (owed' : List ℕ) (back : List (SeatView C N)) where
+  module _ (front : List (SeatView C N)) (who : ℕ) (walk : Option (Walk C)) (owed : List ℕ) (walk' : Option (Walk C)) (owed' : List ℕ) (back : List (SeatView C N)) where
     -- a release
-    pub released : (mode : Mode) (word word' : Word) (row : List ℕ) (entry : Entry C) (before cells : List ℕ) → seats ≤ 64 →
+    pub released : (mode : Mode) (exit : Exit C) (word word' : Word) (row : List ℕ) (entry : Opening C) (before cells : List ℕ) → seats ≤ 64 → ExitFits truths.holds cells exit → phase_after mode exit ≡ phase_by walk' →
         (mode ≡ Write → word'.write ≡ false) → (mode ≡ Read → word'.write ≡ word.write) → (mode ≡ Write → word'.readers ≡ word.readers) → (mode ≡ Read → word'.readers ≡ word.readers - 1) →
         PlaceFits {C = C} {N = N} truths walk' None → has_some owed' ≡ pays walk' →
         Safe truths seats h word row (front ++ view_of who walk (Some (section mode entry before cells)) owed ∷ back) →
-        Safe truths seats (h ++ section_of who (section mode entry before cells) Released ∷ []) word' row (front ++ view_of who walk' None owed' ∷ back)
-    released Write word word' row entry before cells few ww rw' wr rr place owes p =
+        Safe truths seats (h ++ section_of truths.holds who (section mode entry before cells) exit ∷ []) word' row (front ++ view_of who walk' None owed' ∷ back)
+    released Write exit word word' row entry before cells few leaves phase ww rw' wr rr place owes p =
         let held = section Write entry before cells in
         let view = view_of who walk (Some held) owed in
         let view' = view_of {C = C} {N = N} who walk' None owed' in
         let now = standing_after h in
-        let next = standing_next now (section_of who held Released) in
-        let left = left_by who held in
+        let next = standing_next now (section_of truths.holds who held exit) in
+        let left = left_by who held exit in
         let parts = each_parts truths seats now row front view back p.one_history.each in
         let apart = apart_parts front view back p.apart in
         let w = writers_at front view back in
@@ -224,25 +258,25 @@ module _ {C : Type 0} {N : ℕ} (truths : Truths C) (seats : ℕ) (h : List (Eve
           one_writer = record { bit = omega (arith, w', unit', others_front, others_back); alone = λ e. absurd (both_ways word'.write (ww refl) e) };
           count = omega (arith, r, r', count, count');
           one_history = record {
-            legal = commits who row held (omega (arith, parts.1.in_range)) parts.1.section p.one_history.legal;
-            by_seats = by_seats_more seats h (section_of who held Released) p.one_history.by_seats parts.1.in_range;
+            legal = commits who row held exit (omega (arith, parts.1.in_range)) leaves parts.1.section p.one_history.legal;
+            by_seats = by_seats_more seats h (section_of truths.holds who held exit) p.one_history.by_seats parts.1.in_range;
             each = rw left (each_join truths seats next row front view' back
-                (each_moves truths seats now next row row who front apart.0 (phases_left who held) (inr others_front) parts.0)
-                (record { in_range = parts.1.in_range; place = place; owes = owes; section = idle_left who held })
-                (each_moves truths seats now next row row who back apart.1 (phases_left who held) (inr others_back) parts.2));
+                (each_moves truths seats now next row row who front apart.0 (phases_left who held exit) (inr others_front) parts.0)
+                (record { in_range = parts.1.in_range; place = place; owes = owes; section = phase_left who held exit ∙ phase })
+                (each_moves truths seats now next row row who back apart.1 (phases_left who held exit) (inr others_back) parts.2));
             free = λ e. sym parts.1.section.cells ∙ sym (ap (λ s. s.row) left);
             cells = p.one_history.cells;
             cells_after = ap (λ s. length s.row) left ∙ ap length parts.1.section.cells ∙ p.one_history.cells;
           };
           apart = apart_moves front view view' back refl p.apart;
         }
-    released Read word word' row entry before cells few ww rw' wr rr place owes p =
+    released Read exit word word' row entry before cells few leaves phase ww rw' wr rr place owes p =
         let held = section Read entry before cells in
         let view = view_of who walk (Some held) owed in
         let view' = view_of {C = C} {N = N} who walk' None owed' in
         let now = standing_after h in
-        let next = standing_next now (section_of who held Released) in
-        let left = left_by who held in
+        let next = standing_next now (section_of truths.holds who held exit) in
+        let left = left_by who held exit in
         let parts = each_parts truths seats now row front view back p.one_history.each in
         let apart = apart_parts front view back p.apart in
         let w = writers_at front view back in
@@ -258,15 +292,76 @@ module _ {C : Type 0} {N : ℕ} (truths : Truths C) (seats : ℕ) (h : List (Eve
           one_writer = record { bit = omega (arith, w, w', set, set'); alone = λ e. let nobody : readers (front ++ view ∷ back) ≡ 0 = p.one_writer.alone (sym (rw' refl) ∙ e) in omega (arith, r, nobody) };
           count = omega (arith, r, r', count, count');
           one_history = record {
-            legal = commits who row held (omega (arith, parts.1.in_range)) parts.1.section p.one_history.legal;
-            by_seats = by_seats_more seats h (section_of who held Released) p.one_history.by_seats parts.1.in_range;
+            legal = commits who row held exit (omega (arith, parts.1.in_range)) leaves parts.1.section p.one_history.legal;
+            by_seats = by_seats_more seats h (section_of truths.holds who held exit) p.one_history.by_seats parts.1.in_range;
             each = rw left (each_join truths seats next row front view' back
-                (each_moves truths seats now next row row who front apart.0 (phases_left who held) (inl (same, refl)) parts.0)
-                (record { in_range = parts.1.in_range; place = place; owes = owes; section = idle_left who held })
-                (each_moves truths seats now next row row who back apart.1 (phases_left who held) (inl (same, refl)) parts.2));
+                (each_moves truths seats now next row row who front apart.0 (phases_left who held exit) (inl (same, refl)) parts.0)
+                (record { in_range = parts.1.in_range; place = place; owes = owes; section = phase_left who held exit ∙ phase })
+                (each_moves truths seats now next row row who back apart.1 (phases_left who held exit) (inl (same, refl)) parts.2));
             free = λ e. sym parts.1.section.cells ∙ sym (ap (λ s. s.row) left);
             cells = p.one_history.cells;
             cells_after = ap (λ s. length s.row) left ∙ ap length parts.1.section.cells ∙ p.one_history.cells;
+          };
+          apart = apart_moves front view view' back refl p.apart;
+        }
+
+    -- a section is given up without an event: nothing has changed in it, and its seat goes back to where it came from
+    pub dropped : (mode : Mode) (word word' : Word) (row : List ℕ) (entry : Opening C) (before cells : List ℕ) → cells ≡ before → phase_before mode entry ≡ phase_by walk' →
+        (mode ≡ Write → word'.write ≡ false) → (mode ≡ Read → word'.write ≡ word.write) → (mode ≡ Write → word'.readers ≡ word.readers) → (mode ≡ Read → word'.readers ≡ word.readers - 1) →
+        PlaceFits {C = C} {N = N} truths walk' None → has_some owed' ≡ pays walk' →
+        Safe truths seats h word row (front ++ view_of who walk (Some (section mode entry before cells)) owed ∷ back) →
+        Safe truths seats h word' row (front ++ view_of who walk' None owed' ∷ back)
+    dropped Write word word' row entry before cells stays phase ww rw' wr rr place owes p =
+        let view = view_of who walk (Some (section Write entry before cells)) owed in
+        let view' = view_of {C = C} {N = N} who walk' None owed' in
+        let now = standing_after h in
+        let parts = each_parts truths seats now row front view back p.one_history.each in
+        let w = writers_at front view back in
+        let r = readers_at front view back in
+        let w' = writers_at front view' back in
+        let r' = readers_at front view' back in
+        let write : word.write ≡ true = bit_set word.write (omega (arith, p.one_writer.bit)) in
+        let unit : ◌≡◌ {A = ℕ} (cond word.write 1 0) 1 = rw write refl in
+        let unit' : ◌≡◌ {A = ℕ} (cond word'.write 1 0) 0 = rw (ww refl) refl in
+        let set : writers (front ++ view ∷ back) ≡ cond word.write 1 0 = p.one_writer.bit in
+        let count : word.readers ≡ readers (front ++ view ∷ back) = p.count in
+        let count' : word'.readers ≡ word.readers = wr refl in
+        record {
+          one_writer = record { bit = omega (arith, w, w', set, unit, unit'); alone = λ e. absurd (both_ways word'.write (ww refl) e) };
+          count = omega (arith, r, r', count, count');
+          one_history = record {
+            legal = p.one_history.legal;
+            by_seats = p.one_history.by_seats;
+            each = each_join truths seats now row front view' back parts.0 (record { in_range = parts.1.in_range; place = place; owes = owes; section = parts.1.section.enters ∙ phase }) parts.2;
+            free = λ e. sym parts.1.section.cells ∙ stays ∙ parts.1.section.starts;
+            cells = p.one_history.cells;
+            cells_after = p.one_history.cells_after;
+          };
+          apart = apart_moves front view view' back refl p.apart;
+        }
+    dropped Read word word' row entry before cells stays phase ww rw' wr rr place owes p =
+        let view = view_of who walk (Some (section Read entry before cells)) owed in
+        let view' = view_of {C = C} {N = N} who walk' None owed' in
+        let now = standing_after h in
+        let parts = each_parts truths seats now row front view back p.one_history.each in
+        let w = writers_at front view back in
+        let r = readers_at front view back in
+        let w' = writers_at front view' back in
+        let r' = readers_at front view' back in
+        let count : word.readers ≡ readers (front ++ view ∷ back) = p.count in
+        let count' : word'.readers ≡ word.readers - 1 = rr refl in
+        let set : writers (front ++ view ∷ back) ≡ cond word.write 1 0 = p.one_writer.bit in
+        let set' : ◌≡◌ {A = ℕ} (cond word'.write 1 0) (cond word.write 1 0) = ap (λ b. cond b 1 0) (rw' refl) in
+        record {
+          one_writer = record { bit = omega (arith, w, w', set, set'); alone = λ e. let nobody : readers (front ++ view ∷ back) ≡ 0 = p.one_writer.alone (sym (rw' refl) ∙ e) in omega (arith, r, nobody) };
+          count = omega (arith, r, r', count, count');
+          one_history = record {
+            legal = p.one_history.legal;
+            by_seats = p.one_history.by_seats;
+            each = each_join truths seats now row front view' back parts.0 (record { in_range = parts.1.in_range; place = place; owes = owes; section = parts.1.section.enters ∙ phase }) parts.2;
+            free = λ e. sym parts.1.section.cells ∙ stays ∙ parts.1.section.starts;
+            cells = p.one_history.cells;
+            cells_after = p.one_history.cells_after;
           };
           apart = apart_moves front view view' back refl p.apart;
         }

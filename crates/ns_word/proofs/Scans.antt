@@ -1,12 +1,12 @@
--- How often a seat stands in the lists that a scan makes of one, and who is in them.
-use Rattle.std.proofs.Common.{◌≡◌, ℕ, ◌+◌, ◌<◌, ◌≤◌, Bool, true, false, not, ◌&&◌, ◌||◌, cond, eqb, List, [], ◌∷◌, length, Option, None, Some, refl, ap, subst, arith, eq-eqb}
+-- How often a seat stands in the lists that a scan makes of one, or one that queues or leaves, and who is in them.
+use Rattle.std.proofs.Common.{◌≡◌, ◌≢◌, ℕ, ◌+◌, ◌<◌, ◌≤◌, Bool, true, false, not, ◌&&◌, ◌||◌, cond, eqb, inl, inr, List, [], ◌∷◌, length, Option, None, Some, refl, ap, sym, ◌∙◌, subst, arith, eq-eqb}
 use Rattle.std.specs.List.{filter, list_any}
-use Rattle.std.proofs.lemmas.Bool.{ne_eqb, or_parts, both_ways, false_from_ne_true}
+use Rattle.std.proofs.lemmas.Bool.{ne_eqb, or_parts, both_ways, cases_eq, false_from_ne_true}
 use Rattle.ns_model.specs.declared.event.Mode.{Mode}
 use Rattle.ns_queue.specs.declared.waiter.Waiter.{Waiter}
-use Rattle.ns_queue.specs.Waiters.{seats_of, times_in, reads, writes, has_condition}
+use Rattle.ns_queue.specs.Waiters.{seats_of, times_in, without_in, reads, writes, has_condition}
 use Rattle.ns_queue.specs.Scans.{is_met, is_eligible, woken_of, left_of}
-use Rattle.ns_queue.proofs.Seats.{times_in-cons, times_in-append}
+use Rattle.ns_queue.proofs.Seats.{one_if, times_in-cons, times_in-append}
 use Rattle.ns_word.specs.Lists.{has_some, has_eligible, bits_of, times_among, queued}
 
 -- whether a list has somebody, by its length
@@ -62,16 +62,33 @@ module _ {C : Type 0} where
       ]
 
   -- one more
-  pub times_queued : (seat who : ℕ) (mode : Mode) (woken : Bool) (ws : List (Waiter C)) → times_in seat (queued who mode woken ws) ≡ cond (eqb who seat) 1 0 + times_in seat ws
-  times_queued seat who mode true ws = times_in-cons seat (record { seat = who; mode = mode; cond = None }) ws
-  times_queued seat who mode false ws =
-      let one : Waiter C = record { seat = who; mode = mode; cond = None } in
+  pub times_queued : (seat who : ℕ) (mode : Mode) (c : Option C) (woken : Bool) (ws : List (Waiter C)) → times_in seat (queued who mode c woken ws) ≡ cond (eqb who seat) 1 0 + times_in seat ws
+  times_queued seat who mode c true ws = times_in-cons seat (record { seat = who; mode = mode; cond = c }) ws
+  times_queued seat who mode c false ws =
+      let one : Waiter C = record { seat = who; mode = mode; cond = c } in
       omega (arith, times_in-append seat ws (one ∷ []), times_in-cons seat one [])
 
-  pub some_queued : (who : ℕ) (mode : Mode) (woken : Bool) (ws : List (Waiter C)) → has_some (queued who mode woken ws) ≡ true
-  some_queued who mode true ws = refl
-  some_queued who mode false [] = refl
-  some_queued who mode false (w ∷ ws) = refl
+  pub some_queued : (who : ℕ) (mode : Mode) (c : Option C) (woken : Bool) (ws : List (Waiter C)) → has_some (queued who mode c woken ws) ≡ true
+  some_queued who mode c true ws = refl
+  some_queued who mode c false [] = refl
+  some_queued who mode c false (w ∷ ws) = refl
+
+  -- one less
+  pub times_without : (who : ℕ) (ws : List (Waiter C)) → times_in who (without_in who ws) ≡ 0
+  times_without who [] = refl
+  times_without who (w ∷ ws) = go (times_without who ws) (eqb w.seat who) refl where
+    go : times_in who (without_in who ws) ≡ 0 → (b : Bool) → eqb w.seat who ≡ b → times_in who (without_in who (w ∷ ws)) ≡ 0
+    go rest true e = rw e rest
+    go rest false e = rw e (let none : one_if (eqb w.seat who) ≡ 0 = ap one_if e in omega (arith, rest, times_in-cons who w (without_in who ws), none))
+
+  pub times_others : (seat who : ℕ) (ws : List (Waiter C)) → who ≢ seat → times_in seat (without_in who ws) ≡ times_in seat ws
+  times_others seat who [] ne = refl
+  times_others seat who (w ∷ ws) ne = elim (cases_eq w.seat who) [
+    | inl e ↦
+        let none : one_if (eqb w.seat seat) ≡ 0 = ap one_if (ne_eqb w.seat seat (λ f. ne (sym e ∙ f))) in
+        rw (eq-eqb w.seat who e) (omega (arith, times_others seat who ws ne, times_in-cons seat w ws, none))
+    | inr other ↦ rw (ne_eqb w.seat who other) (omega (arith, times_others seat who ws ne, times_in-cons seat w ws, times_in-cons seat w (without_in who ws)))
+  ]
 
   -- ---- who can go on
 
@@ -87,6 +104,21 @@ module _ {C : Type 0} where
   pub none_eligible : (meets : C → Bool) (ws : List (Waiter C)) → has_some ws ≡ false → has_eligible meets ws ≡ false
   none_eligible meets [] e = refl
   none_eligible meets (w ∷ ws) e = absurd (cc)
+
+  -- nor can anybody where one more stands whose condition is false, or some stand no more
+  pub queued_eligible : (meets : C → Bool) (who : ℕ) (mode : Mode) (c : C) (woken : Bool) (ws : List (Waiter C)) → meets c ≡ false → has_eligible meets ws ≡ false → has_eligible meets (queued who mode (Some c) woken ws) ≡ false
+  queued_eligible meets who mode c true ws unmet e = rw unmet e
+  queued_eligible meets who mode c false [] unmet e = rw unmet refl
+  queued_eligible meets who mode c false (w ∷ ws) unmet e =
+      let parts = or_parts (is_eligible meets w) (has_eligible meets ws) e in
+      rw parts.0 (queued_eligible meets who mode c false ws unmet parts.1)
+
+  pub filter_eligible : (meets : C → Bool) (test : Waiter C → Bool) (ws : List (Waiter C)) → has_eligible meets ws ≡ false → has_eligible meets (filter test ws) ≡ false
+  filter_eligible meets test [] e = refl
+  filter_eligible meets test (w ∷ ws) e =
+      let parts = or_parts (is_eligible meets w) (has_eligible meets ws) e in
+      let rest = filter_eligible meets test ws parts.1 in
+      elim (test w) as (λ b. has_eligible meets (cond b (w ∷ filter test ws) (filter test ws)) ≡ false) [ true ↦ rw parts.0 rest | false ↦ rest ]
 
   -- a scan takes nobody just where nobody can go on, and then leaves all
   pub woken_none : (meets : C → Bool) (ws : List (Waiter C)) → has_some (woken_of meets ws) ≡ false → (has_eligible meets ws ≡ false) × (left_of meets ws ≡ ws)

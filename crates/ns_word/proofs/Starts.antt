@@ -1,20 +1,28 @@
 -- A fresh lock is lawful, and so is one where a call begins.
-use Rattle.std.proofs.Common.{◌≡◌, ℕ, Bool, zero, suc, ◌+◌, ◌-◌, ◌<◌, ◌≤◌, true, false, cond, eqb, ltb, List, [], ◌∷◌, ◌++◌, None, Some, refl, sym, subst, arith}
+use Rattle.std.proofs.Common.{◌≡◌, ℕ, Bool, zero, suc, ◌+◌, ◌-◌, ◌<◌, ◌≤◌, true, false, cond, eqb, ltb, List, [], ◌∷◌, ◌++◌, Option, None, Some, refl, sym, subst, arith}
 use Rattle.std.proofs.lemmas.List.{length-replicate}
 use Rattle.std.proofs.lemmas.Bool.{both_ways, ltb-false}
 use Rattle.ns_model.specs.declared.event.Event.{Event}
 use Rattle.ns_model.specs.Histories.{first_standing, first_row}
 use Rattle.ns_word.specs.declared.view.SeatView.{SeatView}
 use Rattle.ns_word.specs.declared.walk.Walk.{Walk}
-use Rattle.ns_word.specs.declared.walk.Walk.TheVariants.{TryLoad, AcquireLoad, QuietCells, QuietLast, ReleaseLoad, Get, SetLoad}
-use Rattle.ns_word.specs.Walks.{has_armed, is_queuing, quiet_place}
+use Rattle.ns_word.specs.declared.walk.Walk.TheVariants.{TryLoad, AcquireLoad, QuietCells, QuietLast, ReleaseLoad, Get, SetLoad, Wait as Waiting}
+use Rattle.ns_word.specs.declared.wait.Wait.{Wait}
+use Rattle.ns_word.specs.declared.wait.Aim.TheVariants.{Lock}
+use Rattle.ns_word.specs.declared.wait.Visit.TheVariants.{Entry}
+use Rattle.ns_word.specs.declared.wait.WaitPlace.TheVariants.{TestCells, TestLast}
+use Rattle.ns_word.specs.declared.view.Held.{Held}
+use Rattle.ns_word.specs.Walks.{has_armed, quiet_place, test_place}
 use Rattle.ns_word.specs.Views.{writers, readers, takers, queuers, owed_to, walk_at, NoneIs, AreApart}
 use Rattle.ns_word.specs.Steps.{Truths, State}
+use Rattle.ns_word.specs.Places.{PlaceFits, Tests}
 use Rattle.ns_word.specs.Lawful.{EachFits, IsLawful}
 use Rattle.ns_word.specs.Begins.{fresh_views, fresh_state, IsFirst, Begins}
 use Rattle.ns_word.proofs.Groups.{groups_of, lawful_by}
 use Rattle.ns_word.proofs.Views.{view_of}
-use Rattle.ns_word.proofs.Keeps.{Same, Way, rests}
+use Rattle.ns_word.proofs.Safes.{same_section}
+use Rattle.ns_word.proofs.Keeps.{rests}
+use Rattle.ns_word.proofs.Leads.{Leads}
 
 module _ (C : Type 0) (N : ℕ) where
   abbrev fresh : ℕ → ℕ → List (SeatView C N)
@@ -83,29 +91,39 @@ module _ (C : Type 0) (N : ℕ) where
   }
 
 -- a quiet release begins at the first cell
-quiet_first_at : (N : ℕ) (b : Bool) → ltb 0 (N - 1) ≡ b → IsFirst N (cond b (QuietCells 0) (QuietLast (N - 1)))
-quiet_first_at N true e = refl
-quiet_first_at N false e = let most = ltb-false 0 (N - 1) e in omega (arith, most)
+quiet_first_at : (C : Type 0) (N : ℕ) (b : Bool) → ltb 0 (N - 1) ≡ b → IsFirst {C = C} N (cond b (QuietCells 0) (QuietLast (N - 1)))
+quiet_first_at C N true e = refl
+quiet_first_at C N false e = let most = ltb-false 0 (N - 1) e in omega (arith, most)
 
-pub quiet_first : (N : ℕ) → IsFirst N (quiet_place N 0)
-quiet_first N = quiet_first_at N (ltb 0 (N - 1)) refl
+pub quiet_first : (C : Type 0) (N : ℕ) → IsFirst {C = C} N (quiet_place N 0)
+quiet_first C N = quiet_first_at C N (ltb 0 (N - 1)) refl
+
+-- and so does the test of a wait
+test_first_at : {C : Type 0} (N : ℕ) (wait : Wait C) (b : Bool) → ltb 0 (N - 1) ≡ b → IsFirst N (cond b (Waiting wait (TestCells Entry 0)) (Waiting wait (TestLast Entry (N - 1))))
+test_first_at N wait true e = refl
+test_first_at N wait false e = let most = ltb-false 0 (N - 1) e in omega (arith, most)
+
+pub test_first : {C : Type 0} (N : ℕ) (wait : Wait C) → IsFirst N (test_place N wait Entry 0)
+test_first N wait = test_first_at N wait (ltb 0 (N - 1)) refl
 
 module _ {C : Type 0} {N : ℕ} (truths : Truths C) (seats : ℕ) (h : List (Event C N)) where
-  -- a first place tells nothing that no place doesn't
-  first_place : (walk : Walk) → IsFirst N walk → Same None (Some walk) × (is_queuing (Some walk) ≡ false) × Way None (Some walk)
-  first_place (TryLoad mode) e = ((refl, refl, refl, refl), refl, λ n f. absurd (cc))
-  first_place (AcquireLoad mode woken) e = ((refl, refl, refl, refl), refl, λ n f. absurd (cc))
-  first_place (QuietCells i) e = ((refl, refl, refl, refl), refl, λ n f. absurd (cc))
-  first_place (QuietLast i) e = ((refl, refl, refl, refl), refl, λ n f. absurd (cc))
-  first_place (ReleaseLoad leaving) e = ((refl, refl, refl, refl), refl, λ n f. absurd (cc))
-  first_place (Get i) e = ((refl, refl, refl, refl), refl, λ n f. absurd (cc))
-  first_place (SetLoad i v) e = ((refl, refl, refl, refl), refl, λ n f. absurd (cc))
-  first_place _ e = absurd e
+  -- A first place tells nothing that no place doesn't, but that a wait begins with its section in hand.
+  first_place : (walk : Walk C) (held : Option (Held C N)) → IsFirst N walk → PlaceFits truths (Some walk) held → Leads truths None (Some walk) held
+  first_place (TryLoad mode) held e p = (p, (refl, refl, refl, refl), refl, λ n f. absurd (cc), λ none. refl)
+  first_place (AcquireLoad (Lock mode) woken) held e p = (p, (refl, refl, refl, refl), refl, λ n f. absurd (cc), λ none. refl)
+  first_place (QuietCells i) held e p = (p, (refl, refl, refl, refl), refl, λ n f. absurd (cc), λ none. refl)
+  first_place (QuietLast i) held e p = (p, (refl, refl, refl, refl), refl, λ n f. absurd (cc), λ none. refl)
+  first_place (ReleaseLoad leaving) held e p = (p, (refl, refl, refl, refl), refl, λ n f. absurd (cc), λ none. refl)
+  first_place (Get i) held e p = (p, (refl, refl, refl, refl), refl, λ n f. absurd (cc), λ none. refl)
+  first_place (SetLoad i v) held e p = (p, (refl, refl, refl, refl), refl, λ n f. absurd (cc), λ none. refl)
+  first_place (Waiting wait (TestCells Entry i)) held e p = (p, (refl, refl, refl, refl), refl, λ n f. absurd (cc), λ none. absurd (subst (λ x. Tests wait Entry x) none p.0))
+  first_place (Waiting wait (TestLast Entry i)) held e p = (p, (refl, refl, refl, refl), refl, λ n f. absurd (cc), λ none. absurd (subst (λ x. Tests wait Entry x) none p.0))
+  first_place _ held e p = absurd e
 
-  pub begins : (old : State C N) (view : SeatView C N) (walk : Walk) (new : State C N) → Begins truths old view walk new → IsLawful truths seats h old → IsLawful truths seats h new
+  pub begins : (old : State C N) (view : SeatView C N) (walk : Walk C) (new : State C N) → Begins truths old view walk new → IsLawful truths seats h old → IsLawful truths seats h new
   begins old view walk new b p =
       let start = subst (λ views. IsLawful truths seats h (record { word = old.word; row = old.row; lock = old.lock; flags = old.flags; views = views })) b.was p in
       let here = subst (λ w. IsLawful truths seats h (record { word = old.word; row = old.row; lock = old.lock; flags = old.flags; views = b.front ++ view_of view.seat w view.held view.owed ∷ b.back })) b.over start in
-      let tells = first_place walk b.first in
-      let moved = rests truths seats h b.front view.seat None (Some walk) b.back old.word old.row old.lock old.flags view.held view.owed b.fits tells.0 tells.1 tells.2 (groups_of truths seats h _ here) in
+      let leads = first_place walk view.held b.first b.fits in
+      let moved = rests truths seats h b.front view.seat None (Some walk) b.back old.word old.row old.lock old.flags view.held view.held view.owed leads.0 leads.1 leads.2 leads.3 (same_section None (Some walk) view.held leads.4) (groups_of truths seats h _ here) in
       subst (λ s. IsLawful truths seats h s) (sym b.becomes) (lawful_by truths seats h _ moved)

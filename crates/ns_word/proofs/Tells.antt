@@ -1,23 +1,40 @@
 -- What a step leaves of what the seats were told.
-use Rattle.std.proofs.Common.{◌≡◌, ◌≢◌, ℕ, ◌≤◌, Bool, eqb, List, [], ◌∷◌, ◌++◌, Some, refl, ap, sym, ◌∙◌, subst, append_assoc, eq-eqb}
+use Rattle.std.specs.Prelude.{All}
+use Rattle.std.proofs.Common.{◌≡◌, ◌≢◌, ℕ, ◌<◌, ◌≤◌, Bool, true, false, eqb, List, [], ◌∷◌, ◌++◌, Option, None, Some, refl, ap, sym, ◌∙◌, subst, append_assoc, eq-eqb}
 use Rattle.std.proofs.lemmas.List.{append-nil}
-use Rattle.std.proofs.lemmas.List.Elements.{filter-append}
+use Rattle.std.proofs.lemmas.List.Elements.{All-nil, All-push, All-append, filter-append}
 use Rattle.std.proofs.lemmas.Bool.{ne_eqb}
 use Rattle.ns_model.specs.declared.event.Event.{Event}
 use Rattle.ns_model.specs.Histories.{IsLegal, IsBySeats, own, who_of}
 use Rattle.ns_word.specs.declared.view.SeatView.{SeatView}
 use Rattle.ns_word.specs.declared.walk.Walk.{Walk}
 use Rattle.ns_word.specs.declared.act.Act.{Act}
-use Rattle.ns_word.specs.declared.act.Act.TheVariants.{LoadWord, Acquire, TakeQueues, ReturnQueues, Release, ReleaseReturning, LoadCell, JudgeQuiet, StoreCell, ArmFlag, PayWake, LoadFlag}
+use Rattle.ns_word.specs.declared.act.Act.TheVariants.{LoadWord, Acquire, TakeQueues, ReturnQueues, Release, ReleaseReturning, WaitReturning, LoadCell, JudgeQuiet, JudgeMet, StoreCell, ArmFlag, PayWake, LoadFlag, Look}
 use Rattle.ns_word.specs.declared.act.Found.{Found}
-use Rattle.ns_word.specs.declared.act.Found.TheVariants.{Word as Saw, Made, Cell, Quiet, Scanned, Paid, Flag}
-use Rattle.ns_word.specs.Walks.{want_of}
+use Rattle.ns_word.specs.declared.act.Found.TheVariants.{Word as Saw, Made, Cell, Quiet, Met, Scanned, Paid, Left, Flag, Looked}
+use Rattle.ns_word.specs.Walks.{want_of, got_of, walk_after}
 use Rattle.ns_word.specs.Steps.{Truths, QuietKeeps, State, Part, Effect, Step}
-use Rattle.ns_word.specs.Begins.{FirstStep}
+use Rattle.ns_word.specs.Begins.{IsFirst, FirstStep}
 use Rattle.ns_word.specs.Lawful.{IsLawful}
-use Rattle.ns_word.specs.Told.{Told, IsTold, told_after, AreBy, BeginsWith}
+use Rattle.ns_word.specs.Told.{Told, IsTold, nothing_told, told_after, AreBy, BeginsWith, walk_over, LedBy, IsLed}
 use Rattle.ns_word.proofs.Starts.{begins}
 use Rattle.ns_word.proofs.Dispatch.{keeps}
+
+-- what was found leads on from where what was found before it led
+over_more : {C : Type 0} (N : ℕ) (founds : List Found) (found : Found) (from : Option (Walk C)) (walk : Walk C) → walk_over N founds from ≡ Some walk → walk_over N (founds ++ found ∷ []) from ≡ walk_after (got_of N walk found)
+over_more N [] found from walk e = ap (walk_over N (found ∷ [])) e
+over_more N (before ∷ founds) found None walk e = absurd (cc)
+over_more N (before ∷ founds) found (Some first) walk e = over_more N founds found (walk_after (got_of N first before)) walk e
+
+led_at : {C : Type 0} (N : ℕ) (begun : List (Walk C)) (next : Option (Walk C)) (earlier : List (Walk C)) (first : Walk C) (founds : List Found) → begun ≡ earlier ++ first ∷ [] → walk_over N founds (Some first) ≡ next → IsLed N begun next
+led_at N begun None earlier first founds last leads = tt
+led_at N begun (Some walk) earlier first founds last leads = record { earlier = earlier; first = first; founds = founds; last = last; leads = leads }
+
+led_on : {C : Type 0} (N : ℕ) (begun : List (Walk C)) (walk : Walk C) (found : Found) → LedBy N begun walk → IsLed N begun (walk_after (got_of N walk found))
+led_on N begun walk found led = led_at N begun (walk_after (got_of N walk found)) led.earlier led.first (led.founds ++ found ∷ []) led.last (over_more N led.founds found (Some led.first) walk led.leads)
+
+led_from : {C : Type 0} (N : ℕ) (earlier : List (Walk C)) (first : Walk C) (found : Found) (next : Option (Walk C)) → walk_after (got_of N first found) ≡ next → IsLed N (earlier ++ first ∷ []) next
+led_from N earlier first found next e = led_at N (earlier ++ first ∷ []) next earlier first (found ∷ []) refl e
 
 module _ {C : Type 0} {N : ℕ} where
   none_by : (seat : ℕ) (commits : List (Event C N)) → commits ≡ [] → AreBy seat commits
@@ -27,24 +44,30 @@ module _ {C : Type 0} {N : ℕ} where
   one_by seat event commits same e = subst (λ xs. AreBy seat xs) (sym e) (same, tt)
 
   -- what a step commits is its seat's
-  effect_by : (truths : Truths C) (seat : ℕ) (act : Act) (old : Part C N) (found : Found) (new : Part C N) (commits : List (Event C N)) → Effect truths seat act old found new commits → AreBy seat commits
+  effect_by : (truths : Truths C) (seat : ℕ) (act : Act C) (old : Part C N) (found : Found) (new : Part C N) (commits : List (Event C N)) → Effect truths seat act old found new commits → AreBy seat commits
   effect_by truths seat LoadWord old (Saw word) new commits e = none_by seat commits e.2
-  effect_by truths seat (Acquire mode woken last) old (Saw word) new commits e = none_by seat commits e.3
+  effect_by truths seat (Acquire aim woken last) old (Saw word) new commits e = none_by seat commits e.3
   effect_by truths seat (TakeQueues taking last) old (Saw word) new commits e = none_by seat commits e.3
   effect_by truths seat (ReturnQueues change last) old (Saw word) new commits e = none_by seat commits e.3
   effect_by truths seat (Release leaving last) old (Saw word) new commits e = none_by seat commits e.3
   effect_by truths seat (ReleaseReturning leaving last) old (Saw word) new commits e = none_by seat commits e.3
-  effect_by truths seat (Acquire mode woken last) old Made new commits e = none_by seat commits e.4
+  effect_by truths seat (WaitReturning wait again last) old (Saw word) new commits e = none_by seat commits e.3
+  effect_by truths seat (Acquire aim woken last) old Made new commits e = none_by seat commits e.4
   effect_by truths seat (TakeQueues taking last) old Made new commits e = none_by seat commits e.3
-  effect_by truths seat (ReturnQueues change last) old Made new commits e = none_by seat commits e.2
+  effect_by truths seat (ReturnQueues change last) old Made new commits e = none_by seat commits e.3
+  effect_by truths seat (ReturnQueues change last) old (Left stood) new commits e = none_by seat commits e.3
   effect_by truths seat (Release leaving last) old Made new commits e = one_by seat _ commits refl e.5
   effect_by truths seat (ReleaseReturning leaving last) old (Scanned owes tests) new commits e = one_by seat _ commits refl e.7
+  effect_by truths seat (WaitReturning wait false last) old (Scanned owes tests) new commits e = one_by seat _ commits refl e.7
+  effect_by truths seat (WaitReturning wait true last) old (Scanned owes tests) new commits e = none_by seat commits e.7
   effect_by truths seat (LoadCell i) old (Cell v) new commits e = none_by seat commits e.2
   effect_by truths seat (JudgeQuiet i) old (Quiet is_quiet) new commits e = none_by seat commits e.4
+  effect_by truths seat (JudgeMet i c) old (Met is_met) new commits e = none_by seat commits e.4
   effect_by truths seat (StoreCell i v) old Made new commits e = none_by seat commits e.4
   effect_by truths seat ArmFlag old Made new commits e = none_by seat commits e.1
   effect_by truths seat PayWake old (Paid owes) new commits e = none_by seat commits e.5
   effect_by truths seat LoadFlag old (Flag v) new commits e = none_by seat commits e.2
+  effect_by truths seat (Look limits again) old (Looked cause) new commits e = none_by seat commits e.2
   effect_by truths seat _ old _ new commits e = absurd e
 
   pub step_by : (truths : Truths C) (old : State C N) (view : SeatView C N) (found : Found) (new : State C N) (commits : List (Event C N)) → Step truths old view found new commits → AreBy view.seat commits
@@ -63,9 +86,9 @@ module _ {C : Type 0} {N : ℕ} where
   own_append seat g h = filter-append (λ event. eqb (who_of event) seat) g h
 
   -- the seat that steps
-  pub told_here : (holds : C → List ℕ → Bool) (seats : ℕ) (h : List (Event C N)) (seat : ℕ) (commits : List (Event C N)) (begun : List Walk) (told : Told C N) → AreBy seat commits →
-      IsLegal holds (h ++ commits) → IsBySeats seats (h ++ commits) → IsTold holds seats h seat told → IsTold holds seats (h ++ commits) seat (told_after h commits begun told)
-  told_here holds seats h seat commits begun told by legal by_seats p =
+  pub told_here : (holds : C → List ℕ → Bool) (seats : ℕ) (h : List (Event C N)) (seat : ℕ) (walk walk' : Option (Walk C)) (commits : List (Event C N)) (begun : List (Walk C)) (told : Told C N) → AreBy seat commits →
+      IsLegal holds (h ++ commits) → IsBySeats seats (h ++ commits) → All (IsFirst N) begun → IsLed N (told.begun ++ begun) walk' → IsTold holds seats h seat walk told → IsTold holds seats (h ++ commits) seat walk' (told_after h commits begun told)
+  told_here holds seats h seat walk walk' commits begun told by legal by_seats firsts led p =
       let mine : told.mine ++ commits ≡ own (h ++ commits) seat = ap (λ xs. xs ++ commits) p.own_of ∙ ap (λ xs. own h seat ++ xs) (sym (own_all seat commits by)) ∙ sym (own_append seat h commits) in
       record {
         seen_of = ([], append-nil (h ++ commits));
@@ -73,6 +96,8 @@ module _ {C : Type 0} {N : ℕ} where
         by_seats = by_seats;
         own_of = mine;
         own_seen = mine;
+        firsts = All-append (IsFirst N) told.begun begun p.firsts firsts;
+        led = led;
       }
 
   -- what a seat has seen goes on being a beginning
@@ -80,35 +105,50 @@ module _ {C : Type 0} {N : ℕ} where
   seen_grows h seen commits p = (p.0 ++ commits, sym (append_assoc seen p.0 commits) ∙ ap (λ xs. xs ++ commits) p.1)
 
   -- another seat
-  pub told_there : (holds : C → List ℕ → Bool) (seats : ℕ) (h : List (Event C N)) (seat other : ℕ) (commits : List (Event C N)) (told : Told C N) → AreBy seat commits → seat ≢ other →
-      IsTold holds seats h other told → IsTold holds seats (h ++ commits) other told
-  told_there holds seats h seat other commits told by ne p = record {
+  pub told_there : (holds : C → List ℕ → Bool) (seats : ℕ) (h : List (Event C N)) (seat other : ℕ) (walk : Option (Walk C)) (commits : List (Event C N)) (told : Told C N) → AreBy seat commits → seat ≢ other →
+      IsTold holds seats h other walk told → IsTold holds seats (h ++ commits) other walk told
+  told_there holds seats h seat other walk commits told by ne p = record {
     seen_of = seen_grows h told.seen commits p.seen_of;
     legal = p.legal;
     by_seats = p.by_seats;
     own_of = p.own_of ∙ sym (own_append other h commits ∙ ap (λ xs. own h other ++ xs) (own_none seat other commits ne by) ∙ append-nil (own h other));
     own_seen = p.own_seen;
+    firsts = p.firsts;
+    led = p.led;
   }
 
   -- at first nobody was told anything
-  pub told_first : (holds : C → List ℕ → Bool) (seats seat : ℕ) → IsTold {C = C} {N = N} holds seats [] seat (record { seen = []; mine = []; begun = [] })
-  told_first holds seats seat = record { seen_of = ([], refl); legal = tt; by_seats = tt; own_of = refl; own_seen = refl }
+  pub told_first : (holds : C → List ℕ → Bool) (seats seat : ℕ) → IsTold {C = C} {N = N} holds seats [] seat None nothing_told
+  told_first holds seats seat = record { seen_of = ([], refl); legal = tt; by_seats = tt; own_of = refl; own_seen = refl; firsts = All-nil (IsFirst N); led = tt }
 
-module _ {C : Type 0} {N : ℕ} (truths : Truths C) (quiet : QuietKeeps N truths) (seats : ℕ) (h : List (Event C N)) (few : seats ≤ 64) where
+module _ {C : Type 0} {N : ℕ} (truths : Truths C) (cells : 0 < N) (quiet : QuietKeeps N truths) (seats : ℕ) (h : List (Event C N)) (few : seats ≤ 64) where
   -- a call's first step
-  pub first_steps_keep : (old : State C N) (view : SeatView C N) (walk : Walk) (found : Found) (new : State C N) (commits : List (Event C N)) →
+  pub first_steps_keep : (old : State C N) (view : SeatView C N) (walk : Walk C) (found : Found) (new : State C N) (commits : List (Event C N)) →
       FirstStep truths old view walk found new commits → IsLawful truths seats h old → IsLawful truths seats (h ++ commits) new
   first_steps_keep old view walk found new commits step p =
-      keeps truths quiet seats h step.between (record view { walk = Some walk }) found new commits few step.step (begins truths seats h old view walk step.between step.begins p)
+      keeps truths cells quiet seats h step.between (record view { walk = Some walk }) found new commits few step.step (begins truths seats h old view walk step.between step.begins p)
 
-  -- what a step tells its own seat, and the others
-  pub step_tells : (old : State C N) (view : SeatView C N) (found : Found) (new : State C N) (commits : List (Event C N)) → Step truths old view found new commits → IsLawful truths seats h old →
-      (told : Told C N) (begun : List Walk) → IsTold truths.holds seats h view.seat told → IsTold truths.holds seats (h ++ commits) view.seat (told_after h commits begun told) × BeginsWith (h ++ commits) told.seen
-  step_tells old view found new commits step p told begun was =
-      let after_all = keeps truths quiet seats h old view found new commits few step p in
-      (told_here truths.holds seats h view.seat commits begun told (step_by truths old view found new commits step) after_all.one_history.legal after_all.one_history.by_seats was, seen_grows h told.seen commits was.seen_of)
+  -- what a step tells its own seat, with the calls that it begins and what they lead to
+  tells : (old : State C N) (view : SeatView C N) (found : Found) (new : State C N) (commits : List (Event C N)) → Step truths old view found new commits → IsLawful truths seats h old →
+      (told : Told C N) (walk walk' : Option (Walk C)) (begun : List (Walk C)) → All (IsFirst N) begun → IsLed N (told.begun ++ begun) walk' →
+      IsTold truths.holds seats h view.seat walk told → IsTold truths.holds seats (h ++ commits) view.seat walk' (told_after h commits begun told) × BeginsWith (h ++ commits) told.seen
+  tells old view found new commits step p told walk walk' begun firsts led was =
+      let after_all = keeps truths cells quiet seats h old view found new commits few step p in
+      (told_here truths.holds seats h view.seat walk walk' commits begun told (step_by truths old view found new commits step) after_all.one_history.legal after_all.one_history.by_seats firsts led was, seen_grows h told.seen commits was.seen_of)
 
-  pub first_step_tells : (old : State C N) (view : SeatView C N) (walk : Walk) (found : Found) (new : State C N) (commits : List (Event C N)) → FirstStep truths old view walk found new commits → IsLawful truths seats h old →
-      (told : Told C N) (begun : List Walk) → IsTold truths.holds seats h view.seat told → IsTold truths.holds seats (h ++ commits) view.seat (told_after h commits begun told) × BeginsWith (h ++ commits) told.seen
-  first_step_tells old view walk found new commits step p told begun was =
-      step_tells step.between (record view { walk = Some walk }) found new commits step.step (begins truths seats h old view walk step.between step.begins p) told begun was
+  -- a step of a call in progress
+  pub step_tells : (old : State C N) (view : SeatView C N) (found : Found) (new : State C N) (commits : List (Event C N)) → (step : Step truths old view found new commits) → IsLawful truths seats h old →
+      (told : Told C N) → IsTold truths.holds seats h view.seat view.walk told →
+      IsTold truths.holds seats (h ++ commits) view.seat (walk_after (got_of N step.walk found)) (told_after h commits [] told) × BeginsWith (h ++ commits) told.seen
+  step_tells old view found new commits step p told was =
+      let led : LedBy N told.begun step.walk = subst (λ walk. IsLed N told.begun walk) step.walks was.led in
+      let on : IsLed N (told.begun ++ []) (walk_after (got_of N step.walk found)) = subst (λ begun. IsLed N begun (walk_after (got_of N step.walk found))) (sym (append-nil told.begun)) (led_on N told.begun step.walk found led) in
+      tells old view found new commits step p told view.walk (walk_after (got_of N step.walk found)) [] (All-nil (IsFirst N)) on was
+
+  -- a step with which a call begins
+  pub first_step_tells : (old : State C N) (view : SeatView C N) (walk : Walk C) (found : Found) (new : State C N) (commits : List (Event C N)) → FirstStep truths old view walk found new commits → IsLawful truths seats h old →
+      (told : Told C N) → IsTold truths.holds seats h view.seat view.walk told →
+      IsTold truths.holds seats (h ++ commits) view.seat (walk_after (got_of N walk found)) (told_after h commits (walk ∷ []) told) × BeginsWith (h ++ commits) told.seen
+  first_step_tells old view walk found new commits step p told was =
+      tells step.between (record view { walk = Some walk }) found new commits step.step (begins truths seats h old view walk step.between step.begins p) told view.walk (walk_after (got_of N walk found)) (walk ∷ []) (All-push (IsFirst N) [] walk (All-nil (IsFirst N)) step.begins.first)
+      (led_from N told.begun walk found (walk_after (got_of N walk found)) refl) was

@@ -2,7 +2,6 @@
 use Rattle.std.proofs.Common.{◌≡◌, ◌≢◌, ℕ, ◌+◌, ◌≤◌, Bool, true, false, not, cond, ◌⊎◌, inl, inr, List, [], ◌∷◌, ◌++◌, Option, None, Some, eqb, refl, ap, sym, ◌∙◌, subst, arith, eq-eqb}
 use Rattle.std.proofs.lemmas.Bool.{ne_eqb}
 use Rattle.ns_model.specs.Phases.{is_write}
-use Rattle.ns_model.specs.Sections.{EntryFits}
 use Rattle.ns_model.specs.Histories.{Standing}
 use Rattle.ns_word.specs.declared.view.Held.{Held}
 use Rattle.ns_word.specs.declared.view.SeatView.{SeatView}
@@ -17,7 +16,7 @@ abbrev pub one_if : Bool → ℕ
 one_if b = cond b 1 0
 
 -- a seat with this place, this section and these wakes to pay
-abbrev pub view_of : {C : Type 0} {N : ℕ} → ℕ → Option Walk → Option (Held C N) → List ℕ → SeatView C N
+abbrev pub view_of : {C : Type 0} {N : ℕ} → ℕ → Option (Walk C) → Option (Held C N) → List ℕ → SeatView C N
 view_of seat walk held owed = record { seat = seat; walk = walk; held = held; owed = owed }
 
 pub one_most : (b : Bool) → one_if b ≤ 1
@@ -115,18 +114,18 @@ module _ {C : Type 0} {N : ℕ} where
     each_join now row [] view back p q r = (q, r)
     each_join now row (u ∷ front) view back p q r = (p.0, each_join now row front view back p.1 q r)
 
-    section_moves : (now next : Standing C) (row cells : List ℕ) (who : ℕ) (held : Option (Held C N)) →
+    section_moves : (now next : Standing C) (row cells : List ℕ) (who : ℕ) (walk : Option (Walk C)) (held : Option (Held C N)) →
         next.phases who ≡ now.phases who →
         ((next.row ≡ now.row) × (cells ≡ row)) ⊎ (held ≡ None) →
-        SectionFits truths.holds now row who held → SectionFits truths.holds next cells who held
-    section_moves now next row cells who None phase same p = phase ∙ p
-    section_moves now next row cells who (Some held) phase (inl same) p = record {
+        SectionFits now row who walk held → SectionFits next cells who walk held
+    section_moves now next row cells who walk None phase same p = phase ∙ p
+    section_moves now next row cells who walk (Some held) phase (inl same) p = record {
       starts = p.starts ∙ sym same.0;
-      enters = subst (λ ph. EntryFits truths.holds held.before held.mode held.entry ph) (sym phase) p.enters;
+      enters = phase ∙ p.enters;
       cells = p.cells ∙ sym same.1;
       reads = p.reads;
     }
-    section_moves now next row cells who (Some held) phase (inr none) p = absurd (cc)
+    section_moves now next row cells who walk (Some held) phase (inr none) p = absurd (cc)
 
     -- what the step of a seat leaves of the others: the row is the same, or none of them has a section
     pub each_moves : (now next : Standing C) (row cells : List ℕ) (who : ℕ) (views : List (SeatView C N)) →
@@ -135,10 +134,10 @@ module _ {C : Type 0} {N : ℕ} where
         EachFits truths seats now row views → EachFits truths seats next cells views
     each_moves now next row cells who [] apart phases same p = tt
     each_moves now next row cells who (u ∷ views) apart phases (inl same) p = (
-      record { in_range = p.0.in_range; place = p.0.place; owes = p.0.owes; section = section_moves now next row cells u.seat u.held (phases u.seat apart.0) (inl same) p.0.section },
+      record { in_range = p.0.in_range; place = p.0.place; owes = p.0.owes; section = section_moves now next row cells u.seat u.walk u.held (phases u.seat apart.0) (inl same) p.0.section },
       each_moves now next row cells who views apart.1 phases (inl same) p.1,
     )
     each_moves now next row cells who (u ∷ views) apart phases (inr none) p = (
-      record { in_range = p.0.in_range; place = p.0.place; owes = p.0.owes; section = section_moves now next row cells u.seat u.held (phases u.seat apart.0) (inr (none_held u.held (omega arith))) p.0.section },
+      record { in_range = p.0.in_range; place = p.0.place; owes = p.0.owes; section = section_moves now next row cells u.seat u.walk u.held (phases u.seat apart.0) (inr (none_held u.held (omega arith))) p.0.section },
       each_moves now next row cells who views apart.1 phases (inr (omega arith)) p.1,
     )

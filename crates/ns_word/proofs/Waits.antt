@@ -1,36 +1,43 @@
--- What the steps leave of the waiters: each times_in where it did, or where it ought to.
+-- What the steps leave of the waiters: each stands where it did, or where it ought to.
 use Rattle.std.proofs.Common.{◌≡◌, ◌≢◌, ℕ, ◌+◌, ◌≤◌, Bool, true, false, ◌&&◌, cond, eqb, inl, inr, List, [], ◌∷◌, ◌++◌, Option, Some, refl, ap, sym, ◌∙◌, subst, arith, eq-eqb}
 use Rattle.std.proofs.lemmas.Bool.{ne_eqb, cases_eq}
 use Rattle.ns_model.specs.declared.event.Mode.{Mode}
 use Rattle.ns_queue.specs.declared.waiter.Waiter.{Waiter}
-use Rattle.ns_queue.specs.Waiters.{seats_of, times_in}
+use Rattle.ns_queue.specs.Waiters.{seats_of, times_in, without_in}
 use Rattle.ns_queue.specs.Scans.{woken_of, left_of}
 use Rattle.ns_word.specs.declared.view.Held.{Held}
 use Rattle.ns_word.specs.declared.view.SeatView.{SeatView}
 use Rattle.ns_word.specs.declared.walk.Walk.{Walk}
-use Rattle.ns_word.specs.declared.walk.Walk.TheVariants.{Queue}
+use Rattle.ns_word.specs.declared.walk.Walk.TheVariants.{Queue, Wait as Waiting}
+use Rattle.ns_word.specs.declared.wait.WaitPlace.{WaitPlace}
+use Rattle.ns_word.specs.declared.wait.WaitPlace.TheVariants.{Queue as QueueWaiting}
 use Rattle.ns_word.specs.Lists.{times_among, queued}
-use Rattle.ns_word.specs.Walks.{awaits, has_armed}
+use Rattle.ns_word.specs.Walks.{awaits, has_armed, place_awaits, place_has_armed}
 use Rattle.ns_word.specs.Views.{owed_to, walk_at, NoneIs}
 use Rattle.ns_word.specs.Steps.{flags_with}
 use Rattle.ns_word.specs.Lawful.{is_set, is_due, WaitersPlaced}
-use Rattle.ns_word.proofs.Scans.{times_scan, times_queued, times_seats}
+use Rattle.ns_word.proofs.Scans.{times_scan, times_queued, times_without, times_others, times_seats}
 use Rattle.ns_word.proofs.Views.{one_if, one_most, view_of, owed_at, walk_here, walk_there}
 
-pub not_due : (walk : Option Walk) (flag : ℕ) → awaits walk ≡ false → is_due walk flag ≡ false
+pub not_due : {C : Type 0} (walk : Option (Walk C)) (flag : ℕ) → awaits walk ≡ false → is_due walk flag ≡ false
 not_due walk flag e = rw e refl
 
+armed_place : (place : WaitPlace) → place_has_armed place ≡ true → place_awaits place ≡ false
+armed_place (QueueWaiting again last) e = refl
+armed_place _ e = absurd (cc)
+
 -- who is about to queue doesn't wait
-pub unqueued : (walk : Option Walk) → has_armed walk ≡ true → awaits walk ≡ false
-unqueued (Some (Queue mode woken last)) e = refl
+pub unqueued : {C : Type 0} (walk : Option (Walk C)) → has_armed walk ≡ true → awaits walk ≡ false
+unqueued (Some (Queue aim woken last)) e = refl
+unqueued (Some (Waiting wait place)) e = rw (armed_place place e) refl
 unqueued _ e = absurd (cc)
 
-pub cleared : (walk : Option Walk) → is_due walk 0 ≡ false
+pub cleared : {C : Type 0} (walk : Option (Walk C)) → is_due walk 0 ≡ false
 cleared walk = elim (awaits walk) as (λ b. (b && is_set 0) ≡ false) [ true ↦ refl | false ↦ refl ]
 
 module _ {C : Type 0} {N : ℕ} where
   -- One seat's view changes, and so may the list and the flags: it is enough to look at each seat's own balance.
-  module _ (front : List (SeatView C N)) (who : ℕ) (walk : Option Walk) (held : Option (Held C N)) (owed : List ℕ) (walk' : Option Walk) (held' : Option (Held C N)) (owed' : List ℕ) (back : List (SeatView C N)) where
+  module _ (front : List (SeatView C N)) (who : ℕ) (walk : Option (Walk C)) (held : Option (Held C N)) (owed : List ℕ) (walk' : Option (Walk C)) (held' : Option (Held C N)) (owed' : List ℕ) (back : List (SeatView C N)) where
     abbrev pub olds : List (SeatView C N)
     olds = front ++ view_of who walk held owed ∷ back
 
@@ -100,15 +107,35 @@ module _ {C : Type 0} {N : ℕ} where
         (λ seat. elim (eqb who seat) as (λ b. cond b 1 (flags seat) ≤ 1) [ true ↦ omega arith | false ↦ p.flag seat ]) p
 
     -- a seat puts itself in
-    pub queues : (mode : Mode) (woken : Bool) (lock : List (Waiter C)) (flags : ℕ → ℕ) → NoneIs who front → owed' ≡ owed → has_armed walk ≡ true → awaits walk ≡ false → awaits walk' ≡ true → has_armed walk' ≡ false →
-        WaitersPlaced lock flags olds → WaitersPlaced (queued who mode woken lock) flags news
-    queues mode woken lock flags apart owes set a a' set' p =
+    pub queues : (mode : Mode) (c : Option C) (woken : Bool) (lock : List (Waiter C)) (flags : ℕ → ℕ) → NoneIs who front → owed' ≡ owed → has_armed walk ≡ true → awaits walk ≡ false → awaits walk' ≡ true → has_armed walk' ≡ false →
+        WaitersPlaced lock flags olds → WaitersPlaced (queued who mode c woken lock) flags news
+    queues mode c woken lock flags apart owes set a a' set' p =
         let was : walk_at who olds ≡ walk = walk_here front (view_of who walk held owed) back apart in
         let one : flags who ≡ 1 = p.armed who (rw was set) in
-        balanced lock (queued who mode woken lock) flags flags apart
-        (rw owes (rw (not_due walk (flags who) a) (rw (times_queued who who mode woken lock) (rw (eq-eqb who who refl) (rw a' (rw one (omega arith)))))))
+        balanced lock (queued who mode c woken lock) flags flags apart
+        (rw owes (rw (not_due walk (flags who) a) (rw (times_queued who who mode c woken lock) (rw (eq-eqb who who refl) (rw a' (rw one (omega arith)))))))
         (λ f. one)
-        (λ seat ne. rw owes (rw (times_queued seat who mode woken lock) (rw (ne_eqb who seat ne) (omega arith))))
+        (λ seat ne. rw owes (rw (times_queued seat who mode c woken lock) (rw (ne_eqb who seat ne) (omega arith))))
+        (λ seat ne f. p.armed seat f)
+        p.flag p
+
+    -- a seat takes itself out where it stands there, and else waits on
+    pub withdraws : (lock : List (Waiter C)) (flags : ℕ → ℕ) → NoneIs who front → owed' ≡ owed → has_armed walk' ≡ false →
+        (1 ≤ times_in who lock → awaits walk' ≡ false) → (times_in who lock ≡ 0 → awaits walk' ≡ awaits walk) →
+        WaitersPlaced lock flags olds → WaitersPlaced (without_in who lock) flags news
+    withdraws lock flags apart owes set' goes stays p =
+        let was : walk_at who olds ≡ walk = walk_here front (view_of who walk held owed) back apart in
+        let gone : times_in who (without_in who lock) ≡ 0 = times_without who lock in
+        let same : times_among who owed' ≡ times_among who owed = ap (times_among who) owes in
+        let sum : times_in who lock + owed_to who olds ≡ one_if (is_due walk (flags who)) = p.placed who ∙ ap (λ w. one_if (is_due w (flags who))) was in
+        let most = one_most (is_due walk (flags who)) in
+        balanced lock (without_in who lock) flags flags apart
+        (elim (cases_eq (times_in who lock) 0) [
+          | inl none ↦ let due : one_if (is_due walk' (flags who)) ≡ one_if (is_due walk (flags who)) = ap (λ b. one_if (b && is_set (flags who))) (stays none) in omega (arith, gone, same, none, due)
+          | inr some ↦ let due : one_if (is_due walk' (flags who)) ≡ 0 = ap one_if (not_due walk' (flags who) (goes (omega (arith, some)))) in omega (arith, gone, same, sum, most, some, due)
+        ])
+        (λ f. absurd (cc))
+        (λ seat ne. rw owes (rw (times_others seat who lock ne) refl))
         (λ seat ne f. p.armed seat f)
         p.flag p
 
@@ -123,6 +150,28 @@ module _ {C : Type 0} {N : ℕ} where
         (rw (not_due walk (flags who) a) (rw (not_due walk' (flags who) a') (ap (λ n. n + 0) (all who))))
         (λ f. absurd (cc))
         (λ seat ne. ap (λ n. n + one_if (is_due (walk_at seat olds) (flags seat))) (all seat))
+        (λ seat ne f. p.armed seat f)
+        p.flag p
+
+    -- a scan takes some, and the seat puts itself in
+    pub waited : (meets : C → Bool) (mode : Mode) (c : Option C) (again : Bool) (lock : List (Waiter C)) (flags : ℕ → ℕ) → NoneIs who front → owed ≡ [] → owed' ≡ seats_of (woken_of meets lock) →
+        has_armed walk ≡ true → awaits walk ≡ false → awaits walk' ≡ true → has_armed walk' ≡ false →
+        WaitersPlaced lock flags olds → WaitersPlaced (queued who mode c again (left_of meets lock)) flags news
+    waited meets mode c again lock flags apart none owes set a a' set' p =
+        let was : walk_at who olds ≡ walk = walk_here front (view_of who walk held owed) back apart in
+        let one : flags who ≡ 1 = p.armed who (rw was set) in
+        let lock' = queued who mode c again (left_of meets lock) in
+        let all : (seat : ℕ) → times_in seat lock' + times_among seat owed' ≡ one_if (eqb who seat) + (times_in seat lock + times_among seat owed) =
+        λ seat. let parts = times_scan seat meets lock in let count = times_seats seat (woken_of meets lock) in let more = times_queued seat who mode c again (left_of meets lock) in
+        let old : times_among seat owed ≡ 0 = rw none refl in let new : times_among seat owed' ≡ times_among seat (seats_of (woken_of meets lock)) = ap (times_among seat) owes in omega (arith, parts, count, more, old, new) in
+        balanced lock lock' flags flags apart
+        (let before : one_if (is_due walk (flags who)) ≡ 0 = ap one_if (not_due walk (flags who) a) in
+        let after_all : one_if (is_due walk' (flags who)) ≡ 1 = rw a' (rw one refl) in
+        let self : one_if (eqb who who) ≡ 1 = ap one_if (eq-eqb who who refl) in
+        let sum = all who in
+        omega (arith, sum, before, after_all, self))
+        (λ f. absurd (cc))
+        (λ seat ne. let other : one_if (eqb who seat) ≡ 0 = ap one_if (ne_eqb who seat ne) in let sum = all seat in omega (arith, sum, other))
         (λ seat ne f. p.armed seat f)
         p.flag p
 

@@ -5,7 +5,10 @@ use Rattle.ns_model.specs.Histories.{first_row}
 use Rattle.ns_word.specs.declared.word.Word.{Word}
 use Rattle.ns_word.specs.declared.view.SeatView.{SeatView}
 use Rattle.ns_word.specs.declared.walk.Walk.{Walk}
-use Rattle.ns_word.specs.declared.walk.Walk.TheVariants.{TryLoad, AcquireLoad, QuietCells, QuietLast, ReleaseLoad, Get, SetLoad}
+use Rattle.ns_word.specs.declared.walk.Walk.TheVariants.{TryLoad, AcquireLoad, QuietCells, QuietLast, ReleaseLoad, Get, SetLoad, Wait as Waiting}
+use Rattle.ns_word.specs.declared.wait.Aim.TheVariants.{Lock}
+use Rattle.ns_word.specs.declared.wait.Visit.TheVariants.{Entry}
+use Rattle.ns_word.specs.declared.wait.WaitPlace.TheVariants.{TestCells, TestLast}
 use Rattle.ns_word.specs.declared.act.Found.{Found}
 use Rattle.ns_word.specs.Steps.{Truths, State, Step}
 use Rattle.ns_word.specs.Places.{PlaceFits}
@@ -24,18 +27,20 @@ abbrev pub fresh_state : {C : Type 0} {N : ℕ} → ℕ → State C N
 fresh_state {C} {N} seats = record { word = free_word; row = first_row N; lock = []; flags = λ seat. 0; views = fresh_views 0 seats }
 
 -- the first place of a call, over a row of N cells
-abbrev pub IsFirst : ℕ → Walk → Type 0
+abbrev pub IsFirst : {C : Type 0} → ℕ → Walk C → Type 0
 IsFirst N (TryLoad mode) = Unit {0}
-IsFirst N (AcquireLoad mode woken) = woken ≡ false
+IsFirst N (AcquireLoad (Lock mode) woken) = woken ≡ false
 IsFirst N (QuietCells i) = i ≡ 0
 IsFirst N (QuietLast i) = i ≡ 0
 IsFirst N (ReleaseLoad leaving) = Unit {0}
 IsFirst N (Get i) = Unit {0}
 IsFirst N (SetLoad i v) = Unit {0}
+IsFirst N (Waiting wait (TestCells Entry i)) = i ≡ 0
+IsFirst N (Waiting wait (TestLast Entry i)) = i ≡ 0
 IsFirst N walk = ⊥
 
 -- A seat whose last call is over begins one whose need is met: its place in a call changes, and nothing else.
-pub record Begins {C : Type 0} {N : ℕ} (truths : Truths C) (old : State C N) (view : SeatView C N) (walk : Walk) (new : State C N) : Type 0 where
+pub record Begins {C : Type 0} {N : ℕ} (truths : Truths C) (old : State C N) (view : SeatView C N) (walk : Walk C) (new : State C N) : Type 0 where
   pub over : view.walk ≡ None
   pub first : IsFirst N walk
   pub fits : PlaceFits truths (Some walk) view.held
@@ -45,7 +50,7 @@ pub record Begins {C : Type 0} {N : ℕ} (truths : Truths C) (old : State C N) (
   pub becomes : new ≡ record old { views = front ++ record view { walk = Some walk } ∷ back }
 
 -- A seat begins a call and makes its first step at once.
-pub record FirstStep {C : Type 0} {N : ℕ} (truths : Truths C) (old : State C N) (view : SeatView C N) (walk : Walk) (found : Found) (new : State C N) (commits : List (Event C N)) : Type 0 where
+pub record FirstStep {C : Type 0} {N : ℕ} (truths : Truths C) (old : State C N) (view : SeatView C N) (walk : Walk C) (found : Found) (new : State C N) (commits : List (Event C N)) : Type 0 where
   pub between : State C N
   pub begins : Begins truths old view walk between
   pub step : Step truths between (record view { walk = Some walk }) found new commits

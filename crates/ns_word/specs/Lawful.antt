@@ -1,26 +1,29 @@
 -- The law: what holds of a lock and its seats between any two steps.
 use Rattle.std.specs.Prelude.{◌≡◌, ℕ, ◌+◌, ◌<◌, ◌≤◌, Bool, true, false, ◌&&◌, ◌==◌, if◌then◌else◌, List, [], ◌∷◌, length, Option, None, Some}
+use Rattle.ns_model.specs.declared.event.Mode.{Mode}
 use Rattle.ns_model.specs.declared.event.Mode.TheVariants.{Read}
 use Rattle.ns_model.specs.declared.event.Event.{Event}
-use Rattle.ns_model.specs.declared.phase.Phase.TheVariants.{Idle}
-use Rattle.ns_model.specs.Sections.{EntryFits}
+use Rattle.ns_model.specs.declared.phase.Phase.{Phase}
+use Rattle.ns_model.specs.declared.phase.Phase.TheVariants.{Idle, Cond}
 use Rattle.ns_model.specs.Histories.{Standing, IsLegal, IsBySeats, standing_after}
 use Rattle.ns_queue.specs.declared.waiter.Waiter.{Waiter}
 use Rattle.ns_queue.specs.Waiters.{times_in}
 use Rattle.ns_word.specs.declared.word.Word.{Word}
 use Rattle.ns_word.specs.declared.word.Bits.{Bits}
+use Rattle.ns_word.specs.declared.view.Opening.{Opening}
+use Rattle.ns_word.specs.declared.view.Opening.TheVariants.{Plain, Waited}
 use Rattle.ns_word.specs.declared.view.Held.{Held}
 use Rattle.ns_word.specs.declared.view.SeatView.{SeatView}
 use Rattle.ns_word.specs.declared.walk.Walk.{Walk}
 use Rattle.ns_word.specs.Lists.{has_some, has_eligible, bits_of}
-use Rattle.ns_word.specs.Walks.{has_armed, waits_in, awaits, pays, is_on_way}
+use Rattle.ns_word.specs.Walks.{Stance, has_armed, waits_in, awaits, pays, is_on_way, phase_by}
 use Rattle.ns_word.specs.Views.{writers, readers, takers, queuers, owed_to, walk_at, AreApart}
 use Rattle.ns_word.specs.Places.{PlaceFits}
 use Rattle.ns_word.specs.Steps.{Truths, State}
 
 -- ---- the sections
 
--- The write bit is set exactly where one seat has a write section in hand; then no seat has a read section.
+-- One seat writes where the write bit is set, and none where it isn't; beside a writer nobody reads.
 pub record OneWriter {C : Type 0} {N : ℕ} (word : Word) (views : List (SeatView C N)) : Type 0 where
   pub bit : writers views ≡ (if word.write then 1 else 0)
   pub alone : word.write ≡ true → readers views ≡ 0
@@ -29,24 +32,29 @@ pub record OneWriter {C : Type 0} {N : ℕ} (word : Word) (views : List (SeatVie
 abbrev pub ReadersCounted : {C : Type 0} {N : ℕ} → Word → List (SeatView C N) → Type 0
 ReadersCounted word views = word.readers ≡ readers views
 
+-- the phase that a section comes from
+abbrev pub phase_before : {C : Type 0} → Mode → Opening C → Phase C
+phase_before mode Plain = Idle
+phase_before mode (Waited c cause) = Cond c mode
+
 -- a section in hand begins where the history has left the row and its seat, its row is the row's cells, and a reader changes nothing
-pub record HeldFits {C : Type 0} {N : ℕ} (holds : C → List ℕ → Bool) (now : Standing C) (row : List ℕ) (seat : ℕ) (held : Held C N) : Type 0 where
+pub record HeldFits {C : Type 0} {N : ℕ} (now : Standing C) (row : List ℕ) (seat : ℕ) (held : Held C N) : Type 0 where
   pub starts : held.before ≡ now.row
-  pub enters : EntryFits holds held.before held.mode held.entry (now.phases seat)
+  pub enters : now.phases seat ≡ phase_before held.mode held.entry
   pub cells : held.row ≡ row
   pub reads : held.mode ≡ Read → held.row ≡ held.before
 
--- a seat with no section in hand owes the history nothing
-abbrev pub SectionFits : {C : Type 0} {N : ℕ} → (C → List ℕ → Bool) → Standing C → List ℕ → ℕ → Option (Held C N) → Type 0
-SectionFits holds now row seat None = now.phases seat ≡ Idle
-SectionFits holds now row seat (Some held) = HeldFits holds now row seat held
+-- A seat with no section in hand owes the history nothing, or is in the wait that its place in its call tells of.
+abbrev pub SectionFits : {C : Type 0} {N : ℕ} → Standing C → List ℕ → ℕ → Option (Walk C) → Option (Held C N) → Type 0
+SectionFits now row seat walk None = now.phases seat ≡ phase_by walk
+SectionFits now row seat walk (Some held) = HeldFits now row seat held
 
 -- A view of one of so many seats, after a history that left this standing. It owes a wake exactly where it is about to pay one, so none once its call is over.
 pub record ViewFits {C : Type 0} {N : ℕ} (truths : Truths C) (seats : ℕ) (now : Standing C) (row : List ℕ) (view : SeatView C N) : Type 0 where
   pub in_range : view.seat < seats
   pub place : PlaceFits truths view.walk view.held
   pub owes : has_some view.owed ≡ pays view.walk
-  pub section : SectionFits truths.holds now row view.seat view.held
+  pub section : SectionFits now row view.seat view.walk view.held
 
 abbrev pub EachFits : {C : Type 0} {N : ℕ} → Truths C → ℕ → Standing C → List ℕ → List (SeatView C N) → Type 0
 EachFits truths seats now row [] = Unit {0}
@@ -63,7 +71,7 @@ pub record OneHistory {C : Type 0} {N : ℕ} (truths : Truths C) (seats : ℕ) (
 
 -- ---- the queues
 
--- The spinlock bit is set exactly where one seat has the queues.
+-- One seat has the queues where the spinlock bit is set, and none where it is clear.
 abbrev pub SpinHeldOnce : {C : Type 0} {N : ℕ} → Word → List (SeatView C N) → Type 0
 SpinHeldOnce word views = takers views ≡ (if word.spin then 1 else 0)
 
@@ -82,7 +90,7 @@ abbrev pub is_set : ℕ → Bool
 is_set flag = flag == 1
 
 -- a seat waits, and its flag isn't cleared
-abbrev pub is_due : Option Walk → ℕ → Bool
+abbrev pub is_due : {C : Type 0} → Option (Walk C) → ℕ → Bool
 is_due walk flag = awaits walk && is_set flag
 
 -- Each seat that waits stands in the lock list once, or is owed one wake by one seat, or has its flag cleared and neither; every other seat stands nowhere and is owed nothing. Before it queues, a seat has set its flag.
@@ -91,10 +99,13 @@ pub record WaitersPlaced {C : Type 0} {N : ℕ} (lock : List (Waiter C)) (flags 
   pub armed : (seat : ℕ) → has_armed (walk_at seat views) ≡ true → flags seat ≡ 1
   pub flag : (seat : ℕ) → flags seat ≤ 1
 
--- a waiter of the lock list is its seat's own: the seat waits in that mode, and without a condition, since no call waits for one yet
-pub record WaiterFits {C : Type 0} {N : ℕ} (views : List (SeatView C N)) (w : Waiter C) : Type 0 where
-  pub mode : waits_in (walk_at w.seat views) ≡ Some w.mode
-  pub plain : w.cond ≡ None
+-- how a waiter stands there
+abbrev pub stance_of : {C : Type 0} → Waiter C → Stance C
+stance_of w = record { mode = w.mode; cond = w.cond }
+
+-- A waiter of the lock list is its seat's own: the seat waits in that mode, and for that condition, if there is one.
+abbrev pub WaiterFits : {C : Type 0} {N : ℕ} → List (SeatView C N) → Waiter C → Type 0
+WaiterFits views w = waits_in (walk_at w.seat views) ≡ Some (stance_of w)
 
 -- Each waiter of the lock list is its seat's own.
 abbrev pub WaitersOwn : {C : Type 0} {N : ℕ} → List (Waiter C) → List (SeatView C N) → Type 0
@@ -103,11 +114,11 @@ WaitersOwn (w ∷ ws) views = WaiterFits views w × WaitersOwn ws views
 
 -- ---- nobody is forgotten
 
--- The designated bit is set only where a seat that was taken from the lock list is on its way: it has since neither acquired nor queued anew.
+-- Where the designated bit is set, some seat is on its way that a scan took from the lock list.
 abbrev pub DesigOnItsWay : {C : Type 0} {N : ℕ} → Word → List (Waiter C) → List (SeatView C N) → Type 0
 DesigOnItsWay word lock views = word.desig ≡ true → (seat : ℕ) × (is_on_way (walk_at seat views) (times_in seat lock) ≡ true)
 
--- every waiter of the lock list has a condition, it is false of the row, and nobody is about to stand there
+-- nobody who stands in the lock list could go on at this row, and nobody is about to stand there without a condition
 abbrev pub IsIdle : {C : Type 0} {N : ℕ} → (C → List ℕ → Bool) → List ℕ → List (Waiter C) → List (SeatView C N) → Type 0
 IsIdle holds row lock views = (has_eligible (λ c. holds c row) lock ≡ false) × (queuers views ≡ 0)
 

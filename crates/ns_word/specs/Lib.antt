@@ -1,5 +1,7 @@
 pub mod Begins
 pub mod Codec
+pub mod EnvSteps
+pub mod EnvWalks
 pub mod Lawful
 pub mod Lists
 pub mod Places
@@ -7,6 +9,7 @@ pub mod Room
 pub mod Steps
 pub mod Told
 pub mod Views
+pub mod Waits
 pub mod Walks
 pub mod Words
 pub use Rattle.ns_model.specs.Histories

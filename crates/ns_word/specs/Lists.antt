@@ -1,5 +1,5 @@
 -- The lock list, and lists of seats.
-use Rattle.std.specs.Prelude.{ℕ, ◌+◌, ◌==◌, Bool, true, false, not, ◌&&◌, ◌||◌, if◌then◌else◌, List, [], ◌∷◌, ◌++◌, None}
+use Rattle.std.specs.Prelude.{ℕ, ◌+◌, ◌==◌, Bool, true, false, not, ◌&&◌, ◌||◌, if◌then◌else◌, List, [], ◌∷◌, ◌++◌, Option}
 use Rattle.std.specs.List.{list_any}
 use Rattle.ns_model.specs.declared.event.Mode.{Mode}
 use Rattle.ns_queue.specs.declared.waiter.Waiter.{Waiter}
@@ -29,8 +29,8 @@ abbrev pub times_among : ℕ → List ℕ → ℕ
 times_among seat [] = 0
 times_among seat (x ∷ xs) = (if x == seat then 1 else 0) + times_among seat xs
 
--- the list with a seat in it, without condition: at the front if it was woken from it before, else at the back
-abbrev pub queued : {C : Type 0} → ℕ → Mode → Bool → List (Waiter C) → List (Waiter C)
-queued seat mode woken lock =
-    if woken then record { seat = seat; mode = mode; cond = None } ∷ lock
-    else lock ++ record { seat = seat; mode = mode; cond = None } ∷ []
+-- the list with one more waiter: at the front or at the back
+abbrev pub queued : {C : Type 0} → ℕ → Mode → Option C → Bool → List (Waiter C) → List (Waiter C)
+queued seat mode cond front lock =
+    if front then record { seat = seat; mode = mode; cond = cond } ∷ lock
+    else lock ++ record { seat = seat; mode = mode; cond = cond } ∷ []

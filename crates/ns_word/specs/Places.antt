@@ -1,5 +1,5 @@
 -- What a place in a call needs of its seat, and what an act needs.
-use Rattle.std.specs.Prelude.{◌≡◌, ℕ, ◌+◌, ◌<◌, true, false, List, [], ◌∷◌, Option, None, Some, IsSome}
+use Rattle.std.specs.Prelude.{◌≡◌, ℕ, ◌+◌, ◌<◌, Bool, true, false, List, [], ◌∷◌, Option, None, Some, IsSome}
 use Rattle.ns_model.specs.declared.event.Mode.{Mode}
 use Rattle.ns_model.specs.declared.event.Mode.TheVariants.{Write}
 use Rattle.ns_queue.specs.Waiters.{times_in}
@@ -7,10 +7,20 @@ use Rattle.ns_word.specs.declared.word.Leaving.{Leaving}
 use Rattle.ns_word.specs.declared.word.Leaving.TheVariants.{Writer, QuietWriter, Reader}
 use Rattle.ns_word.specs.declared.view.Held.{Held}
 use Rattle.ns_word.specs.declared.walk.Walk.{Walk}
-use Rattle.ns_word.specs.declared.walk.Walk.TheVariants.{TryLoad, TryAcquire, AcquireLoad, Acquire, TakeToQueue, Arm, Queue, Round, QuietCells, QuietLast, ReleaseLoad, Release, TakeToScan, ScanCells, ReleaseReturning, Pay, Get, SetLoad, SetStore}
+use Rattle.ns_word.specs.declared.walk.Walk.TheVariants.{TryLoad, TryAcquire, AcquireLoad, Acquire, TakeToQueue, Arm, Queue, Round, QuietCells, QuietLast, ReleaseLoad, Release, TakeToScan, ScanCells, ReleaseReturning, Pay, Get, SetLoad, SetStore, Wait as Waiting}
+use Rattle.ns_word.specs.declared.limits.Cause.{Cause}
+use Rattle.ns_word.specs.declared.wait.Wait.{Wait}
+use Rattle.ns_word.specs.declared.wait.Visit.{Visit}
+use Rattle.ns_word.specs.declared.wait.Visit.TheVariants.{Entry, Back}
+use Rattle.ns_word.specs.declared.wait.WaitPlace.{WaitPlace}
+use Rattle.ns_word.specs.declared.wait.WaitPlace.TheVariants.{TestCells, TestLast, LookIn, Load, Take, Arm as ArmWaiting, Queue as QueueWaiting, Pay as PayWaiting, Round as RoundWaiting, LookOut, LeaveLoad, TakeToLeave, Leave, LeaveRound}
+use Rattle.ns_word.specs.declared.view.Opening.TheVariants.{Waited}
+use Rattle.ns_word.specs.declared.act.Change.{Change}
+use Rattle.ns_word.specs.declared.act.Change.TheVariants.{Queue as QueueSelf, Leave as LeaveSelf}
 use Rattle.ns_word.specs.declared.act.Act.{Act}
-use Rattle.ns_word.specs.declared.act.Act.TheVariants.{LoadWord, Acquire as AcquireWord, TakeQueues, ReturnQueues, Release as ReleaseWord, ReleaseReturning as ReleaseReturningWord, LoadCell, JudgeQuiet, StoreCell, ArmFlag, PayWake, LoadFlag}
+use Rattle.ns_word.specs.declared.act.Act.TheVariants.{LoadWord, Acquire as AcquireWord, TakeQueues, ReturnQueues, Release as ReleaseWord, ReleaseReturning as ReleaseReturningWord, WaitReturning, LoadCell, JudgeQuiet, JudgeMet, StoreCell, ArmFlag, PayWake, LoadFlag, Look}
 use Rattle.ns_word.specs.Words.{mode_left, may_acquire, needs_scan}
+use Rattle.ns_word.specs.Waits.{cause_or, mode_for}
 use Rattle.ns_word.specs.Steps.{Truths, Part}
 
 -- a section in this mode is in hand
@@ -29,17 +39,55 @@ abbrev pub CanLeave : {C : Type 0} {N : ℕ} → Truths C → Leaving → Option
 CanLeave truths leaving None = ⊥
 CanLeave truths leaving (Some held) = (held.mode ≡ mode_left leaving) × IsLeft truths leaving held
 
+-- the section in hand came back from this wait, and nothing has changed in it: it goes by this cause
+pub record ComesBack {C : Type 0} {N : ℕ} (wait : Wait C) (cause : Cause) (held : Held C N) : Type 0 where
+  pub entry : held.entry ≡ Waited wait.cond cause
+  pub cells : held.row ≡ held.before
+
+-- a wait tests its condition: as the call begins, or with the section that it came back with
+abbrev pub Tests : {C : Type 0} {N : ℕ} → Wait C → Visit → Option (Held C N) → Type 0
+Tests wait visit None = ⊥
+Tests wait Entry (Some held) = held.mode ≡ wait.mode
+Tests wait (Back kept) (Some held) = (held.mode ≡ wait.mode) × ComesBack wait (cause_or kept) held
+
+-- a wait is about to queue: its condition is false of the section in hand, which it came back with if it queues again
+pub record MayWait {C : Type 0} {N : ℕ} (truths : Truths C) (wait : Wait C) (again : Bool) (held : Held C N) : Type 0 where
+  pub mode : held.mode ≡ wait.mode
+  pub unmet : truths.holds wait.cond held.row ≡ false
+  pub back : again ≡ true → ComesBack wait (cause_or None) held
+
+abbrev pub CanWait : {C : Type 0} {N : ℕ} → Truths C → Wait C → Bool → Option (Held C N) → Type 0
+CanWait truths wait again None = ⊥
+CanWait truths wait again (Some held) = MayWait truths wait again held
+
+-- A place in a wait goes with the section in hand, and with the word last seen.
+abbrev pub WaitFits : {C : Type 0} {N : ℕ} → Truths C → Wait C → WaitPlace → Option (Held C N) → Type 0
+WaitFits {C} {N} truths wait (TestCells visit i) held = Tests wait visit held × (i + 1 < N)
+WaitFits {C} {N} truths wait (TestLast visit i) held = Tests wait visit held × (i + 1 ≡ N)
+WaitFits truths wait (LookIn again) held = CanWait truths wait again held
+WaitFits truths wait (Load again) held = CanWait truths wait again held
+WaitFits truths wait (Take again last) held = CanWait truths wait again held × (last.spin ≡ false)
+WaitFits truths wait (ArmWaiting again last) held = CanWait truths wait again held
+WaitFits truths wait (QueueWaiting again last) held = CanWait truths wait again held
+WaitFits truths wait PayWaiting held = held ≡ None
+WaitFits truths wait RoundWaiting held = held ≡ None
+WaitFits truths wait LookOut held = held ≡ None
+WaitFits truths wait (LeaveLoad cause) held = held ≡ None
+WaitFits truths wait (TakeToLeave cause last) held = (held ≡ None) × (last.spin ≡ false)
+WaitFits truths wait (Leave cause last) held = held ≡ None
+WaitFits truths wait (LeaveRound cause) held = held ≡ None
+
 -- A place in a call goes with the section in hand, and with the word last seen.
-abbrev pub PlaceFits : {C : Type 0} {N : ℕ} → Truths C → Option Walk → Option (Held C N) → Type 0
+abbrev pub PlaceFits : {C : Type 0} {N : ℕ} → Truths C → Option (Walk C) → Option (Held C N) → Type 0
 PlaceFits truths None held = Unit {0}
 PlaceFits truths (Some (TryLoad mode)) held = held ≡ None
 PlaceFits truths (Some (TryAcquire mode last)) held = (held ≡ None) × (may_acquire mode false last ≡ true)
-PlaceFits truths (Some (AcquireLoad mode woken)) held = held ≡ None
-PlaceFits truths (Some (Acquire mode woken last)) held = (held ≡ None) × (may_acquire mode woken last ≡ true)
-PlaceFits truths (Some (TakeToQueue mode woken last)) held = (held ≡ None) × (last.spin ≡ false) × (may_acquire mode woken last ≡ false)
-PlaceFits truths (Some (Arm mode woken last)) held = held ≡ None
-PlaceFits truths (Some (Queue mode woken last)) held = held ≡ None
-PlaceFits truths (Some (Round mode)) held = held ≡ None
+PlaceFits truths (Some (AcquireLoad aim woken)) held = held ≡ None
+PlaceFits truths (Some (Acquire aim woken last)) held = (held ≡ None) × (may_acquire (mode_for aim) woken last ≡ true)
+PlaceFits truths (Some (TakeToQueue aim woken last)) held = (held ≡ None) × (last.spin ≡ false) × (may_acquire (mode_for aim) woken last ≡ false)
+PlaceFits truths (Some (Arm aim woken last)) held = held ≡ None
+PlaceFits truths (Some (Queue aim woken last)) held = held ≡ None
+PlaceFits truths (Some (Round aim)) held = held ≡ None
 PlaceFits {C} {N} truths (Some (QuietCells i)) held = HasMode Write held × (i + 1 < N)
 PlaceFits {C} {N} truths (Some (QuietLast i)) held = HasMode Write held × (i + 1 ≡ N)
 PlaceFits truths (Some (ReleaseLoad leaving)) held = CanLeave truths leaving held
@@ -51,23 +99,32 @@ PlaceFits truths (Some Pay) held = held ≡ None
 PlaceFits {C} {N} truths (Some (Get i)) held = IsSome held × (i < N)
 PlaceFits {C} {N} truths (Some (SetLoad i v)) held = HasMode Write held × (i < N)
 PlaceFits {C} {N} truths (Some (SetStore i v)) held = HasMode Write held × (i < N)
+PlaceFits truths (Some (Waiting wait place)) held = WaitFits truths wait place held
 
 -- a wake is owed, to one of so many seats
 abbrev pub OwesOne : ℕ → List ℕ → Type 0
 OwesOne seats [] = ⊥
 OwesOne seats (woken ∷ rest) = woken < seats
 
+-- a seat that puts itself in stands nowhere yet
+abbrev pub ChangeFits : {C : Type 0} {N : ℕ} → ℕ → Change → Part C N → Type 0
+ChangeFits seat (QueueSelf mode woken) part = times_in seat part.lock ≡ 0
+ChangeFits seat LeaveSelf part = Unit {0}
+
 -- What an act needs, that it may be made by one of so many seats on its part of the state.
-abbrev pub ActFits : {C : Type 0} {N : ℕ} → Truths C → ℕ → ℕ → Act → Part C N → Type 0
+abbrev pub ActFits : {C : Type 0} {N : ℕ} → Truths C → ℕ → ℕ → Act C → Part C N → Type 0
 ActFits truths seats seat LoadWord part = Unit {0}
-ActFits truths seats seat (AcquireWord mode woken last) part = (part.held ≡ None) × (may_acquire mode woken last ≡ true) × (part.word.readers < 64)
+ActFits truths seats seat (AcquireWord aim woken last) part = (part.held ≡ None) × (may_acquire (mode_for aim) woken last ≡ true) × (part.word.readers < 64)
 ActFits truths seats seat (TakeQueues taking last) part = last.spin ≡ false
-ActFits truths seats seat (ReturnQueues change last) part = (seat < seats) × (times_in seat part.lock ≡ 0)
+ActFits truths seats seat (ReturnQueues change last) part = (seat < seats) × ChangeFits seat change part
 ActFits truths seats seat (ReleaseWord leaving last) part = CanLeave truths leaving part.held
 ActFits truths seats seat (ReleaseReturningWord leaving last) part = CanLeave truths leaving part.held × (part.owed ≡ [])
+ActFits truths seats seat (WaitReturning wait again last) part = CanWait truths wait again part.held × (part.owed ≡ []) × (seat < seats) × (times_in seat part.lock ≡ 0)
 ActFits {C} {N} truths seats seat (LoadCell i) part = i < N
 ActFits {C} {N} truths seats seat (JudgeQuiet i) part = HasMode Write part.held × (i < N)
+ActFits {C} {N} truths seats seat (JudgeMet i c) part = IsSome part.held × (i < N)
 ActFits {C} {N} truths seats seat (StoreCell i v) part = HasMode Write part.held × (i < N)
 ActFits truths seats seat ArmFlag part = seat < seats
 ActFits truths seats seat PayWake part = OwesOne seats part.owed
 ActFits truths seats seat LoadFlag part = seat < seats
+ActFits truths seats seat (Look limits again) part = Unit {0}

@@ -1,27 +1,38 @@
 -- One atomic step of one seat.
-use Rattle.std.specs.Prelude.{◌≡◌, ◌≢◌, ℕ, Bool, true, false, ◌==◌, if◌then◌else◌, List, [], ◌∷◌, ◌++◌, length, Option, None, Some, slice_index, slice_set}
-use Rattle.ns_model.specs.declared.event.Mode.{Mode}
+use Rattle.std.specs.Prelude.{◌≡◌, ◌≢◌, ℕ, Bool, true, false, nat_lt, ◌==◌, if◌then◌else◌, List, [], ◌∷◌, ◌++◌, length, Option, None, Some, IsSome, slice_index, slice_set}
 use Rattle.ns_model.specs.declared.event.Mode.TheVariants.{Write}
-use Rattle.ns_model.specs.declared.event.Entry.TheVariants.{Plain}
+use Rattle.ns_model.specs.declared.event.Answer.TheVariants.{Met as MetAnswer}
+use Rattle.ns_model.specs.declared.event.Entry.{Entry}
+use Rattle.ns_model.specs.declared.event.Entry.TheVariants.{Plain, Waited}
 use Rattle.ns_model.specs.declared.event.Exit.{Exit}
-use Rattle.ns_model.specs.declared.event.Exit.TheVariants.{Plain as Released}
+use Rattle.ns_model.specs.declared.event.Exit.TheVariants.{Plain as Released, CondWait}
 use Rattle.ns_model.specs.declared.event.Event.{Event}
 use Rattle.ns_model.specs.declared.event.Event.TheVariants.{Section}
 use Rattle.ns_queue.specs.declared.waiter.Waiter.{Waiter}
-use Rattle.ns_queue.specs.Waiters.{seats_of}
+use Rattle.ns_queue.specs.Waiters.{seats_of, times_in, without_in}
 use Rattle.ns_queue.specs.Scans.{woken_of, left_of, tests_of}
 use Rattle.ns_word.specs.declared.word.Word.{Word}
+use Rattle.ns_word.specs.declared.limits.Limits.{Limits}
+use Rattle.ns_word.specs.declared.limits.Cause.{Cause}
+use Rattle.ns_word.specs.declared.limits.Cause.TheVariants.{Deadline, Note}
+use Rattle.ns_word.specs.declared.wait.Wait.{Wait}
+use Rattle.ns_word.specs.declared.wait.Aim.{Aim}
+use Rattle.ns_word.specs.declared.wait.Aim.TheVariants.{Lock, Back}
+use Rattle.ns_word.specs.declared.wait.WaitPlace.TheVariants.{Queue as QueueWaiting, Leave as LeaveWaiting}
+use Rattle.ns_word.specs.declared.view.Opening.{Opening}
+use Rattle.ns_word.specs.declared.view.Opening.TheVariants.{Plain as Locked, Waited as CameBack}
 use Rattle.ns_word.specs.declared.view.Held.{Held}
 use Rattle.ns_word.specs.declared.view.SeatView.{SeatView}
 use Rattle.ns_word.specs.declared.walk.Walk.{Walk}
-use Rattle.ns_word.specs.declared.walk.Walk.TheVariants.{Queue, ReleaseReturning as Returning}
+use Rattle.ns_word.specs.declared.walk.Walk.TheVariants.{Queue, ReleaseReturning as Returning, Wait as Waiting}
 use Rattle.ns_word.specs.declared.act.Change.{Change}
-use Rattle.ns_word.specs.declared.act.Change.TheVariants.{Queue as QueueSelf}
+use Rattle.ns_word.specs.declared.act.Change.TheVariants.{Queue as QueueSelf, Leave as LeaveSelf}
 use Rattle.ns_word.specs.declared.act.Act.{Act}
-use Rattle.ns_word.specs.declared.act.Act.TheVariants.{LoadWord, Acquire, TakeQueues, ReturnQueues, Release, ReleaseReturning, LoadCell, JudgeQuiet, StoreCell, ArmFlag, PayWake, LoadFlag}
+use Rattle.ns_word.specs.declared.act.Act.TheVariants.{LoadWord, Acquire, TakeQueues, ReturnQueues, Release, ReleaseReturning, WaitReturning, LoadCell, JudgeQuiet, JudgeMet, StoreCell, ArmFlag, PayWake, LoadFlag, Look}
 use Rattle.ns_word.specs.declared.act.Found.{Found}
-use Rattle.ns_word.specs.declared.act.Found.TheVariants.{Word as Saw, Made, Cell, Quiet, Scanned, Paid, Flag}
-use Rattle.ns_word.specs.Words.{mode_left, may_acquire, word_acquired, word_taken, word_returned, word_released, word_released_returning}
+use Rattle.ns_word.specs.declared.act.Found.TheVariants.{Word as Saw, Made, Cell, Quiet, Met, Scanned, Paid, Left, Flag, Looked}
+use Rattle.ns_word.specs.Words.{mode_left, leaving_of, may_acquire, word_acquired, word_taken, word_returned, word_released, word_released_returning}
+use Rattle.ns_word.specs.Waits.{answer_of, cause_or, mode_for}
 use Rattle.ns_word.specs.Lists.{has_some, bits_of, queued}
 use Rattle.ns_word.specs.Walks.{want_of, got_of, walk_after}
 
@@ -55,13 +66,43 @@ pub record Part (C : Type 0) (N : ℕ) : Type 0 where
   pub held : Option (Held C N)
   pub owed : List ℕ
 
+-- How a section is said to begin in the history. The answer of a wait that came back is settled only here: met where its condition is true of the row that the section began at, else by its cause.
+abbrev pub entry_of : {C : Type 0} → (C → List ℕ → Bool) → List ℕ → Opening C → Entry C
+entry_of holds before Locked = Plain
+entry_of holds before (CameBack c cause) = Waited c (if holds c before then MetAnswer else answer_of cause)
+
 -- the event that a section is, where it ends so
-abbrev pub section_of : {C : Type 0} {N : ℕ} → ℕ → Held C N → Exit C → Event C N
-section_of seat held exit = Section seat held.mode held.entry held.before held.row exit
+abbrev pub section_of : {C : Type 0} {N : ℕ} → (C → List ℕ → Bool) → ℕ → Held C N → Exit C → Event C N
+section_of holds seat held exit = Section seat held.mode (entry_of holds held.before held.entry) held.before held.row exit
+
+-- how a section begins that is acquired for this
+abbrev pub opening_for : {C : Type 0} → Aim C → Opening C
+opening_for (Lock mode) = Locked
+opening_for (Back wait kept) = CameBack wait.cond (cause_or kept)
 
 -- a section as it begins at a row
-abbrev pub newly_held : {C : Type 0} {N : ℕ} → Mode → List ℕ → Held C N
-newly_held mode row = record { mode = mode; entry = Plain; before = row; row = row }
+abbrev pub newly_held : {C : Type 0} {N : ℕ} → Aim C → List ℕ → Held C N
+newly_held aim row = record { mode = mode_for aim; entry = opening_for aim; before = row; row = row }
+
+-- a section that came back from a wait, once it is known what ended that
+abbrev pub opening_by : {C : Type 0} → Cause → Opening C → Opening C
+opening_by cause Locked = Locked
+opening_by cause (CameBack c was) = CameBack c cause
+
+abbrev pub held_by : {C : Type 0} {N : ℕ} → Cause → Option (Held C N) → Option (Held C N)
+held_by cause None = None
+held_by cause (Some held) = Some (record held { entry = opening_by cause held.entry })
+
+-- What a look that shows this leaves of the section in hand: one that has come back from the wait goes by what is shown.
+abbrev pub held_after : {C : Type 0} {N : ℕ} → Bool → Option Cause → Option (Held C N) → Option (Held C N)
+held_after again None held = held
+held_after again (Some cause) held = if again then held_by cause held else held
+
+-- a look may show this: the deadline or the note, if it is given
+abbrev pub MayShow : Limits → Option Cause → Type 0
+MayShow limits None = Unit {0}
+MayShow limits (Some Deadline) = IsSome limits.deadline
+MayShow limits (Some Note) = IsSome limits.note
 
 -- the flags with one set to a value
 abbrev pub flags_with : (ℕ → ℕ) → ℕ → ℕ → ℕ → ℕ
@@ -73,50 +114,75 @@ meets_at truths row c = truths.holds c row
 
 -- the lock list that is put back
 abbrev pub changed : {C : Type 0} → ℕ → Change → List (Waiter C) → List (Waiter C)
-changed seat (QueueSelf mode woken) lock = queued seat mode woken lock
+changed seat (QueueSelf mode woken) lock = queued seat mode None woken lock
+changed seat LeaveSelf lock = without_in seat lock
+
+-- what is found where it was put back: one that leaves learns whether it still stood there
+abbrev pub change_found : {C : Type 0} → ℕ → Change → List (Waiter C) → Found
+change_found seat (QueueSelf mode woken) lock = Made
+change_found seat LeaveSelf lock = Left (nat_lt 0 (times_in seat lock))
+
+-- the lock list that a wait puts back: as a scan leaves it, with itself in it
+abbrev pub waited_in : {C : Type 0} → Truths C → ℕ → Wait C → Bool → List ℕ → List (Waiter C) → List (Waiter C)
+waited_in truths seat wait again row lock = queued seat wait.mode (Some wait.cond) again (left_of (meets_at truths row) lock)
 
 -- The lock list as the seat that has the queues has it in hand: what its walk does to it is done as soon as the step before is answered.
-abbrev pub in_hand : {C : Type 0} → Truths C → ℕ → Walk → List ℕ → List (Waiter C) → List (Waiter C)
-in_hand truths seat (Queue mode woken last) row lock = queued seat mode woken lock
+abbrev pub in_hand : {C : Type 0} → Truths C → ℕ → Walk C → List ℕ → List (Waiter C) → List (Waiter C)
+in_hand truths seat (Queue aim woken last) row lock = queued seat (mode_for aim) None woken lock
 in_hand truths seat (Returning leaving last) row lock = left_of (meets_at truths row) lock
+in_hand truths seat (Waiting wait (QueueWaiting again last)) row lock = waited_in truths seat wait again row lock
+in_hand truths seat (Waiting wait (LeaveWaiting cause last)) row lock = without_in seat lock
 in_hand truths seat walk row lock = lock
 
 -- The act of the seat takes the part old to the part new, finds this, and commits these events. An exchange is refused by a word that differs from the one last seen, and by no other.
-abbrev pub Effect : {C : Type 0} {N : ℕ} → Truths C → ℕ → Act → Part C N → Found → Part C N → List (Event C N) → Type 0
+abbrev pub Effect : {C : Type 0} {N : ℕ} → Truths C → ℕ → Act C → Part C N → Found → Part C N → List (Event C N) → Type 0
 -- a load of the word, and a compare-exchange that failed
 Effect truths seat LoadWord old (Saw word) new commits = (word ≡ old.word) × (new ≡ old) × (commits ≡ [])
-Effect truths seat (Acquire mode woken last) old (Saw word) new commits = (word ≡ old.word) × (word ≢ last) × (new ≡ old) × (commits ≡ [])
+Effect truths seat (Acquire aim woken last) old (Saw word) new commits = (word ≡ old.word) × (word ≢ last) × (new ≡ old) × (commits ≡ [])
 Effect truths seat (TakeQueues taking last) old (Saw word) new commits = (word ≡ old.word) × (word ≢ last) × (new ≡ old) × (commits ≡ [])
 Effect truths seat (ReturnQueues change last) old (Saw word) new commits = (word ≡ old.word) × (word ≢ last) × (new ≡ old) × (commits ≡ [])
 Effect truths seat (Release leaving last) old (Saw word) new commits = (word ≡ old.word) × (word ≢ last) × (new ≡ old) × (commits ≡ [])
 Effect truths seat (ReleaseReturning leaving last) old (Saw word) new commits = (word ≡ old.word) × (word ≢ last) × (new ≡ old) × (commits ≡ [])
+Effect truths seat (WaitReturning wait again last) old (Saw word) new commits = (word ≡ old.word) × (word ≢ last) × (new ≡ old) × (commits ≡ [])
 -- an acquire
-Effect truths seat (Acquire mode woken last) old Made new commits =
-    (last ≡ old.word) × (may_acquire mode woken last ≡ true) × (old.held ≡ None)
-    × (new ≡ record old { word = word_acquired mode woken last; held = Some (newly_held mode old.row) })
+Effect truths seat (Acquire aim woken last) old Made new commits =
+    (last ≡ old.word) × (may_acquire (mode_for aim) woken last ≡ true) × (old.held ≡ None)
+    × (new ≡ record old { word = word_acquired (mode_for aim) woken last; held = Some (newly_held aim old.row) })
     × (commits ≡ [])
 -- the queues are taken, and put back
 Effect truths seat (TakeQueues taking last) old Made new commits =
     (last ≡ old.word) × (last.spin ≡ false) × (new ≡ record old { word = word_taken taking last }) × (commits ≡ [])
 Effect truths seat (ReturnQueues change last) old Made new commits =
     let lock = changed seat change old.lock in
-    (last ≡ old.word) × (new ≡ record old { word = word_returned (bits_of lock) last; lock = lock }) × (commits ≡ [])
+    (change_found seat change old.lock ≡ Made) × (last ≡ old.word) × (new ≡ record old { word = word_returned (bits_of lock) last; lock = lock }) × (commits ≡ [])
+Effect truths seat (ReturnQueues change last) old (Left stood) new commits =
+    let lock = changed seat change old.lock in
+    (change_found seat change old.lock ≡ Left stood) × (last ≡ old.word) × (new ≡ record old { word = word_returned (bits_of lock) last; lock = lock }) × (commits ≡ [])
 -- a release without a scan
 Effect {C} {N} truths seat (Release leaving last) old Made new commits =
     (held : Held C N) × (old.held ≡ Some held) × (held.mode ≡ mode_left leaving) × (last ≡ old.word)
     × (new ≡ record old { word = word_released leaving last; held = None })
-    × (commits ≡ section_of seat held Released ∷ [])
+    × (commits ≡ section_of truths.holds seat held Released ∷ [])
 -- a release with the scan of the list: the woken are owed their wakes, the others are put back
 Effect {C} {N} truths seat (ReleaseReturning leaving last) old (Scanned owes tests) new commits =
     let woken = woken_of (meets_at truths old.row) old.lock in let stay = left_of (meets_at truths old.row) old.lock in
     (held : Held C N) × (old.held ≡ Some held) × (held.mode ≡ mode_left leaving) × (last ≡ old.word)
     × (new ≡ record old { word = word_released_returning leaving (has_some woken) (bits_of stay) last; lock = stay; held = None; owed = seats_of woken })
     × (owes ≡ has_some (seats_of woken)) × (tests ≡ tests_of truths.same (meets_at truths old.row) old.lock)
-    × (commits ≡ section_of seat held Released ∷ [])
+    × (commits ≡ section_of truths.holds seat held Released ∷ [])
+-- the same by a wait, which puts itself into the list; one that queues again commits nothing
+Effect {C} {N} truths seat (WaitReturning wait again last) old (Scanned owes tests) new commits =
+    let woken = woken_of (meets_at truths old.row) old.lock in let lock = waited_in truths seat wait again old.row old.lock in
+    (held : Held C N) × (old.held ≡ Some held) × (held.mode ≡ wait.mode) × (last ≡ old.word)
+    × (new ≡ record old { word = word_released_returning (leaving_of wait.mode) (has_some woken) (bits_of lock) last; lock = lock; held = None; owed = seats_of woken })
+    × (owes ≡ has_some (seats_of woken)) × (tests ≡ tests_of truths.same (meets_at truths old.row) old.lock)
+    × (commits ≡ (if again then [] else section_of truths.holds seat held (CondWait wait.cond) ∷ []))
 -- the cells
 Effect truths seat (LoadCell i) old (Cell v) new commits = (v ≡ slice_index old.row i) × (new ≡ old) × (commits ≡ [])
 Effect {C} {N} truths seat (JudgeQuiet i) old (Quiet is_quiet) new commits =
     (held : Held C N) × (old.held ≡ Some held) × (is_quiet ≡ truths.quiet held.before held.row) × (new ≡ old) × (commits ≡ [])
+Effect {C} {N} truths seat (JudgeMet i c) old (Met is_met) new commits =
+    (held : Held C N) × (old.held ≡ Some held) × (is_met ≡ truths.holds c held.row) × (new ≡ old) × (commits ≡ [])
 Effect {C} {N} truths seat (StoreCell i v) old Made new commits =
     (held : Held C N) × (old.held ≡ Some held) × (held.mode ≡ Write)
     × (new ≡ record old { row = slice_set old.row i v; held = Some (record held { row = slice_set held.row i v }) })
@@ -128,12 +194,15 @@ Effect {C} {N} truths seat PayWake old (Paid owes) new commits =
     × (new ≡ record old { flags = flags_with old.flags woken 0; owed = rest })
     × (owes ≡ has_some rest) × (commits ≡ [])
 Effect truths seat LoadFlag old (Flag v) new commits = (v ≡ old.flags seat) × (new ≡ old) × (commits ≡ [])
+-- a look
+Effect truths seat (Look limits again) old (Looked cause) new commits = MayShow limits cause × (new ≡ record old { held = held_after again cause old.held }) × (commits ≡ [])
 Effect truths seat act old found new commits = ⊥
 
 -- Whether the act may commit an event.
-abbrev pub IsRelease : Act → Type 0
+abbrev pub IsRelease : {C : Type 0} → Act C → Type 0
 IsRelease (Release leaving last) = Unit {0}
 IsRelease (ReleaseReturning leaving last) = Unit {0}
+IsRelease (WaitReturning wait again last) = Unit {0}
 IsRelease act = ⊥
 
 -- a view's part of a state
@@ -142,7 +211,7 @@ part_of s held owed = record { word = s.word; row = s.row; lock = s.lock; flags 
 
 -- The seat with this view makes the step that its walk wants, and no other view changes.
 pub record Step {C : Type 0} {N : ℕ} (truths : Truths C) (old : State C N) (view : SeatView C N) (found : Found) (new : State C N) (commits : List (Event C N)) : Type 0 where
-  pub walk : Walk
+  pub walk : Walk C
   pub walks : view.walk ≡ Some walk
   pub front : List (SeatView C N)
   pub back : List (SeatView C N)

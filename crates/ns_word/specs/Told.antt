@@ -1,28 +1,55 @@
 -- What a seat was told: the history that it has seen, its own events, and the calls that it has begun.
-use Rattle.std.specs.Prelude.{◌≡◌, ℕ, Bool, List, [], ◌∷◌, ◌++◌}
+use Rattle.std.specs.Prelude.{◌≡◌, ℕ, Bool, List, [], ◌∷◌, ◌++◌, Option, None, Some, All}
 use Rattle.ns_model.specs.declared.event.Event.{Event}
 use Rattle.ns_model.specs.Histories.{IsLegal, IsBySeats, own, who_of}
 use Rattle.ns_word.specs.declared.walk.Walk.{Walk}
+use Rattle.ns_word.specs.declared.act.Found.{Found}
+use Rattle.ns_word.specs.Begins.{IsFirst}
+use Rattle.ns_word.specs.Walks.{got_of, walk_after}
 
 -- `begun` has the first place of each call
 pub record Told (C : Type 0) (N : ℕ) : Type 0 where
   pub seen : List (Event C N)
   pub mine : List (Event C N)
-  pub begun : List Walk
+  pub begun : List (Walk C)
+
+-- before any call
+abbrev pub nothing_told : {C : Type 0} {N : ℕ} → Told C N
+nothing_told = record { seen = []; mine = []; begun = [] }
 
 abbrev pub BeginsWith : {C : Type 0} {N : ℕ} → List (Event C N) → List (Event C N) → Type 0
 BeginsWith {C} {N} history seen = (rest : List (Event C N)) × (seen ++ rest ≡ history)
 
--- What a seat has seen is a beginning of the history, and legal; its own events are those of the history, and it has seen all of them.
-pub record IsTold {C : Type 0} {N : ℕ} (holds : C → List ℕ → Bool) (seats : ℕ) (history : List (Event C N)) (seat : ℕ) (told : Told C N) : Type 0 where
+-- where what its steps found leads a call, over a row of N cells
+abbrev pub walk_over : {C : Type 0} → ℕ → List Found → Option (Walk C) → Option (Walk C)
+walk_over N [] walk = walk
+walk_over N (found ∷ founds) None = None
+walk_over N (found ∷ founds) (Some walk) = walk_over N founds (walk_after (got_of N walk found))
+
+-- The call in progress is the last that was begun: what its steps found has led from its first place to where it is.
+pub record LedBy {C : Type 0} (N : ℕ) (begun : List (Walk C)) (walk : Walk C) : Type 0 where
+  pub earlier : List (Walk C)
+  pub first : Walk C
+  pub founds : List Found
+  pub last : begun ≡ earlier ++ first ∷ []
+  pub leads : walk_over N founds (Some first) ≡ Some walk
+
+abbrev pub IsLed : {C : Type 0} → ℕ → List (Walk C) → Option (Walk C) → Type 0
+IsLed N begun None = Unit {0}
+IsLed N begun (Some walk) = LedBy N begun walk
+
+-- What a seat has seen is a beginning of the history, and legal; its own events are those of the history, and it has seen all of them; it has begun these calls, each at a first place, and the last of them is the one in progress, if one is.
+pub record IsTold {C : Type 0} {N : ℕ} (holds : C → List ℕ → Bool) (seats : ℕ) (history : List (Event C N)) (seat : ℕ) (walk : Option (Walk C)) (told : Told C N) : Type 0 where
   pub seen_of : BeginsWith history told.seen
   pub legal : IsLegal holds told.seen
   pub by_seats : IsBySeats seats told.seen
   pub own_of : told.mine ≡ own history seat
   pub own_seen : told.mine ≡ own told.seen seat
+  pub firsts : All (IsFirst N) told.begun
+  pub led : IsLed N told.begun walk
 
 -- What a seat was told after a step of its own that commits these events, and begins these calls: none, or one where it is a call's first step. It has then seen the whole history. A step of another seat tells it nothing.
-abbrev pub told_after : {C : Type 0} {N : ℕ} → List (Event C N) → List (Event C N) → List Walk → Told C N → Told C N
+abbrev pub told_after : {C : Type 0} {N : ℕ} → List (Event C N) → List (Event C N) → List (Walk C) → Told C N → Told C N
 told_after history commits begins told = record { seen = history ++ commits; mine = told.mine ++ commits; begun = told.begun ++ begins }
 
 -- all these events are the seat's

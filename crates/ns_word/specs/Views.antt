@@ -38,7 +38,7 @@ owed_to seat [] = 0
 owed_to seat (view ∷ views) = times_among seat view.owed + owed_to seat views
 
 -- the place of a seat in its call
-abbrev pub walk_at : {C : Type 0} {N : ℕ} → ℕ → List (SeatView C N) → Option Walk
+abbrev pub walk_at : {C : Type 0} {N : ℕ} → ℕ → List (SeatView C N) → Option (Walk C)
 walk_at seat [] = None
 walk_at seat (view ∷ views) = if view.seat == seat then view.walk else walk_at seat views
 

@@ -8,7 +8,7 @@ use Rattle.ns_word.specs.declared.word.Bits.{Bits}
 use Rattle.ns_word.specs.declared.word.Leaving.{Leaving}
 use Rattle.ns_word.specs.declared.word.Leaving.TheVariants.{Writer, QuietWriter, Reader}
 use Rattle.ns_word.specs.declared.word.Taking.{Taking}
-use Rattle.ns_word.specs.declared.word.Taking.TheVariants.{ToScan, ToQueue}
+use Rattle.ns_word.specs.declared.word.Taking.TheVariants.{ToChange, ToQueue}
 
 -- the mode of the section that is left
 abbrev pub mode_left : Leaving → Mode
@@ -38,7 +38,7 @@ word_acquired Read woken word = record word { readers = word.readers + 1; desig 
 
 -- the queues are taken; by one that queues, the word tells of it at once
 abbrev pub word_taken : Taking → Word → Word
-word_taken ToScan word = record word { spin = true }
+word_taken ToChange word = record word { spin = true }
 word_taken (ToQueue mode woken) word =
     record word { spin = true; waiting = true; writer_waits = word.writer_waits || is_write mode; all_false = false; desig = word.desig && not woken }
 
@@ -64,3 +64,8 @@ word_released_returning leaving took bits word =
       desig = took || word.desig;
       all_false = bits.waiting && not took;
     }
+
+-- how a section in this mode is released by a wait
+abbrev pub leaving_of : Mode → Leaving
+leaving_of Write = Writer
+leaving_of Read = Reader

@@ -1,5 +1,7 @@
 //! What one atomic step does, and what it finds.
 
+use crate::limits::{Cause, Limits};
+use crate::wait::{Aim, Wait};
 use crate::word::{Leaving, Taking, Word};
 use ns_model::event::Mode;
 
@@ -9,15 +11,19 @@ pub enum Change {
     /// One puts itself in, without condition, in this mode: at the back, or at the front if it was
     /// woken from the list before, so that it loses no turn.
     Queue(Mode, bool),
+    /// One that waits takes itself out, if it still stands there.
+    Leave,
 }
 
-/// One atomic step. Where it is a compare-exchange, the word is the one last seen.
+/// One atomic step. Where it is a compare-exchange, the word is the one last seen. A look reads a
+/// clock and notes, one load after another, and nothing of the lock: whoever runs the walk makes
+/// it, and tells what it has shown.
 #[derive(Clone, Copy, Debug, PartialEq, Eq)]
-pub enum Act {
+pub enum Act<C> {
     /// Loads the lock word.
     LoadWord,
-    /// Acquires the lock in this mode, fresh or woken.
-    Acquire(Mode, bool, Word),
+    /// Acquires the lock for this, fresh or woken.
+    Acquire(Aim<C>, bool, Word),
     /// Sets the spinlock bit and takes the queues.
     TakeQueues(Taking, Word),
     /// Changes the lock list in hand, puts the queues back and clears the spinlock bit.
@@ -27,10 +33,15 @@ pub enum Act {
     /// Takes out of the lock list in hand those whom a scan wakes, puts the queues back, clears the
     /// spinlock bit, releases the section and commits it. The seat then owes the wakes.
     ReleaseReturning(Leaving, Word),
+    /// The same for a wait, which also puts itself into the list, with its condition: at the back,
+    /// or at the front if it queues again. Where it queues again, nothing is committed.
+    WaitReturning(Wait<C>, bool, Word),
     /// Loads a cell.
     LoadCell(u8),
     /// Loads a cell, the row's last, and tells whether the section in hand is quiet.
     JudgeQuiet(u8),
+    /// Loads a cell, the row's last, and tells whether the condition is true of the row in hand.
+    JudgeMet(u8, C),
     /// Stores a value into a cell.
     StoreCell(u8, u64),
     /// Stores 1 into one's own flag.
@@ -39,6 +50,9 @@ pub enum Act {
     PayWake,
     /// Loads one's own flag.
     LoadFlag,
+    /// Looks at the note and the deadline of a wait. The flag tells whether the wait has come back:
+    /// then what the look shows is the cause that the section in hand goes by.
+    Look(Limits, bool),
 }
 
 /// What a step found.
@@ -52,11 +66,24 @@ pub enum Found {
     Cell(u64),
     /// Whether the section in hand is quiet.
     Quiet(bool),
-    /// The release with a scan was made: whether wakes are owed now, and how many conditions the
-    /// scan tested.
-    Scanned { owes: bool, tests: u32 },
-    /// A wake was paid: whether more are owed.
-    Paid { owes: bool },
+    /// Whether the condition is true.
+    Met(bool),
+    /// The release with a scan was made.
+    Scanned {
+        /// Whether wakes are owed now.
+        owes: bool,
+        /// How many conditions the scan tested.
+        tests: u32,
+    },
+    /// A wake was paid.
+    Paid {
+        /// Whether more are owed.
+        owes: bool,
+    },
+    /// The queues were put back by one that leaves: whether it still stood there.
+    Left(bool),
     /// The value of one's own flag.
     Flag(u8),
+    /// What ends the wait, if anything does.
+    Looked(Option<Cause>),
 }

@@ -1,14 +1,18 @@
 //! The law of the steps.
 
-ghost use Rattle.std.specs.Prelude.{◌≡◌, ◌≢◌, ℕ, ◌≤◌, List, [], ◌∷◌, ◌++◌};
+ghost use Rattle.std.specs.Prelude.{◌≡◌, ◌≢◌, ℕ, ◌≤◌, List, [], ◌∷◌, ◌++◌, Option, None, Some, slice_get};
 ghost use Rattle.ns_model.specs.declared.event.Event.{Event};
+ghost use Rattle.ns_model.specs.declared.phase.Phase.TheVariants.{Cond};
+ghost use Rattle.ns_model.specs.Histories.{phase_of};
+ghost use Rattle.ns_queue.specs.declared.waiter.Waiter.{Waiter};
 ghost use Rattle.ns_word.specs.declared.view.SeatView.{SeatView};
 ghost use Rattle.ns_word.specs.declared.walk.Walk.{Walk};
 ghost use Rattle.ns_word.specs.declared.act.Found.{Found};
 ghost use Rattle.ns_word.specs.Begins.{Begins, FirstStep, fresh_state};
 ghost use Rattle.ns_word.specs.Steps.{State, Step, truths};
 ghost use Rattle.ns_word.specs.Lawful.{IsLawful};
-ghost use Rattle.ns_word.specs.Told.{Told, IsTold, told_after, BeginsWith};
+ghost use Rattle.ns_word.specs.Told.{Told, IsTold, nothing_told, told_after, BeginsWith};
+ghost use Rattle.ns_word.specs.Walks.{got_of, walk_after};
 
 use ns_model::condition::Condition;
 
@@ -20,7 +24,7 @@ pub fn a_fresh_lock_is_lawful<C: Condition<N>, const N: usize>()
 /// A seat whose last call is over may begin one whose need is met: the law stays, with the same
 /// history.
 pub fn beginning_a_call_keeps_the_law<C: Condition<N>, const N: usize>()
-    ensures { (seats : ℕ) (history : List (Event C N)) (old new : State C N) (view : SeatView C N) (walk : Walk) →
+    ensures { (seats : ℕ) (history : List (Event C N)) (old new : State C N) (view : SeatView C N) (walk : Walk C) →
         Begins (truths C.holds C.is_same C.is_quiet) old view walk new →
         IsLawful (truths C.holds C.is_same C.is_quiet) seats history old →
         IsLawful (truths C.holds C.is_same C.is_quiet) seats history new }
@@ -36,33 +40,54 @@ pub fn steps_keep_the_law<C: Condition<N>, const N: usize>()
 
 /// So does a step with which a call begins.
 pub fn first_steps_keep_the_law<C: Condition<N>, const N: usize>()
-    ensures { (seats : ℕ) (history : List (Event C N)) (old new : State C N) (view : SeatView C N) (walk : Walk) (found : Found) (commits : List (Event C N)) →
+    ensures { (seats : ℕ) (history : List (Event C N)) (old new : State C N) (view : SeatView C N) (walk : Walk C) (found : Found) (commits : List (Event C N)) →
         seats ≤ 64 → FirstStep (truths C.holds C.is_same C.is_quiet) old view walk found new commits →
         IsLawful (truths C.holds C.is_same C.is_quiet) seats history old →
         IsLawful (truths C.holds C.is_same C.is_quiet) seats (history ++ commits) new }
 {}
 
+/// A waiter of the lock list that has a condition is in the wait for it, in its mode, by the
+/// history.
+pub fn waiters_are_in_their_phase<C: Condition<N>, const N: usize>()
+    ensures { (seats : ℕ) (history : List (Event C N)) (s : State C N) (at : ℕ) (w : Waiter C) (c : C) →
+        IsLawful (truths C.holds C.is_same C.is_quiet) seats history s → slice_get s.lock at ≡ Some w → w.cond ≡ Some c →
+        phase_of history w.seat ≡ Cond c w.mode }
+{}
+
+/// A seat that has begun no call was told nothing.
+pub fn a_fresh_seat_was_told_nothing<C: Condition<N>, const N: usize>()
+    ensures { (seats seat : ℕ) → IsTold {N = N} C.holds seats [] seat None nothing_told }
+{}
+
 /// What a seat is told by a step of its own: it has then seen the whole history, which begins with
-/// what it had seen, and its own events grow by what the step commits.
+/// what it had seen, its own events grow by what the step commits, and the call that it goes on
+/// with is still the last that it has begun.
 pub fn steps_tell_their_seat<C: Condition<N>, const N: usize>()
     ensures { (seats : ℕ) (history : List (Event C N)) (old new : State C N) (view : SeatView C N) (found : Found) (commits : List (Event C N)) (told : Told C N) →
-        seats ≤ 64 → Step (truths C.holds C.is_same C.is_quiet) old view found new commits →
-        IsLawful (truths C.holds C.is_same C.is_quiet) seats history old → IsTold C.holds seats history view.seat told →
-        IsTold C.holds seats (history ++ commits) view.seat (told_after history commits [] told) × BeginsWith (history ++ commits) told.seen }
+        seats ≤ 64 → (step : Step (truths C.holds C.is_same C.is_quiet) old view found new commits) →
+        IsLawful (truths C.holds C.is_same C.is_quiet) seats history old → IsTold C.holds seats history view.seat view.walk told →
+        IsTold C.holds seats (history ++ commits) view.seat (walk_after (got_of N step.walk found)) (told_after history commits [] told) × BeginsWith (history ++ commits) told.seen }
 {}
 
 /// What a seat is told by a step with which it begins a call: the same, and the call stands
-/// among those that it has begun.
+/// last among those that it has begun.
 pub fn first_steps_tell_their_seat<C: Condition<N>, const N: usize>()
-    ensures { (seats : ℕ) (history : List (Event C N)) (old new : State C N) (view : SeatView C N) (walk : Walk) (found : Found) (commits : List (Event C N)) (told : Told C N) →
+    ensures { (seats : ℕ) (history : List (Event C N)) (old new : State C N) (view : SeatView C N) (walk : Walk C) (found : Found) (commits : List (Event C N)) (told : Told C N) →
         seats ≤ 64 → FirstStep (truths C.holds C.is_same C.is_quiet) old view walk found new commits →
-        IsLawful (truths C.holds C.is_same C.is_quiet) seats history old → IsTold C.holds seats history view.seat told →
-        IsTold C.holds seats (history ++ commits) view.seat (told_after history commits (walk ∷ []) told) × BeginsWith (history ++ commits) told.seen }
+        IsLawful (truths C.holds C.is_same C.is_quiet) seats history old → IsTold C.holds seats history view.seat view.walk told →
+        IsTold C.holds seats (history ++ commits) view.seat (walk_after (got_of N walk found)) (told_after history commits (walk ∷ []) told) × BeginsWith (history ++ commits) told.seen }
 {}
 
 /// What a seat was told stays true after the steps of others.
 pub fn steps_tell_no_other<C: Condition<N>, const N: usize>()
-    ensures { (seats : ℕ) (history : List (Event C N)) (old new : State C N) (view : SeatView C N) (found : Found) (commits : List (Event C N)) (other : ℕ) (told : Told C N) →
+    ensures { (seats : ℕ) (history : List (Event C N)) (old new : State C N) (view : SeatView C N) (found : Found) (commits : List (Event C N)) (other : ℕ) (walk : Option (Walk C)) (told : Told C N) →
         Step (truths C.holds C.is_same C.is_quiet) old view found new commits →
-        view.seat ≢ other → IsTold C.holds seats history other told → IsTold C.holds seats (history ++ commits) other told }
+        view.seat ≢ other → IsTold C.holds seats history other walk told → IsTold C.holds seats (history ++ commits) other walk told }
+{}
+
+/// And after those with which others begin a call.
+pub fn first_steps_tell_no_other<C: Condition<N>, const N: usize>()
+    ensures { (seats : ℕ) (history : List (Event C N)) (old new : State C N) (view : SeatView C N) (begun : Walk C) (found : Found) (commits : List (Event C N)) (other : ℕ) (walk : Option (Walk C)) (told : Told C N) →
+        FirstStep (truths C.holds C.is_same C.is_quiet) old view begun found new commits →
+        view.seat ≢ other → IsTold C.holds seats history other walk told → IsTold C.holds seats (history ++ commits) other walk told }
 {}

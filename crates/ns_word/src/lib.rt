@@ -14,10 +14,16 @@
 
 pub mod act;
 pub mod codec;
+pub mod env_act;
+pub mod env_law;
+pub mod env_walk;
 pub mod law;
+pub mod limits;
 pub mod room;
 #[cfg(test)]
 mod tests;
 pub mod view;
+pub mod wait;
+mod wait_walk;
 pub mod walk;
 pub mod word;

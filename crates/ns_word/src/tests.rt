@@ -4,13 +4,15 @@ ghost use Rattle.std.specs.Prelude.{◌≡◌, ◌<◌};
 
 use crate::act::{Act, Change, Found};
 use crate::codec::{BadWord, decode, encode};
+use crate::limits::{Cause, Limits};
+use crate::wait::{Aim, Visit, Wait, WaitPlace};
 use crate::walk::{Next, Reply, Walk};
 use crate::word::{Bits, Leaving, Taking, Word};
-use ns_model::event::Mode;
+use ns_model::event::{Answer, Mode};
 
 /// A walk from a place on, over a row of two cells: what it wants, what that finds, and where it
 /// goes.
-type WalkRow = (Walk, &'static [(Act, Found, Next)]);
+type WalkRow = (Walk<bool>, &'static [(Act<bool>, Found, Next<bool>)]);
 
 const WRITING: Word = Word {
     write: true,
@@ -55,15 +57,15 @@ const CONDITIONAL_TAKEN: Word = Word {
 const WALKS: [WalkRow; 9] = [
     // a free lock is acquired
     (
-        Walk::AcquireLoad(Mode::Write, false),
+        Walk::AcquireLoad(Aim::Lock(Mode::Write), false),
         &[
             (
                 Act::LoadWord,
                 Found::Word(Word::FREE),
-                Next::On(Walk::Acquire(Mode::Write, false, Word::FREE)),
+                Next::On(Walk::Acquire(Aim::Lock(Mode::Write), false, Word::FREE)),
             ),
             (
-                Act::Acquire(Mode::Write, false, Word::FREE),
+                Act::Acquire(Aim::Lock(Mode::Write), false, Word::FREE),
                 Found::Made,
                 Next::Done(Reply::Ok),
             ),
@@ -71,50 +73,50 @@ const WALKS: [WalkRow; 9] = [
     ),
     // a fresh reader stands back where a writer waits, and passes it once it was woken
     (
-        Walk::AcquireLoad(Mode::Read, false),
+        Walk::AcquireLoad(Aim::Lock(Mode::Read), false),
         &[
             (
                 Act::LoadWord,
                 Found::Word(STOOD_BACK),
-                Next::On(Walk::TakeToQueue(Mode::Read, false, STOOD_BACK)),
+                Next::On(Walk::TakeToQueue(Aim::Lock(Mode::Read), false, STOOD_BACK)),
             ),
             (
                 Act::TakeQueues(Taking::ToQueue(Mode::Read, false), STOOD_BACK),
                 Found::Made,
-                Next::On(Walk::Arm(Mode::Read, false, STOOD_BACK_TAKEN)),
+                Next::On(Walk::Arm(Aim::Lock(Mode::Read), false, STOOD_BACK_TAKEN)),
             ),
             (
                 Act::ArmFlag,
                 Found::Made,
-                Next::On(Walk::Queue(Mode::Read, false, STOOD_BACK_TAKEN)),
+                Next::On(Walk::Queue(Aim::Lock(Mode::Read), false, STOOD_BACK_TAKEN)),
             ),
             (
                 Act::ReturnQueues(Change::Queue(Mode::Read, false), STOOD_BACK_TAKEN),
                 Found::Word(CONDITIONAL_TAKEN),
-                Next::On(Walk::Queue(Mode::Read, false, CONDITIONAL_TAKEN)),
+                Next::On(Walk::Queue(Aim::Lock(Mode::Read), false, CONDITIONAL_TAKEN)),
             ),
             (
                 Act::ReturnQueues(Change::Queue(Mode::Read, false), CONDITIONAL_TAKEN),
                 Found::Made,
-                Next::On(Walk::Round(Mode::Read)),
+                Next::On(Walk::Round(Aim::Lock(Mode::Read))),
             ),
             (
                 Act::LoadFlag,
                 Found::Flag(1),
-                Next::Idle(Walk::Round(Mode::Read)),
+                Next::Idle(Walk::Round(Aim::Lock(Mode::Read))),
             ),
             (
                 Act::LoadFlag,
                 Found::Flag(0),
-                Next::On(Walk::AcquireLoad(Mode::Read, true)),
+                Next::On(Walk::AcquireLoad(Aim::Lock(Mode::Read), true)),
             ),
             (
                 Act::LoadWord,
                 Found::Word(STOOD_BACK),
-                Next::On(Walk::Acquire(Mode::Read, true, STOOD_BACK)),
+                Next::On(Walk::Acquire(Aim::Lock(Mode::Read), true, STOOD_BACK)),
             ),
             (
-                Act::Acquire(Mode::Read, true, STOOD_BACK),
+                Act::Acquire(Aim::Lock(Mode::Read), true, STOOD_BACK),
                 Found::Made,
                 Next::Done(Reply::Ok),
             ),
@@ -122,22 +124,22 @@ const WALKS: [WalkRow; 9] = [
     ),
     // one that can't queue while another has the queues is idle
     (
-        Walk::AcquireLoad(Mode::Write, true),
+        Walk::AcquireLoad(Aim::Lock(Mode::Write), true),
         &[
             (
                 Act::LoadWord,
                 Found::Word(STOOD_BACK_TAKEN),
-                Next::Idle(Walk::AcquireLoad(Mode::Write, true)),
+                Next::Idle(Walk::AcquireLoad(Aim::Lock(Mode::Write), true)),
             ),
             (
                 Act::LoadWord,
                 Found::Word(STOOD_BACK),
-                Next::On(Walk::TakeToQueue(Mode::Write, true, STOOD_BACK)),
+                Next::On(Walk::TakeToQueue(Aim::Lock(Mode::Write), true, STOOD_BACK)),
             ),
             (
                 Act::TakeQueues(Taking::ToQueue(Mode::Write, true), STOOD_BACK),
                 Found::Word(Word::FREE),
-                Next::On(Walk::Acquire(Mode::Write, true, Word::FREE)),
+                Next::On(Walk::Acquire(Aim::Lock(Mode::Write), true, Word::FREE)),
             ),
         ],
     ),
@@ -151,7 +153,7 @@ const WALKS: [WalkRow; 9] = [
                 Next::On(Walk::TryAcquire(Mode::Write, Word::FREE)),
             ),
             (
-                Act::Acquire(Mode::Write, false, Word::FREE),
+                Act::Acquire(Aim::Lock(Mode::Write), false, Word::FREE),
                 Found::Word(WRITING),
                 Next::Done(Reply::Busy),
             ),
@@ -175,7 +177,7 @@ const WALKS: [WalkRow; 9] = [
                 Next::On(Walk::TakeToScan(Leaving::Writer, CONDITIONAL)),
             ),
             (
-                Act::TakeQueues(Taking::ToScan, CONDITIONAL),
+                Act::TakeQueues(Taking::ToChange, CONDITIONAL),
                 Found::Made,
                 Next::On(Walk::ScanCells(Leaving::Writer, CONDITIONAL_TAKEN, 0)),
             ),
@@ -219,7 +221,7 @@ const WALKS: [WalkRow; 9] = [
         Walk::TakeToScan(Leaving::Reader, STOOD_BACK),
         &[
             (
-                Act::TakeQueues(Taking::ToScan, STOOD_BACK),
+                Act::TakeQueues(Taking::ToChange, STOOD_BACK),
                 Found::Made,
                 Next::On(Walk::ReleaseReturning(Leaving::Reader, STOOD_BACK_TAKEN)),
             ),
@@ -259,8 +261,274 @@ const WALKS: [WalkRow; 9] = [
     ),
 ];
 
+const LIMITS: Limits = Limits {
+    deadline: Some(9),
+    note: Some(3),
+};
+
+/// A wait of a writer, with a deadline and a note.
+const TIMED: Wait<bool> = Wait {
+    mode: Mode::Write,
+    cond: true,
+    limits: LIMITS,
+};
+
+/// A wait of a reader that nothing ends early.
+const PATIENT: Wait<bool> = Wait {
+    mode: Mode::Read,
+    cond: false,
+    limits: Limits {
+        deadline: None,
+        note: None,
+    },
+};
+
+const WAITS: [WalkRow; 8] = [
+    // a condition that is true as the call begins is answered with nothing released
+    (
+        Walk::Wait(TIMED, WaitPlace::TestCells(Visit::Entry, 0)),
+        &[
+            (
+                Act::LoadCell(0),
+                Found::Cell(4),
+                Next::On(Walk::Wait(TIMED, WaitPlace::TestLast(Visit::Entry, 1))),
+            ),
+            (
+                Act::JudgeMet(1, true),
+                Found::Met(true),
+                Next::Done(Reply::Answered(Answer::Met)),
+            ),
+        ],
+    ),
+    // and so is what a look shows then
+    (
+        Walk::Wait(TIMED, WaitPlace::TestLast(Visit::Entry, 1)),
+        &[
+            (
+                Act::JudgeMet(1, true),
+                Found::Met(false),
+                Next::On(Walk::Wait(TIMED, WaitPlace::LookIn(false))),
+            ),
+            (
+                Act::Look(LIMITS, false),
+                Found::Looked(Some(Cause::Note)),
+                Next::Done(Reply::Answered(Answer::Canceled)),
+            ),
+        ],
+    ),
+    // it queues, scans, pays a wake, and is woken
+    (
+        Walk::Wait(TIMED, WaitPlace::LookIn(false)),
+        &[
+            (
+                Act::Look(LIMITS, false),
+                Found::Looked(None),
+                Next::On(Walk::Wait(TIMED, WaitPlace::Load(false))),
+            ),
+            (
+                Act::LoadWord,
+                Found::Word(CONDITIONAL_TAKEN),
+                Next::Idle(Walk::Wait(TIMED, WaitPlace::Load(false))),
+            ),
+            (
+                Act::LoadWord,
+                Found::Word(CONDITIONAL),
+                Next::On(Walk::Wait(TIMED, WaitPlace::Take(false, CONDITIONAL))),
+            ),
+            (
+                Act::TakeQueues(Taking::ToChange, CONDITIONAL),
+                Found::Word(CONTENDED),
+                Next::On(Walk::Wait(TIMED, WaitPlace::Take(false, CONTENDED))),
+            ),
+            (
+                Act::TakeQueues(Taking::ToChange, CONTENDED),
+                Found::Word(CONDITIONAL_TAKEN),
+                Next::Idle(Walk::Wait(TIMED, WaitPlace::Load(false))),
+            ),
+        ],
+    ),
+    (
+        Walk::Wait(TIMED, WaitPlace::Take(false, CONDITIONAL)),
+        &[
+            (
+                Act::TakeQueues(Taking::ToChange, CONDITIONAL),
+                Found::Made,
+                Next::On(Walk::Wait(TIMED, WaitPlace::Arm(false, CONDITIONAL_TAKEN))),
+            ),
+            (
+                Act::ArmFlag,
+                Found::Made,
+                Next::On(Walk::Wait(TIMED, WaitPlace::Queue(false, CONDITIONAL_TAKEN))),
+            ),
+            (
+                Act::WaitReturning(TIMED, false, CONDITIONAL_TAKEN),
+                Found::Word(STOOD_BACK_TAKEN),
+                Next::On(Walk::Wait(TIMED, WaitPlace::Queue(false, STOOD_BACK_TAKEN))),
+            ),
+            (
+                Act::WaitReturning(TIMED, false, STOOD_BACK_TAKEN),
+                Found::Scanned {
+                    owes: true,
+                    tests: 1,
+                },
+                Next::On(Walk::Wait(TIMED, WaitPlace::Pay)),
+            ),
+            (
+                Act::PayWake,
+                Found::Paid { owes: false },
+                Next::On(Walk::Wait(TIMED, WaitPlace::Round)),
+            ),
+            (
+                Act::LoadFlag,
+                Found::Flag(0),
+                Next::On(Walk::AcquireLoad(Aim::Back(TIMED, None), true)),
+            ),
+            (
+                Act::LoadWord,
+                Found::Word(Word::FREE),
+                Next::On(Walk::Acquire(Aim::Back(TIMED, None), true, Word::FREE)),
+            ),
+            (
+                Act::Acquire(Aim::Back(TIMED, None), true, Word::FREE),
+                Found::Made,
+                Next::On(Walk::Wait(TIMED, WaitPlace::TestCells(Visit::Back(None), 0))),
+            ),
+        ],
+    ),
+    // woken in vain, it looks, and queues again
+    (
+        Walk::Wait(TIMED, WaitPlace::TestLast(Visit::Back(None), 1)),
+        &[
+            (
+                Act::JudgeMet(1, true),
+                Found::Met(false),
+                Next::On(Walk::Wait(TIMED, WaitPlace::LookIn(true))),
+            ),
+            (
+                Act::Look(LIMITS, true),
+                Found::Looked(None),
+                Next::On(Walk::Wait(TIMED, WaitPlace::Load(true))),
+            ),
+            (
+                Act::LoadWord,
+                Found::Word(WRITING),
+                Next::On(Walk::Wait(TIMED, WaitPlace::Take(true, WRITING))),
+            ),
+        ],
+    ),
+    // its deadline passes, and it leaves the list
+    (
+        Walk::Wait(TIMED, WaitPlace::Round),
+        &[
+            (
+                Act::LoadFlag,
+                Found::Flag(1),
+                Next::On(Walk::Wait(TIMED, WaitPlace::LookOut)),
+            ),
+            (
+                Act::Look(LIMITS, false),
+                Found::Looked(None),
+                Next::Idle(Walk::Wait(TIMED, WaitPlace::Round)),
+            ),
+            (
+                Act::LoadFlag,
+                Found::Flag(1),
+                Next::On(Walk::Wait(TIMED, WaitPlace::LookOut)),
+            ),
+            (
+                Act::Look(LIMITS, false),
+                Found::Looked(Some(Cause::Deadline)),
+                Next::On(Walk::Wait(TIMED, WaitPlace::LeaveLoad(Cause::Deadline))),
+            ),
+            (
+                Act::LoadWord,
+                Found::Word(CONDITIONAL),
+                Next::On(Walk::Wait(TIMED, WaitPlace::TakeToLeave(Cause::Deadline, CONDITIONAL))),
+            ),
+            (
+                Act::TakeQueues(Taking::ToChange, CONDITIONAL),
+                Found::Made,
+                Next::On(Walk::Wait(TIMED, WaitPlace::Leave(Cause::Deadline, CONDITIONAL_TAKEN))),
+            ),
+            (
+                Act::ReturnQueues(Change::Leave, CONDITIONAL_TAKEN),
+                Found::Left(true),
+                Next::On(Walk::AcquireLoad(Aim::Back(TIMED, Some(Cause::Deadline)), false)),
+            ),
+        ],
+    ),
+    // or finds itself already taken, and waits for its wake
+    (
+        Walk::Wait(TIMED, WaitPlace::Leave(Cause::Note, CONDITIONAL_TAKEN)),
+        &[
+            (
+                Act::ReturnQueues(Change::Leave, CONDITIONAL_TAKEN),
+                Found::Word(STOOD_BACK_TAKEN),
+                Next::On(Walk::Wait(TIMED, WaitPlace::Leave(Cause::Note, STOOD_BACK_TAKEN))),
+            ),
+            (
+                Act::ReturnQueues(Change::Leave, STOOD_BACK_TAKEN),
+                Found::Left(false),
+                Next::On(Walk::Wait(TIMED, WaitPlace::LeaveRound(Cause::Note))),
+            ),
+            (
+                Act::LoadFlag,
+                Found::Flag(1),
+                Next::Idle(Walk::Wait(TIMED, WaitPlace::LeaveRound(Cause::Note))),
+            ),
+            (
+                Act::LoadFlag,
+                Found::Flag(0),
+                Next::On(Walk::AcquireLoad(Aim::Back(TIMED, Some(Cause::Note)), true)),
+            ),
+            (
+                Act::LoadWord,
+                Found::Word(Word::FREE),
+                Next::On(Walk::Acquire(Aim::Back(TIMED, Some(Cause::Note)), true, Word::FREE)),
+            ),
+            (
+                Act::Acquire(Aim::Back(TIMED, Some(Cause::Note)), true, Word::FREE),
+                Found::Made,
+                Next::On(Walk::Wait(
+                    TIMED,
+                    WaitPlace::TestCells(Visit::Back(Some(Cause::Note)), 0),
+                )),
+            ),
+            (
+                Act::LoadCell(0),
+                Found::Cell(0),
+                Next::On(Walk::Wait(
+                    TIMED,
+                    WaitPlace::TestLast(Visit::Back(Some(Cause::Note)), 1),
+                )),
+            ),
+            (
+                Act::JudgeMet(1, true),
+                Found::Met(false),
+                Next::Done(Reply::Answered(Answer::Canceled)),
+            ),
+        ],
+    ),
+    // one that nothing ends early looks at nothing
+    (
+        Walk::Wait(PATIENT, WaitPlace::TestLast(Visit::Entry, 1)),
+        &[
+            (
+                Act::JudgeMet(1, false),
+                Found::Met(false),
+                Next::On(Walk::Wait(PATIENT, WaitPlace::Load(false))),
+            ),
+            (
+                Act::LoadWord,
+                Found::Word(STOOD_BACK),
+                Next::On(Walk::Wait(PATIENT, WaitPlace::Take(false, STOOD_BACK))),
+            ),
+        ],
+    ),
+];
+
 /// Where a release goes by the word that it loads.
-const RELEASES: [(Leaving, Word, Next); 10] = [
+const RELEASES: [(Leaving, Word, Next<bool>); 11] = [
     (
         Leaving::Writer,
         WRITING,
@@ -291,6 +559,22 @@ const RELEASES: [(Leaving, Word, Next); 10] = [
             Word {
                 desig: true,
                 ..CONTENDED
+            },
+        )),
+    ),
+    (
+        Leaving::QuietWriter,
+        Word {
+            desig: true,
+            all_false: true,
+            ..CONDITIONAL
+        },
+        Next::On(Walk::Release(
+            Leaving::QuietWriter,
+            Word {
+                desig: true,
+                all_false: true,
+                ..CONDITIONAL
             },
         )),
     ),
@@ -394,10 +678,30 @@ fn walks_go_step_by_step(rt: HostRuntime) {
 }
 
 #[test]
+fn waits_go_step_by_step(rt: HostRuntime) {
+    for (i, row) in WAITS.iter().enumerate() {
+        assert!(rt; goes(row), "wait {i}");
+    }
+    let idle = Next::Idle(Walk::Wait(PATIENT, WaitPlace::Round));
+    assert_eq!(rt;
+        Walk::Wait(PATIENT, WaitPlace::Round).got::<2>(Found::Flag(1)),
+        idle
+    );
+    assert_eq!(rt;
+        Walk::wait::<1>(TIMED),
+        Walk::Wait(TIMED, WaitPlace::TestLast(Visit::Entry, 0))
+    );
+    assert_eq!(rt;
+        Walk::wait::<2>(TIMED),
+        Walk::Wait(TIMED, WaitPlace::TestCells(Visit::Entry, 0))
+    );
+}
+
+#[test]
 fn releases_decide_by_the_word(rt: HostRuntime) {
     for (i, (leaving, word, next)) in RELEASES.iter().enumerate() {
         assert_eq!(rt;
-            Walk::ReleaseLoad(*leaving).got::<2>(Found::Word(*word)),
+            Walk::<bool>::ReleaseLoad(*leaving).got::<2>(Found::Word(*word)),
             *next,
             "release {i}"
         );
@@ -407,20 +711,20 @@ fn releases_decide_by_the_word(rt: HostRuntime) {
 #[test]
 fn cells_are_read_and_stored(rt: HostRuntime) {
     assert_eq!(rt;
-        Walk::Get(1).got::<2>(Found::Cell(5)),
+        Walk::<bool>::Get(1).got::<2>(Found::Cell(5)),
         Next::Done(Reply::Number(5))
     );
     assert_eq!(rt;
-        Walk::SetLoad(1, 9).got::<2>(Found::Cell(5)),
+        Walk::<bool>::SetLoad(1, 9).got::<2>(Found::Cell(5)),
         Next::On(Walk::SetStore(1, 9))
     );
-    assert_eq!(rt; Walk::SetStore(1, 9).want(), Act::StoreCell(1, 9));
+    assert_eq!(rt; Walk::<bool>::SetStore(1, 9).want(), Act::StoreCell(1, 9));
     assert_eq!(rt;
-        Walk::SetStore(1, 9).got::<2>(Found::Made),
+        Walk::<bool>::SetStore(1, 9).got::<2>(Found::Made),
         Next::Done(Reply::Ok)
     );
-    assert_eq!(rt; Walk::quiet_release::<1>(), Walk::QuietLast(0));
-    assert_eq!(rt; Walk::quiet_release::<2>(), Walk::QuietCells(0));
+    assert_eq!(rt; Walk::<bool>::quiet_release::<1>(), Walk::QuietLast(0));
+    assert_eq!(rt; Walk::<bool>::quiet_release::<2>(), Walk::QuietCells(0));
 }
 
 #[test]
@@ -456,6 +760,27 @@ fn new_words(rt: HostRuntime) {
         Word {
             write: false,
             ..CONDITIONAL
+        }
+    );
+    // a release keeps the mark of one on its way, and a quiet one also that all conditions are false
+    let marked = Word {
+        desig: true,
+        all_false: true,
+        ..CONDITIONAL
+    };
+    assert_eq!(rt;
+        marked.released(Leaving::Writer),
+        Word {
+            write: false,
+            all_false: false,
+            ..marked
+        }
+    );
+    assert_eq!(rt;
+        marked.released(Leaving::QuietWriter),
+        Word {
+            write: false,
+            ..marked
         }
     );
     // a scan that took nobody leaves the mark that all conditions are false, one that took the last nothing

@@ -1,26 +1,46 @@
 //! What a seat has in hand.
 
+use crate::limits::Cause;
 use crate::walk::Walk;
-use ns_model::event::{Entry, Mode};
+use ns_model::event::Mode;
 use std::collections::LinkedList;
 
-/// A section in hand: its mode, how it began, the row that it began at, and its row now.
+/// How a section in hand began.
+#[derive(Clone, Copy)]
+pub enum Opening<C> {
+    /// A call locked.
+    Plain,
+    /// A wait for this condition came back. The answer is open until the section is committed:
+    /// met where the condition is true of the row that the section began at, else by this cause.
+    /// Until the wait is over it is what the wait has kept, a deadline where it has kept nothing;
+    /// then it is what the wait has answered.
+    Waited(C, Cause),
+}
+
+/// A section in hand.
 #[derive(Clone, Copy)]
 pub struct Held<C, const N: usize> {
+    /// The mode that the lock is held in.
     pub mode: Mode,
-    pub entry: Entry<C>,
+    /// How it began.
+    pub entry: Opening<C>,
+    /// The row that it began at.
     pub before: [u64; N],
+    /// Its row now.
     pub row: [u64; N],
 }
 
-/// A seat: its number, its place in its call, if one is in progress, its section, if it has one in
-/// hand, and the seats that it owes a wake, in the order in which it pays them.
+/// A seat.
 ///
 /// No program makes such a value: it is the form in which a state of the machine speaks of a
 /// seat, however a world keeps it.
 pub struct SeatView<C, const N: usize> {
+    /// Its number.
     pub seat: u8,
-    pub walk: Option<Walk>,
+    /// Its place in its call, if one is in progress.
+    pub walk: Option<Walk<C>>,
+    /// Its section, if it has one in hand.
     pub held: Option<Held<C, N>>,
+    /// The seats that it owes a wake, in the order in which it pays them.
     pub owed: LinkedList<u8>,
 }

@@ -5,7 +5,7 @@
 //! | `TryLoad` | load the word | `TryAcquire`, or `Busy` if it may not be acquired |
 //! | `TryAcquire` | acquire | `Ok`; a failed exchange: `Busy` |
 //! | `AcquireLoad` | load the word | the acquire's decision |
-//! | `Acquire` | acquire | `Ok`; a failed exchange: the acquire's decision |
+//! | `Acquire` | acquire | `Ok`, or for a wait that comes back the test; a failed exchange: the acquire's decision |
 //! | `TakeToQueue` | take the queues | `Arm`; a failed exchange: the acquire's decision |
 //! | `Arm` | set one's own flag | `Queue` |
 //! | `Queue` | put the queues back, oneself in the lock list | `Round`; a failed exchange: again, on the word found |
@@ -19,6 +19,7 @@
 //! | `Pay` | clear the flag of the first who is owed a wake | again while wakes are owed, then `Ok` |
 //! | `Get` | load the cell | its value |
 //! | `SetLoad`, `SetStore` | load the cell, store it | `Ok` |
+//! | `Wait` | as its place says | as its place says, in `wait_walk.rt` |
 //!
 //! The acquire's decision, by a word: `Acquire` where it may be acquired; else idle and from
 //! `AcquireLoad` again where the spinlock bit is set; else `TakeToQueue`. The release's decision:
@@ -26,33 +27,36 @@
 //! bit is set; else `TakeToScan`.
 
 ghost use Rattle.std.specs.Prelude.{◌≡◌, ◌≤◌, if◌then◌else◌};
-ghost use Rattle.ns_word.specs.Walks.{want_of, got_of, acquire_by, release_by, quiet_place, scan_place};
+ghost use Rattle.ns_word.specs.Walks.{want_of, got_of, acquire_by, acquired_for, release_by, quiet_place, scan_place, test_place};
 
 use crate::act::{Act, Change, Found};
+use crate::limits::Cause;
+use crate::wait::{Aim, Visit, Wait, WaitPlace};
+use crate::wait_walk::test_place;
 use crate::word::{Leaving, Taking, Word};
-use ns_model::event::Mode;
+use ns_model::event::{Answer, Mode};
 
-/// A place in a call. A word is the one last seen. The flag beside a mode tells whether the seat
-/// was woken from the lock list.
+/// A place in a call. A word is the one last seen. The flag beside what an acquire is for tells
+/// whether the seat was woken from the lock list.
 #[derive(Clone, Copy, Debug, PartialEq, Eq)]
-pub enum Walk {
+pub enum Walk<C> {
     /// A try that is about to load the word.
     TryLoad(Mode),
     /// A try that has seen this word, which may be acquired.
     TryAcquire(Mode, Word),
     /// An acquire that is about to load the word.
-    AcquireLoad(Mode, bool),
+    AcquireLoad(Aim<C>, bool),
     /// An acquire that has seen this word, which may be acquired.
-    Acquire(Mode, bool, Word),
+    Acquire(Aim<C>, bool, Word),
     /// An acquire that has seen this word, which may not be acquired, and is about to take the
     /// queues.
-    TakeToQueue(Mode, bool, Word),
+    TakeToQueue(Aim<C>, bool, Word),
     /// An acquire that has the queues, and is about to set its flag.
-    Arm(Mode, bool, Word),
+    Arm(Aim<C>, bool, Word),
     /// An acquire that is about to put the queues back with itself in the lock list.
-    Queue(Mode, bool, Word),
+    Queue(Aim<C>, bool, Word),
     /// An acquire that waits to be woken.
-    Round(Mode),
+    Round(Aim<C>),
     /// A quiet release that is about to load this cell, which isn't the last.
     QuietCells(u8),
     /// A quiet release that is about to load this cell, the last.
@@ -75,6 +79,8 @@ pub enum Walk {
     SetLoad(u8, u64),
     /// A write that is about to store the value.
     SetStore(u8, u64),
+    /// A wait for a condition, at this place.
+    Wait(Wait<C>, WaitPlace),
 }
 
 /// What a call answers.
@@ -86,38 +92,57 @@ pub enum Reply {
     Busy,
     /// Not released, since the section isn't quiet.
     Noisy,
-    /// A cell's value.
+    /// A cell's value, or the number of a note that was made.
     Number(u64),
+    /// No note was made, since 64 numbers are taken.
+    NotesFull,
+    /// Whether a note is notified.
+    Is(bool),
+    /// The expiry of a note, in ticks, if it has one.
+    Expiry(Option<u64>),
+    /// How a wait came back.
+    Answered(Answer),
     /// The call's need was not met as it began. It made no step, and no walk answers it.
     Misuse,
 }
 
 /// Where a walk goes.
 #[derive(Clone, Copy, Debug, PartialEq, Eq)]
-pub enum Next {
+pub enum Next<C> {
     /// It goes on at this place.
-    On(Walk),
-    /// It found nothing to go on with, and repeats from this place.
-    Idle(Walk),
-    /// It is over.
+    On(Walk<C>),
+    /// It has to wait for another seat, and repeats from this place.
+    Idle(Walk<C>),
+    /// It is over, and answers this.
     Done(Reply),
 }
 
 /// Where an acquire goes by the word last seen.
-fn acquire_by(mode: Mode, woken: bool, word: Word) -> Next
-    ensures { result ≡ acquire_by mode woken word }
+fn acquire_by<C: Copy>(aim: Aim<C>, woken: bool, word: Word) -> Next<C>
+    ensures { result ≡ acquire_by aim woken word }
 {
-    if word.may_acquire(mode, woken) {
-        Next::On(Walk::Acquire(mode, woken, word))
+    if word.may_acquire(aim.mode(), woken) {
+        Next::On(Walk::Acquire(aim, woken, word))
     } else if word.spin {
-        Next::Idle(Walk::AcquireLoad(mode, woken))
+        Next::Idle(Walk::AcquireLoad(aim, woken))
     } else {
-        Next::On(Walk::TakeToQueue(mode, woken, word))
+        Next::On(Walk::TakeToQueue(aim, woken, word))
+    }
+}
+
+/// Where an acquire goes that was made.
+fn acquired_for<C: Copy, const N: usize>(aim: Aim<C>) -> Next<C>
+    requires { N ≤ 16 }
+    ensures { result ≡ acquired_for N aim }
+{
+    match aim {
+        Aim::Lock(_) => Next::Done(Reply::Ok),
+        Aim::Back(wait, kept) => Next::On(test_place::<C, N>(wait, Visit::Back(kept), 0)),
     }
 }
 
 /// Where a release goes by the word last seen.
-fn release_by(leaving: Leaving, word: Word) -> Next
+fn release_by<C: Copy>(leaving: Leaving, word: Word) -> Next<C>
     ensures { result ≡ release_by leaving word }
 {
     if !word.needs_scan(leaving) {
@@ -130,7 +155,7 @@ fn release_by(leaving: Leaving, word: Word) -> Next
 }
 
 /// Where a release with the queues goes that has loaded so many cells.
-fn scan_place<const N: usize>(leaving: Leaving, last: Word, loaded: usize) -> Walk
+fn scan_place<C: Copy, const N: usize>(leaving: Leaving, last: Word, loaded: usize) -> Walk<C>
     requires { N ≤ 16 }
     ensures { result ≡ scan_place N leaving last loaded }
 {
@@ -142,7 +167,7 @@ fn scan_place<const N: usize>(leaving: Leaving, last: Word, loaded: usize) -> Wa
 }
 
 /// Where a release goes that owes wakes, or none.
-fn pay(owes: bool) -> Next
+fn pay<C: Copy>(owes: bool) -> Next<C>
     ensures { result ≡ (if owes then Next.On Walk.Pay else Next.Done Reply.Ok) }
 {
     if owes {
@@ -152,54 +177,69 @@ fn pay(owes: bool) -> Next
     }
 }
 
-impl Walk {
+/// Where a quiet release goes that has loaded so many cells.
+fn quiet_place<C: Copy, const N: usize>(loaded: usize) -> Walk<C>
+    requires { N ≤ 16 }
+    ensures { result ≡ quiet_place N loaded }
+{
+    let last = N.saturating_sub(1);
+    if loaded < last {
+        Walk::QuietCells(loaded as u8)
+    } else {
+        Walk::QuietLast(last as u8)
+    }
+}
+
+impl<C: Copy> Walk<C> {
     /// The first place of a quiet release of a row of `N` cells.
-    pub fn quiet_release<const N: usize>() -> Walk
+    ///
+    /// Needs a row of at most 16 cells.
+    pub fn quiet_release<const N: usize>() -> Walk<C>
         requires { N ≤ 16 }
         ensures { result ≡ quiet_place N 0 }
     {
-        Walk::quiet_place::<N>(0)
+        quiet_place::<C, N>(0)
     }
 
-    /// Where a quiet release goes that has loaded so many cells.
-    fn quiet_place<const N: usize>(loaded: usize) -> Walk
+    /// The first place of a wait for a condition of a row of `N` cells.
+    ///
+    /// Needs a row of at most 16 cells.
+    pub fn wait<const N: usize>(wait: Wait<C>) -> Walk<C>
         requires { N ≤ 16 }
-        ensures { result ≡ quiet_place N loaded }
+        ensures { result ≡ test_place N wait Visit.Entry 0 }
     {
-        let last = N.saturating_sub(1);
-        if loaded < last {
-            Walk::QuietCells(loaded as u8)
-        } else {
-            Walk::QuietLast(last as u8)
-        }
+        test_place::<C, N>(wait, Visit::Entry, 0)
     }
 
     /// The step that the walk wants next.
-    pub fn want(&self) -> Act
+    pub fn want(&self) -> Act<C>
         ensures { result ≡ want_of self.now }
     {
         match *self {
             Walk::TryLoad(_) => Act::LoadWord,
-            Walk::TryAcquire(mode, last) => Act::Acquire(mode, false, last),
+            Walk::TryAcquire(mode, last) => Act::Acquire(Aim::Lock(mode), false, last),
             Walk::AcquireLoad(_, _) => Act::LoadWord,
-            Walk::Acquire(mode, woken, last) => Act::Acquire(mode, woken, last),
-            Walk::TakeToQueue(mode, woken, last) => {
-                Act::TakeQueues(Taking::ToQueue(mode, woken), last)
+            Walk::Acquire(aim, woken, last) => Act::Acquire(aim, woken, last),
+            Walk::TakeToQueue(aim, woken, last) => {
+                Act::TakeQueues(Taking::ToQueue(aim.mode(), woken), last)
             }
             Walk::Arm(_, _, _) => Act::ArmFlag,
-            Walk::Queue(mode, woken, last) => Act::ReturnQueues(Change::Queue(mode, woken), last),
+            Walk::Queue(aim, woken, last) => {
+                Act::ReturnQueues(Change::Queue(aim.mode(), woken), last)
+            }
             Walk::Round(_) => Act::LoadFlag,
             Walk::QuietCells(i) => Act::LoadCell(i),
             Walk::QuietLast(i) => Act::JudgeQuiet(i),
             Walk::ReleaseLoad(_) => Act::LoadWord,
             Walk::Release(leaving, last) => Act::Release(leaving, last),
-            Walk::TakeToScan(_, last) => Act::TakeQueues(Taking::ToScan, last),
+            Walk::TakeToScan(_, last) => Act::TakeQueues(Taking::ToChange, last),
             Walk::ScanCells(_, _, i) => Act::LoadCell(i),
             Walk::ReleaseReturning(leaving, last) => Act::ReleaseReturning(leaving, last),
             Walk::Pay => Act::PayWake,
             Walk::Get(i) => Act::LoadCell(i),
             Walk::SetLoad(i, _) => Act::LoadCell(i),
             Walk::SetStore(i, value) => Act::StoreCell(i, value),
+            Walk::Wait(wait, place) => place.want(wait),
         }
     }
 
@@ -207,7 +247,7 @@ impl Walk {
     /// place finds leaves it where it is.
     ///
     /// Needs a row of at most 16 cells, which every condition's law says.
-    pub fn got<const N: usize>(self, found: Found) -> Next
+    pub fn got<const N: usize>(self, found: Found) -> Next<C>
         requires { N ≤ 16 }
         ensures { result ≡ got_of N self found }
     {
@@ -216,14 +256,17 @@ impl Walk {
             Found::Made => self.got_made::<N>(),
             Found::Cell(value) => self.got_cell::<N>(value),
             Found::Quiet(is_quiet) => self.got_quiet::<N>(is_quiet),
+            Found::Met(is_met) => self.got_met::<N>(is_met),
             Found::Scanned { owes, tests } => self.got_scanned::<N>(owes, tests),
             Found::Paid { owes } => self.got_paid::<N>(owes),
+            Found::Left(stood) => self.got_left::<N>(stood),
             Found::Flag(value) => self.got_flag::<N>(value),
+            Found::Looked(cause) => self.got_looked::<N>(cause),
         }
     }
 
     /// Where the walk goes with this word, loaded or found by a compare-exchange that failed.
-    fn got_word<const N: usize>(self, word: Word) -> Next
+    fn got_word<const N: usize>(self, word: Word) -> Next<C>
         ensures { result ≡ got_of N self (Found.Word word) }
     {
         match self {
@@ -235,64 +278,67 @@ impl Walk {
                 }
             }
             Walk::TryAcquire(_, _) => Next::Done(Reply::Busy),
-            Walk::AcquireLoad(mode, woken) => acquire_by(mode, woken, word),
-            Walk::Acquire(mode, woken, _) => acquire_by(mode, woken, word),
-            Walk::TakeToQueue(mode, woken, _) => acquire_by(mode, woken, word),
-            Walk::Queue(mode, woken, _) => Next::On(Walk::Queue(mode, woken, word)),
+            Walk::AcquireLoad(aim, woken) => acquire_by(aim, woken, word),
+            Walk::Acquire(aim, woken, _) => acquire_by(aim, woken, word),
+            Walk::TakeToQueue(aim, woken, _) => acquire_by(aim, woken, word),
+            Walk::Queue(aim, woken, _) => Next::On(Walk::Queue(aim, woken, word)),
             Walk::ReleaseLoad(leaving) => release_by(leaving, word),
             Walk::Release(leaving, _) => release_by(leaving, word),
             Walk::TakeToScan(leaving, _) => release_by(leaving, word),
             Walk::ReleaseReturning(leaving, _) => Next::On(Walk::ReleaseReturning(leaving, word)),
+            Walk::Wait(wait, place) => place.got_word::<C, N>(wait, word),
             walk => Next::On(walk),
         }
     }
 
     /// Where the walk goes when its exchange or its store was made.
-    fn got_made<const N: usize>(self) -> Next
+    fn got_made<const N: usize>(self) -> Next<C>
         requires { N ≤ 16 }
         ensures { result ≡ got_of N self Found.Made }
     {
         match self {
             Walk::TryAcquire(_, _) => Next::Done(Reply::Ok),
-            Walk::Acquire(_, _, _) => Next::Done(Reply::Ok),
-            Walk::TakeToQueue(mode, woken, last) => {
-                let word = last.taken(Taking::ToQueue(mode, woken));
-                Next::On(Walk::Arm(mode, woken, word))
+            Walk::Acquire(aim, _, _) => acquired_for::<C, N>(aim),
+            Walk::TakeToQueue(aim, woken, last) => {
+                let word = last.taken(Taking::ToQueue(aim.mode(), woken));
+                Next::On(Walk::Arm(aim, woken, word))
             }
-            Walk::Arm(mode, woken, last) => Next::On(Walk::Queue(mode, woken, last)),
-            Walk::Queue(mode, _, _) => Next::On(Walk::Round(mode)),
+            Walk::Arm(aim, woken, last) => Next::On(Walk::Queue(aim, woken, last)),
+            Walk::Queue(aim, _, _) => Next::On(Walk::Round(aim)),
             Walk::Release(_, _) => Next::Done(Reply::Ok),
             Walk::TakeToScan(leaving, last) => {
-                let word = last.taken(Taking::ToScan);
+                let word = last.taken(Taking::ToChange);
                 if last.cond {
-                    Next::On(scan_place::<N>(leaving, word, 0))
+                    Next::On(scan_place::<C, N>(leaving, word, 0))
                 } else {
                     Next::On(Walk::ReleaseReturning(leaving, word))
                 }
             }
             Walk::SetStore(_, _) => Next::Done(Reply::Ok),
+            Walk::Wait(wait, place) => place.got_made::<C, N>(wait),
             walk => Next::On(walk),
         }
     }
 
     /// Where the walk goes with a cell's value.
-    fn got_cell<const N: usize>(self, value: u64) -> Next
+    fn got_cell<const N: usize>(self, value: u64) -> Next<C>
         requires { N ≤ 16 }
         ensures { result ≡ got_of N self (Found.Cell value) }
     {
         match self {
-            Walk::QuietCells(i) => Next::On(Walk::quiet_place::<N>(i as usize + 1)),
+            Walk::QuietCells(i) => Next::On(quiet_place::<C, N>(i as usize + 1)),
             Walk::ScanCells(leaving, last, i) => {
-                Next::On(scan_place::<N>(leaving, last, i as usize + 1))
+                Next::On(scan_place::<C, N>(leaving, last, i as usize + 1))
             }
             Walk::Get(_) => Next::Done(Reply::Number(value)),
             Walk::SetLoad(i, value) => Next::On(Walk::SetStore(i, value)),
+            Walk::Wait(wait, place) => place.got_cell::<C, N>(wait, value),
             walk => Next::On(walk),
         }
     }
 
     /// Where the walk goes when it is told whether its section is quiet.
-    fn got_quiet<const N: usize>(self, is_quiet: bool) -> Next
+    fn got_quiet<const N: usize>(self, is_quiet: bool) -> Next<C>
         ensures { result ≡ got_of N self (Found.Quiet is_quiet) }
     {
         match self {
@@ -307,38 +353,71 @@ impl Walk {
         }
     }
 
+    /// Where the walk goes when it is told whether its condition is true.
+    fn got_met<const N: usize>(self, is_met: bool) -> Next<C>
+        ensures { result ≡ got_of N self (Found.Met is_met) }
+    {
+        match self {
+            Walk::Wait(wait, place) => place.got_met::<C, N>(wait, is_met),
+            walk => Next::On(walk),
+        }
+    }
+
     /// Where the walk goes when it has released with a scan, and owes wakes or none.
-    fn got_scanned<const N: usize>(self, owes: bool, tests: u32) -> Next
+    fn got_scanned<const N: usize>(self, owes: bool, tests: u32) -> Next<C>
         ensures { result ≡ got_of N self (Found.Scanned owes tests) }
     {
         match self {
             Walk::ReleaseReturning(_, _) => pay(owes),
+            Walk::Wait(wait, place) => place.got_scanned::<C, N>(wait, owes, tests),
             walk => Next::On(walk),
         }
     }
 
     /// Where the walk goes when it has paid a wake, and owes more or none.
-    fn got_paid<const N: usize>(self, owes: bool) -> Next
+    fn got_paid<const N: usize>(self, owes: bool) -> Next<C>
         ensures { result ≡ got_of N self (Found.Paid owes) }
     {
         match self {
             Walk::Pay => pay(owes),
+            Walk::Wait(wait, place) => place.got_paid::<C, N>(wait, owes),
+            walk => Next::On(walk),
+        }
+    }
+
+    /// Where the walk goes when it has put the queues back without itself.
+    fn got_left<const N: usize>(self, stood: bool) -> Next<C>
+        ensures { result ≡ got_of N self (Found.Left stood) }
+    {
+        match self {
+            Walk::Wait(wait, place) => place.got_left::<C, N>(wait, stood),
             walk => Next::On(walk),
         }
     }
 
     /// Where the walk goes with the value of its seat's flag.
-    fn got_flag<const N: usize>(self, value: u8) -> Next
+    fn got_flag<const N: usize>(self, value: u8) -> Next<C>
         ensures { result ≡ got_of N self (Found.Flag value) }
     {
         match self {
-            Walk::Round(mode) => {
+            Walk::Round(aim) => {
                 if value == 0 {
-                    Next::On(Walk::AcquireLoad(mode, true))
+                    Next::On(Walk::AcquireLoad(aim, true))
                 } else {
-                    Next::Idle(Walk::Round(mode))
+                    Next::Idle(Walk::Round(aim))
                 }
             }
+            Walk::Wait(wait, place) => place.got_flag::<C, N>(wait, value),
+            walk => Next::On(walk),
+        }
+    }
+
+    /// Where the walk goes with what a look has shown.
+    fn got_looked<const N: usize>(self, cause: Option<Cause>) -> Next<C>
+        ensures { result ≡ got_of N self (Found.Looked cause) }
+    {
+        match self {
+            Walk::Wait(wait, place) => place.got_looked::<C, N>(wait, cause),
             walk => Next::On(walk),
         }
     }

@@ -8,7 +8,7 @@
 //! | desig | the designated waker: one taken from the lock list is on its way |
 //! | cond | a waiter with a condition stands in the lock list |
 //! | writer_waits | a writer without condition stands in the lock list |
-//! | all_false | each waiter of the lock list has a condition, and it is false |
+//! | all_false | all who stand in the lock list wait for conditions that are false |
 //! | readers | how many seats hold the lock in read mode |
 //!
 //! While the spinlock bit is set, `waiting`, `cond` and `writer_waits` may tell of one that is
@@ -22,37 +22,53 @@ use ns_model::event::Mode;
 /// The lock word, part by part.
 #[derive(Clone, Copy, Debug, PartialEq, Eq)]
 pub struct Word {
+    /// The lock is held in write mode.
     pub write: bool,
+    /// The spinlock bit.
     pub spin: bool,
+    /// Somebody stands in the lock list.
     pub waiting: bool,
+    /// The designated waker is on its way.
     pub desig: bool,
+    /// A waiter with a condition stands in the lock list.
     pub cond: bool,
+    /// A writer without condition stands in the lock list.
     pub writer_waits: bool,
+    /// All who stand in the lock list wait for conditions that are false.
     pub all_false: bool,
+    /// How many seats hold the lock in read mode.
     pub readers: u8,
 }
 
-/// What the lock list holds: somebody, somebody with a condition, a writer without one.
+/// What the lock list holds.
 #[derive(Clone, Copy, Debug, PartialEq, Eq)]
 pub struct Bits {
+    /// Somebody.
     pub waiting: bool,
+    /// Somebody with a condition.
     pub conditional: bool,
+    /// A writer without condition.
     pub writer_waits: bool,
 }
 
-/// How a section is released: a writer's, a writer's that changed the row quietly, a reader's.
+/// How a section is released.
 #[derive(Clone, Copy, Debug, PartialEq, Eq)]
 pub enum Leaving {
+    /// A write section.
     Writer,
+    /// A write section that changed the row quietly.
     QuietWriter,
+    /// A read section.
     Reader,
 }
 
-/// What the queues are taken for: to look for waiters to wake, or to queue oneself in this mode,
-/// where the flag tells whether one was woken from the lock list before.
+/// What the queues are taken for.
 #[derive(Clone, Copy, Debug, PartialEq, Eq)]
 pub enum Taking {
-    ToScan,
+    /// To change what the lock list holds; the word tells of that as they are put back.
+    ToChange,
+    /// To queue oneself in this mode, of which the word tells at once. The flag tells whether one
+    /// was woken from the lock list before.
     ToQueue(Mode, bool),
 }
 
@@ -129,7 +145,7 @@ impl Word {
         ensures { result ≡ word_taken taking self }
     {
         match taking {
-            Taking::ToScan => Word { spin: true, ..self },
+            Taking::ToChange => Word { spin: true, ..self },
             Taking::ToQueue(mode, woken) => Word {
                 spin: true,
                 waiting: true,

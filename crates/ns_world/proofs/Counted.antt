@@ -1,39 +1,43 @@
 -- No seat is past its last call.
-use Rattle.std.proofs.Common.{◌≡◌, ◌≢◌, ℕ, zero, suc, ◌+◌, ◌<◌, ◌≤◌, inl, inr, Bool, true, false, cond, List, [], ◌∷◌, is_some, Vec, Global, length, map, get_or, slice_set, slice_get, slice_index, replicate, refl, ap, sym, ◌∙◌, subst, arith}
+use Rattle.std.proofs.Common.{◌≡◌, ◌≢◌, ℕ, zero, suc, ◌+◌, ◌<◌, ◌≤◌, inl, inr, Bool, true, false, cond, List, [], ◌∷◌, None, Some, is_some, Vec, Global, length, map, get_or, slice_set, slice_get, slice_index, replicate, refl, ap, sym, ◌∙◌, subst, arith}
 use Rattle.std.specs.Prelude.{All, IfSome}
 use Rattle.std.proofs.lemmas.Bool.{cases_eq}
 use Rattle.std.proofs.lemmas.List.{length-set, get_or-set_same, get_or-set_other}
 use Rattle.std.proofs.lemmas.List.Elements.{All-head, All-tail, All-nil}
 use Rattle.std.proofs.lemmas.Option.{slice_get_within}
-use Rattle.ns_word.specs.declared.view.SeatView.{SeatView}
 use Rattle.ns_word.specs.declared.walk.Reply.{Reply}
 use Rattle.ns_word.specs.declared.walk.Next.{Next}
 use Rattle.ns_word.specs.declared.walk.Next.TheVariants.{On, Idle as Idles, Done}
+use Rattle.ns_word.specs.declared.env_walk.EnvNext.{EnvNext}
+use Rattle.ns_word.specs.declared.env_walk.EnvNext.TheVariants.{On as EnvOn, Idle as EnvIdles, Done as EnvDone, Saw}
+use Rattle.ns_word.specs.EnvWalks.{env_got_of, env_walk_after}
 use Rattle.ns_word.specs.Walks.{got_of, walk_after}
+use Rattle.ns_world.specs.Asks.{env_step_of}
 use Rattle.ns_world.specs.declared.call.Call.{Call}
 use Rattle.ns_world.specs.declared.schedule.Line.{Line}
 use Rattle.ns_world.specs.declared.step.Step.{Step}
 use Rattle.ns_world.specs.declared.step.Step.TheVariants.{Went, Idle, Finished, Nothing}
-use Rattle.ns_world.specs.Calls.{CellFits}
+use Rattle.ns_world.specs.Calls.{CallInRange, start_of, mode_of}
 use Rattle.ns_world.specs.Performs.{step_of}
-use Rattle.ns_world.specs.World.{Now, Goes, is_busy}
+use Rattle.ns_world.specs.Looks.{look_of}
+use Rattle.ns_world.specs.World.{Now, Goes, LookGoes, Moves, is_walking, is_asking, is_busy}
 use Rattle.ns_world.specs.Runs.{Progress, progress, progressed, calls_of, Leads, TurnOf, Counts, IsCounted, ListFits}
-use Rattle.ns_world.proofs.Busy.{busy_set_same, busy_set_other}
-use Rattle.ns_world.proofs.Turns.{is_busy_of, is_idle_of}
+use Rattle.ns_world.proofs.Busy.{both, walking_at, walking_set_same, walking_set_other, asking_set_same, asking_set_other, asking_set_none}
+use Rattle.ns_world.proofs.Turns.{is_busy_of, is_idle_of, begun_others}
 
 -- ---- the lists
 
 -- each seat's calls are such a list
-pub calls_fit : (n : ℕ) (lists : List (Vec Call Global)) (seat : ℕ) → All (λ calls. ListFits n calls.items) lists → ListFits n (calls_of (map (λ calls. calls.items) lists) seat)
-calls_fit n [] seat fits = (omega arith, All-nil (CellFits n))
+pub calls_fit : {C : Type 0} (n : ℕ) (lists : List (Vec (Call C) Global)) (seat : ℕ) → All (λ calls. ListFits n calls.items) lists → ListFits n (calls_of (map (λ calls. calls.items) lists) seat)
+calls_fit n [] seat fits = (omega arith, All-nil (CallInRange n))
 calls_fit n (calls ∷ lists) zero fits = All-head (λ calls. ListFits n calls.items) calls lists fits
 calls_fit n (calls ∷ lists) (suc seat) fits = calls_fit n lists seat (All-tail (λ calls. ListFits n calls.items) calls lists fits)
 
 -- so is the seat's next call
-pub next_fits : (n : ℕ) (calls : List Call) (i : ℕ) → ListFits n calls → IfSome (slice_get calls i) (CellFits n)
+pub next_fits : {C : Type 0} (n : ℕ) (calls : List (Call C)) (i : ℕ) → ListFits n calls → IfSome (slice_get calls i) (CallInRange n)
 next_fits n [] i fits = tt
-next_fits n (call ∷ calls) zero fits = All-head (CellFits n) call calls fits.1
-next_fits n (call ∷ calls) (suc i) fits = next_fits n calls i (omega (arith, fits.0), All-tail (CellFits n) call calls fits.1)
+next_fits n (call ∷ calls) zero fits = All-head (CallInRange n) call calls fits.1
+next_fits n (call ∷ calls) (suc i) fits = next_fits n calls i (omega (arith, fits.0), All-tail (CallInRange n) call calls fits.1)
 
 -- ---- one seat's change
 
@@ -42,10 +46,16 @@ bit_most true = omega arith
 bit_most false = omega arith
 
 -- a call that is over leaves its seat idle
-over_idle : (next : Next) (reply : Reply) → Finished reply ≡ step_of next → is_some (walk_after next) ≡ false
+over_idle : {C : Type 0} (next : Next C) (reply : Reply) → Finished reply ≡ step_of next → walk_after next ≡ None
 over_idle (On walk) reply e = absurd (cc)
 over_idle (Idles walk) reply e = absurd (cc)
 over_idle (Done answer) reply e = refl
+
+over_unasked : (next : EnvNext) (reply : Reply) → Finished reply ≡ env_step_of next → is_some (env_walk_after next) ≡ false
+over_unasked (EnvOn walk) reply e = absurd (cc)
+over_unasked (EnvIdles walk) reply e = absurd (cc)
+over_unasked (EnvDone answer) reply e = refl
+over_unasked (Saw cause) reply e = refl
 
 set_others : (over : List ℕ) (seat n other : ℕ) → other ≢ seat → slice_index (slice_set over seat n) other ≡ slice_index over other
 set_others over seat n other ne = get_or-set_other over seat other n 0 ne
@@ -56,28 +66,63 @@ zeros (suc n) zero = refl
 zeros (suc n) (suc i) = zeros n i
 
 module _ {C : Type 0} {N : ℕ} where
-  -- a seat's view and count change, and no other's
-  changes : (views next : List (SeatView C N)) (over over' : List ℕ) (seat : ℕ) →
-      ((other : ℕ) → other ≢ seat → is_busy next other ≡ is_busy views other) → ((other : ℕ) → other ≢ seat → slice_index over' other ≡ slice_index over other) →
-      slice_index over' seat + cond (is_busy next seat) 1 0 ≤ 256 →
-      ((other : ℕ) → slice_index over other + cond (is_busy views other) 1 0 ≤ 256) → (other : ℕ) → slice_index over' other + cond (is_busy next other) 1 0 ≤ 256
-  changes views next over over' seat same count here p other =
+  -- a seat and its count change, and no other's
+  changes : (old new : Now C N) (over over' : List ℕ) (seat : ℕ) →
+      ((other : ℕ) → other ≢ seat → is_busy new.state.views new.asking other ≡ is_busy old.state.views old.asking other) → ((other : ℕ) → other ≢ seat → slice_index over' other ≡ slice_index over other) →
+      slice_index over' seat + cond (is_busy new.state.views new.asking seat) 1 0 ≤ 256 →
+      ((other : ℕ) → slice_index over other + cond (is_busy old.state.views old.asking other) 1 0 ≤ 256) → (other : ℕ) → slice_index over' other + cond (is_busy new.state.views new.asking other) 1 0 ≤ 256
+  changes old new over over' seat same count here p other =
       elim (cases_eq other seat) [
-        | inl e ↦ subst (λ n. slice_index over' n + cond (is_busy next n) 1 0 ≤ 256) (sym e) here
+        | inl e ↦ subst (λ n. slice_index over' n + cond (is_busy new.state.views new.asking n) 1 0 ≤ 256) (sym e) here
         | inr ne ↦ rw (same other ne, count other ne) (p other)
       ]
 
   -- what a step leaves of who is busy
-  goes_others : (old new : Now C N) (seat : ℕ) (step : Step) → Goes old new seat step → (other : ℕ) → other ≢ seat → is_busy new.state.views other ≡ is_busy old.state.views other
-  goes_others old new seat step goes other ne = ap (λ views. is_busy views other) goes.others ∙ busy_set_other old.state.views seat _ other ne
+  goes_others : (old new : Now C N) (seat : ℕ) (step : Step) → Goes old new seat step → (other : ℕ) → other ≢ seat → is_busy new.state.views new.asking other ≡ is_busy old.state.views old.asking other
+  goes_others old new seat step goes other ne =
+      both new.state.views new.asking other (is_walking old.state.views other) (is_asking old.asking other)
+      (ap (λ views. is_walking views other) goes.others ∙ walking_set_other old.state.views seat _ other ne) (ap (λ askings. is_asking askings other) goes.asking ∙ asking_set_other old.asking seat _ other ne)
 
-  goes_over : (old new : Now C N) (seat : ℕ) (reply : Reply) → Goes old new seat (Finished reply) → is_busy new.state.views seat ≡ false
+  look_others : (old new : Now C N) (seat : ℕ) (step : Step) (next : EnvNext) → LookGoes next old new seat step → (other : ℕ) → other ≢ seat → is_busy new.state.views new.asking other ≡ is_busy old.state.views old.asking other
+  look_others old new seat step (EnvOn walk) p other ne =
+      both new.state.views new.asking other (is_walking old.state.views other) (is_asking old.asking other)
+      (ap (λ (world : Now C N). is_walking world.state.views other) p.0) (ap (λ (world : Now C N). is_asking world.asking other) p.0 ∙ asking_set_other old.asking seat (Some walk) other ne)
+  look_others old new seat step (Saw cause) p other ne = goes_others old new seat step p.0 other ne
+  look_others old new seat step (EnvIdles walk) p other ne = absurd p
+  look_others old new seat step (EnvDone reply) p other ne = absurd p
+
+  moves_others : (old new : Now C N) (seat : ℕ) (step : Step) → Moves old new seat step → (other : ℕ) → other ≢ seat → is_busy new.state.views new.asking other ≡ is_busy old.state.views old.asking other
+  moves_others old new seat step (inl goes) other ne = goes_others old new seat step goes.0 other ne
+  moves_others old new seat step (inr (inr looks)) other ne = look_others old new seat step (env_got_of looks.place looks.found) looks.goes other ne
+  moves_others old new seat step (inr (inl asks)) other ne =
+      both new.state.views new.asking other (is_walking old.state.views other) (is_asking old.asking other)
+      (ap (λ (world : Now C N). is_walking world.state.views other) asks.others) (ap (λ askings. is_asking askings other) asks.makes.becomes ∙ asking_set_other old.asking seat _ other ne)
+
+  -- and what the last one of a call leaves
+  goes_over : (old new : Now C N) (seat : ℕ) (reply : Reply) → Goes old new seat (Finished reply) → is_busy new.state.views new.asking seat ≡ false
   goes_over old new seat reply goes =
-      ap (λ views. is_busy views seat) goes.others ∙ busy_set_same old.state.views seat _ (slice_get_within old.state.views seat goes.view goes.at) ∙ over_idle (got_of N goes.makes.walk goes.found) reply goes.answers
+      let over = over_idle (got_of N goes.makes.walk goes.found) reply goes.answers in
+      both new.state.views new.asking seat false false
+      (ap (λ views. is_walking views seat) goes.others ∙ walking_set_same old.state.views seat _ (slice_get_within old.state.views seat goes.view goes.at) ∙ ap is_some over)
+      (ap (λ askings. is_asking askings seat) (goes.asking ∙ ap (λ w. slice_set old.asking seat (look_of w)) over) ∙ asking_set_none old.asking seat)
+
+  look_over : (old new : Now C N) (seat : ℕ) (reply : Reply) (next : EnvNext) → LookGoes next old new seat (Finished reply) → is_busy new.state.views new.asking seat ≡ false
+  look_over old new seat reply (EnvOn walk) p = let e = p.1 in absurd (cc)
+  look_over old new seat reply (Saw cause) p = goes_over old new seat reply p.0
+  look_over old new seat reply (EnvIdles walk) p = absurd p
+  look_over old new seat reply (EnvDone answer) p = absurd p
+
+  moves_over : (old new : Now C N) (seat : ℕ) (reply : Reply) → Moves old new seat (Finished reply) → is_busy new.state.views new.asking seat ≡ false
+  moves_over old new seat reply (inl goes) = goes_over old new seat reply goes.0
+  moves_over old new seat reply (inr (inr looks)) = look_over old new seat reply (env_got_of looks.place looks.found) looks.goes
+  moves_over old new seat reply (inr (inl asks)) =
+      both new.state.views new.asking seat false false
+      (ap (λ (world : Now C N). is_walking world.state.views seat) asks.others ∙ walking_at old.state.views seat asks.view asks.at ∙ ap is_some asks.idle)
+      (ap (λ askings. is_asking askings seat) asks.makes.becomes ∙ asking_set_same old.asking seat _ (slice_get_within old.asking seat (Some asks.makes.walk) asks.makes.walks) ∙ over_unasked (env_got_of asks.makes.walk asks.found) reply asks.answers)
 
   -- a call that goes on or begins is one of the seat's, so it is not past its last
-  leads_below : (lists : List (List Call)) (p : Progress C N) (seat : ℕ) (begun : Now C N) → length (calls_of lists seat) ≤ 256 → Leads lists p seat begun →
-      slice_index p.over seat + cond (is_busy p.world.state.views seat) 1 0 ≤ 256 → slice_index p.over seat + 1 ≤ 256
+  leads_below : (lists : List (List (Call C))) (p : Progress C N) (seat : ℕ) (begun : Now C N) → length (calls_of lists seat) ≤ 256 → Leads lists p seat begun →
+      slice_index p.over seat + cond (is_busy p.world.state.views p.world.asking seat) 1 0 ≤ 256 → slice_index p.over seat + 1 ≤ 256
   leads_below lists p seat begun few (inl busy) most =
       let yes = is_busy_of p.world seat busy.0 in
       omega (arith, rw yes at most)
@@ -85,40 +130,40 @@ module _ {C : Type 0} {N : ℕ} where
       let within = slice_get_within (calls_of lists seat) (slice_index p.over seat) called.0 called.1 in
       omega (arith, within, few)
 
-  leads_others : (lists : List (List Call)) (p : Progress C N) (seat : ℕ) (begun : Now C N) → Leads lists p seat begun →
-      (other : ℕ) → other ≢ seat → is_busy begun.state.views other ≡ is_busy p.world.state.views other
-  leads_others lists p seat begun (inl busy) other ne = ap (λ (world : Now C N). is_busy world.state.views other) busy.1
+  leads_others : (lists : List (List (Call C))) (p : Progress C N) (seat : ℕ) (begun : Now C N) → Leads lists p seat begun →
+      (other : ℕ) → other ≢ seat → is_busy begun.state.views begun.asking other ≡ is_busy p.world.state.views p.world.asking other
+  leads_others lists p seat begun (inl busy) other ne = ap (λ (world : Now C N). is_busy world.state.views world.asking other) busy.1
   leads_others lists p seat begun (inr called) other ne =
-      ap (λ (world : Now C N). is_busy world.state.views other) called.2.begins ∙ busy_set_other p.world.state.views seat _ other ne
+      ap (λ (world : Now C N). is_busy world.state.views world.asking other) called.2.begins ∙ begun_others p.world seat called.2.view (start_of N (mode_of called.2.view.held) called.0) other ne
 
   -- a turn keeps the count
-  pub turn_counted : (lists : List (List Call)) (p q : Progress C N) (seat : ℕ) (step : Step) → length (calls_of lists seat) ≤ 256 → seat < 64 → TurnOf lists p seat step q →
+  pub turn_counted : (lists : List (List (Call C))) (p q : Progress C N) (seat : ℕ) (step : Step) → length (calls_of lists seat) ≤ 256 → seat < 64 → TurnOf lists p seat step q →
       IsCounted p.world p.over → IsCounted q.world q.over
   turn_counted lists p q seat Went few low (inl t) c =
       subst (λ (x : Progress C N). IsCounted x.world x.over) (sym t.after) (record {
         many = c.many;
-        most = changes p.world.state.views t.world.state.views p.over p.over seat
-            (λ other ne. goes_others t.begun t.world seat Went t.steps other ne ∙ leads_others lists p seat t.begun t.leads other ne)
+        most = changes p.world t.world p.over p.over seat
+            (λ other ne. moves_others t.begun t.world seat Went t.steps other ne ∙ leads_others lists p seat t.begun t.leads other ne)
             (λ other ne. refl)
-            (let below = leads_below lists p seat t.begun few t.leads (c.most seat) in omega (arith, below, bit_most (is_busy t.world.state.views seat)))
+            (let below = leads_below lists p seat t.begun few t.leads (c.most seat) in omega (arith, below, bit_most (is_busy t.world.state.views t.world.asking seat)))
             c.most;
       })
   turn_counted lists p q seat Idle few low (inl t) c =
       subst (λ (x : Progress C N). IsCounted x.world x.over) (sym t.after) (record {
         many = c.many;
-        most = changes p.world.state.views t.world.state.views p.over p.over seat
-            (λ other ne. goes_others t.begun t.world seat Idle t.steps other ne ∙ leads_others lists p seat t.begun t.leads other ne)
+        most = changes p.world t.world p.over p.over seat
+            (λ other ne. moves_others t.begun t.world seat Idle t.steps other ne ∙ leads_others lists p seat t.begun t.leads other ne)
             (λ other ne. refl)
-            (let below = leads_below lists p seat t.begun few t.leads (c.most seat) in omega (arith, below, bit_most (is_busy t.world.state.views seat)))
+            (let below = leads_below lists p seat t.begun few t.leads (c.most seat) in omega (arith, below, bit_most (is_busy t.world.state.views t.world.asking seat)))
             c.most;
       })
   turn_counted lists p q seat (Finished reply) few low (inl t) c =
       subst (λ (x : Progress C N). IsCounted x.world x.over) (sym t.after) (record {
         many = length-set p.over seat _ ∙ c.many;
-        most = changes p.world.state.views t.world.state.views p.over (slice_set p.over seat (slice_index p.over seat + 1)) seat
-            (λ other ne. goes_others t.begun t.world seat (Finished reply) t.steps other ne ∙ leads_others lists p seat t.begun t.leads other ne)
+        most = changes p.world t.world p.over (slice_set p.over seat (slice_index p.over seat + 1)) seat
+            (λ other ne. moves_others t.begun t.world seat (Finished reply) t.steps other ne ∙ leads_others lists p seat t.begun t.leads other ne)
             (λ other ne. set_others p.over seat (slice_index p.over seat + 1) other ne)
-            (rw (goes_over t.begun t.world seat reply t.steps, get_or-set_same p.over seat (slice_index p.over seat + 1) 0 (omega (arith, c.many, low)))
+            (rw (moves_over t.begun t.world seat reply t.steps, get_or-set_same p.over seat (slice_index p.over seat + 1) 0 (omega (arith, c.many, low)))
             (let below = leads_below lists p seat t.begun few t.leads (c.most seat) in omega (arith, below)))
             c.most;
       })
@@ -126,18 +171,18 @@ module _ {C : Type 0} {N : ℕ} where
   turn_counted lists p q seat step few low (inr (inl t)) c =
       subst (λ (x : Progress C N). IsCounted x.world x.over) (sym t.after) (record {
         many = length-set p.over seat _ ∙ c.many;
-        most = changes p.world.state.views p.world.state.views p.over (slice_set p.over seat (slice_index p.over seat + 1)) seat
+        most = changes p.world p.world p.over (slice_set p.over seat (slice_index p.over seat + 1)) seat
             (λ other ne. refl)
             (λ other ne. set_others p.over seat (slice_index p.over seat + 1) other ne)
             (let within = slice_get_within (calls_of lists seat) (slice_index p.over seat) t.call t.next in
-            let idle = is_idle_of p.world seat (record { view = t.refused.1.view; at = t.refused.1.at; idle = t.refused.1.idle }) in
+            let idle = is_idle_of p.world seat (record { view = t.refused.1.view; at = t.refused.1.at; idle = t.refused.1.idle; unasked = t.refused.1.unasked }) in
             rw (idle, get_or-set_same p.over seat (slice_index p.over seat + 1) 0 (omega (arith, c.many, low))) (omega (arith, within, few)))
             c.most;
       })
   turn_counted lists p q seat step few low (inr (inr t)) c = subst (λ (x : Progress C N). IsCounted x.world x.over) (sym t.after) c
 
   -- before the first turn
-  pub start_counted : (world : Now C N) → ((seat : ℕ) → is_busy world.state.views seat ≡ false) → IsCounted world (replicate 64 0)
+  pub start_counted : (world : Now C N) → ((seat : ℕ) → is_busy world.state.views world.asking seat ≡ false) → IsCounted world (replicate 64 0)
   start_counted world idle = record { many = refl; most = λ seat. rw (idle seat, zeros 64 seat) (omega arith) }
 
   counts_now : (world new : Now C N) (over over' : List ℕ) (lines lines' : List Line) (seat : ℕ) (step : Step) → Counts over lines seat step (slice_index new.tests seat) over' lines' →

@@ -1,21 +1,27 @@
 -- A new world's seats, one after another.
-use Rattle.std.proofs.Common.{◌≡◌, ℕ, zero, suc, ◌+◌, ◌-◌, ◌<◌, List, [], ◌∷◌, ◌++◌, None, map, replicate, refl, sym, ap, ◌∙◌, arith, sub-one, get_or, length, ◌≤◌}
+use Rattle.std.proofs.Common.{◌≡◌, ℕ, zero, suc, ◌+◌, ◌-◌, ◌<◌, List, [], ◌∷◌, ◌++◌, None, Some, slice_get, subst, map, replicate, refl, sym, ap, ◌∙◌, arith, sub-one, get_or, length, ◌≤◌}
 use Rattle.std.proofs.lemmas.List.{map-append, append_assoc}
 use Rattle.ns_word.specs.declared.view.SeatView.{SeatView}
 use Rattle.ns_word.specs.Begins.{fresh_views}
 use Rattle.ns_world.specs.declared.seat.Seat.{Seat}
 use Rattle.ns_word.specs.Steps.{Truths}
+use Rattle.ns_model.specs.Environments.{NoteStanding, no_note}
+use Rattle.ns_word.specs.EnvWalks.{standing_of, state_of}
+use Rattle.ns_word.proofs.EnvBegins.{fresh_lawful}
 use Rattle.ns_word.proofs.Starts.{lawful_fresh}
+use Rattle.ns_world.specs.Asks.{note_at}
 use Rattle.ns_world.specs.Performs.{view_of, flag_at}
+use Rattle.ns_word.specs.EnvSteps.{IfMade}
+use Rattle.ns_world.specs.Looks.{AsksFor, note_in}
 use Rattle.ns_world.specs.World.{AreNumbered, IsLawfulWorld, fresh}
 
 pub views_next : {C : Type 0} {N : ℕ} (first n : ℕ) → 0 < n → fresh_views {C = C} {N = N} first n ≡ record { seat = first; walk = None; held = None; owed = [] } ∷ fresh_views (first + 1) (n - 1)
 views_next first zero some = absurd (omega arith)
 views_next first (suc n) some = rw sub-one refl
 
-pub tests_next : (n : ℕ) → 0 < n → replicate {A = ℕ} n 0 ≡ 0 ∷ replicate {A = ℕ} (n - 1) 0
-tests_next zero some = absurd (omega arith)
-tests_next (suc n) some = rw sub-one refl
+pub copies_next : {A : Type 0} (x : A) (n : ℕ) → 0 < n → replicate n x ≡ x ∷ replicate (n - 1) x
+copies_next x zero some = absurd (omega arith)
+copies_next x (suc n) some = rw sub-one refl
 
 -- one more is made of those to come
 pub moved : {A B : Type 0} (f : A → B) (made : List A) (x : A) (left rest all : List B) → left ≡ f x ∷ rest → map f made ++ left ≡ all → map f (made ++ x ∷ []) ++ rest ≡ all
@@ -36,6 +42,19 @@ no_flag (suc n) (suc seat) = no_flag n seat
 pub no_flags : ◌≡◌ {A = ℕ → ℕ} (flag_at (replicate 64 0)) (λ seat. 0)
 no_flags i seat = no_flag 64 seat i
 
+-- there is no note
+no_note_of : (n note : ℕ) → standing_of (get_or (replicate n (state_of no_note)) note (state_of no_note)) ≡ no_note
+no_note_of zero note = refl
+no_note_of (suc n) zero = refl
+no_note_of (suc n) (suc note) = no_note_of n note
+
+pub no_notes : ◌≡◌ {A = ℕ → NoteStanding} (note_at (replicate 64 (state_of no_note))) (λ note. no_note)
+no_notes i note = no_note_of 64 note i
+
+many : {A : Type 0} (x : A) (n : ℕ) → length (replicate n x) ≡ n
+many x zero = refl
+many x (suc n) = ap suc (many x n)
+
 module _ (C : Type 0) (N : ℕ) where
   pub length_views : (first n : ℕ) → length (fresh_views {C = C} {N = N} first n) ≡ n
   length_views first zero = refl
@@ -45,10 +64,25 @@ module _ (C : Type 0) (N : ℕ) where
   numbered first zero = tt
   numbered first (suc n) = (refl, numbered (first + 1) n)
 
+  -- and in no call
+  no_walk : (first n seat : ℕ) (view : SeatView C N) → slice_get (fresh_views {C = C} {N = N} first n) seat ≡ Some view → view.walk ≡ None
+  no_walk first zero seat view at = absurd (cc)
+  no_walk first (suc n) zero view at =
+      let fresh_view : SeatView C N = record { seat = first; walk = None; held = None; owed = [] } in
+      let same : Some fresh_view ≡ Some view = at in
+      let is : fresh_view ≡ view = cc in
+      sym (ap (λ (v : SeatView C N). v.walk) is)
+  no_walk first (suc n) (suc seat) view at = no_walk (first + 1) n seat view at
+
   pub lawful_new : (truths : Truths C) (n : ℕ) → n ≤ 64 → IsLawfulWorld (fresh {C = C} {N = N} truths n)
   lawful_new truths n few = record {
     few = rw (length_views 0 n) few;
     numbered = numbered 0 n;
     no_variables = refl;
     lawful = rw (length_views 0 n) (lawful_fresh C N truths n few);
+    as_many = many None n ∙ sym (length_views 0 n);
+    right = λ seat view asking at asks. subst (λ w. AsksFor w asking) (sym (no_walk 0 n seat view at)) tt;
+    noted = λ seat view at. subst (λ w. IfMade (fresh {C = C} {N = N} truths n).env.notes (note_in w)) (sym (no_walk 0 n seat view at)) tt;
+    events = [];
+    env_lawful = fresh_lawful n;
   }

@@ -2,13 +2,16 @@ pub mod Busy
 pub mod Counted
 pub mod Fresh
 pub mod Lists
+pub mod Looking
 pub mod Mapped
 pub mod Numbers
 pub mod Packable
+pub mod Placed
 pub mod Places
 pub mod Released
 pub mod Schedules
 pub mod Showing
 pub mod States
 pub mod Turns
+pub mod Waited
 pub mod Worlds

@@ -1,5 +1,5 @@
 -- What holds of each of four lists.
-use Rattle.std.proofs.Common.{◌≡◌, ℕ, zero, suc, ◌<◌, List, [], ◌∷◌, length, get_or, arith}
+use Rattle.std.proofs.Common.{◌≡◌, zero, suc, List, [], ◌∷◌, arith}
 use Rattle.std.specs.Prelude.{All}
 use Rattle.arrayvec.specs.declared.array_vec.ArrayVec.{ArrayVec}
 use Rattle.ns_queue.specs.declared.waiter.Shown.{Shown}

@@ -1,26 +1,39 @@
 -- Where calls begin, and what acts may be made.
-use Rattle.std.proofs.Common.{◌≡◌, ℕ, ◌+◌, ◌-◌, ◌<◌, ◌≤◌, Bool, true, false, cond, Option, Some, None, List, [], ◌∷◌, refl, arith, nat_lt}
+use Rattle.std.proofs.Common.{◌≡◌, ℕ, ◌-◌, ◌≤◌, Bool, true, false, cond, Option, Some, None, List, [], ◌∷◌, refl, arith, nat_lt}
 use Rattle.std.proofs.lemmas.Bool.Decides.{nat_tests}
 use Rattle.ns_model.specs.declared.event.Mode.{Mode}
 use Rattle.ns_model.specs.declared.event.Mode.TheVariants.{Write, Read}
 use Rattle.ns_word.specs.declared.view.Held.{Held}
 use Rattle.ns_word.specs.declared.word.Leaving.TheVariants.{Writer, Reader}
-use Rattle.ns_word.specs.declared.walk.Walk.{Walk}
-use Rattle.ns_word.specs.declared.walk.Walk.TheVariants.{QuietCells, QuietLast}
+use Rattle.ns_word.specs.declared.wait.Wait.{Wait as WaitFor}
+use Rattle.ns_word.specs.declared.wait.Visit.TheVariants.{Entry}
+use Rattle.ns_word.specs.declared.wait.WaitPlace.TheVariants.{TestCells, TestLast}
+use Rattle.ns_word.specs.declared.walk.Walk.TheVariants.{QuietCells, QuietLast, Wait as Waiting}
 use Rattle.ns_word.specs.declared.act.Act.{Act}
-use Rattle.ns_word.specs.declared.act.Act.TheVariants.{LoadWord, Acquire, TakeQueues, ReturnQueues, Release, ReleaseReturning, LoadCell, JudgeQuiet, StoreCell, ArmFlag, PayWake, LoadFlag}
+use Rattle.ns_word.specs.declared.act.Act.TheVariants.{LoadWord, Acquire, TakeQueues, ReturnQueues, Release, ReleaseReturning, WaitReturning, LoadCell, JudgeQuiet, JudgeMet, StoreCell, ArmFlag, PayWake, LoadFlag, Look}
 use Rattle.ns_word.specs.Steps.{Truths, Part}
 use Rattle.ns_word.specs.Places.{HasMode, CanLeave, PlaceFits, ActFits, OwesOne}
 use Rattle.ns_word.specs.Begins.{IsFirst}
 use Rattle.ns_world.specs.declared.call.Call.{Call}
-use Rattle.ns_world.specs.declared.call.Call.TheVariants.{Lock, RLock, TryLock, TryRLock, Unlock, RUnlock, UnlockQuiet, Get, Set}
-use Rattle.ns_world.specs.Calls.{start_of, CallFits, CellFits, mode_of}
+use Rattle.ns_world.specs.declared.call.Call.TheVariants.{Lock, RLock, TryLock, TryRLock, Unlock, RUnlock, UnlockQuiet, Get, Set, Wait, NewNote, Notify, Advance, IsNotified, Expiry, NoteWait}
+use Rattle.ns_model.specs.Environments.{NoteStanding}
+use Rattle.ns_word.specs.EnvSteps.{IfMade, IsFirstAsk}
+use Rattle.ns_word.specs.Walks.{want_of}
+use Rattle.ns_world.specs.Looks.{looks_at, note_in}
+use Rattle.ns_world.specs.declared.call.Start.{Start}
+use Rattle.ns_world.specs.declared.call.Start.TheVariants.{Lock as OnLock, Ask}
+use Rattle.ns_world.specs.Calls.{start_of, CallFits, CallInRange, mode_of}
+
+-- the first place of a call goes with the seat and the notes
+abbrev pub StartFits : {C : Type 0} {N : ℕ} → Truths C → (ℕ → NoteStanding) → Start C → Option (Held C N) → Type 0
+StartFits {C} {N} truths notes (OnLock walk) held = IsFirst N walk × PlaceFits truths (Some walk) held × IfMade notes (note_in (Some walk)) × (looks_at (want_of walk) ≡ None)
+StartFits truths notes (Ask walk) held = IsFirstAsk notes walk
 
 owes_more : (few many : ℕ) (owed : List ℕ) → few ≤ many → OwesOne few owed → OwesOne many owed
 owes_more few many [] le p = p
 owes_more few many (x ∷ xs) le p = omega (arith, le, p)
 
-module _ {C : Type 0} {N : ℕ} (truths : Truths C) where
+module _ {C : Type 0} {N : ℕ} (truths : Truths C) (notes : ℕ → NoteStanding) where
   nothing : (held : Option (Held C N)) → mode_of held ≡ None → held ≡ None
   nothing None e = refl
   nothing (Some held) e = absurd (cc)
@@ -38,34 +51,51 @@ module _ {C : Type 0} {N : ℕ} (truths : Truths C) where
   can_read (Some held) e = (cc, tt)
 
   quiet_fits : (held : Option (Held C N)) (more : Bool) → nat_lt 0 (N - 1) ≡ more → 1 ≤ N → HasMode Write held →
-      IsFirst N (cond more (QuietCells 0) (QuietLast (N - 1))) × PlaceFits truths (Some (cond more (QuietCells 0) (QuietLast (N - 1)))) held
-  quiet_fits held true e some mode = (refl, (mode, grind (arith, nat_tests)))
-  quiet_fits held false e some mode = (grind (arith, nat_tests), (mode, omega (arith, some)))
+      StartFits truths notes (OnLock (cond more (QuietCells 0) (QuietLast (N - 1)))) held
+  quiet_fits held true e some mode = (refl, (mode, grind (arith, nat_tests)), tt, refl)
+  quiet_fits held false e some mode = (grind (arith, nat_tests), (mode, omega (arith, some)), tt, refl)
 
-  -- a call whose need is met begins at the first place of a walk, which goes with the section in hand
-  pub start_fits : (call : Call) (held : Option (Held C N)) → 1 ≤ N → CellFits N call → CallFits call (mode_of held) → IsFirst N (start_of N call) × PlaceFits truths (Some (start_of N call)) held
-  start_fits Lock held some cell fits = (refl, nothing held fits)
-  start_fits RLock held some cell fits = (refl, nothing held fits)
-  start_fits TryLock held some cell fits = (tt, nothing held fits)
-  start_fits TryRLock held some cell fits = (tt, nothing held fits)
-  start_fits Unlock held some cell fits = (tt, can_write held fits)
-  start_fits RUnlock held some cell fits = (tt, can_read held fits)
-  start_fits UnlockQuiet held some cell fits = quiet_fits held (nat_lt 0 (N - 1)) refl some (has_mode Write held fits)
-  start_fits (Get i) None some cell fits = absurd (cc)
-  start_fits (Get i) (Some held) some cell fits = (tt, (refl, cell))
-  start_fits (Set i v) held some cell fits = (tt, (has_mode Write held fits, cell))
+  wait_fits : (wait : WaitFor C) (held : Held C N) (more : Bool) → nat_lt 0 (N - 1) ≡ more → 1 ≤ N → held.mode ≡ wait.mode → IfMade notes wait.limits.note →
+      StartFits truths notes (OnLock (cond more (Waiting wait (TestCells Entry 0)) (Waiting wait (TestLast Entry (N - 1))))) (Some held)
+  wait_fits wait held true e some mode made = (refl, (mode, grind (arith, nat_tests)), made, refl)
+  wait_fits wait held false e some mode made = (grind (arith, nat_tests), (mode, omega (arith, some)), made, refl)
 
+  -- a call whose need is met begins at the first place of a walk: on the lock, at one that goes with the section in hand; on the clock and the notes, at one whose notes are made
+  pub start_fits : (call : Call C) (held : Option (Held C N)) → 1 ≤ N → CallInRange N call → CallFits notes call (mode_of held) → StartFits truths notes (start_of N (mode_of held) call) held
+  start_fits Lock held some range fits = (refl, nothing held fits, tt, refl)
+  start_fits RLock held some range fits = (refl, nothing held fits, tt, refl)
+  start_fits TryLock held some range fits = (tt, nothing held fits, tt, refl)
+  start_fits TryRLock held some range fits = (tt, nothing held fits, tt, refl)
+  start_fits Unlock held some range fits = (tt, can_write held fits, tt, refl)
+  start_fits RUnlock held some range fits = (tt, can_read held fits, tt, refl)
+  start_fits UnlockQuiet held some range fits = quiet_fits held (nat_lt 0 (N - 1)) refl some (has_mode Write held fits)
+  start_fits (Get i) None some range fits = absurd (cc)
+  start_fits (Get i) (Some held) some range fits = (tt, (refl, range), tt, refl)
+  start_fits (Set i v) held some range fits = (tt, (has_mode Write held fits, range), tt, refl)
+  start_fits (Wait c limits) None some range fits = absurd (cc (fits.0))
+  start_fits (Wait c limits) (Some held) some range fits = wait_fits (record { mode = held.mode; cond = c; limits = limits }) held (nat_lt 0 (N - 1)) refl some refl fits.1
+  start_fits (NewNote parent deadline) held some range fits = fits
+  start_fits (Notify note) held some range fits = fits
+  start_fits (Advance moment) held some range fits = tt
+  start_fits (IsNotified note) held some range fits = fits
+  start_fits (Expiry note) held some range fits = (refl, refl, fits)
+  start_fits (NoteWait note deadline) held some range fits = fits
+
+module _ {C : Type 0} {N : ℕ} (truths : Truths C) where
   -- what may be made by one of few seats may be by one of more
-  pub fits_more : (few many seat : ℕ) (act : Act) (part : Part C N) → few ≤ many → ActFits truths few seat act part → ActFits truths many seat act part
+  pub fits_more : (few many seat : ℕ) (act : Act C) (part : Part C N) → few ≤ many → ActFits truths few seat act part → ActFits truths many seat act part
   fits_more few many seat LoadWord part le p = p
-  fits_more few many seat (Acquire mode woken last) part le p = p
+  fits_more few many seat (Acquire aim woken last) part le p = p
   fits_more few many seat (TakeQueues taking last) part le p = p
   fits_more few many seat (ReturnQueues change last) part le p = (omega (arith, le, p.0), p.1)
   fits_more few many seat (Release leaving last) part le p = p
   fits_more few many seat (ReleaseReturning leaving last) part le p = p
+  fits_more few many seat (WaitReturning wait again last) part le p = (p.0, p.1, omega (arith, le, p.2), p.3)
   fits_more few many seat (LoadCell i) part le p = p
   fits_more few many seat (JudgeQuiet i) part le p = p
+  fits_more few many seat (JudgeMet i c) part le p = p
   fits_more few many seat (StoreCell i v) part le p = p
   fits_more few many seat ArmFlag part le p = omega (arith, le, p)
   fits_more few many seat PayWake part le p = owes_more few many part.owed le p
   fits_more few many seat LoadFlag part le p = omega (arith, le, p)
+  fits_more few many seat (Look limits again) part le p = p

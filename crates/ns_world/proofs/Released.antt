@@ -1,5 +1,5 @@
 -- The exchanges that were made, over plain data.
-use Rattle.std.proofs.Common.{◌≡◌, ◌≢◌, ℕ, ◌+◌, Bool, true, false, not, List, [], ◌∷◌, ◌++◌, length, map, Option, None, Some, refl, ap, sym, ◌∙◌, subst, eqb, arith, is_some}
+use Rattle.std.proofs.Common.{◌≡◌, ◌≢◌, ℕ, Bool, true, not, List, [], ◌∷◌, ◌++◌, length, Option, None, Some, refl, ap, sym, ◌∙◌, arith, is_some}
 use Rattle.std.specs.Prelude.{IfSome, ◌==◌}
 use Rattle.std.proofs.lemmas.List.{append-nil}
 use Rattle.std.proofs.lemmas.Bool.{ne_eqb}
@@ -37,17 +37,17 @@ can_some truths leaving None can = absurd can
 can_some truths leaving (Some held) can = refl
 
 module _ {C : Type 0} {N : ℕ} (truths : Truths C) (seat : ℕ) (leaving : Leaving) (last word word' : Word) (row : List ℕ) (flags : List ℕ) (h h' : List (Event C N)) where
-  pub released : (queues : Lists C) (owed : List ℕ) (held held' : Option (Held C N)) → CanLeave truths leaving held → IfSome held (λ section. h' ≡ h ++ section_of seat section Released ∷ []) →
+  pub released : (queues : Lists C) (owed : List ℕ) (held held' : Option (Held C N)) → CanLeave truths leaving held → IfSome held (λ section. h' ≡ h ++ section_of truths.holds seat section Released ∷ []) →
       word ≡ last → word' ≡ word_released leaving last → held' ≡ None →
       Makes truths seat (Release leaving last) (part word row queues flags held owed) h Made (part word' row queues flags held' owed) h'
   released queues owed None held' can grows same becomes over = absurd can
   released queues owed (Some held) held' can grows same becomes over = record {
-    commits = section_of seat held Released ∷ [];
+    commits = section_of truths.holds seat held Released ∷ [];
     effect = (held, refl, can.0, sym same, rw (becomes, over) refl, refl);
     grows = grows;
   }
 
-  pub scanned : (queues queues' : Lists C) (owed owed' : List ℕ) (held held' : Option (Held C N)) (owes : Bool) (tests : ℕ) (bits : Bits) → CanLeave truths leaving held → IfSome held (λ section. h' ≡ h ++ section_of seat section Released ∷ []) →
+  pub scanned : (queues queues' : Lists C) (owed owed' : List ℕ) (held held' : Option (Held C N)) (owes : Bool) (tests : ℕ) (bits : Bits) → CanLeave truths leaving held → IfSome held (λ section. h' ≡ h ++ section_of truths.holds seat section Released ∷ []) →
       word ≡ last → word' ≡ word_released_returning leaving owes bits last → held' ≡ None →
       queues' ≡ with_waiters queues Lock (left_of (meets_at truths row) queues.lock) → owed' ≡ seats_of (woken_of (meets_at truths row) queues.lock) →
       owes ≡ has_some owed' → bits ≡ bits_of queues'.lock → tests ≡ tests_of truths.same (meets_at truths row) queues.lock →
@@ -57,7 +57,7 @@ module _ {C : Type 0} {N : ℕ} (truths : Truths C) (seat : ℕ) (leaving : Leav
       let owing : owes ≡ has_some (woken_of (meets_at truths row) queues.lock) = some ∙ ap has_some woken ∙ some_seats (woken_of (meets_at truths row) queues.lock) in
       let lock : queues'.lock ≡ left_of (meets_at truths row) queues.lock = ap (λ q. q.lock) left in
       record {
-        commits = section_of seat held Released ∷ [];
+        commits = section_of truths.holds seat held Released ∷ [];
         effect = (held, refl, can.0, sym same, rw (becomes, over, tell, lock, woken, owing) refl, some ∙ ap has_some woken, count, refl);
         grows = grows;
       }
@@ -66,3 +66,8 @@ module _ {C : Type 0} {N : ℕ} (truths : Truths C) (seat : ℕ) (leaving : Leav
   pub missed : (queues : Lists C) (owed : List ℕ) (held : Option (Held C N)) → word ≢ last →
       Makes truths seat (ReleaseReturning leaving last) (part word row queues flags held owed) h (Saw word) (part word row queues flags held owed) h
   missed queues owed held other = record { commits = []; effect = (refl, other, refl, refl); grows = sym (append-nil h) }
+
+-- a release without a scan that failed
+pub release_missed : {C : Type 0} {N : ℕ} (truths : Truths C) (seat : ℕ) (leaving : Leaving) (last word : Word) (row flags owed : List ℕ) (h : List (Event C N)) (queues : Lists C) (held : Option (Held C N)) → word ≢ last →
+    Makes truths seat (Release leaving last) (part word row queues flags held owed) h (Saw word) (part word row queues flags held owed) h
+release_missed truths seat leaving last word row flags owed h queues held other = record { commits = []; effect = (refl, other, refl, refl); grows = sym (append-nil h) }

@@ -51,7 +51,7 @@ one_by false item = refl
 rest_one : (item : Item) (step : Step) → rest_of (item ∷ []) (record { seat = item.seat; step = step } ∷ []) ≡ Some (cond (is_end item.whole step) [] (item ∷ []))
 rest_one item step = rw (eq-eqb item.seat item.seat refl) (one_by (is_end item.whole step) item)
 
-module _ {C : Type 0} {N : ℕ} (lists : List (List Call)) where
+module _ {C : Type 0} {N : ℕ} (lists : List (List (Call C))) where
   -- ---- turns
 
   turns_join : (p q r : Progress C N) (a b : List Turned) → TurnsOf lists p a q → TurnsOf lists q b r → TurnsOf lists p (a ++ b) r

@@ -1,5 +1,5 @@
 -- What a lawful world gives to those who show it.
-use Rattle.std.proofs.Common.{◌≡◌, ℕ, suc, ◌+◌, ◌<◌, ◌≤◌, Bool, true, false, List, [], ◌∷◌, ◌++◌, Option, Some, None, length, map, get_or, take, drop, slice_get, replicate, sum_by, refl, ap, sym, ◌∙◌, subst, arith, cond, inl, inr}
+use Rattle.std.proofs.Common.{◌≡◌, ℕ, suc, ◌+◌, ◌<◌, ◌≤◌, Bool, true, false, List, [], ◌∷◌, ◌++◌, Some, None, length, map, get_or, take, drop, slice_get, sum_by, refl, ap, sym, ◌∙◌, arith, cond, inl, inr}
 use Rattle.std.proofs.lemmas.Option.{slice_get-get_or, slice_get_within}
 use Rattle.std.proofs.lemmas.Bool.{cases_eq}
 use Rattle.std.proofs.lemmas.List.{length-append, length-map}
@@ -11,30 +11,24 @@ use Rattle.ns_queue.specs.Waiters.{times_in}
 use Rattle.ns_queue.proofs.Seats.{times_in-cons, few}
 use Rattle.ns_word.specs.declared.word.Word.{Word}
 use Rattle.ns_word.specs.declared.view.SeatView.{SeatView}
-use Rattle.ns_word.specs.declared.walk.Walk.{Walk}
-use Rattle.ns_word.specs.declared.walk.Walk.TheVariants.{Arm, Queue}
 use Rattle.ns_word.specs.Lists.{times_among}
-use Rattle.ns_word.specs.Walks.{awaits, is_queuing}
+use Rattle.ns_word.specs.Walks.{has_armed}
 use Rattle.ns_word.specs.Views.{owed_to, walk_at}
 use Rattle.ns_word.specs.Steps.{Truths, State}
 use Rattle.ns_word.specs.Lawful.{IsLawful, is_due}
 use Rattle.ns_word.proofs.Acts.{view_fits, stands_nowhere}
 use Rattle.ns_word.proofs.Ranges.{placed_below}
+use Rattle.ns_word.proofs.Waits.{unqueued}
+use Rattle.ns_world.specs.declared.environment.Environment.{Environment}
 use Rattle.ns_world.specs.declared.seat.Seat.{Seat}
 use Rattle.ns_world.specs.Performs.{view_of}
 use Rattle.ns_world.specs.Shows.{wakes_owed}
 use Rattle.ns_world.specs.World.{now, IsLawfulWorld}
 use Rattle.ns_world.proofs.Worlds.{split}
 
--- a seat that is about to queue doesn't wait
-queuing_rests : (walk : Option Walk) → is_queuing walk ≡ true → awaits walk ≡ false
-queuing_rests (Some (Arm mode woken last)) e = refl
-queuing_rests (Some (Queue mode woken last)) e = refl
-queuing_rests walk e = absurd (cc)
-
-module _ {C : Type 0} {N : ℕ} (truths : Truths C) (word : Word) (row : List ℕ) (queues : Lists C) (flags : List ℕ) (seats : List (Seat C N)) (history : List (Event C N)) (lawful : IsLawfulWorld (now truths word row queues flags seats history)) where
+module _ {C : Type 0} {N : ℕ} (truths : Truths C) (word : Word) (row : List ℕ) (queues : Lists C) (flags : List ℕ) (env : Environment) (seats : List (Seat C N)) (history : List (Event C N)) (lawful : IsLawfulWorld (now truths word row queues flags env seats history)) where
   abbrev state : State C N
-  state = (now truths word row queues flags seats history).state
+  state = (now truths word row queues flags env seats history).state
 
   module _ (i : ℕ) (seat : Seat C N) (at : slice_get seats i ≡ Some seat) where
     within : i < length seats
@@ -53,9 +47,9 @@ module _ {C : Type 0} {N : ℕ} (truths : Truths C) (word : Word) (row : List �
         omega (arith, fits.in_range, lawful.few)
 
     -- one that is about to queue stands nowhere
-    pub nowhere : is_queuing seat.walk ≡ true → times seat.number queues ≡ 0
-    nowhere queuing =
-        let none : times_in seat.number queues.lock ≡ 0 = stands_nowhere truths (length (map view_of seats)) lawful.few history state (map view_of (take i seats)) (view_of seat) (map view_of (drop (suc i) seats)) parts lawful.lawful (queuing_rests seat.walk queuing) in
+    pub nowhere : has_armed seat.walk ≡ true → times seat.number queues ≡ 0
+    nowhere armed =
+        let none : times_in seat.number queues.lock ≡ 0 = stands_nowhere truths (length (map view_of seats)) lawful.few history state (map view_of (take i seats)) (view_of seat) (map view_of (drop (suc i) seats)) parts lawful.lawful (unqueued seat.walk armed) in
         let others : sum_by (times_in seat.number) queues.cvs ≡ 0 = rw lawful.no_variables refl in
         omega (arith, none, others)
 

@@ -1,47 +1,68 @@
 -- A turn of a run, by what beginning a call and a step promise.
-use Rattle.std.proofs.Common.{◌≡◌, ℕ, zero, suc, ◌-◌, ◌<◌, ◌≤◌, nat_lt, inl, inr, Bool, true, false, cond, List, [], ◌∷◌, None, Some, is_some, length, slice_set, slice_get, refl, ap, sym, ◌∙◌, subst, arith, Result, Ok, Err}
+use Rattle.std.proofs.Common.{◌≡◌, ℕ, ◌-◌, ◌≤◌, nat_lt, inl, inr, ◌≢◌, ◌||◌, Bool, true, false, cond, List, Option, None, Some, is_some, length, slice_get, refl, ap, sym, ◌∙◌, subst, arith, Result, Ok, Err}
 use Rattle.std.specs.Prelude.{IfOk, IfErr}
 use Rattle.std.proofs.lemmas.List.{length-set}
 use Rattle.std.proofs.lemmas.Option.{slice_get_within}
 use Rattle.ns_word.specs.declared.view.SeatView.{SeatView}
 use Rattle.ns_word.specs.declared.word.Word.{Word}
 use Rattle.ns_word.specs.declared.walk.Reply.TheVariants.{Misuse as Misused}
-use Rattle.ns_word.specs.declared.walk.Walk.TheVariants.{QuietCells, QuietLast}
+use Rattle.ns_word.specs.declared.walk.Walk.TheVariants.{QuietCells, QuietLast, Wait as Waiting}
 use Rattle.ns_word.specs.Walks.{want_of}
+use Rattle.ns_word.specs.declared.wait.Wait.{Wait as Waits}
+use Rattle.ns_word.specs.declared.wait.Visit.TheVariants.{Entry}
+use Rattle.ns_word.specs.declared.wait.WaitPlace.TheVariants.{TestCells, TestLast}
+use Rattle.ns_model.specs.declared.event.Mode.{Mode}
+use Rattle.ns_word.specs.declared.env_walk.EnvNext.{EnvNext}
+use Rattle.ns_word.specs.declared.env_walk.EnvNext.TheVariants.{On as EnvOn, Idle as EnvIdles, Done as EnvDone, Saw}
+use Rattle.ns_word.specs.EnvWalks.{env_got_of}
 use Rattle.ns_world.specs.declared.call.Call.{Call}
-use Rattle.ns_world.specs.declared.call.Call.TheVariants.{Lock, RLock, TryLock, TryRLock, Unlock, RUnlock, UnlockQuiet, Get, Set}
+use Rattle.ns_world.specs.declared.call.Start.{Start}
+use Rattle.ns_world.specs.declared.call.Start.TheVariants.{Lock as OnLock, Ask}
+use Rattle.ns_world.specs.declared.call.Call.TheVariants.{Lock, RLock, TryLock, TryRLock, Unlock, RUnlock, UnlockQuiet, Get, Set, Wait, NewNote, Notify, Advance, IsNotified, Expiry, NoteWait}
 use Rattle.ns_world.specs.declared.fault.Fault.{Fault}
 use Rattle.ns_world.specs.declared.fault.Fault.TheVariants.{OutOfMemory, NoSuchSeat, TooManySeats, StepLimit}
 use Rattle.ns_world.specs.declared.step.Begun.TheVariants.{Misuse}
 use Rattle.ns_world.specs.declared.step.Step.{Step}
 use Rattle.ns_world.specs.declared.step.Step.TheVariants.{Went, Idle, Finished, Nothing}
-use Rattle.ns_world.specs.Calls.{start_of}
+use Rattle.ns_world.specs.Calls.{start_of, mode_of, mode_left}
 use Rattle.ns_world.specs.Commits.{Commits}
-use Rattle.ns_world.specs.Begins.{Begins, Starts}
-use Rattle.ns_world.specs.World.{Now, Goes, IsBusy, IsIdle, StepOf, StepFault, is_busy}
+use Rattle.ns_world.specs.Begins.{Begins, Starts, begun_at}
+use Rattle.ns_world.specs.World.{Now, LookGoes, Moves, IsWalking, IsBusy, IsIdle, StepOf, StepFault, is_walking, is_asking, is_busy}
 use Rattle.ns_world.specs.Runs.{Progress, progress, progressed, finished, Leads, TurnOf, TurnsWith, TurnFault}
-use Rattle.ns_world.proofs.Busy.{busy_set_same, busy_at}
+use Rattle.ns_world.proofs.Busy.{or_true, both, walking_at, walking_set_same, walking_set_other, asking_at, asking_set_same, asking_set_other}
+use Rattle.ns_word.proofs.EnvKeeps.{set_here}
 
-quiet_apart : (N : ℕ) (more : Bool) (word : Word) → Commits (want_of (cond more (QuietCells 0) (QuietLast (N - 1)))) word → ⊥
-quiet_apart N true word p = p
-quiet_apart N false word p = p
+-- the first step of a call may commit an event
+abbrev StartCommits : {C : Type 0} → Start C → Word → Type 0
+StartCommits (OnLock walk) word = Commits (want_of walk) word
+StartCommits (Ask walk) word = ⊥
+
+quiet_apart : (C : Type 0) (N : ℕ) (more : Bool) (word : Word) → Commits (want_of {C = C} (cond more (QuietCells 0) (QuietLast (N - 1)))) word → ⊥
+quiet_apart C N true word p = p
+quiet_apart C N false word p = p
+
+wait_apart : {C : Type 0} (N : ℕ) (wait : Waits C) (more : Bool) (word : Word) → Commits (want_of (cond more (Waiting wait (TestCells Entry 0)) (Waiting wait (TestLast Entry (N - 1))))) word → ⊥
+wait_apart N wait true word p = p
+wait_apart N wait false word p = p
 
 -- no call's first step is a release
-starts_apart : (N : ℕ) (call : Call) (word : Word) → Commits (want_of (start_of N call)) word → ⊥
-starts_apart N Lock word p = p
-starts_apart N RLock word p = p
-starts_apart N TryLock word p = p
-starts_apart N TryRLock word p = p
-starts_apart N Unlock word p = p
-starts_apart N RUnlock word p = p
-starts_apart N UnlockQuiet word p = quiet_apart N (nat_lt 0 (N - 1)) word p
-starts_apart N (Get i) word p = p
-starts_apart N (Set i v) word p = p
-
-slice_get-set_same : {X : Type 0} (xs : List X) (i : ℕ) (x : X) → i < length xs → slice_get (slice_set xs i x) i ≡ Some x
-slice_get-set_same [] i x within = absurd (omega (arith, within))
-slice_get-set_same (y ∷ xs) zero x within = refl
-slice_get-set_same (y ∷ xs) (suc i) x within = slice_get-set_same xs i x (omega arith)
+starts_apart : {C : Type 0} (N : ℕ) (mode : Option Mode) (call : Call C) (word : Word) → StartCommits (start_of N mode call) word → ⊥
+starts_apart N mode Lock word p = p
+starts_apart N mode RLock word p = p
+starts_apart N mode TryLock word p = p
+starts_apart N mode TryRLock word p = p
+starts_apart N mode Unlock word p = p
+starts_apart N mode RUnlock word p = p
+starts_apart {C} N mode UnlockQuiet word p = quiet_apart C N (nat_lt 0 (N - 1)) word p
+starts_apart N mode (Get i) word p = p
+starts_apart N mode (Set i v) word p = p
+starts_apart N mode (Wait c limits) word p = wait_apart N (record { mode = mode_left mode; cond = c; limits = limits }) (nat_lt 0 (N - 1)) word p
+starts_apart N mode (NewNote parent deadline) word p = p
+starts_apart N mode (Notify note) word p = p
+starts_apart N mode (Advance moment) word p = p
+starts_apart N mode (IsNotified note) word p = p
+starts_apart N mode (Expiry note) word p = p
+starts_apart N mode (NoteWait note deadline) word p = p
 
 -- what holds of an answer's value, and of its fault, as something else
 pub map_ok : {X E : Type 0} {P Q : X → Type 0} (r : Result X E) → ((x : X) → P x → Q x) → IfOk r P → IfOk r Q
@@ -53,18 +74,36 @@ map_err (Ok x) f p = tt
 map_err (Err e) f p = f e p
 
 module _ {C : Type 0} {N : ℕ} where
-  pub busy_of : (old new : Now C N) (seat : ℕ) (step : Step) → Goes old new seat step → IsBusy old seat
-  busy_of old new seat step goes = record { view = goes.view; at = goes.at; walk = goes.makes.walk; walks = goes.makes.walks }
+  pub busy_of : (old new : Now C N) (seat : ℕ) (step : Step) → Moves old new seat step → IsBusy old seat
+  busy_of old new seat step (inl goes) = inl (record { view = goes.0.view; at = goes.0.at; walk = goes.0.makes.walk; walks = goes.0.makes.walks })
+  busy_of old new seat step (inr (inr looks)) = inl (record { view = looks.view; at = looks.at; walk = looks.walk; walks = looks.walks })
+  busy_of old new seat step (inr (inl asks)) = inr (record { walk = asks.makes.walk; walks = asks.makes.walks })
 
-  pub is_busy_of : (world : Now C N) (seat : ℕ) → IsBusy world seat → is_busy world.state.views seat ≡ true
-  is_busy_of world seat busy = busy_at world.state.views seat busy.view busy.at ∙ ap is_some busy.walks
+  pub is_busy_of : (world : Now C N) (seat : ℕ) → IsBusy world seat → is_busy world.state.views world.asking seat ≡ true
+  is_busy_of world seat (inl busy) = ap (λ b. b || is_asking world.asking seat) (walking_at world.state.views seat busy.view busy.at ∙ ap is_some busy.walks)
+  is_busy_of world seat (inr busy) = ap (λ b. is_walking world.state.views seat || b) (asking_at world.asking seat (Some busy.walk) busy.walks) ∙ or_true (is_walking world.state.views seat)
 
-  pub is_idle_of : (world : Now C N) (seat : ℕ) → IsIdle world seat → is_busy world.state.views seat ≡ false
-  is_idle_of world seat idle = busy_at world.state.views seat idle.view idle.at ∙ ap is_some idle.idle
+  pub is_idle_of : (world : Now C N) (seat : ℕ) → IsIdle world seat → is_busy world.state.views world.asking seat ≡ false
+  is_idle_of world seat idle = both world.state.views world.asking seat false false (walking_at world.state.views seat idle.view idle.at ∙ ap is_some idle.idle) (asking_at world.asking seat None idle.unasked)
 
-  pub started_busy : (old new : Now C N) (seat : ℕ) (call : Call) → Starts old new seat call → is_busy new.state.views seat ≡ true
+  -- a seat that is put at the first place of a call is busy, and no other is more or less so
+  pub begun_busy : (old : Now C N) (seat : ℕ) (view : SeatView C N) (start : Start C) → slice_get old.state.views seat ≡ Some view → slice_get old.asking seat ≡ Some None →
+      is_busy (begun_at old seat view start).state.views (begun_at old seat view start).asking seat ≡ true
+  begun_busy old seat view (OnLock walk) at asks = ap (λ b. b || is_asking old.asking seat) (walking_set_same old.state.views seat (record view { walk = Some walk }) (slice_get_within old.state.views seat view at))
+  begun_busy old seat view (Ask walk) at asks = ap (λ b. is_walking old.state.views seat || b) (asking_set_same old.asking seat (Some walk) (slice_get_within old.asking seat None asks)) ∙ or_true (is_walking old.state.views seat)
+
+  pub begun_others : (old : Now C N) (seat : ℕ) (view : SeatView C N) (start : Start C) (other : ℕ) → other ≢ seat →
+      is_busy (begun_at old seat view start).state.views (begun_at old seat view start).asking other ≡ is_busy old.state.views old.asking other
+  begun_others old seat view (OnLock walk) other ne = ap (λ b. b || is_asking old.asking other) (walking_set_other old.state.views seat (record view { walk = Some walk }) other ne)
+  begun_others old seat view (Ask walk) other ne = ap (λ b. is_walking old.state.views other || b) (asking_set_other old.asking seat (Some walk) other ne)
+
+  begun_stays : (old : Now C N) (seat : ℕ) (view : SeatView C N) (start : Start C) → length (begun_at old seat view start).state.views ≡ length old.state.views
+  begun_stays old seat view (OnLock walk) = length-set old.state.views seat _
+  begun_stays old seat view (Ask walk) = refl
+
+  pub started_busy : (old new : Now C N) (seat : ℕ) (call : Call C) → Starts old new seat call → is_busy new.state.views new.asking seat ≡ true
   started_busy old new seat call p =
-      ap (λ world. is_busy world.state.views seat) p.begins ∙ busy_set_same old.state.views seat _ (slice_get_within old.state.views seat p.view p.at)
+      ap (λ (world : Now C N). is_busy world.state.views world.asking seat) p.begins ∙ begun_busy old seat p.view (start_of N (mode_of p.view.held) call) p.at p.unasked
 
   -- no call is left: the step of the call in progress, or none
   pub turns_without : (old new : Now C N) (seat : ℕ) (step : Step) → StepOf old new seat step → TurnsWith None old seat step new
@@ -78,12 +117,12 @@ module _ {C : Type 0} {N : ℕ} where
       inr (inr (record { idle = p.1; none = e; answer = refl; after = ap (λ world. progress world over lines) p.0 }))
 
   -- the call was refused
-  pub turns_misused : (old new : Now C N) (seat : ℕ) (call : Call) → Begins old new seat call Misuse → TurnsWith (Some call) old seat (Finished Misused) new
+  pub turns_misused : (old new : Now C N) (seat : ℕ) (call : Call C) → Begins old new seat call Misuse → TurnsWith (Some call) old seat (Finished Misused) new
   turns_misused old new seat call p = λ lists over lines e.
       inr (inl (record { call = call; next = e; refused = (refl, p.1); answer = refl; after = ap (λ world. finished (progress old over lines) seat Misused world) p.0 }))
 
   -- the call began, and made its first step
-  pub turns_started : (old begun new : Now C N) (seat : ℕ) (call : Call) (step : Step) → Starts old begun seat call → StepOf begun new seat step → TurnsWith (Some call) old seat step new
+  pub turns_started : (old begun new : Now C N) (seat : ℕ) (call : Call C) (step : Step) → Starts old begun seat call → StepOf begun new seat step → TurnsWith (Some call) old seat step new
   turns_started old begun new seat call Went s p = λ lists over lines e.
       inl (record { begun = begun; leads = inr (call, e, s); world = new; steps = p; goes = λ f. absurd (cc); after = refl })
   turns_started old begun new seat call Idle s p = λ lists over lines e.
@@ -94,7 +133,7 @@ module _ {C : Type 0} {N : ℕ} where
       let yes = started_busy old begun seat call s in let no = is_idle_of begun seat p.1 in absurd (cc)
 
   -- a call was in progress, and made a step
-  pub turns_busy : (old begun new : Now C N) (seat : ℕ) (call : Call) (step : Step) → (begun ≡ old) × IsBusy old seat → StepOf begun new seat step → TurnsWith (Some call) old seat step new
+  pub turns_busy : (old begun new : Now C N) (seat : ℕ) (call : Call C) (step : Step) → (begun ≡ old) × IsBusy old seat → StepOf begun new seat step → TurnsWith (Some call) old seat step new
   turns_busy old begun new seat call Went s p = λ lists over lines e.
       inl (record { begun = begun; leads = inl (s.1, s.0); world = new; steps = p; goes = λ f. absurd (cc); after = refl })
   turns_busy old begun new seat call Idle s p = λ lists over lines e.
@@ -104,36 +143,55 @@ module _ {C : Type 0} {N : ℕ} where
   turns_busy old begun new seat call Nothing s p =
       let yes = is_busy_of old seat s.1 in
       let no = is_idle_of begun seat p.1 in
-      let same = ap (λ (world : Now C N). is_busy world.state.views seat) s.0 in
+      let same = ap (λ (world : Now C N). is_busy world.state.views world.asking seat) s.0 in
+      absurd (cc)
+
+  -- a seat at the first place of a call is about to make no release
+  begun_steps : (old begun : Now C N) (seat : ℕ) (view : SeatView C N) (start : Start C) → slice_get old.state.views seat ≡ Some view → view.walk ≡ None → begun ≡ begun_at old seat view start → (w : IsWalking begun seat) → Commits (want_of w.walk) begun.state.word → StartCommits start begun.state.word
+  begun_steps old begun seat view (OnLock walk) at idle begins w p =
+      let next : SeatView C N = record view { walk = Some walk } in
+      let here : slice_get begun.state.views seat ≡ Some next = ap (λ (world : Now C N). slice_get world.state.views seat) begins ∙ set_here old.state.views seat next (slice_get_within old.state.views seat view at) in
+      let same : Some w.view ≡ Some next = sym w.at ∙ here in
+      let is : w.view ≡ next = cc in
+      let walks : Some w.walk ≡ Some walk = sym w.walks ∙ ap (λ (v : SeatView C N). v.walk) is in
+      let place : w.walk ≡ walk = cc in
+      subst (λ x. Commits (want_of x) begun.state.word) place p
+  begun_steps old begun seat view (Ask walk) at idle begins w p =
+      let same : Some w.view ≡ Some view = sym w.at ∙ ap (λ (world : Now C N). slice_get world.state.views seat) begins ∙ at in
+      let is : w.view ≡ view = cc in
+      let walks : Some w.walk ≡ None = sym w.walks ∙ ap (λ (v : SeatView C N). v.walk) is ∙ idle in
       absurd (cc)
 
   -- a call's first step is never refused
-  pub started_steps : (old begun : Now C N) (seat : ℕ) (call : Call) (fault : Fault) → Starts old begun seat call → StepFault begun seat fault → ⊥
-  started_steps old begun seat call OutOfMemory s p =
-      let next : SeatView C N = record { seat = s.view.seat; walk = Some (start_of N call); held = s.view.held; owed = s.view.owed } in
-      let within = slice_get_within old.state.views seat s.view s.at in
-      let here : slice_get begun.state.views seat ≡ Some next = ap (λ (world : Now C N). slice_get world.state.views seat) s.begins ∙ slice_get-set_same old.state.views seat next within in
-      let same : Some p.0.view ≡ Some next = sym p.0.at ∙ here in
-      let view : p.0.view ≡ next = cc in
-      let walk : Some p.0.walk ≡ Some (start_of N call) = sym p.0.walks ∙ ap (λ (v : SeatView C N). v.walk) view in
-      let place : p.0.walk ≡ start_of N call = cc in
-      starts_apart N call begun.state.word (subst (λ w. Commits (want_of w) begun.state.word) place p.1)
+  pub started_steps : (old begun : Now C N) (seat : ℕ) (call : Call C) (fault : Fault) → Starts old begun seat call → StepFault begun seat fault → ⊥
+  started_steps old begun seat call OutOfMemory s p = starts_apart N (mode_of s.view.held) call begun.state.word (begun_steps old begun seat s.view (start_of N (mode_of s.view.held) call) s.at s.idle s.begins p.0 p.1)
   started_steps old begun seat call NoSuchSeat s p =
       let within = slice_get_within old.state.views seat s.view s.at in
-      let same : length begun.state.views ≡ length old.state.views = ap (λ (world : Now C N). length world.state.views) s.begins ∙ length-set old.state.views seat _ in
+      let same : length begun.state.views ≡ length old.state.views = ap (λ (world : Now C N). length world.state.views) s.begins ∙ begun_stays old seat s.view (start_of N (mode_of s.view.held) call) in
       absurd (omega (arith, within, same, p))
   started_steps old begun seat call TooManySeats s p = p
   started_steps old begun seat call StepLimit s p = p
 
+  look_stays : (old new : Now C N) (seat : ℕ) (step : Step) (next : EnvNext) → LookGoes next old new seat step → length new.state.views ≡ length old.state.views
+  look_stays old new seat step (EnvOn walk) p = ap (λ (world : Now C N). length world.state.views) p.0
+  look_stays old new seat step (Saw cause) p = ap length p.0.others ∙ length-set old.state.views seat _
+  look_stays old new seat step (EnvIdles walk) p = absurd p
+  look_stays old new seat step (EnvDone reply) p = absurd p
+
+  moves_stay : (old new : Now C N) (seat : ℕ) (step : Step) → Moves old new seat step → length new.state.views ≡ length old.state.views
+  moves_stay old new seat step (inl goes) = ap length goes.0.others ∙ length-set old.state.views seat _
+  moves_stay old new seat step (inr (inr looks)) = look_stays old new seat step (env_got_of looks.place looks.found) looks.goes
+  moves_stay old new seat step (inr (inl asks)) = ap (λ (world : Now C N). length world.state.views) asks.others
+
   step_stays : (old new : Now C N) (seat : ℕ) (step : Step) → StepOf old new seat step → length new.state.views ≡ length old.state.views
-  step_stays old new seat Went p = ap length p.others ∙ length-set old.state.views seat _
-  step_stays old new seat Idle p = ap length p.others ∙ length-set old.state.views seat _
-  step_stays old new seat (Finished reply) p = ap length p.others ∙ length-set old.state.views seat _
+  step_stays old new seat Went p = moves_stay old new seat Went p
+  step_stays old new seat Idle p = moves_stay old new seat Idle p
+  step_stays old new seat (Finished reply) p = moves_stay old new seat (Finished reply) p
   step_stays old new seat Nothing p = ap (λ (world : Now C N). length world.state.views) p.0
 
-  leads_stays : (lists : List (List Call)) (p : Progress C N) (seat : ℕ) (begun : Now C N) → Leads lists p seat begun → length begun.state.views ≡ length p.world.state.views
+  leads_stays : (lists : List (List (Call C))) (p : Progress C N) (seat : ℕ) (begun : Now C N) → Leads lists p seat begun → length begun.state.views ≡ length p.world.state.views
   leads_stays lists p seat begun (inl busy) = ap (λ (world : Now C N). length world.state.views) busy.1
-  leads_stays lists p seat begun (inr called) = ap (λ (world : Now C N). length world.state.views) called.2.begins ∙ length-set p.world.state.views seat _
+  leads_stays lists p seat begun (inr called) = ap (λ (world : Now C N). length world.state.views) called.2.begins ∙ begun_stays p.world seat called.2.view (start_of N (mode_of called.2.view.held) called.0)
 
   -- the world that a turn leaves
   pub progressed_world : (p : Progress C N) (seat : ℕ) (step : Step) (new : Now C N) → (progressed p seat step new).world ≡ new
@@ -142,7 +200,7 @@ module _ {C : Type 0} {N : ℕ} where
   progressed_world p seat Nothing new = refl
   progressed_world p seat (Finished reply) new = refl
 
-  turn_stays : (lists : List (List Call)) (p q : Progress C N) (seat : ℕ) (step : Step) → TurnOf lists p seat step q → length q.world.state.views ≡ length p.world.state.views
+  turn_stays : (lists : List (List (Call C))) (p q : Progress C N) (seat : ℕ) (step : Step) → TurnOf lists p seat step q → length q.world.state.views ≡ length p.world.state.views
   turn_stays lists p q seat step (inl t) =
       ap (λ (x : Progress C N). length x.world.state.views) t.after ∙ ap (λ (w : Now C N). length w.state.views) (progressed_world p seat step t.world)
       ∙ step_stays t.begun t.world seat step t.steps ∙ leads_stays lists p seat t.begun t.leads
@@ -150,7 +208,7 @@ module _ {C : Type 0} {N : ℕ} where
   turn_stays lists p q seat step (inr (inr t)) = ap (λ (x : Progress C N). length x.world.state.views) t.after
 
   -- a turn leaves as many seats
-  pub seats_stay : (lists : List (List Call)) (p : Progress C N) (seat : ℕ) (step : Step) (new : Now C N) → TurnOf lists p seat step (progressed p seat step new) →
+  pub seats_stay : (lists : List (List (Call C))) (p : Progress C N) (seat : ℕ) (step : Step) (new : Now C N) → TurnOf lists p seat step (progressed p seat step new) →
       length new.state.views ≡ length p.world.state.views
   seats_stay lists p seat step new turn =
       ap (λ (world : Now C N). length world.state.views) (sym (progressed_world p seat step new)) ∙ turn_stays lists p (progressed p seat step new) seat step turn

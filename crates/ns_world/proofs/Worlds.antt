@@ -1,7 +1,8 @@
 -- A seat's step and a call's beginning keep a world lawful.
-use Rattle.std.proofs.Common.{◌≡◌, ℕ, suc, ◌+◌, ◌<◌, ◌≤◌, Bool, true, List, [], ◌∷◌, ◌++◌, Option, Some, None, length, map, get_or, take, drop, slice_set, slice_index, refl, ap, sym, ◌∙◌, subst, drop-cons, zero-add, arith}
+use Rattle.std.proofs.Common.{◌≡◌, ℕ, zero, suc, inl, inr, ◌<◌, ◌≤◌, List, [], ◌∷◌, ◌++◌, Option, Some, None, length, map, get_or, take, drop, slice_set, slice_get, refl, ap, sym, ◌∙◌, subst, drop-cons, zero-add, arith}
 use Rattle.std.proofs.lemmas.Option.{slice_get-get_or}
-use Rattle.std.proofs.lemmas.List.{set_split, take-append-drop, length-set, map-append, length-map}
+use Rattle.std.proofs.lemmas.Bool.{cases_eq}
+use Rattle.std.proofs.lemmas.List.{append-nil, set_split, set-get_or, take-append-drop, length-set, map-append, length-map}
 use Rattle.ns_model.specs.declared.event.Event.{Event}
 use Rattle.ns_queue.specs.Queues.{Lists}
 use Rattle.ns_word.specs.declared.word.Word.{Word}
@@ -10,46 +11,145 @@ use Rattle.ns_word.specs.declared.walk.Walk.{Walk}
 use Rattle.ns_word.specs.declared.walk.Next.{Next}
 use Rattle.ns_word.specs.declared.walk.Next.TheVariants.{On, Idle as Idles, Done}
 use Rattle.ns_word.specs.declared.act.Found.{Found}
+use Rattle.ns_word.specs.declared.act.Found.TheVariants.{Looked as Shown}
+use Rattle.ns_word.specs.declared.limits.Cause.{Cause}
+use Rattle.ns_model.specs.Environments.{NoteStanding}
+use Rattle.ns_word.specs.declared.env_walk.EnvWalk.{EnvWalk}
+use Rattle.ns_word.specs.declared.env_walk.EnvNext.{EnvNext}
+use Rattle.ns_word.specs.declared.env_walk.EnvNext.TheVariants.{On as EnvOn, Idle as EnvIdles, Done as EnvDone, Saw}
+use Rattle.ns_word.specs.EnvWalks.{env_want_of, env_got_of, env_walk_after}
+use Rattle.ns_word.specs.EnvSteps.{EnvPlain, EnvBegins, EnvStep, EnvActFits, EnvEffect, IfMade, IsFirstAsk, IsLawfulEnv, events_of}
 use Rattle.ns_word.specs.Walks.{want_of, got_of, walk_after}
-use Rattle.ns_word.specs.Steps.{Truths, QuietKeeps, State}
+use Rattle.ns_word.specs.Steps.{Truths, Effect, MayShow, QuietKeeps}
 use Rattle.ns_word.specs.Places.{PlaceFits, ActFits}
 use Rattle.ns_word.specs.Begins.{IsFirst, Begins}
 use Rattle.ns_word.specs.Lawful.{IsLawful}
 use Rattle.ns_word.proofs.Acts.{act_fits}
 use Rattle.ns_word.proofs.Dispatch.{keeps}
 use Rattle.ns_word.proofs.Starts.{begins}
+use Rattle.ns_word.proofs.EnvKeeps.{set_here, set_there, keeps_env}
+use Rattle.ns_word.proofs.EnvBegins.{begins_env}
+use Rattle.ns_word.proofs.EnvRanges.{asks_in_range}
+use Rattle.ns_model.specs.declared.environment.EnvEvent.{EnvEvent}
+use Rattle.ns_world.specs.declared.call.Start.{Start}
+use Rattle.ns_world.specs.declared.call.Start.TheVariants.{Lock as OnLock, Ask}
+use Rattle.ns_world.specs.declared.environment.Environment.{Environment}
+use Rattle.ns_world.specs.Asks.{Asked, plain_of, env_state, env_step_of}
+use Rattle.ns_world.specs.Begins.{placed}
 use Rattle.ns_world.specs.declared.seat.Seat.{Seat}
 use Rattle.ns_world.specs.declared.step.Step.{Step}
 use Rattle.ns_world.specs.declared.step.Step.TheVariants.{Went, Idle, Finished, Nothing}
 use Rattle.ns_world.specs.Performs.{Performs, view_of, seat_part, step_of, tests_after}
-use Rattle.ns_world.specs.World.{Now, now, Goes, StepOf, IsLawfulWorld}
+use Rattle.ns_world.specs.Looks.{AsksFor, LookFits, look_of, looks_at, note_in}
+use Rattle.ns_world.specs.Looked.{EnvMoves, Looked, MovesFrom, SeatLooks, Sees}
+use Rattle.ns_world.specs.World.{Now, now, Goes, Asks, Looks, LookGoes, Moves, StepOf, IsLawfulWorld, StandRight, NotesMade}
+use Rattle.ns_world.proofs.Looking.{FirstIf, LookLeads, first_if, if_made_stays, look_leads, look_stays, noted, right_here, shown_effect}
 use Rattle.ns_world.proofs.Mapped.{got-map, map-set, index-map}
 use Rattle.ns_world.proofs.Numbers.{number_at, numbers_stay}
-use Rattle.ns_world.proofs.Places.{fits_more}
+use Rattle.ns_world.proofs.Places.{StartFits, fits_more}
 
 -- two reads of one element
 pub same_element : {X : Type 0} (xs : List X) (i : ℕ) (x y : X) → i < length xs → x ≡ get_or xs i x → y ≡ get_or xs i y → x ≡ y
 same_element xs i x y within p q = cc (slice_get-get_or xs i x within, slice_get-get_or xs i y within)
 
-some_step : (next : Next) → Nothing ≡ step_of next → ⊥
+some_step : {C : Type 0} (next : Next C) → Nothing ≡ step_of next → ⊥
 some_step (On walk) e = absurd (cc)
 some_step (Idles walk) e = absurd (cc)
 some_step (Done reply) e = absurd (cc)
 
--- a step that went is one of those that a step can be
-pub told : {C : Type 0} {N : ℕ} (old new : Now C N) (seat : ℕ) (step : Step) → Goes old new seat step → StepOf old new seat step
-told {C} {N} old new seat Nothing p = absurd (some_step (got_of N p.makes.walk p.found) p.answers)
+some_ask : (next : EnvNext) → Nothing ≡ env_step_of next → ⊥
+some_ask (EnvOn walk) e = absurd (cc)
+some_ask (EnvIdles walk) e = absurd (cc)
+some_ask (EnvDone reply) e = absurd (cc)
+some_ask (Saw cause) e = absurd (cc)
+
+some_look : {C : Type 0} {N : ℕ} (next : EnvNext) (old new : Now C N) (seat : ℕ) → LookGoes next old new seat Nothing → ⊥
+some_look (EnvOn walk) old new seat p = absurd (cc (p.1))
+some_look {C} {N} (Saw cause) old new seat p = some_step (got_of N p.0.makes.walk p.0.found) p.0.answers
+some_look (EnvIdles walk) old new seat p = p
+some_look (EnvDone reply) old new seat p = p
+
+-- a step that was made is one of those that a step can be
+pub told : {C : Type 0} {N : ℕ} (old new : Now C N) (seat : ℕ) (step : Step) → Moves old new seat step → StepOf old new seat step
+told {C} {N} old new seat Nothing (inl p) = absurd (some_step (got_of N p.0.makes.walk p.0.found) p.0.answers)
+told old new seat Nothing (inr (inl p)) = absurd (some_ask (env_got_of p.makes.walk p.found) p.answers)
+told {C} {N} old new seat Nothing (inr (inr p)) = absurd (some_look (env_got_of p.place p.found) old new seat p.goes)
 told old new seat Went p = p
 told old new seat Idle p = p
 told old new seat (Finished reply) p = p
+
+-- ---- where seats stand on the clock and the notes
+
+module _ {C : Type 0} {N : ℕ} where
+  -- one seat's view and its place on the clock and the notes are set, and others stay
+  right_set : (views : List (SeatView C N)) (askings : List (Option EnvWalk)) (i : ℕ) (next : SeatView C N) (asking : Option EnvWalk) → i < length views → i < length askings → StandRight views askings → AsksFor next.walk asking →
+      StandRight (slice_set views i next) (slice_set askings i asking)
+  right_set views askings i next asking in_views in_asks right here = λ seat view ask at asks. elim (cases_eq seat i) [
+    | inl e ↦ (let one : Some next ≡ Some view = sym (set_here views i next in_views) ∙ ap (slice_get (slice_set views i next)) (sym e) ∙ at in
+        let two : Some asking ≡ Some ask = sym (set_here askings i asking in_asks) ∙ ap (slice_get (slice_set askings i asking)) (sym e) ∙ asks in
+        let is : next ≡ view = cc in let is2 : asking ≡ ask = cc in
+        subst (λ (v : SeatView C N). AsksFor v.walk ask) is (subst (λ x. AsksFor next.walk x) is2 here))
+    | inr ne ↦ right seat view ask (sym (set_there views i seat next ne) ∙ at) (sym (set_there askings i seat asking ne) ∙ asks)
+  ]
+
+  -- the same where its view stays
+  right_asks : (views : List (SeatView C N)) (askings : List (Option EnvWalk)) (i : ℕ) (view : SeatView C N) (asking : Option EnvWalk) → slice_get views i ≡ Some view → i < length askings → StandRight views askings → AsksFor view.walk asking →
+      StandRight views (slice_set askings i asking)
+  right_asks views askings i next asking is in_asks right here = λ seat view ask at asks. elim (cases_eq seat i) [
+    | inl e ↦ (let one : Some next ≡ Some view = sym is ∙ ap (slice_get views) (sym e) ∙ at in
+        let two : Some asking ≡ Some ask = sym (set_here askings i asking in_asks) ∙ ap (slice_get (slice_set askings i asking)) (sym e) ∙ asks in
+        let same : next ≡ view = cc in let is2 : asking ≡ ask = cc in
+        subst (λ (v : SeatView C N). AsksFor v.walk ask) same (subst (λ x. AsksFor next.walk x) is2 here))
+    | inr ne ↦ right seat view ask at (sym (set_there askings i seat asking ne) ∙ asks)
+  ]
+
+  -- one seat's view is set
+  noted_set : (views : List (SeatView C N)) (notes : ℕ → NoteStanding) (i : ℕ) (next : SeatView C N) → i < length views → NotesMade views notes → IfMade notes (note_in next.walk) → NotesMade (slice_set views i next) notes
+  noted_set views notes i next in_views made here = λ seat view at. elim (cases_eq seat i) [
+    | inl e ↦ (let one : Some next ≡ Some view = sym (set_here views i next in_views) ∙ ap (slice_get (slice_set views i next)) (sym e) ∙ at in
+        let is : next ≡ view = cc in subst (λ (v : SeatView C N). IfMade notes (note_in v.walk)) is here)
+    | inr ne ↦ made seat view (sym (set_there views i seat next ne) ∙ at)
+  ]
+
+-- setting what is there changes nothing, and the later of two settings stands
+pub set_same : {X : Type 0} (xs : List X) (i : ℕ) (x : X) → slice_get xs i ≡ Some x → slice_set xs i x ≡ xs
+set_same [] i x at = refl
+set_same (y ∷ xs) zero x at = let is : y ≡ x = cc in ap (λ z. z ∷ xs) (sym is)
+set_same (y ∷ xs) (suc i) x at = ap (λ zs. y ∷ zs) (set_same xs i x at)
+
+pub set_again : {X : Type 0} (xs : List X) (i : ℕ) (x y : X) → slice_set (slice_set xs i x) i y ≡ slice_set xs i y
+set_again [] i x y = refl
+set_again (z ∷ xs) zero x y = refl
+set_again (z ∷ xs) (suc i) x y = ap (λ zs. z ∷ zs) (set_again xs i x y)
+
+-- a seat that stands nowhere there is put at the beginning of a look, if one is to begin
+env_begins : (events : List EnvEvent) (plain : EnvPlain) (askings : List (Option EnvWalk)) (i : ℕ) (ask : Option EnvWalk) → slice_get askings i ≡ Some None → FirstIf plain.notes ask → IsLawfulEnv events (env_state plain askings) →
+    IsLawfulEnv events (env_state plain (slice_set askings i ask))
+env_begins events plain askings i None at first p = subst (λ xs. IsLawfulEnv events (env_state plain xs)) (sym (set_same askings i None at)) p
+env_begins events plain askings i (Some walk) at first p = begins_env events (env_state plain askings) (env_state plain (slice_set askings i (Some walk))) i walk (record { over = at; first = first; becomes = refl }) p
+
+-- a world that differs from a lawful one in its clock, its notes and the calls on these
+lawful_env : {C : Type 0} {N : ℕ} (old : Now C N) (env : EnvPlain) (askings : List (Option EnvWalk)) (tests : List ℕ) (events : List EnvEvent) → length askings ≡ length old.asking → StandRight old.state.views askings → NotesMade old.state.views env.notes → IsLawfulEnv events (env_state env askings) → IsLawfulWorld old →
+    IsLawfulWorld (record old { env = env; asking = askings; tests = tests })
+lawful_env old env askings tests events same right noted keeps lawful = record {
+  few = lawful.few;
+  numbered = lawful.numbered;
+  no_variables = lawful.no_variables;
+  lawful = lawful.lawful;
+  as_many = same ∙ lawful.as_many;
+  right = right;
+  noted = noted;
+  events = events;
+  env_lawful = keeps;
+}
 
 -- the views before a seat's, its own, and those behind it
 pub split : {C : Type 0} {N : ℕ} (seats : List (Seat C N)) (i : ℕ) (d : Seat C N) → i < length seats → map view_of seats ≡ map view_of (take i seats) ++ view_of (get_or seats i d) ∷ map view_of (drop (suc i) seats)
 split seats i d within = ap (map view_of) (sym (take-append-drop i seats) ∙ ap (λ rest. take i seats ++ rest) (drop-cons seats i d within)) ∙ map-append view_of (take i seats) (get_or seats i d ∷ drop (suc i) seats)
 
-module _ {C : Type 0} {N : ℕ} (truths : Truths C) (quiet : QuietKeeps N truths) (word : Word) (row : List ℕ) (queues : Lists C) (flags : List ℕ) (seats : List (Seat C N)) (history : List (Event C N)) (lawful : IsLawfulWorld (now truths word row queues flags seats history)) (i : ℕ) (d : Seat C N) (within : i < length seats) where
+module _ {C : Type 0} {N : ℕ} (truths : Truths C) (some : 0 < N) (quiet : QuietKeeps N truths) (word : Word) (row : List ℕ) (queues : Lists C) (flags : List ℕ) (env : Environment) (seats : List (Seat C N)) (history : List (Event C N)) (lawful : IsLawfulWorld (now truths word row queues flags env seats history)) (i : ℕ) (d : Seat C N) (within : i < length seats) where
   abbrev old : Now C N
-  old = now truths word row queues flags seats history
+  old = now truths word row queues flags env seats history
 
   abbrev seat : Seat C N
   seat = get_or seats i d
@@ -78,23 +178,65 @@ module _ {C : Type 0} {N : ℕ} (truths : Truths C) (quiet : QuietKeeps N truths
       let is : get_or (map view_of seats) i (view_of d) ≡ view_of (get_or seats i d) = cc in
       sym (ap (λ v. v.seat) is) ∙ at_here
 
+  -- where the seat stands in a call on the clock and the notes
+  asks_at : slice_get (map (λ s. s.asking) seats) i ≡ Some (get_or seats i d).asking
+  asks_at = got-map (λ s. s.asking) seats i d within
+
+  -- where it is left as it is, so is the list of these places
+  asks_stay : (next : Seat C N) → next.asking ≡ (get_or seats i d).asking → map (λ s. s.asking) (slice_set seats i next) ≡ map (λ s. s.asking) seats
+  asks_stay next same =
+      map-set (λ s. s.asking) seats i next ∙ ap (slice_set (map (λ s. s.asking) seats) i) same ∙ sym (map-set (λ s. s.asking) seats i (get_or seats i d)) ∙ ap (map (λ s. s.asking)) (set-get_or seats i d)
+
+  -- where its view is left as it is, so is the list of the views
+  views_stay : (next : Seat C N) → view_of next ≡ view_of (get_or seats i d) → map view_of (slice_set seats i next) ≡ map view_of seats
+  views_stay next same =
+      map-set view_of seats i next ∙ ap (slice_set (map view_of seats) i) same ∙ sym (map-set view_of seats i (get_or seats i d)) ∙ ap (map view_of) (set-get_or seats i d)
+
+  few_asks : length (map (λ s. s.asking) seats) ≤ 64
+  few_asks = let same = lawful.as_many in let few = lawful.few in omega (arith, same, few)
+
+  -- the step that the seat's walk on the clock and the notes wants may be made
+  pub ask_here : (walk : EnvWalk) → (get_or seats i d).asking ≡ Some walk → EnvActFits env.next (env_want_of walk)
+  ask_here walk e = asks_in_range lawful.events (env_state (plain_of env) (map (λ s. s.asking) seats)) i walk few_asks lawful.env_lawful (asks_at ∙ ap Some e)
+
+  -- where it stands there goes with its place in its call on the lock
+  pub asks_for : (asking : Option EnvWalk) → (get_or seats i d).asking ≡ asking → AsksFor (get_or seats i d).walk asking
+  asks_for asking e = lawful.right i (view_of (get_or seats i d)) asking (got-map view_of seats i d within) (asks_at ∙ ap Some e)
+
+  -- one that stands nowhere there wants no look
+  pub inside_here : (walk : Walk C) → (get_or seats i d).walk ≡ Some walk → (get_or seats i d).asking ≡ None → looks_at (want_of walk) ≡ None
+  inside_here walk e f = subst (λ w. AsksFor w None) e (asks_for None f)
+
+  in_asks : i < length (map (λ s. s.asking) seats)
+  in_asks = omega (arith, within, length-map seats (λ s. s.asking))
+
+  -- the note that may end its wait is made
+  noted_here : IfMade (plain_of env).notes (note_in (get_or seats i d).walk)
+  noted_here = lawful.noted i (view_of (get_or seats i d)) (got-map view_of seats i d within)
+
   -- the step that the seat's walk wants may be made
-  pub act_here : (walk : Walk) → (get_or seats i d).walk ≡ Some walk → ActFits truths 64 (get_or seats i d).number (want_of walk) (seat_part word row queues flags (get_or seats i d))
+  pub act_here : (walk : Walk C) → (get_or seats i d).walk ≡ Some walk → ActFits truths 64 (get_or seats i d).number (want_of walk) (seat_part word row queues flags (get_or seats i d))
   act_here walk e =
       fits_more truths (length (map view_of seats)) 64 (get_or seats i d).number (want_of walk) (seat_part word row queues flags (get_or seats i d)) lawful.few
-      (act_fits truths (length (map view_of seats)) lawful.few history (now truths word row queues flags seats history).state front (view_of (get_or seats i d)) back apart lawful.lawful walk e)
+      (act_fits truths (length (map view_of seats)) lawful.few history (now truths word row queues flags env seats history).state front (view_of (get_or seats i d)) back apart lawful.lawful walk e)
 
   -- the view after a step, part by part
-  led : (walk : Walk) (next : Seat C N) (found : Found) → next.number ≡ (get_or seats i d).number → next.walk ≡ walk_after (got_of N walk found) →
+  led : (walk : Walk C) (next : Seat C N) (found : Found) → next.number ≡ (get_or seats i d).number → next.walk ≡ walk_after (got_of N walk found) →
       view_of next ≡ record { seat = (get_or seats i d).number; walk = walk_after (got_of N walk found); held = next.held; owed = next.owed.items }
   led walk next found same goes =
       ap (λ n. record { seat = n; walk = next.walk; held = next.held; owed = next.owed.items }) same ∙ ap (λ w. record { seat = (get_or seats i d).number; walk = w; held = next.held; owed = next.owed.items }) goes
 
-  module _ (walk : Walk) (walks : (get_or seats i d).walk ≡ Some walk) (word' : Word) (row' : List ℕ) (queues' : Lists C) (flags' : List ℕ) (next : Seat C N) (history' : List (Event C N)) (step : Step)
+  module _ (walk : Walk C) (walks : (get_or seats i d).walk ≡ Some walk) (word' : Word) (row' : List ℕ) (queues' : Lists C) (flags' : List ℕ) (next : Seat C N) (history' : List (Event C N)) (step : Step)
       (others : queues'.cvs ≡ queues.cvs)
       (p : Performs truths (seat_part word row queues flags (get_or seats i d)) (get_or seats i d) history walk (seat_part word' row' queues' flags' next) next history' step) where
+    abbrev after : Option (Walk C)
+    after = walk_after (got_of N walk p.found)
+
+    asks_become : map (λ s. s.asking) (slice_set seats i next) ≡ slice_set (map (λ s. s.asking) seats) i (look_of (walk_after (got_of N walk p.found)))
+    asks_become = map-set (λ s. s.asking) seats i next ∙ ap (slice_set (map (λ s. s.asking) seats) i) p.asking
+
     -- what a step on the parts of a world is in it
-    pub goes_here : Goes (now truths word row queues flags seats history) (now truths word' row' queues' flags' (slice_set seats i next) history') i step
+    pub goes_here : Goes (now truths word row queues flags env seats history) (now truths word' row' queues' flags' env (slice_set seats i next) history') i step
     goes_here = record {
       view = view_of (get_or seats i d);
       at = got-map view_of seats i d within;
@@ -118,43 +260,273 @@ module _ {C : Type 0} {N : ℕ} (truths : Truths C) (quiet : QuietKeeps N truths
       tests = map-set (λ s. s.tests) seats i next ∙ ap (slice_set (map (λ s. s.tests) seats) i) (p.tests ∙ ap (tests_after p.found) (sym (index-map (λ s. s.tests) seats i d within)));
       grows = p.grows;
       answers = p.answers;
+      env = refl;
+      asking = asks_become;
     }
 
     abbrev new : Now C N
-    new = now truths word' row' queues' flags' (slice_set seats i next) history'
+    new = now truths word' row' queues' flags' env (slice_set seats i next) history'
 
-    -- the world after that step is lawful
-    pub lawful_after : IsLawfulWorld (now truths word' row' queues' flags' (slice_set seats i next) history')
-    lawful_after =
+    -- the note that may end its wait is the same
+    noted_after : IfMade (plain_of env).notes (note_in (walk_after (got_of N walk p.found)))
+    noted_after = noted N (IfMade (plain_of env).notes) walk p.found tt (subst (λ w. IfMade (plain_of env).notes (note_in w)) walks noted_here)
+
+    -- The world after that step is lawful, where the seat was in no call on the clock and the notes, or its look was over.
+    pub lawful_after : (events : List EnvEvent) → IsLawfulEnv events (env_state (plain_of env) (slice_set (map (λ s. s.asking) seats) i None)) → IsLawfulWorld (now truths word' row' queues' flags' env (slice_set seats i next) history')
+    lawful_after events cleared =
         let goes = goes_here in
-        let kept = keeps truths quiet (length (map view_of seats)) history (now truths word row queues flags seats history).state goes.view goes.found new.state goes.commits lawful.few goes.makes lawful.lawful in
+        let kept = keeps truths some quiet (length (map view_of seats)) history (now truths word row queues flags env seats history).state goes.view goes.found new.state goes.commits lawful.few goes.makes lawful.lawful in
         let same : length (map view_of (slice_set seats i next)) ≡ length (map view_of seats) = length-map (slice_set seats i next) view_of ∙ length-set seats i next ∙ sym (length-map seats view_of) in
+        let walks_on : (view_of next).walk ≡ walk_after (got_of N walk p.found) = p.goes in
         record {
           few = rw same lawful.few;
           numbered = rw (map-set view_of seats i next) (numbers_stay 0 (map view_of seats) i (view_of next) (p.number ∙ number_here ∙ sym (zero-add i)) lawful.numbered);
           no_variables = others ∙ lawful.no_variables;
           lawful = subst (λ n. IsLawful truths n history' new.state) (sym same) (subst (λ h. IsLawful truths (length (map view_of seats)) h new.state) (sym goes.grows) kept);
+          as_many = ap length asks_become ∙ length-set (map (λ s. s.asking) seats) i _ ∙ lawful.as_many ∙ sym same;
+          right = subst (λ (vs : List (SeatView C N)). StandRight vs new.asking) (sym (map-set view_of seats i next)) (subst (λ (ws : List (Option EnvWalk)). StandRight (slice_set (map view_of seats) i (view_of next)) ws) (sym asks_become)
+              (right_set (map view_of seats) (map (λ s. s.asking) seats) i (view_of next) (look_of (walk_after (got_of N walk p.found))) in_views in_asks lawful.right
+              (subst (λ w. AsksFor w (look_of (walk_after (got_of N walk p.found)))) (sym walks_on) (right_here (walk_after (got_of N walk p.found))))));
+          noted = subst (λ (vs : List (SeatView C N)). NotesMade vs (plain_of env).notes) (sym (map-set view_of seats i next))
+              (noted_set (map view_of seats) (plain_of env).notes i (view_of next) in_views lawful.noted (subst (λ w. IfMade (plain_of env).notes (note_in w)) (sym walks_on) noted_after));
+          events = events;
+          env_lawful = subst (λ (ws : List (Option EnvWalk)). IsLawfulEnv events (env_state (plain_of env) ws)) (set_again (map (λ s. s.asking) seats) i None (look_of (walk_after (got_of N walk p.found))) ∙ sym asks_become)
+              (env_begins events (plain_of env) (slice_set (map (λ s. s.asking) seats) i None) i (look_of (walk_after (got_of N walk p.found))) (set_here (map (λ s. s.asking) seats) i None in_asks)
+              (first_if (plain_of env).notes (walk_after (got_of N walk p.found)) noted_after) cleared);
         }
 
+  -- a seat that is in no call on the clock and the notes has none to leave
+  pub unasked_cleared : (get_or seats i d).asking ≡ None → IsLawfulEnv lawful.events (env_state (plain_of env) (slice_set (map (λ s. s.asking) seats) i None))
+  unasked_cleared e = subst (λ (ws : List (Option EnvWalk)). IsLawfulEnv lawful.events (env_state (plain_of env) ws)) (sym (set_same (map (λ s. s.asking) seats) i None (asks_at ∙ ap Some e))) lawful.env_lawful
+
   -- a call that begins at a first place that goes with the section in hand
-  pub lawful_begun : (walk : Walk) (next : Seat C N) → (get_or seats i d).walk ≡ None → IsFirst N walk → PlaceFits truths (Some walk) (get_or seats i d).held →
-      view_of next ≡ record { seat = (get_or seats i d).number; walk = Some walk; held = (get_or seats i d).held; owed = (get_or seats i d).owed.items } → IsLawfulWorld (now truths word row queues flags (slice_set seats i next) history)
-  lawful_begun walk next over first place is =
-      let new : Now C N = now truths word row queues flags (slice_set seats i next) history in
-      let begun : Begins truths (now truths word row queues flags seats history).state (view_of (get_or seats i d)) walk new.state = record {
+  lawful_begun : (walk : Walk C) (next : Seat C N) → (get_or seats i d).walk ≡ None → (get_or seats i d).asking ≡ None → next.asking ≡ (get_or seats i d).asking → IsFirst N walk → PlaceFits truths (Some walk) (get_or seats i d).held →
+      view_of next ≡ record { seat = (get_or seats i d).number; walk = Some walk; held = (get_or seats i d).held; owed = (get_or seats i d).owed.items } → IfMade (plain_of env).notes (note_in (Some walk)) → looks_at (want_of walk) ≡ None → IsLawfulWorld (now truths word row queues flags env (slice_set seats i next) history)
+  lawful_begun walk next over unasked asks first place is note inside =
+      let new : Now C N = now truths word row queues flags env (slice_set seats i next) history in
+      let begun : Begins truths (now truths word row queues flags env seats history).state (view_of (get_or seats i d)) walk new.state = record {
         over = over;
         first = first;
         fits = place;
         front = front;
         back = back;
         was = apart;
-        becomes = ap (λ vs. record (now truths word row queues flags seats history).state { views = vs }) (put next ∙ ap (λ v. front ++ v ∷ back) is);
+        becomes = ap (λ vs. record (now truths word row queues flags env seats history).state { views = vs }) (put next ∙ ap (λ v. front ++ v ∷ back) is);
       } in
-      let kept = begins truths (length (map view_of seats)) history (now truths word row queues flags seats history).state (view_of (get_or seats i d)) walk new.state begun lawful.lawful in
+      let kept = begins truths (length (map view_of seats)) history (now truths word row queues flags env seats history).state (view_of (get_or seats i d)) walk new.state begun lawful.lawful in
       let same : length (map view_of (slice_set seats i next)) ≡ length (map view_of seats) = length-map (slice_set seats i next) view_of ∙ length-set seats i next ∙ sym (length-map seats view_of) in
       record {
         few = rw same lawful.few;
         numbered = rw (map-set view_of seats i next) (numbers_stay 0 (map view_of seats) i (view_of next) (ap (λ v. v.seat) is ∙ number_here ∙ sym (zero-add i)) lawful.numbered);
         no_variables = lawful.no_variables;
         lawful = subst (λ n. IsLawful truths n history new.state) (sym same) kept;
+        as_many = ap length (asks_stay next asks) ∙ lawful.as_many ∙ sym same;
+        right = subst (λ (vs : List (SeatView C N)). StandRight vs new.asking) (sym (map-set view_of seats i next)) (subst (λ (ws : List (Option EnvWalk)). StandRight (slice_set (map view_of seats) i (view_of next)) ws) (set_same (map (λ s. s.asking) seats) i None (asks_at ∙ ap Some unasked) ∙ sym (asks_stay next asks))
+            (right_set (map view_of seats) (map (λ s. s.asking) seats) i (view_of next) None in_views in_asks lawful.right (subst (λ w. AsksFor w None) (sym (ap (λ v. v.walk) is)) inside)));
+        noted = subst (λ (vs : List (SeatView C N)). NotesMade vs (plain_of env).notes) (sym (map-set view_of seats i next))
+            (noted_set (map view_of seats) (plain_of env).notes i (view_of next) in_views lawful.noted (subst (λ w. IfMade (plain_of env).notes (note_in w)) (sym (ap (λ v. v.walk) is)) note));
+        events = lawful.events;
+        env_lawful = subst (λ (ws : List (Option EnvWalk)). IsLawfulEnv lawful.events (env_state (plain_of env) ws)) (sym (asks_stay next asks)) lawful.env_lawful;
       }
+
+  -- a seat whose place in a call on the clock and the notes alone is another
+  asks_alone : (env' : Environment) (next : Seat C N) → view_of next ≡ view_of (get_or seats i d) →
+      now truths word row queues flags env' (slice_set seats i next) history ≡ record (now truths word row queues flags env seats history) { env = plain_of env'; asking = map (λ s. s.asking) (slice_set seats i next); tests = map (λ s. s.tests) (slice_set seats i next) }
+  asks_alone env' next same =
+      ap (λ (vs : List (SeatView C N)). record (now truths word row queues flags env' (slice_set seats i next) history) { state = record (now truths word row queues flags env seats history).state { views = vs } }) (views_stay next same)
+
+  module _ (walk : EnvWalk) (walks : (get_or seats i d).asking ≡ Some walk) (over : (get_or seats i d).walk ≡ None) (env' : Environment) (next : Seat C N) (step : Step) (p : Asked (plain_of env) (plain_of env') (get_or seats i d) walk next step) where
+    same_view : view_of next ≡ view_of (get_or seats i d)
+    same_view = ap view_of p.goes
+
+    tests_stay : map (λ s. s.tests) (slice_set seats i next) ≡ map (λ s. s.tests) seats
+    tests_stay = map-set (λ s. s.tests) seats i next ∙ ap (slice_set (map (λ s. s.tests) seats) i) (ap (λ s. s.tests) p.goes) ∙ sym (map-set (λ s. s.tests) seats i (get_or seats i d)) ∙ ap (map (λ s. s.tests)) (set-get_or seats i d)
+
+    -- what a step on the clock and the notes is in the world
+    pub asks_here : Asks (now truths word row queues flags env seats history) (now truths word row queues flags env' (slice_set seats i next) history) i step
+    asks_here = record {
+      view = view_of (get_or seats i d);
+      at = got-map view_of seats i d within;
+      idle = over;
+      found = p.found;
+      events = events_of i (env_want_of walk) p.found;
+      makes = record {
+        walk = walk;
+        walks = asks_at ∙ ap Some walks;
+        effect = subst (λ n. EnvEffect n (env_want_of walk) (plain_of env) p.found (plain_of env') (events_of n (env_want_of walk) p.found)) number_here p.effect;
+        becomes = map-set (λ s. s.asking) seats i next ∙ ap (slice_set (map (λ s. s.asking) seats) i) (ap (λ s. s.asking) p.goes);
+      };
+      others = asks_alone env' next same_view ∙ ap (λ (ts : List ℕ). record (now truths word row queues flags env seats history) { env = plain_of env'; asking = map (λ s. s.asking) (slice_set seats i next); tests = ts }) tests_stay;
+      answers = p.answers;
+    }
+
+    -- and the world after it is lawful
+    pub lawful_asked : IsLawfulWorld (now truths word row queues flags env' (slice_set seats i next) history)
+    unfolding asks_here
+    lawful_asked =
+        let becomes : map (λ s. s.asking) (slice_set seats i next) ≡ slice_set (map (λ s. s.asking) seats) i (env_walk_after (env_got_of walk p.found)) = map-set (λ s. s.asking) seats i next ∙ ap (slice_set (map (λ s. s.asking) seats) i) (ap (λ s. s.asking) p.goes) in
+        subst IsLawfulWorld (sym (asks_alone env' next same_view))
+        (lawful_env (now truths word row queues flags env seats history) (plain_of env') (map (λ s. s.asking) (slice_set seats i next)) (map (λ s. s.tests) (slice_set seats i next)) (lawful.events ++ events_of i (env_want_of walk) p.found)
+        (ap length becomes ∙ length-set (map (λ s. s.asking) seats) i _)
+        (subst (λ (ws : List (Option EnvWalk)). StandRight (map view_of seats) ws) (sym becomes) (right_asks (map view_of seats) (map (λ s. s.asking) seats) i (view_of (get_or seats i d)) (env_walk_after (env_got_of walk p.found)) (got-map view_of seats i d within) in_asks lawful.right
+        (subst (λ w. AsksFor w (env_walk_after (env_got_of walk p.found))) (sym over) tt)))
+        (λ seat view at. if_made_stays (get_or seats i d).number (env_want_of walk) (plain_of env) (plain_of env') p.found _ p.effect (note_in view.walk) (lawful.noted seat view at))
+        (keeps_env lawful.events (events_of i (env_want_of walk) p.found) (env_state (plain_of env) (map (λ s. s.asking) seats)) (env_state (plain_of env') (map (λ s. s.asking) (slice_set seats i next))) i p.found asks_here.makes lawful.env_lawful)
+        lawful)
+
+  -- ---- a step of a look
+
+  module _ (walk : Walk C) (walks : (get_or seats i d).walk ≡ Some walk) (place : EnvWalk) (stands : (get_or seats i d).asking ≡ Some place) (env' : Environment) (next : Seat C N) (step : Step)
+      (p : Looked (plain_of env) (plain_of env') (get_or seats i d) walk place next step) where
+    looks : AsksFor (Some walk) (Some place)
+    looks = subst (λ w. AsksFor w (Some place)) walks (asks_for (Some place) stands)
+
+    -- it changes neither the clock nor a note
+    same_env : plain_of env' ≡ plain_of env
+    same_env = look_stays looks.0 place looks.2 (get_or seats i d).number (plain_of env) (plain_of env') p.found p.effect
+
+    seen_effect : EnvEffect i (env_want_of place) (plain_of env) p.found (plain_of env) []
+    seen_effect = subst (λ (e : EnvPlain). EnvEffect i (env_want_of place) (plain_of env) p.found e []) same_env (subst (λ n. EnvEffect n (env_want_of place) (plain_of env) p.found (plain_of env') []) number_here p.effect)
+
+    leads : LookLeads looks.0 (env_got_of place p.found)
+    leads = look_leads looks.0 place looks.2 i (plain_of env) (plain_of env) p.found [] seen_effect
+
+    steps_env : EnvStep (env_state (plain_of env) (map (λ s. s.asking) seats)) i p.found (env_state (plain_of env) (slice_set (map (λ s. s.asking) seats) i (env_walk_after (env_got_of place p.found)))) []
+    steps_env = record { walk = place; walks = asks_at ∙ ap Some stands; effect = seen_effect; becomes = refl }
+
+    kept_env : IsLawfulEnv (lawful.events ++ []) (env_state (plain_of env) (slice_set (map (λ s. s.asking) seats) i (env_walk_after (env_got_of place p.found))))
+    unfolding steps_env
+    kept_env = keeps_env lawful.events [] (env_state (plain_of env) (map (λ s. s.asking) seats)) (env_state (plain_of env) (slice_set (map (λ s. s.asking) seats) i (env_walk_after (env_got_of place p.found)))) i p.found steps_env lawful.env_lawful
+
+    -- the look goes on
+    module _ (on : EnvWalk) (goes_on : env_got_of place p.found ≡ EnvOn on) (is : next ≡ record (get_or seats i d) { asking = Some on }) where
+      asks_on : map (λ s. s.asking) (slice_set seats i next) ≡ slice_set (map (λ s. s.asking) seats) i (Some on)
+      asks_on = map-set (λ s. s.asking) seats i next ∙ ap (λ (s : Seat C N). slice_set (map (λ s. s.asking) seats) i s.asking) is
+
+      tests_on : map (λ s. s.tests) (slice_set seats i next) ≡ map (λ s. s.tests) seats
+      tests_on = map-set (λ s. s.tests) seats i next ∙ ap (slice_set (map (λ s. s.tests) seats) i) (ap (λ (s : Seat C N). s.tests) is) ∙ sym (map-set (λ s. s.tests) seats i (get_or seats i d)) ∙ ap (map (λ s. s.tests)) (set-get_or seats i d)
+
+      now_on : now truths word row queues flags env' (slice_set seats i next) history ≡ record (now truths word row queues flags env seats history) { asking = slice_set (map (λ s. s.asking) seats) i (Some on) }
+      now_on =
+          asks_alone env' next (ap view_of is) ∙ (λ k. record (now truths word row queues flags env seats history) { env = same_env k; asking = asks_on k; tests = tests_on k })
+
+      look_on : step ≡ Went → Looks (now truths word row queues flags env seats history) (now truths word row queues flags env' (slice_set seats i next) history) i step
+      look_on went = record {
+        view = view_of (get_or seats i d);
+        at = got-map view_of seats i d within;
+        walk = walk;
+        walks = walks;
+        place = place;
+        stands = asks_at ∙ ap Some stands;
+        found = p.found;
+        effect = seen_effect;
+        goes = subst (λ n. LookGoes n (now truths word row queues flags env seats history) (now truths word row queues flags env' (slice_set seats i next) history) i step) (sym goes_on) (now_on, went);
+      }
+
+      lawful_on : IsLawfulWorld (now truths word row queues flags env' (slice_set seats i next) history)
+      lawful_on =
+          let fits : LookFits looks.0 on = subst (λ n. LookLeads looks.0 n) goes_on leads in
+          subst IsLawfulWorld (sym now_on)
+          (lawful_env (now truths word row queues flags env seats history) (plain_of env) (slice_set (map (λ s. s.asking) seats) i (Some on)) (map (λ s. s.tests) seats) (lawful.events ++ [])
+          (length-set (map (λ s. s.asking) seats) i (Some on))
+          (right_asks (map view_of seats) (map (λ s. s.asking) seats) i (view_of (get_or seats i d)) (Some on) (got-map view_of seats i d within) in_asks lawful.right (subst (λ w. AsksFor w (Some on)) (sym walks) (looks.0, looks.1, fits)))
+          lawful.noted
+          (subst (λ n. IsLawfulEnv (lawful.events ++ []) (env_state (plain_of env) (slice_set (map (λ s. s.asking) seats) i (env_walk_after n)))) goes_on kept_env)
+          lawful)
+
+    -- the look is over
+    module _ (cause : Option Cause) (sees : env_got_of place p.found ≡ Saw cause) (q : Sees (get_or seats i d) walk cause next step) where
+      may : MayShow looks.0 cause
+      may = subst (λ n. LookLeads looks.0 n) sees leads
+
+      -- it is a step of the wait
+      performs : Performs truths (seat_part word row queues flags (get_or seats i d)) (get_or seats i d) history walk (seat_part word row queues flags next) next history step
+      performs = record {
+        found = Shown cause;
+        commits = [];
+        effect = subst (λ (x : Seat C N). Effect truths (get_or seats i d).number (want_of walk) (seat_part word row queues flags (get_or seats i d)) (Shown cause) (seat_part word row queues flags x) []) (sym q.goes)
+            (shown_effect truths (get_or seats i d).number (want_of walk) looks.0 cause (seat_part word row queues flags (get_or seats i d)) looks.1 may);
+        number = ap (λ (x : Seat C N). x.number) q.goes;
+        goes = ap (λ (x : Seat C N). x.walk) q.goes;
+        asking = ap (λ (x : Seat C N). x.asking) q.goes;
+        tests = ap (λ (x : Seat C N). x.tests) q.goes;
+        grows = sym (append-nil history);
+        answers = q.answers;
+      }
+
+      same_now : now truths word row queues flags env' (slice_set seats i next) history ≡ now truths word row queues flags env (slice_set seats i next) history
+      same_now = ap (λ (e : EnvPlain). record (now truths word row queues flags env (slice_set seats i next) history) { env = e }) same_env
+
+      look_over : Looks (now truths word row queues flags env seats history) (now truths word row queues flags env' (slice_set seats i next) history) i step
+      unfolding performs goes_here
+      look_over = record {
+        view = view_of (get_or seats i d);
+        at = got-map view_of seats i d within;
+        walk = walk;
+        walks = walks;
+        place = place;
+        stands = asks_at ∙ ap Some stands;
+        found = p.found;
+        effect = seen_effect;
+        goes = subst (λ n. LookGoes n (now truths word row queues flags env seats history) (now truths word row queues flags env' (slice_set seats i next) history) i step) (sym sees)
+            (subst (λ (w : Now C N). LookGoes (Saw cause) (now truths word row queues flags env seats history) w i step) (sym same_now) (goes_here walk walks word row queues flags next history step refl performs, refl));
+      }
+
+      lawful_over : IsLawfulWorld (now truths word row queues flags env' (slice_set seats i next) history)
+      lawful_over =
+          subst IsLawfulWorld (sym same_now) (lawful_after walk walks word row queues flags next history step refl performs (lawful.events ++ [])
+          (subst (λ n. IsLawfulEnv (lawful.events ++ []) (env_state (plain_of env) (slice_set (map (λ s. s.asking) seats) i (env_walk_after n)))) sees kept_env))
+
+    looked_by : (n : EnvNext) → env_got_of place p.found ≡ n → SeatLooks n (get_or seats i d) walk next step →
+        Looks (now truths word row queues flags env seats history) (now truths word row queues flags env' (slice_set seats i next) history) i step × IsLawfulWorld (now truths word row queues flags env' (slice_set seats i next) history)
+    looked_by (EnvOn on) e q = (look_on on e q.0 q.1, lawful_on on e q.0)
+    looked_by (Saw cause) e q = (look_over cause e q, lawful_over cause e q)
+    looked_by n e q = absurd q
+
+    -- what a step of a look is in the world, which is lawful after it
+    pub looks_here : Looks (now truths word row queues flags env seats history) (now truths word row queues flags env' (slice_set seats i next) history) i step × IsLawfulWorld (now truths word row queues flags env' (slice_set seats i next) history)
+    looks_here = looked_by (env_got_of place p.found) refl p.goes
+
+  -- a step on the clock and the notes, of a call of its own or of a look
+  moved_by : (walk : Option (Walk C)) → (get_or seats i d).walk ≡ walk → (place : EnvWalk) → (get_or seats i d).asking ≡ Some place → (env' : Environment) (next : Seat C N) (step : Step) → MovesFrom walk (plain_of env) (plain_of env') (get_or seats i d) place next step →
+      Moves (now truths word row queues flags env seats history) (now truths word row queues flags env' (slice_set seats i next) history) i step × IsLawfulWorld (now truths word row queues flags env' (slice_set seats i next) history)
+  moved_by None e place stands env' next step p = (inr (inl (asks_here place stands e env' next step p)), lawful_asked place stands e env' next step p)
+  moved_by (Some walk) e place stands env' next step p = let both = looks_here walk e place stands env' next step p in (inr (inr both.0), both.1)
+
+  pub moved_here : (place : EnvWalk) → (get_or seats i d).asking ≡ Some place → (env' : Environment) (next : Seat C N) (step : Step) → EnvMoves (plain_of env) (plain_of env') (get_or seats i d) place next step →
+      Moves (now truths word row queues flags env seats history) (now truths word row queues flags env' (slice_set seats i next) history) i step × IsLawfulWorld (now truths word row queues flags env' (slice_set seats i next) history)
+  moved_here place stands env' next step p = moved_by (get_or seats i d).walk refl place stands env' next step p
+
+  -- a call on the clock and the notes that begins at a first place whose notes are made
+  lawful_asking : (walk : EnvWalk) → (get_or seats i d).walk ≡ None → (get_or seats i d).asking ≡ None → IsFirstAsk (plain_of env).notes walk →
+      IsLawfulWorld (now truths word row queues flags env (slice_set seats i (record (get_or seats i d) { asking = Some walk; tests = 0 })) history)
+  lawful_asking walk over unasked first =
+      let next : Seat C N = record (get_or seats i d) { asking = Some walk; tests = 0 } in
+      let becomes : map (λ s. s.asking) (slice_set seats i next) ≡ slice_set (map (λ s. s.asking) seats) i (Some walk) = map-set (λ s. s.asking) seats i next in
+      let begun : EnvBegins (env_state (plain_of env) (map (λ s. s.asking) seats)) i walk (env_state (plain_of env) (map (λ s. s.asking) (slice_set seats i next))) = record {
+        over = asks_at ∙ ap Some unasked;
+        first = first;
+        becomes = ap (env_state (plain_of env)) becomes;
+      } in
+      subst IsLawfulWorld (sym (asks_alone env next refl))
+      (lawful_env (now truths word row queues flags env seats history) (plain_of env) (map (λ s. s.asking) (slice_set seats i next)) (map (λ s. s.tests) (slice_set seats i next)) lawful.events
+      (ap length becomes ∙ length-set (map (λ s. s.asking) seats) i _)
+      (subst (λ (ws : List (Option EnvWalk)). StandRight (map view_of seats) ws) (sym becomes) (right_asks (map view_of seats) (map (λ s. s.asking) seats) i (view_of (get_or seats i d)) (Some walk) (got-map view_of seats i d within) in_asks lawful.right
+      (subst (λ w. AsksFor w (Some walk)) (sym over) tt)))
+      lawful.noted
+      (begins_env lawful.events (env_state (plain_of env) (map (λ s. s.asking) seats)) (env_state (plain_of env) (map (λ s. s.asking) (slice_set seats i next))) i walk begun lawful.env_lawful)
+      lawful)
+
+  -- a call that begins where its need is met
+  pub lawful_placed : (start : Start C) → (get_or seats i d).walk ≡ None → (get_or seats i d).asking ≡ None → StartFits truths (plain_of env).notes start (get_or seats i d).held →
+      IsLawfulWorld (now truths word row queues flags env (slice_set seats i (placed (get_or seats i d) start)) history)
+  lawful_placed (OnLock walk) over unasked fits = lawful_begun walk (placed (get_or seats i d) (OnLock walk)) over unasked refl fits.0 fits.1 refl fits.2 fits.3
+  lawful_placed (Ask walk) over unasked fits = lawful_asking walk over unasked fits
+
+-- a number past the seats is past their views
+pub past_views : {C : Type 0} {N : ℕ} (seats : List (Seat C N)) (i : ℕ) → length seats ≤ i → length (map view_of seats) ≤ i
+past_views seats i past = let long = length-map seats view_of in omega (arith, long, past)
+
+-- a seat that was read stands in no call on the clock and the notes
+pub asks_unasked : {C : Type 0} {N : ℕ} (seats : List (Seat C N)) (i : ℕ) (seat : Seat C N) → i < length seats → seat ≡ get_or seats i seat → seat.asking ≡ None → slice_get (map (λ s. s.asking) seats) i ≡ Some None
+asks_unasked seats i seat within is none = got-map (λ s. s.asking) seats i seat within ∙ ap (λ (s : Seat _ _). Some s.asking) (sym is) ∙ ap Some none

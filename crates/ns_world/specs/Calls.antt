@@ -1,51 +1,95 @@
 -- Where a call begins, and the section that it needs.
-use Rattle.std.specs.Prelude.{◌≡◌, ℕ, ◌<◌, false, Option, Some, None, IsSome}
+use Rattle.std.specs.Prelude.{◌≡◌, ℕ, ◌<◌, ◌^◌, true, false, Option, Some, None, IsSome, IfSome}
 use Rattle.ns_model.specs.declared.event.Mode.{Mode}
 use Rattle.ns_model.specs.declared.event.Mode.TheVariants.{Write, Read}
 use Rattle.ns_word.specs.declared.view.Held.{Held}
 use Rattle.ns_word.specs.declared.word.Leaving.TheVariants.{Writer, Reader}
-use Rattle.ns_word.specs.declared.walk.Walk.{Walk}
 use Rattle.ns_word.specs.declared.walk.Walk.TheVariants.{TryLoad, AcquireLoad, ReleaseLoad, Get as GetAt, SetLoad}
-use Rattle.ns_word.specs.Walks.{quiet_place}
+use Rattle.ns_word.specs.declared.env_walk.Chain.TheVariants.{IsNotified as Asked, NoteWait as Awaited}
+use Rattle.ns_word.specs.declared.env_walk.EnvWalk.TheVariants.{NextLoad, Notify as NotifyNote, Advance as MoveClock, ClockLoad, ExpiryLoad}
+use Rattle.ns_model.specs.Environments.{NoteStanding}
+use Rattle.ns_word.specs.declared.wait.Aim.TheVariants.{Lock as ToLock}
+use Rattle.ns_word.specs.declared.wait.Visit.TheVariants.{Entry}
+use Rattle.ns_word.specs.Walks.{quiet_place, test_place}
+use Rattle.ns_word.specs.EnvSteps.{IfMade}
+use Rattle.ns_world.specs.declared.call.Start.{Start}
+use Rattle.ns_world.specs.declared.call.Start.TheVariants.{Lock as OnLock, Ask}
 use Rattle.ns_world.specs.declared.call.Call.{Call}
-use Rattle.ns_world.specs.declared.call.Call.TheVariants.{Lock, RLock, TryLock, TryRLock, Unlock, RUnlock, UnlockQuiet, Get, Set}
+use Rattle.ns_world.specs.declared.call.Call.TheVariants.{Lock, RLock, TryLock, TryRLock, Unlock, RUnlock, UnlockQuiet, Get, Set, Wait, NewNote, Notify, Advance, IsNotified, Expiry, NoteWait}
 
--- the first place of the call's walk, over a row of N cells
-abbrev pub start_of : ℕ → Call → Walk
-start_of N Lock = AcquireLoad Write false
-start_of N RLock = AcquireLoad Read false
-start_of N TryLock = TryLoad Write
-start_of N TryRLock = TryLoad Read
-start_of N Unlock = ReleaseLoad Writer
-start_of N RUnlock = ReleaseLoad Reader
-start_of N UnlockQuiet = quiet_place N 0
-start_of N (Get i) = GetAt i
-start_of N (Set i v) = SetLoad i v
+-- the mode of the section that a wait leaves
+abbrev pub mode_left : Option Mode → Mode
+mode_left None = Write
+mode_left (Some mode) = mode
 
--- the call's need is met by a section of this mode, or by none
-abbrev pub CallFits : Call → Option Mode → Type 0
-CallFits Lock mode = mode ≡ None
-CallFits RLock mode = mode ≡ None
-CallFits TryLock mode = mode ≡ None
-CallFits TryRLock mode = mode ≡ None
-CallFits Unlock mode = mode ≡ Some Write
-CallFits RUnlock mode = mode ≡ Some Read
-CallFits UnlockQuiet mode = mode ≡ Some Write
-CallFits (Get i) mode = IsSome mode
-CallFits (Set i v) mode = mode ≡ Some Write
+-- the first place of the call's walk, over a row of N cells, with a section in hand of this mode, or with none
+abbrev pub start_of : {C : Type 0} → ℕ → Option Mode → Call C → Start C
+start_of N mode Lock = OnLock (AcquireLoad (ToLock Write) false)
+start_of N mode RLock = OnLock (AcquireLoad (ToLock Read) false)
+start_of N mode TryLock = OnLock (TryLoad Write)
+start_of N mode TryRLock = OnLock (TryLoad Read)
+start_of N mode Unlock = OnLock (ReleaseLoad Writer)
+start_of N mode RUnlock = OnLock (ReleaseLoad Reader)
+start_of N mode UnlockQuiet = OnLock (quiet_place N 0)
+start_of N mode (Get i) = OnLock (GetAt i)
+start_of N mode (Set i v) = OnLock (SetLoad i v)
+start_of N mode (Wait c limits) = OnLock (test_place N (record { mode = mode_left mode; cond = c; limits = limits }) Entry 0)
+start_of N mode (NewNote parent deadline) = Ask (NextLoad parent deadline)
+start_of N mode (Notify note) = Ask (NotifyNote note)
+start_of N mode (Advance moment) = Ask (MoveClock moment)
+start_of N mode (IsNotified note) = Ask (ClockLoad (Asked note))
+start_of N mode (Expiry note) = Ask (ExpiryLoad note note None)
+start_of N mode (NoteWait note deadline) = Ask (ClockLoad (Awaited note deadline))
+
+-- a call on the lock, whose need is met by a section of this mode, or by none
+abbrev pub SectionFits : {C : Type 0} → Call C → Option Mode → Type 0
+SectionFits Lock mode = mode ≡ None
+SectionFits RLock mode = mode ≡ None
+SectionFits TryLock mode = mode ≡ None
+SectionFits TryRLock mode = mode ≡ None
+SectionFits Unlock mode = mode ≡ Some Write
+SectionFits RUnlock mode = mode ≡ Some Read
+SectionFits UnlockQuiet mode = mode ≡ Some Write
+SectionFits (Get i) mode = IsSome mode
+SectionFits (Set i v) mode = mode ≡ Some Write
+SectionFits call mode = ⊥
+
+-- The call's need is met: on the lock by the section in hand, on the clock and the notes by notes that are made, whatever is in hand, and of a wait by both.
+abbrev pub CallFits : {C : Type 0} → (ℕ → NoteStanding) → Call C → Option Mode → Type 0
+CallFits notes (NewNote parent deadline) mode = IfMade notes parent
+CallFits notes (Notify note) mode = (notes note).made ≡ true
+CallFits notes (Advance moment) mode = Unit {0}
+CallFits notes (IsNotified note) mode = (notes note).made ≡ true
+CallFits notes (Expiry note) mode = (notes note).made ≡ true
+CallFits notes (NoteWait note deadline) mode = (notes note).made ≡ true
+CallFits notes (Wait c limits) mode = IsSome mode × IfMade notes limits.note
+CallFits notes call mode = SectionFits call mode
 
 abbrev pub mode_of : {C : Type 0} {N : ℕ} → Option (Held C N) → Option Mode
 mode_of None = None
 mode_of (Some held) = Some held.mode
 
--- the call's cell, if it names one, is one of n
-abbrev pub CellFits : ℕ → Call → Type 0
-CellFits n Lock = Unit {0}
-CellFits n RLock = Unit {0}
-CellFits n TryLock = Unit {0}
-CellFits n TryRLock = Unit {0}
-CellFits n Unlock = Unit {0}
-CellFits n RUnlock = Unit {0}
-CellFits n UnlockQuiet = Unit {0}
-CellFits n (Get i) = i < n
-CellFits n (Set i v) = i < n
+abbrev pub IsNoteNumber : ℕ → Type 0
+IsNoteNumber note = note < 64
+
+abbrev pub IsMoment : ℕ → Type 0
+IsMoment moment = moment < 2 ^ 54
+
+-- the call's cell, if it names one, is one of n, its notes are of 64, and its moments are below 2^54
+abbrev pub CallInRange : {C : Type 0} → ℕ → Call C → Type 0
+CallInRange n Lock = Unit {0}
+CallInRange n RLock = Unit {0}
+CallInRange n TryLock = Unit {0}
+CallInRange n TryRLock = Unit {0}
+CallInRange n Unlock = Unit {0}
+CallInRange n RUnlock = Unit {0}
+CallInRange n UnlockQuiet = Unit {0}
+CallInRange n (Get i) = i < n
+CallInRange n (Set i v) = i < n
+CallInRange n (Wait c limits) = IfSome limits.note IsNoteNumber × IfSome limits.deadline IsMoment
+CallInRange n (NewNote parent deadline) = IfSome parent IsNoteNumber × IfSome deadline IsMoment
+CallInRange n (Notify note) = IsNoteNumber note
+CallInRange n (Advance moment) = IsMoment moment
+CallInRange n (IsNotified note) = IsNoteNumber note
+CallInRange n (Expiry note) = IsNoteNumber note
+CallInRange n (NoteWait note deadline) = IsNoteNumber note × IfSome deadline IsMoment

@@ -1,6 +1,9 @@
+pub mod Asks
 pub mod Begins
 pub mod Calls
 pub mod Commits
+pub mod Looked
+pub mod Looks
 pub mod Performs
 pub mod Room
 pub mod Runs
@@ -8,6 +11,8 @@ pub mod Shows
 pub mod World
 pub use Rattle.ns_model.specs.Histories
 pub use Rattle.ns_model.specs.Seats
+pub use Rattle.ns_word.specs.EnvSteps
+pub use Rattle.ns_word.specs.EnvWalks
 pub use Rattle.ns_word.specs.Lawful
 pub use Rattle.ns_word.specs.Steps
 pub use Rattle.ns_word.specs.Walks

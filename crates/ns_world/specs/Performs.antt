@@ -6,14 +6,18 @@ use Rattle.ns_word.specs.declared.word.Word.{Word}
 use Rattle.ns_word.specs.declared.view.Held.{Held}
 use Rattle.ns_word.specs.declared.view.SeatView.{SeatView}
 use Rattle.ns_word.specs.declared.walk.Walk.{Walk}
+use Rattle.ns_word.specs.declared.env_walk.EnvWalk.{EnvWalk}
 use Rattle.ns_word.specs.declared.walk.Next.{Next}
 use Rattle.ns_word.specs.declared.walk.Next.TheVariants.{On, Idle as Idles, Done}
+use Rattle.ns_word.specs.declared.act.Change.{Change}
+use Rattle.ns_word.specs.declared.act.Change.TheVariants.{Queue, Leave}
 use Rattle.ns_word.specs.declared.act.Act.{Act}
 use Rattle.ns_word.specs.declared.act.Found.{Found}
 use Rattle.ns_word.specs.declared.act.Found.TheVariants.{Scanned}
 use Rattle.ns_word.specs.Walks.{want_of, got_of, walk_after}
 use Rattle.ns_word.specs.Steps.{Truths, Part, Effect}
 use Rattle.ns_world.specs.declared.seat.Seat.{Seat}
+use Rattle.ns_world.specs.Looks.{look_of}
 use Rattle.ns_world.specs.declared.step.Step.{Step}
 use Rattle.ns_world.specs.declared.step.Step.TheVariants.{Went, Idle, Finished}
 
@@ -28,16 +32,22 @@ flag_at flags seat = get_or flags seat 0
 abbrev pub part : {C : Type 0} {N : ℕ} → Word → List ℕ → Lists C → List ℕ → Option (Held C N) → List ℕ → Part C N
 part word row queues flags held owed = record { word = word; row = row; lock = queues.lock; flags = flag_at flags; held = held; owed = owed }
 
+-- a seat puts itself into the lock list
+abbrev pub IsQueuing : Change → Type 0
+IsQueuing (Queue mode woken) = Unit {0}
+IsQueuing Leave = ⊥
+
 -- the act was made, and what it commits stands at the end of the history
-pub record Makes {C : Type 0} {N : ℕ} (truths : Truths C) (seat : ℕ) (act : Act) (old : Part C N) (history : List (Event C N)) (found : Found) (new : Part C N) (history' : List (Event C N)) : Type 0 where
+pub record Makes {C : Type 0} {N : ℕ} (truths : Truths C) (seat : ℕ) (act : Act C) (old : Part C N) (history : List (Event C N)) (found : Found) (new : Part C N) (history' : List (Event C N)) : Type 0 where
   pub commits : List (Event C N)
   pub effect : Effect truths seat act old found new commits
   pub grows : history' ≡ history ++ commits
 
--- the seat has this number, place and count of tests
-pub record IsSeat {C : Type 0} {N : ℕ} (n : ℕ) (place : Option Walk) (count : ℕ) (seat : Seat C N) : Type 0 where
+-- the seat has this number, these places and this count of tests
+pub record IsSeat {C : Type 0} {N : ℕ} (n : ℕ) (place : Option (Walk C)) (ask : Option EnvWalk) (count : ℕ) (seat : Seat C N) : Type 0 where
   pub number : seat.number ≡ n
   pub walk : seat.walk ≡ place
+  pub asking : seat.asking ≡ ask
   pub tests : seat.tests ≡ count
 
 -- how many conditions the scan of a seat's call tested
@@ -46,7 +56,7 @@ tests_after (Scanned owes tests) before = tests
 tests_after found before = before
 
 -- what a step was, by where it leads
-abbrev pub step_of : Next → Step
+abbrev pub step_of : {C : Type 0} → Next C → Step
 step_of (On walk) = Went
 step_of (Idles walk) = Idle
 step_of (Done reply) = Finished reply
@@ -56,12 +66,13 @@ abbrev pub seat_part : {C : Type 0} {N : ℕ} → Word → List ℕ → Lists C 
 seat_part word row queues flags seat = part word row queues flags seat.held seat.owed.items
 
 -- the step of the walk was made, and the seat is where it leads
-pub record Performs {C : Type 0} {N : ℕ} (truths : Truths C) (old : Part C N) (seat : Seat C N) (history : List (Event C N)) (walk : Walk) (new : Part C N) (seat' : Seat C N) (history' : List (Event C N)) (step : Step) : Type 0 where
+pub record Performs {C : Type 0} {N : ℕ} (truths : Truths C) (old : Part C N) (seat : Seat C N) (history : List (Event C N)) (walk : Walk C) (new : Part C N) (seat' : Seat C N) (history' : List (Event C N)) (step : Step) : Type 0 where
   pub found : Found
   pub commits : List (Event C N)
   pub effect : Effect truths seat.number (want_of walk) old found new commits
   pub number : seat'.number ≡ seat.number
   pub goes : seat'.walk ≡ walk_after (got_of N walk found)
+  pub asking : seat'.asking ≡ look_of (walk_after (got_of N walk found))
   pub tests : seat'.tests ≡ tests_after found seat.tests
   pub grows : history' ≡ history ++ commits
   pub answers : step ≡ step_of (got_of N walk found)

@@ -1,13 +1,22 @@
 -- A world's seat fits in memory, over any condition.
+use Rattle.std.specs.Prelude.{◌<◌, ◌^◌}
 use Rattle.std.proofs.Common.{arith}
 use Rattle.std.specs.Mem.{FitsInMemory}
+use prog.Memory.{size}
+use mir.Syntax.{Ty}
 use denote.RattleType.{RattleType}
 use denote.Param.{layout, copied, param}
 use Rattle.ns_world.specs.contracts.seat.Seat.{the_row as seat_row}
-use Rattle.ns_model.specs.Room.{HasRoom, room_enough}
+use Rattle.ns_model.specs.Room.{HasRoom, room, room_enough}
 
 abbrev pub SeatFits : (C N : RattleType) → Type 0
 SeatFits C N = FitsInMemory (seat_row C N)
 
+-- what takes little by the bound is small; of any type, so that no size is worked out
+small_by : (τ : Ty) → room τ < 2 ^ 63 → size τ < 2 ^ 63
+small_by τ few = let most = room_enough τ in omega (arith, most, few)
+
 pub seat_fits : (C N : RattleType) → HasRoom (copied 0 C) (param 1 N) → SeatFits (copied 0 C) (param 1 N)
-seat_fits C N small = let most = room_enough (layout (seat_row (copied 0 C) (param 1 N))) in omega (arith, most, small.0, small.1)
+seat_fits C N small =
+    let few : room (layout (seat_row (copied 0 C) (param 1 N))) < 2 ^ 63 = omega (arith, small.0, small.1) in
+    small_by (layout (seat_row (copied 0 C) (param 1 N))) few

@@ -12,7 +12,7 @@ use Rattle.ns_world.specs.declared.step.Begun.TheVariants.{Started, Misuse}
 use Rattle.ns_world.specs.declared.step.Step.{Step}
 use Rattle.ns_world.specs.declared.step.Step.TheVariants.{Went, Idle, Finished, Nothing}
 use Rattle.ns_world.specs.Begins.{Begins}
-use Rattle.ns_world.specs.Calls.{CellFits}
+use Rattle.ns_world.specs.Calls.{CallInRange}
 use Rattle.ns_world.specs.World.{Now, IsIdle, IsBusy, StepOf, is_busy}
 
 -- ---- one turn
@@ -31,11 +31,11 @@ abbrev pub start : {C : Type 0} {N : ℕ} → Now C N → Progress C N
 start world = progress world (replicate 64 0) []
 
 -- The calls of a seat. A seat without a list has none.
-abbrev pub calls_of : List (List Call) → ℕ → List Call
+abbrev pub calls_of : {C : Type 0} → List (List (Call C)) → ℕ → List (Call C)
 calls_of lists seat = unwrap_or (slice_get lists seat) []
 
 -- the seat's next call
-abbrev pub next_call : {C : Type 0} {N : ℕ} → List (List Call) → Progress C N → ℕ → Option Call
+abbrev pub next_call : {C : Type 0} {N : ℕ} → List (List (Call C)) → Progress C N → ℕ → Option (Call C)
 next_call lists p seat = slice_get (calls_of lists seat) (slice_index p.over seat)
 
 -- how many conditions a call's scan tested, by the count of its seat; a misused call made none
@@ -65,13 +65,13 @@ Counts over lines seat (Finished reply) tests over' lines' =
 Counts over lines seat step tests over' lines' = (over' ≡ over) × (lines' ≡ lines)
 
 -- A seat with a call in progress goes on with it; one with none begins its next, if the call's need is met.
-abbrev pub Leads : {C : Type 0} {N : ℕ} → List (List Call) → Progress C N → ℕ → Now C N → Type 0
-Leads lists p seat world =
+abbrev pub Leads : {C : Type 0} {N : ℕ} → List (List (Call C)) → Progress C N → ℕ → Now C N → Type 0
+Leads {C} {N} lists p seat world =
     (IsBusy p.world seat × (world ≡ p.world))
-    ⊎ ((call : Call) × (next_call lists p seat ≡ Some call) × Begins p.world world seat call Started)
+    ⊎ ((call : Call C) × (next_call lists p seat ≡ Some call) × Begins p.world world seat call Started)
 
 -- the seat makes a step of the call that it goes on with or begins
-pub record Makes {C : Type 0} {N : ℕ} (lists : List (List Call)) (p : Progress C N) (seat : ℕ) (step : Step) (q : Progress C N) : Type 0 where
+pub record Makes {C : Type 0} {N : ℕ} (lists : List (List (Call C))) (p : Progress C N) (seat : ℕ) (step : Step) (q : Progress C N) : Type 0 where
   pub begun : Now C N
   pub leads : Leads lists p seat begun
   pub world : Now C N
@@ -80,28 +80,28 @@ pub record Makes {C : Type 0} {N : ℕ} (lists : List (List Call)) (p : Progress
   pub after : q ≡ progressed p seat step world
 
 -- the need of the seat's next call isn't met: the call is over at once, with no step
-pub record Misuses {C : Type 0} {N : ℕ} (lists : List (List Call)) (p : Progress C N) (seat : ℕ) (step : Step) (q : Progress C N) : Type 0 where
-  pub call : Call
+pub record Misuses {C : Type 0} {N : ℕ} (lists : List (List (Call C))) (p : Progress C N) (seat : ℕ) (step : Step) (q : Progress C N) : Type 0 where
+  pub call : Call C
   pub next : next_call lists p seat ≡ Some call
   pub refused : Begins p.world p.world seat call Misuse
   pub answer : step ≡ Finished Misused
   pub after : q ≡ finished p seat Misused p.world
 
 -- no call of the seat is in progress or left
-pub record Rests {C : Type 0} {N : ℕ} (lists : List (List Call)) (p : Progress C N) (seat : ℕ) (step : Step) (q : Progress C N) : Type 0 where
+pub record Rests {C : Type 0} {N : ℕ} (lists : List (List (Call C))) (p : Progress C N) (seat : ℕ) (step : Step) (q : Progress C N) : Type 0 where
   pub idle : IsIdle p.world seat
   pub none : next_call lists p seat ≡ None
   pub answer : step ≡ Nothing
   pub after : q ≡ p
 
 -- A turn of the seat takes the progress p to q, and was this.
-abbrev pub TurnOf : {C : Type 0} {N : ℕ} → List (List Call) → Progress C N → ℕ → Step → Progress C N → Type 0
+abbrev pub TurnOf : {C : Type 0} {N : ℕ} → List (List (Call C)) → Progress C N → ℕ → Step → Progress C N → Type 0
 TurnOf lists p seat step q = Makes lists p seat step q ⊎ (Misuses lists p seat step q ⊎ Rests lists p seat step q)
 
 -- A turn takes the world old to the world new, where this is the seat's next call, whatever came before.
-abbrev pub TurnsWith : {C : Type 0} {N : ℕ} → Option Call → Now C N → ℕ → Step → Now C N → Type 0
-TurnsWith next old seat step new =
-    (lists : List (List Call)) (over : List ℕ) (lines : List Line) → slice_get (calls_of lists seat) (slice_index over seat) ≡ next →
+abbrev pub TurnsWith : {C : Type 0} {N : ℕ} → Option (Call C) → Now C N → ℕ → Step → Now C N → Type 0
+TurnsWith {C} {N} next old seat step new =
+    (lists : List (List (Call C))) (over : List ℕ) (lines : List Line) → slice_get (calls_of lists seat) (slice_index over seat) ≡ next →
     TurnOf lists (progress old over lines) seat step (progressed (progress old over lines) seat step new)
 
 -- why a turn is refused
@@ -119,7 +119,7 @@ pub record Turned : Type 0 where
   pub step : Step
 
 -- These turns, one after another, take the progress p to q
-abbrev pub TurnsOf : {C : Type 0} {N : ℕ} → List (List Call) → Progress C N → List Turned → Progress C N → Type 0
+abbrev pub TurnsOf : {C : Type 0} {N : ℕ} → List (List (Call C)) → Progress C N → List Turned → Progress C N → Type 0
 TurnsOf lists p [] q = q ≡ p
 TurnsOf {C} {N} lists p (turned ∷ turns) q = (r : Progress C N) × TurnOf lists p turned.seat turned.step r × TurnsOf lists r turns q
 
@@ -154,7 +154,7 @@ rest_of (item ∷ items) (turned ∷ turns) =
 -- ---- a run
 
 -- Turns that follow the items and leave some of them take the progress p to q, and their number from `before` to `after`, at most the limit.
-pub record Advances {C : Type 0} {N : ℕ} (lists : List (List Call)) (limit : ℕ) (p : Progress C N) (before : ℕ) (items left : List Item) (q : Progress C N) (after : ℕ) : Type 0 where
+pub record Advances {C : Type 0} {N : ℕ} (lists : List (List (Call C))) (limit : ℕ) (p : Progress C N) (before : ℕ) (items left : List Item) (q : Progress C N) (after : ℕ) : Type 0 where
   pub turns : List Turned
   pub made : TurnsOf lists p turns q
   pub rest : rest_of items turns ≡ Some left
@@ -169,7 +169,7 @@ StopsFor limit world made (item ∷ left) NoSuchSeat = length world.state.views 
 StopsFor limit world made left fault = ⊥
 
 -- Turns that follow a front of the items lead from the progress p, and then the run stops in this world.
-pub record Stops {C : Type 0} {N : ℕ} (lists : List (List Call)) (limit : ℕ) (p : Progress C N) (before : ℕ) (items : List Item) (world : Now C N) (fault : Fault) : Type 0 where
+pub record Stops {C : Type 0} {N : ℕ} (lists : List (List (Call C))) (limit : ℕ) (p : Progress C N) (before : ℕ) (items : List Item) (world : Now C N) (fault : Fault) : Type 0 where
   pub left : List Item
   pub end : Progress C N
   pub after : ℕ
@@ -178,7 +178,7 @@ pub record Stops {C : Type 0} {N : ℕ} (lists : List (List Call)) (limit : ℕ)
   pub why : StopsFor limit world after left fault
 
 -- A whole run takes the world old to the world new, and gives these lines: turns from the start that follow the schedule to its end, no more than the limit.
-pub record Runs {C : Type 0} {N : ℕ} (lists : List (List Call)) (schedule : List Turn) (limit : ℕ) (old new : Now C N) (lines : List Line) : Type 0 where
+pub record Runs {C : Type 0} {N : ℕ} (lists : List (List (Call C))) (schedule : List Turn) (limit : ℕ) (old new : Now C N) (lines : List Line) : Type 0 where
   pub end : Progress C N
   pub after : ℕ
   pub advances : Advances lists limit (start old) 0 (items_of schedule) [] end after
@@ -186,20 +186,20 @@ pub record Runs {C : Type 0} {N : ℕ} (lists : List (List Call)) (schedule : Li
   pub tells : end.lines ≡ lines
 
 -- A run that is refused leaves the world as its last turn left it.
-abbrev pub RunFault : {C : Type 0} {N : ℕ} → List (List Call) → List Turn → ℕ → Now C N → Now C N → Fault → Type 0
+abbrev pub RunFault : {C : Type 0} {N : ℕ} → List (List (Call C)) → List Turn → ℕ → Now C N → Now C N → Fault → Type 0
 RunFault lists schedule limit old new fault = Stops lists limit (start old) 0 (items_of schedule) new fault
 
 -- ---- what a run needs
 
 -- no call is in progress
 abbrev pub AllIdle : {C : Type 0} {N : ℕ} → Now C N → Type 0
-AllIdle world = (seat : ℕ) → is_busy world.state.views seat ≡ false
+AllIdle world = (seat : ℕ) → is_busy world.state.views world.asking seat ≡ false
 
 -- No seat is past its last call, which keeps a call's number below 256.
 pub record IsCounted {C : Type 0} {N : ℕ} (world : Now C N) (over : List ℕ) : Type 0 where
   pub many : length over ≡ 64
-  pub most : (seat : ℕ) → slice_index over seat + (if is_busy world.state.views seat then 1 else 0) ≤ 256
+  pub most : (seat : ℕ) → slice_index over seat + (if is_busy world.state.views world.asking seat then 1 else 0) ≤ 256
 
--- a list has at most 256 calls, and each call's cell is one of n
-abbrev pub ListFits : ℕ → List Call → Type 0
-ListFits n calls = (length calls ≤ 256) × All (CellFits n) calls
+-- a list has at most 256 calls, and what each names is in range
+abbrev pub ListFits : {C : Type 0} → ℕ → List (Call C) → Type 0
+ListFits n calls = (length calls ≤ 256) × All (CallInRange n) calls

@@ -1,5 +1,5 @@
 -- What a world shows of its queues and its owed wakes.
-use Rattle.std.specs.Prelude.{ℕ, Bool, true, false, if◌then◌else◌, List, [], ◌∷◌, ◌++◌, map, Option, None, Some}
+use Rattle.std.specs.Prelude.{ℕ, if◌then◌else◌, List, [], ◌∷◌, map, Option, None, Some}
 use Rattle.std.specs.List.{flat_map}
 use Rattle.ns_queue.specs.declared.waiter.Waiter.{Waiter}
 use Rattle.ns_word.specs.declared.view.SeatView.{SeatView}
@@ -9,7 +9,7 @@ use Rattle.ns_word.specs.Steps.{Truths, in_hand}
 use Rattle.ns_world.specs.World.{Now}
 
 -- the lock list as a seat at this place has it in hand
-abbrev pub hand_of : {C : Type 0} → Truths C → ℕ → Option Walk → List ℕ → List (Waiter C) → List (Waiter C)
+abbrev pub hand_of : {C : Type 0} → Truths C → ℕ → Option (Walk C) → List ℕ → List (Waiter C) → List (Waiter C)
 hand_of truths seat None row lock = lock
 hand_of truths seat (Some walk) row lock = in_hand truths seat walk row lock
 

@@ -1,35 +1,48 @@
 -- What a contract sees of a world, and a seat's step in it.
-use Rattle.std.specs.Prelude.{◌≡◌, ℕ, ◌+◌, Bool, false, ◌<◌, ◌≤◌, ◌++◌, List, [], ◌∷◌, map, replicate, Option, Some, None, is_some, slice_get, slice_set, slice_index, length}
+use Rattle.std.specs.Prelude.{◌≡◌, ℕ, ◌+◌, ◌⊎◌, Bool, false, ◌||◌, ◌<◌, ◌≤◌, ◌++◌, List, [], ◌∷◌, map, replicate, Option, Some, None, is_some, slice_get, slice_set, slice_index, length}
 use Rattle.std.specs.Option.{option_map_or}
+use Rattle.ns_model.specs.declared.environment.EnvEvent.{EnvEvent}
 use Rattle.ns_model.specs.declared.event.Event.{Event}
 use Rattle.ns_queue.specs.declared.waiter.Waiter.{Waiter}
 use Rattle.ns_queue.specs.Queues.{Lists}
 use Rattle.ns_word.specs.declared.view.SeatView.{SeatView}
 use Rattle.ns_word.specs.declared.word.Word.{Word}
 use Rattle.ns_word.specs.declared.walk.Walk.{Walk}
-use Rattle.ns_word.specs.declared.walk.Reply.{Reply}
 use Rattle.ns_word.specs.declared.act.Found.{Found}
+use Rattle.ns_word.specs.declared.act.Found.TheVariants.{Looked}
+use Rattle.ns_model.specs.Environments.{NoteStanding}
+use Rattle.ns_word.specs.declared.env_act.EnvFound.{EnvFound}
+use Rattle.ns_word.specs.declared.env_walk.EnvWalk.{EnvWalk}
 use Rattle.ns_word.specs.Walks.{want_of, got_of, walk_after}
 use Rattle.ns_word.specs.Steps.{Truths, State, Step as Steps}
 use Rattle.ns_word.specs.Lawful.{IsLawful}
 use Rattle.ns_word.specs.Begins.{fresh_state}
+use Rattle.ns_word.specs.declared.env_walk.EnvNext.{EnvNext}
+use Rattle.ns_word.specs.declared.env_walk.EnvNext.TheVariants.{On, Saw}
+use Rattle.ns_word.specs.EnvWalks.{env_want_of, env_got_of}
+use Rattle.ns_word.specs.EnvSteps.{EnvPlain, EnvStep, EnvEffect, IfMade, IsLawfulEnv, fresh_plain}
+use Rattle.ns_world.specs.declared.environment.Environment.{Environment}
 use Rattle.ns_world.specs.declared.seat.Seat.{Seat}
 use Rattle.ns_world.specs.declared.step.Step.{Step}
 use Rattle.ns_world.specs.declared.step.Step.TheVariants.{Went, Idle, Finished, Nothing}
 use Rattle.ns_world.specs.declared.fault.Fault.{Fault}
 use Rattle.ns_world.specs.declared.fault.Fault.TheVariants.{OutOfMemory, NoSuchSeat, TooManySeats, StepLimit}
+use Rattle.ns_world.specs.Asks.{plain_of, env_state, env_step_of}
 use Rattle.ns_world.specs.Commits.{Commits}
+use Rattle.ns_world.specs.Looks.{AsksFor, look_of, note_in}
 use Rattle.ns_world.specs.Performs.{view_of, flag_at, step_of, tests_after}
 
--- what the conditions mean, the lock and its seats, the lists of condition variables, how many conditions the scan of each seat's call tested, and all that has happened
+-- what the conditions mean, the lock and its seats, the lists of condition variables, how many conditions the scan of each seat's call tested, all that has happened, the clock and the notes, and each seat's place in a call on them
 pub record Now (C : Type 0) (N : ℕ) : Type 0 where
   pub truths : Truths C
   pub state : State C N
   pub cvs : List (List (Waiter C))
   pub tests : List ℕ
   pub history : List (Event C N)
+  pub env : EnvPlain
+  pub asking : List (Option EnvWalk)
 
--- what a world keeps: the same, but what the conditions mean, with the flags in a list
+-- what a world keeps: the same, but what the conditions mean, with the flags and the notes in lists
 pub record Kept (C : Type 0) (N : ℕ) : Type 0 where
   pub word : Word
   pub row : List ℕ
@@ -38,9 +51,11 @@ pub record Kept (C : Type 0) (N : ℕ) : Type 0 where
   pub views : List (SeatView C N)
   pub tests : List ℕ
   pub history : List (Event C N)
+  pub env : Environment
+  pub asking : List (Option EnvWalk)
 
-abbrev pub kept : {C : Type 0} {N : ℕ} → Word → List ℕ → Lists C → List ℕ → List (Seat C N) → List (Event C N) → Kept C N
-kept word row queues flags seats history = record {
+abbrev pub kept : {C : Type 0} {N : ℕ} → Word → List ℕ → Lists C → List ℕ → Environment → List (Seat C N) → List (Event C N) → Kept C N
+kept word row queues flags env seats history = record {
   word = word;
   row = row;
   queues = queues;
@@ -48,6 +63,8 @@ kept word row queues flags seats history = record {
   views = map view_of seats;
   tests = map (λ seat. seat.tests) seats;
   history = history;
+  env = env;
+  asking = map (λ seat. seat.asking) seats;
 }
 
 -- a world as the machine sees it
@@ -58,10 +75,12 @@ seen truths world = record {
   cvs = world.queues.cvs;
   tests = world.tests;
   history = world.history;
+  env = plain_of world.env;
+  asking = world.asking;
 }
 
-abbrev pub now : {C : Type 0} {N : ℕ} → Truths C → Word → List ℕ → Lists C → List ℕ → List (Seat C N) → List (Event C N) → Now C N
-now truths word row queues flags seats history = seen truths (kept word row queues flags seats history)
+abbrev pub now : {C : Type 0} {N : ℕ} → Truths C → Word → List ℕ → Lists C → List ℕ → Environment → List (Seat C N) → List (Event C N) → Now C N
+now truths word row queues flags env seats history = seen truths (kept word row queues flags env seats history)
 
 -- ---- what holds of every world
 
@@ -70,18 +89,31 @@ abbrev pub AreNumbered : {C : Type 0} {N : ℕ} → ℕ → List (SeatView C N) 
 AreNumbered first [] = Unit {0}
 AreNumbered first (view ∷ views) = (view.seat ≡ first) × AreNumbered (first + 1) views
 
--- a world has at most 64 seats, nobody waits for a condition variable yet, and it keeps the law of the lock with its history
+-- each seat stands on the clock and the notes where it may
+abbrev pub StandRight : {C : Type 0} {N : ℕ} → List (SeatView C N) → List (Option EnvWalk) → Type 0
+StandRight {C} {N} views askings = (seat : ℕ) (view : SeatView C N) (asking : Option EnvWalk) → slice_get views seat ≡ Some view → slice_get askings seat ≡ Some asking → AsksFor view.walk asking
+
+-- each note that may end a wait is made
+abbrev pub NotesMade : {C : Type 0} {N : ℕ} → List (SeatView C N) → (ℕ → NoteStanding) → Type 0
+NotesMade {C} {N} views notes = (seat : ℕ) (view : SeatView C N) → slice_get views seat ≡ Some view → IfMade notes (note_in view.walk)
+
+-- A world has at most 64 seats, nobody waits for a condition variable yet, and it keeps the law of the lock with its history. Its clock and its notes are as some events of its seats leave them, and it keeps their law with these.
 pub record IsLawfulWorld {C : Type 0} {N : ℕ} (world : Now C N) : Type 0 where
   pub few : length world.state.views ≤ 64
   pub numbered : AreNumbered 0 world.state.views
   pub no_variables : world.cvs ≡ replicate 4 []
   pub lawful : IsLawful world.truths (length world.state.views) world.history world.state
+  pub as_many : length world.asking ≡ length world.state.views
+  pub right : StandRight world.state.views world.asking
+  pub noted : NotesMade world.state.views world.env.notes
+  pub events : List EnvEvent
+  pub env_lawful : IsLawfulEnv events (env_state world.env world.asking)
 
 -- ---- a new world
 
--- a free lock over a row of zeros, before any event
+-- a free lock over a row of zeros, a clock at 0 and no note, before any event
 abbrev pub fresh : {C : Type 0} {N : ℕ} → Truths C → ℕ → Now C N
-fresh {C} {N} truths seats = record { truths = truths; state = fresh_state {C = C} {N = N} seats; cvs = replicate 4 []; tests = replicate seats 0; history = [] }
+fresh {C} {N} truths seats = record { truths = truths; state = fresh_state {C = C} {N = N} seats; cvs = replicate 4 []; tests = replicate seats 0; history = []; env = fresh_plain; asking = replicate seats None }
 
 -- why no world is made: more than 64 seats, or want of memory where there are no more
 abbrev pub NewFault : ℕ → Fault → Type 0
@@ -97,15 +129,25 @@ pub record IsIdle {C : Type 0} {N : ℕ} (world : Now C N) (seat : ℕ) : Type 0
   pub view : SeatView C N
   pub at : slice_get world.state.views seat ≡ Some view
   pub idle : view.walk ≡ None
+  pub unasked : slice_get world.asking seat ≡ Some None
 
--- a call of the seat is in progress
-pub record IsBusy {C : Type 0} {N : ℕ} (world : Now C N) (seat : ℕ) : Type 0 where
+-- a call of the seat on the lock is in progress
+pub record IsWalking {C : Type 0} {N : ℕ} (world : Now C N) (seat : ℕ) : Type 0 where
   pub view : SeatView C N
   pub at : slice_get world.state.views seat ≡ Some view
-  pub walk : Walk
+  pub walk : Walk C
   pub walks : view.walk ≡ Some walk
 
--- The seat makes one step by the machine, and it was this: no other seat's view changes, its events stand at the end of the history, and it replies where its walk is over.
+-- a call of the seat on the clock and the notes is in progress
+pub record IsAsking {C : Type 0} {N : ℕ} (world : Now C N) (seat : ℕ) : Type 0 where
+  pub walk : EnvWalk
+  pub walks : slice_get world.asking seat ≡ Some (Some walk)
+
+-- a call of the seat is in progress
+abbrev pub IsBusy : {C : Type 0} {N : ℕ} → Now C N → ℕ → Type 0
+IsBusy world seat = IsWalking world seat ⊎ IsAsking world seat
+
+-- The seat makes one step by the machine, and it was this: no other seat's view changes, its events stand at the end of the history, and it replies where its walk is over. The clock and the notes stay; where its wait is to look next, the seat stands at the beginning of the look.
 pub record Goes {C : Type 0} {N : ℕ} (old new : Now C N) (seat : ℕ) (step : Step) : Type 0 where
   pub view : SeatView C N
   pub at : slice_get old.state.views seat ≡ Some view
@@ -119,23 +161,65 @@ pub record Goes {C : Type 0} {N : ℕ} (old new : Now C N) (seat : ℕ) (step : 
   pub tests : new.tests ≡ slice_set old.tests seat (tests_after found (slice_index old.tests seat))
   pub grows : new.history ≡ old.history ++ commits
   pub answers : step ≡ step_of (got_of N makes.walk found)
+  pub env : new.env ≡ old.env
+  pub asking : new.asking ≡ slice_set old.asking seat (look_of (walk_after (got_of N makes.walk found)))
+
+-- The seat makes one step on the clock and the notes, and it was this: it replies where its walk is over, and nothing else changes.
+pub record Asks {C : Type 0} {N : ℕ} (old new : Now C N) (seat : ℕ) (step : Step) : Type 0 where
+  pub view : SeatView C N
+  pub at : slice_get old.state.views seat ≡ Some view
+  pub idle : view.walk ≡ None
+  pub found : EnvFound
+  pub events : List EnvEvent
+  pub makes : EnvStep (env_state old.env old.asking) seat found (env_state new.env new.asking) events
+  pub others : new ≡ record old { env = new.env; asking = new.asking }
+  pub answers : step ≡ env_step_of (env_got_of makes.walk found)
+
+-- where a step of a look leads: it goes on, or the wait goes on with what it has shown
+abbrev pub LookGoes : {C : Type 0} {N : ℕ} → EnvNext → Now C N → Now C N → ℕ → Step → Type 0
+LookGoes (On next) old new seat step = (new ≡ record old { asking = slice_set old.asking seat (Some next) }) × (step ≡ Went)
+LookGoes (Saw cause) old new seat step = (goes : Goes old new seat step) × (goes.found ≡ Looked cause)
+LookGoes next old new seat step = ⊥
+
+-- The seat makes one step of a look of its wait: a load of the clock or of a note, which changes neither.
+pub record Looks {C : Type 0} {N : ℕ} (old new : Now C N) (seat : ℕ) (step : Step) : Type 0 where
+  pub view : SeatView C N
+  pub at : slice_get old.state.views seat ≡ Some view
+  pub walk : Walk C
+  pub walks : view.walk ≡ Some walk
+  pub place : EnvWalk
+  pub stands : slice_get old.asking seat ≡ Some (Some place)
+  pub found : EnvFound
+  pub effect : EnvEffect seat (env_want_of place) old.env found old.env []
+  pub goes : LookGoes (env_got_of place found) old new seat step
+
+-- the seat makes one step of its call: on the lock, in a call on the clock and the notes, or in a look
+abbrev pub Moves : {C : Type 0} {N : ℕ} → Now C N → Now C N → ℕ → Step → Type 0
+Moves old new seat step = (Goes old new seat step × (slice_get old.asking seat ≡ Some None)) ⊎ (Asks old new seat step ⊎ Looks old new seat step)
 
 -- what the answer says of a seat's step
 abbrev pub StepOf : {C : Type 0} {N : ℕ} → Now C N → Now C N → ℕ → Step → Type 0
 StepOf old new seat Nothing = (new ≡ old) × IsIdle old seat
-StepOf old new seat Went = Goes old new seat Went
-StepOf old new seat Idle = Goes old new seat Idle
-StepOf old new seat (Finished reply) = Goes old new seat (Finished reply)
+StepOf old new seat Went = Moves old new seat Went
+StepOf old new seat Idle = Moves old new seat Idle
+StepOf old new seat (Finished reply) = Moves old new seat (Finished reply)
 
 -- Why a step is refused: the number is no seat's, or there was no memory for the event of a release that finds the word that it has seen.
 abbrev pub StepFault : {C : Type 0} {N : ℕ} → Now C N → ℕ → Fault → Type 0
 StepFault old seat NoSuchSeat = length old.state.views ≤ seat
-StepFault old seat OutOfMemory = (busy : IsBusy old seat) × Commits (want_of busy.walk) old.state.word
+StepFault old seat OutOfMemory = (walking : IsWalking old seat) × Commits (want_of walking.walk) old.state.word
 StepFault old seat TooManySeats = ⊥
 StepFault old seat StepLimit = ⊥
 
 -- ---- what a world shows
 
+-- whether a call of the seat on the lock is in progress, or one on the clock and the notes
+abbrev pub is_walking : {C : Type 0} {N : ℕ} → List (SeatView C N) → ℕ → Bool
+is_walking views seat = option_map_or (λ view. is_some view.walk) (slice_get views seat) false
+
+abbrev pub is_asking : List (Option EnvWalk) → ℕ → Bool
+is_asking askings seat = option_map_or (λ walk. is_some walk) (slice_get askings seat) false
+
 -- whether a call of the seat is in progress
-abbrev pub is_busy : {C : Type 0} {N : ℕ} → List (SeatView C N) → ℕ → Bool
-is_busy views seat = option_map_or (λ view. is_some view.walk) (slice_get views seat) false
+abbrev pub is_busy : {C : Type 0} {N : ℕ} → List (SeatView C N) → List (Option EnvWalk) → ℕ → Bool
+is_busy views askings seat = is_walking views seat || is_asking askings seat

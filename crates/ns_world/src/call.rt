@@ -1,15 +1,21 @@
 //! The calls of a world.
 
-ghost use Rattle.std.specs.Prelude.{◌≡◌, ◌≤◌, MatchOption};
-ghost use Rattle.ns_world.specs.Calls.{start_of, CallFits};
+ghost use Rattle.std.specs.Prelude.{◌≡◌, ◌≤◌, MatchOption, Some, None, ◌&&◌, is_some, if◌then◌else◌};
+ghost use Rattle.ns_world.specs.Asks.{note_at};
+ghost use Rattle.ns_world.specs.Calls.{start_of, CallFits, SectionFits};
 
+use crate::environment::{is_made, is_made_or_none};
 use ns_model::event::Mode;
+use ns_word::env_act::NoteState;
+use ns_word::env_walk::{Chain, EnvWalk};
+use ns_word::limits::Limits;
+use ns_word::wait::{Aim, Wait};
 use ns_word::walk::Walk;
 use ns_word::word::Leaving;
 
 /// A call.
 #[derive(Clone, Copy, Debug, PartialEq, Eq)]
-pub enum Call {
+pub enum Call<C> {
     /// Locks in write mode. Needs no section in hand. Answers `Ok`, once the lock was acquired.
     Lock,
     /// Locks in read mode. Needs no section in hand. Answers `Ok`, once the lock was acquired.
@@ -31,26 +37,125 @@ pub enum Call {
     Get(u8),
     /// Writes a cell of the write section in hand. Answers `Ok`.
     Set(u8, u64),
+    /// Waits until the condition is true, and has a section in the same mode in hand then. Needs a
+    /// section in hand, and the note, if one is given, made. Answers `Answered`: `Met` where the
+    /// condition holds on return; else `Canceled` where the note was notified, or `TimedOut` where
+    /// the deadline had come. Where that is so as the call begins, nothing is released; else the
+    /// section is left, and another one is in hand on return.
+    Wait(C, Limits),
+    /// Makes a note, below a parent that is made, if one is given, and with a deadline, in ticks,
+    /// if one is given. Answers its `Number`, or `NotesFull` where 64 are taken.
+    NewNote(Option<u8>, Option<u64>),
+    /// Notifies a note that is made. Answers `Ok`.
+    Notify(u8),
+    /// Moves the clock on to a moment, in ticks, or leaves it where it stands later. Answers `Ok`.
+    Advance(u64),
+    /// Asks whether a note that is made is notified: it or one above it, by a call or by its
+    /// deadline. Answers `Is`.
+    IsNotified(u8),
+    /// Asks for the earliest deadline of a note that is made and those above it. Answers `Expiry`.
+    Expiry(u8),
+    /// Waits until a note that is made is notified, at most until the deadline, in ticks, if one is
+    /// given. Answers `Is`: whether the note is notified.
+    NoteWait(u8, Option<u64>),
 }
 
-impl Call {
+/// Where a call begins.
+#[derive(Clone, Copy, Debug, PartialEq, Eq)]
+pub enum Start<C> {
+    /// On the lock.
+    Lock(Walk<C>),
+    /// On the clock and the notes.
+    Ask(EnvWalk),
+}
+
+/// A call on the clock and the notes begins where its need is met.
+fn ask<C: Copy>(met: bool, walk: EnvWalk) -> Option<Start<C>>
+    ensures { result ≡ (if met then Some (Start.Ask walk) else None) }
+{
+    if met { Some(Start::Ask(walk)) } else { None }
+}
+
+/// A wait begins where it may leave a section in this mode, and its note is made.
+fn wait<C: Copy, const N: usize>(
+    mode: Option<Mode>,
+    cond: C,
+    limits: Limits,
+    met: bool,
+) -> Option<Start<C>>
+    requires { N ≤ 16 }
+    ensures { result ≡ (if met && is_some mode then Some (start_of N mode (Call.Wait cond limits)) else None) }
+{
+    let mode = mode?;
+    if met {
+        let wait = Wait { mode, cond, limits };
+        Some(Start::Lock(Walk::wait::<N>(wait)))
+    } else {
+        None
+    }
+}
+
+impl<C: Copy> Call<C> {
     /// Where the call begins, over a row of `N` cells, if it goes with a section in hand of this
-    /// mode, or with none.
-    pub fn start<const N: usize>(self, mode: Option<Mode>) -> Option<Walk>
+    /// mode, or with none, and with these notes; `None` where its need isn't met.
+    ///
+    /// Needs a row of at most 16 cells.
+    pub fn start<const N: usize>(
+        self,
+        mode: Option<Mode>,
+        notes: &[NoteState; 64],
+    ) -> Option<Start<C>>
         requires { N ≤ 16 }
-        ensures { MatchOption result (CallFits self mode → ⊥) (λ walk. (walk ≡ start_of N self) × CallFits self mode) }
+        ensures { MatchOption result (CallFits (note_at notes.now) self mode → ⊥) (λ start. (start ≡ start_of N mode self) × CallFits (note_at notes.now) self mode) }
     {
-        match (self, mode) {
-            (Call::Lock, None) => Some(Walk::AcquireLoad(Mode::Write, false)),
-            (Call::RLock, None) => Some(Walk::AcquireLoad(Mode::Read, false)),
-            (Call::TryLock, None) => Some(Walk::TryLoad(Mode::Write)),
-            (Call::TryRLock, None) => Some(Walk::TryLoad(Mode::Read)),
-            (Call::Unlock, Some(Mode::Write)) => Some(Walk::ReleaseLoad(Leaving::Writer)),
-            (Call::RUnlock, Some(Mode::Read)) => Some(Walk::ReleaseLoad(Leaving::Reader)),
-            (Call::UnlockQuiet, Some(Mode::Write)) => Some(Walk::quiet_release::<N>()),
-            (Call::Get(i), Some(_)) => Some(Walk::Get(i)),
-            (Call::Set(i, value), Some(Mode::Write)) => Some(Walk::SetLoad(i, value)),
-            _ => None,
+        match self {
+            Call::NewNote(parent, deadline) => {
+                ask(
+                    is_made_or_none(notes, parent),
+                    EnvWalk::NextLoad(parent, deadline),
+                )
+            }
+            Call::Notify(note) => ask(is_made(notes, note), EnvWalk::Notify(note)),
+            Call::Advance(moment) => ask(true, EnvWalk::Advance(moment)),
+            Call::IsNotified(note) => {
+                ask(
+                    is_made(notes, note),
+                    EnvWalk::ClockLoad(Chain::IsNotified(note)),
+                )
+            }
+            Call::Expiry(note) => {
+                ask(is_made(notes, note), EnvWalk::ExpiryLoad(note, note, None))
+            }
+            Call::NoteWait(note, deadline) => {
+                ask(
+                    is_made(notes, note),
+                    EnvWalk::ClockLoad(Chain::NoteWait(note, deadline)),
+                )
+            }
+            Call::Wait(cond, limits) => {
+                wait::<C, N>(mode, cond, limits, is_made_or_none(notes, limits.note))
+            }
+            call => call.start_lock::<N>(mode),
         }
+    }
+
+    /// Where a call on the lock begins.
+    fn start_lock<const N: usize>(self, mode: Option<Mode>) -> Option<Start<C>>
+        requires { N ≤ 16 }
+        ensures { MatchOption result (SectionFits self mode → ⊥) (λ start. (start ≡ start_of N mode self) × SectionFits self mode) }
+    {
+        let walk = match (self, mode) {
+            (Call::Lock, None) => Walk::AcquireLoad(Aim::Lock(Mode::Write), false),
+            (Call::RLock, None) => Walk::AcquireLoad(Aim::Lock(Mode::Read), false),
+            (Call::TryLock, None) => Walk::TryLoad(Mode::Write),
+            (Call::TryRLock, None) => Walk::TryLoad(Mode::Read),
+            (Call::Unlock, Some(Mode::Write)) => Walk::ReleaseLoad(Leaving::Writer),
+            (Call::RUnlock, Some(Mode::Read)) => Walk::ReleaseLoad(Leaving::Reader),
+            (Call::UnlockQuiet, Some(Mode::Write)) => Walk::quiet_release::<N>(),
+            (Call::Get(i), Some(_)) => Walk::Get(i),
+            (Call::Set(i, value), Some(Mode::Write)) => Walk::SetLoad(i, value),
+            _ => return None,
+        };
+        Some(Start::Lock(walk))
     }
 }

@@ -1,13 +1,19 @@
-//! A plain world of one lock: its word, its row, up to 64 seats, and all that has happened.
+//! A plain world of one lock, a clock and notes: the lock's word and row, up to 64 seats, and all
+//! that has happened to the row.
 //!
 //! A world steps the call machine of `ns_word` on plain data, one atomic step at a time, in
 //! whatever order it is told to. It keeps the machine's law as its own invariant: see
 //! [`world::World`].
 #![tactic(auto)]
 
+mod asks;
 pub mod call;
+#[cfg(test)]
+mod env_tests;
+mod environment;
 mod exchanges;
 pub mod fault;
+mod looks;
 mod packed;
 pub mod perform;
 mod room;
@@ -19,4 +25,6 @@ mod shows;
 pub mod step;
 #[cfg(test)]
 mod tests;
+#[cfg(test)]
+mod wait_tests;
 pub mod world;

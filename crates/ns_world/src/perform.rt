@@ -1,14 +1,17 @@
 //! One atomic step on the parts of a world, as the seat's walk wants it.
 
-ghost use Rattle.std.specs.Prelude.{◌≡◌, ◌<◌, ◌≤◌, Some, IfOk, OnErr, ℕ, List, [], replicate};
+ghost use Rattle.std.specs.Prelude.{◌≡◌, ◌<◌, ◌≤◌, Some, None, IsSome, IfOk, OnErr, ℕ, List, [], replicate};
 ghost use Rattle.ns_model.specs.declared.event.Mode.TheVariants.{Write};
 ghost use Rattle.ns_word.specs.Places.{ActFits, HasMode, OwesOne};
 ghost use Rattle.ns_word.specs.Steps.{Effect, truths};
 ghost use Rattle.ns_word.specs.Walks.{want_of, got_of, walk_after};
 ghost use Rattle.ns_world.specs.Commits.{Commits};
+ghost use Rattle.ns_world.specs.Looks.{look_of, look_place, looks_at};
 ghost use Rattle.ns_world.specs.Performs.{part, seat_part, step_of, tests_after, IsSeat, Makes, Performs};
 
-use crate::exchanges::{acquire, release, release_returning, return_queues, take_queues};
+use crate::exchanges::{
+    acquire, release, release_returning, return_queues, take_queues, wait_returning,
+};
 use crate::room::Seated;
 use crate::seat::Seat;
 use crate::step::Step;
@@ -16,6 +19,7 @@ use arrayvec::ArrayVec;
 use ns_model::event::Event;
 use ns_queue::queues::Queues;
 use ns_word::act::{Act, Found};
+use ns_word::env_walk::{Chain, EnvWalk};
 use ns_word::view::Held;
 use ns_word::walk::{Next, Walk};
 use ns_word::word::Word;
@@ -50,6 +54,15 @@ fn judge<C: Seated<N>, const N: usize>(held: &Option<Held<C, N>>, i: u8) -> Foun
     Found::Quiet(C::quiet(&section.before, &section.row))
 }
 
+/// Whether the condition is true of the row in hand.
+fn judge_met<C: Seated<N>, const N: usize>(held: &Option<Held<C, N>>, i: u8, cond: C) -> Found
+    requires { IsSome held.now }
+    ensures { (seat : ℕ) (word row queues : _) (flags owed : List ℕ) → Effect (truths C.holds C.is_same C.is_quiet) seat (Act.JudgeMet i cond) (part word row queues flags held.now owed) result (part word row queues flags held.now owed) [] }
+{
+    let Some(section) = *held else { unreachable!() };
+    Found::Met(cond.test(&section.row))
+}
+
 /// Clears the flag of the first to whom a wake is owed.
 fn pay_wake<C: Seated<N>, const N: usize>(
     flags: &mut [u8; 64],
@@ -74,7 +87,7 @@ fn arm_flag<C: Seated<N>, const N: usize>(flags: &mut [u8; 64], seat: u8) -> Fou
     Found::Made
 }
 
-/// Makes the act.
+/// Makes the act, which is one on the lock and no look.
 fn make<C: Seated<N>, const N: usize>(
     word: &mut Word,
     row: &mut [u64; N],
@@ -82,18 +95,19 @@ fn make<C: Seated<N>, const N: usize>(
     flags: &mut [u8; 64],
     seat: &mut Seat<C, N>,
     history: &mut Vec<Event<C, N>>,
-    act: Act,
+    act: Act<C>,
 ) -> Result<Found, AllocError>
     requires fits { ActFits (truths C.holds C.is_same C.is_quiet) 64 seat.old.number act (seat_part word.old row.old queues.old flags.old seat.old) }
+    requires inside { looks_at act ≡ None }
     requires no_variables { queues.old.cvs ≡ replicate 4 [] }
     ensures ok { IfOk result (λ found. Makes (truths C.holds C.is_same C.is_quiet) seat.old.number act (seat_part word.old row.old queues.old flags.old seat.old) history.old.items found (seat_part word.new row.new queues.new flags.new seat.new) history.new.items) }
-    ensures kept { IsSeat seat.old.number seat.old.walk seat.old.tests seat.new }
+    ensures kept { IsSeat seat.old.number seat.old.walk seat.old.asking seat.old.tests seat.new }
     ensures others { queues.new.cvs ≡ queues.old.cvs }
     ensures err { OnErr result ((Commits act word.old) × (word.new ≡ word.old) × (row.new ≡ row.old) × (queues.new ≡ queues.old) × (flags.new ≡ flags.old) × (seat.new ≡ seat.old) × (history.new.items ≡ history.old.items)) }
 {
     let found = match act {
         Act::LoadWord => Found::Word(*word),
-        Act::Acquire(mode, woken, last) => { acquire(word, row, &mut seat.held, mode, woken, last) }
+        Act::Acquire(aim, woken, last) => acquire(word, row, &mut seat.held, aim, woken, last),
         Act::TakeQueues(taking, last) => take_queues::<C, N>(word, taking, last),
         Act::ReturnQueues(change, last) => {
             return_queues(word, queues, seat.number, change, last)
@@ -104,12 +118,17 @@ fn make<C: Seated<N>, const N: usize>(
         Act::ReleaseReturning(leaving, last) => {
             release_returning(word, row, queues, seat, history, leaving, last)?
         }
+        Act::WaitReturning(wait, again, last) => {
+            wait_returning(word, row, queues, seat, history, wait, again, last)?
+        }
         Act::LoadCell(i) => Found::Cell(row[i as usize]),
         Act::JudgeQuiet(i) => judge(&seat.held, i),
+        Act::JudgeMet(i, cond) => judge_met(&seat.held, i, cond),
         Act::StoreCell(i, value) => store(row, &mut seat.held, i, value),
         Act::ArmFlag => arm_flag::<C, N>(flags, seat.number),
         Act::PayWake => pay_wake::<C, N>(flags, &mut seat.owed),
         Act::LoadFlag => Found::Flag(flags[seat.number as usize]),
+        Act::Look(_, _) => unreachable!(),
     };
     Ok(found)
 }
@@ -124,28 +143,47 @@ fn tests_after(found: Found, before: u32) -> u32
     }
 }
 
+/// The first place of a look, where the act is one.
+fn look_place<C: Seated<N>, const N: usize>(act: Act<C>) -> Option<EnvWalk>
+    ensures { result ≡ look_place act }
+{
+    match act {
+        Act::Look(limits, _) => Some(EnvWalk::ClockLoad(Chain::Look(limits))),
+        _ => None,
+    }
+}
+
+/// Puts the seat at this place of its walk, and at the beginning of a look where its wait looks.
+fn go_to<C: Seated<N>, const N: usize>(seat: &mut Seat<C, N>, walk: Walk<C>)
+    ensures { seat.new ≡ record seat.old { walk = Some walk; asking = look_of (Some walk) } }
+{
+    seat.asking = look_place(walk.want());
+    seat.walk = Some(walk);
+}
+
 /// Puts the seat where its walk goes, and tells what the step was.
-fn settle<C: Seated<N>, const N: usize>(seat: &mut Seat<C, N>, next: Next) -> Step
+pub(crate) fn settle<C: Seated<N>, const N: usize>(seat: &mut Seat<C, N>, next: Next<C>) -> Step
     ensures step { result ≡ step_of next }
-    ensures seat { seat.new ≡ record seat.old { walk = walk_after next } }
+    ensures seat { seat.new ≡ record seat.old { walk = walk_after next; asking = look_of (walk_after next) } }
 {
     match next {
         Next::On(walk) => {
-            seat.walk = Some(walk);
+            go_to(seat, walk);
             Step::Went
         }
         Next::Idle(walk) => {
-            seat.walk = Some(walk);
+            go_to(seat, walk);
             Step::Idle
         }
         Next::Done(reply) => {
+            seat.asking = None;
             seat.walk = None;
             Step::Finished(reply)
         }
     }
 }
 
-/// Makes the step that the seat's walk wants. Only a release takes memory, for its event; where
+/// Makes the step that the seat's walk wants, which is one on the lock and no look. Only a release takes memory, for its event; where
 /// that is refused, nothing has changed.
 pub(crate) fn perform<C: Seated<N>, const N: usize>(
     word: &mut Word,
@@ -154,10 +192,11 @@ pub(crate) fn perform<C: Seated<N>, const N: usize>(
     flags: &mut [u8; 64],
     seat: &mut Seat<C, N>,
     history: &mut Vec<Event<C, N>>,
-    walk: Walk,
+    walk: Walk<C>,
 ) -> Result<Step, AllocError>
     requires walks { seat.old.walk ≡ Some walk }
     requires fits { ActFits (truths C.holds C.is_same C.is_quiet) 64 seat.old.number (want_of walk) (seat_part word.old row.old queues.old flags.old seat.old) }
+    requires inside { looks_at (want_of walk) ≡ None }
     requires no_variables { queues.old.cvs ≡ replicate 4 [] }
     ensures ok { IfOk result (λ step. Performs (truths C.holds C.is_same C.is_quiet) (seat_part word.old row.old queues.old flags.old seat.old) seat.old history.old.items walk (seat_part word.new row.new queues.new flags.new seat.new) seat.new history.new.items step) }
     ensures others { queues.new.cvs ≡ queues.old.cvs }

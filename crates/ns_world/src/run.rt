@@ -2,7 +2,7 @@
 //! its call takes.
 
 ghost use Rattle.std.specs.Prelude.{◌≡◌, ◌≤◌, ◌<◌, ◌+◌, ◌∷◌, [], Some, IfSome, IfOk, IfErr, OnOk, All, map, slice_get, slice_index, replicate, MatchResult, ◌^◌, ◌++◌};
-ghost use Rattle.ns_world.specs.Calls.{CellFits};
+ghost use Rattle.ns_world.specs.Calls.{CallInRange};
 ghost use Rattle.ns_word.specs.Steps.{truths};
 ghost use Rattle.ns_world.specs.World.{seen};
 ghost use Rattle.ns_world.specs.Runs.{calls_of, Counts, progress, progressed, is_end, TurnsWith, tests_told, TurnFault, TurnOf, Advances, Stops, Runs, RunFault, AllIdle, IsCounted, ListFits, items_of};
@@ -25,7 +25,7 @@ struct Tally {
 }
 
 /// The seat's call after so many. A seat without a list has none.
-fn next_call(lists: &[Vec<Call>], seat: u8, over: u16) -> Option<Call>
+fn next_call<C: Copy>(lists: &[Vec<Call<C>>], seat: u8, over: u16) -> Option<Call<C>>
     ensures { result ≡ slice_get (calls_of (map (λ calls. calls.items) lists.now) seat) over }
 {
     match lists.get(seat as usize) {
@@ -37,10 +37,10 @@ fn next_call(lists: &[Vec<Call>], seat: u8, over: u16) -> Option<Call>
 /// A turn of the seat: starts its next call where it is idle, and makes one step.
 fn turn<C: Seated<N>, const N: usize>(
     world: &mut World<C, N>,
-    next: Option<Call>,
+    next: Option<Call<C>>,
     seat: u8,
 ) -> Result<Step, Fault>
-    requires { IfSome next (CellFits N) }
+    requires { IfSome next (CallInRange N) }
     ensures ok { IfOk result (λ step. TurnsWith next (seen (truths C.holds C.is_same C.is_quiet) world.old) seat step (seen (truths C.holds C.is_same C.is_quiet) world.new)) }
     ensures err { IfErr result (λ fault. ((seen (truths C.holds C.is_same C.is_quiet) world.new) ≡ (seen (truths C.holds C.is_same C.is_quiet) world.old)) × TurnFault (seen (truths C.holds C.is_same C.is_quiet) world.old) seat fault) }
 {
@@ -102,7 +102,7 @@ fn count(tally: &mut Tally, seat: u8, step: Step, tests: u32) -> Result<(), Allo
 /// One turn of the seat, counted: its step, where the run goes on.
 fn counted_turn<C: Seated<N>, const N: usize>(
     world: &mut World<C, N>,
-    lists: &[Vec<Call>],
+    lists: &[Vec<Call<C>>],
     tally: &mut Tally,
     seat: u8,
     limit: u32,
@@ -132,7 +132,7 @@ fn counted_turn<C: Seated<N>, const N: usize>(
 /// An item of the seat: a turn, and for a `whole` one further turns until its call returns or is idle.
 fn item<C: Seated<N>, const N: usize>(
     world: &mut World<C, N>,
-    lists: &[Vec<Call>],
+    lists: &[Vec<Call<C>>],
     tally: &mut Tally,
     seat: u8,
     whole: bool,
@@ -158,7 +158,7 @@ fn item<C: Seated<N>, const N: usize>(
 /// The items of a word of the schedule.
 fn word<C: Seated<N>, const N: usize>(
     world: &mut World<C, N>,
-    lists: &[Vec<Call>],
+    lists: &[Vec<Call<C>>],
     tally: &mut Tally,
     turn: &Turn,
     limit: u32,
@@ -184,13 +184,13 @@ impl<C: Seated<N>, const N: usize> World<C, N> {
     /// progress.
     ///
     /// Needs a world with no call in progress, lists of at most 256 calls, and calls whose cells
-    /// are below `N`. Refuses an item whose thread is no seat (`NoSuchSeat`), the turn after
-    /// `limit` turns (`StepLimit`), and want of memory (`OutOfMemory`); the world is then as the
-    /// last turn left it.
+    /// are below `N`, whose notes are below 64, and whose moments are below 2^54. Refuses an item
+    /// whose thread is no seat (`NoSuchSeat`), the turn after `limit` turns (`StepLimit`), and want
+    /// of memory (`OutOfMemory`); the world is then as the last turn left it.
     pub fn run(
         &mut self,
         alloc: Global,
-        lists: &[Vec<Call>],
+        lists: &[Vec<Call<C>>],
         schedule: &[Turn],
         limit: u32,
     ) -> Result<Vec<Line>, Fault>

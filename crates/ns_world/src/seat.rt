@@ -1,17 +1,24 @@
 //! A seat of a world.
 
 use arrayvec::ArrayVec;
+use ns_word::env_walk::EnvWalk;
 use ns_word::view::Held;
 use ns_word::walk::Walk;
 
-/// A seat as a world keeps it: its number, its place in its call, if one is in progress, its
-/// section, if it has one in hand, whom it owes a wake, in the order in which it pays, and how
-/// many conditions the scan of its call tested, of the last one where none is in progress.
+/// A seat as a world keeps it.
 #[derive(Drop)]
 pub(crate) struct Seat<C, const N: usize> {
+    /// Its number.
     pub(crate) number: u8,
-    pub(crate) walk: Option<Walk>,
+    /// Its place in its call on the lock, if one is in progress.
+    pub(crate) walk: Option<Walk<C>>,
+    /// Its place in its call on the clock and the notes, if one is in progress, or in the look of
+    /// its wait.
+    pub(crate) asking: Option<EnvWalk>,
+    /// Its section, if it has one in hand.
     pub(crate) held: Option<Held<C, N>>,
+    /// Whom it owes a wake, in the order in which it pays.
     pub(crate) owed: ArrayVec<u8, 64>,
+    /// How many conditions the scan of its call tested, of its last one where none is in progress.
     pub(crate) tests: u32,
 }

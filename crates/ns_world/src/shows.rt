@@ -1,23 +1,24 @@
 //! What a world shows of its queues and its owed wakes.
 
-ghost use Rattle.std.specs.Prelude.{◌≡◌, ◌≤◌, ◌<◌, ◌++◌, ◌+◌, ℕ, Some, true, length, map, slice_get, replicate};
+ghost use Rattle.std.specs.Prelude.{◌≡◌, ◌≤◌, ◌<◌, ◌++◌, ◌+◌, ℕ, Some, true, [], length, map, slice_get, replicate};
 ghost use Rattle.ns_queue.specs.Queues.{times};
 ghost use Rattle.ns_queue.specs.Waiters.{shown_of};
 ghost use Rattle.ns_word.specs.Steps.{in_hand, truths};
-ghost use Rattle.ns_word.specs.Walks.{has_queues, is_queuing};
+ghost use Rattle.ns_word.specs.Walks.{has_queues, place_has_queues, has_armed, place_has_armed};
 ghost use Rattle.ns_world.specs.Performs.{view_of};
 ghost use Rattle.ns_world.specs.Shows.{hand_of, lock_by, wakes_of, wakes_owed};
 
-use crate::exchanges::queue_self;
+use crate::exchanges::{queue_self, remove_self, scan_and_queue};
 use crate::room::Seated;
 use crate::seat::Seat;
 use arrayvec::ArrayVec;
 use ns_queue::queues::Queues;
 use ns_queue::waiter::{Shown, Waiter, Which};
+use ns_word::wait::{Wait, WaitPlace};
 use ns_word::walk::Walk;
 
 /// Whether a seat at this place has the queues.
-fn has_queues(walk: Option<Walk>) -> bool
+fn has_queues<C: Seated<N>, const N: usize>(walk: Option<Walk<C>>) -> bool
     ensures { result ≡ has_queues walk }
 {
     match walk {
@@ -25,6 +26,19 @@ fn has_queues(walk: Option<Walk>) -> bool
         Some(Walk::Queue(_, _, _)) => true,
         Some(Walk::ScanCells(_, _, _)) => true,
         Some(Walk::ReleaseReturning(_, _)) => true,
+        Some(Walk::Wait(_, place)) => place_has_queues(place),
+        _ => false,
+    }
+}
+
+/// Whether a wait at this place has the queues.
+fn place_has_queues(place: WaitPlace) -> bool
+    ensures { result ≡ place_has_queues place }
+{
+    match place {
+        WaitPlace::Arm(_, _) => true,
+        WaitPlace::Queue(_, _) => true,
+        WaitPlace::Leave(_, _) => true,
         _ => false,
     }
 }
@@ -33,17 +47,43 @@ fn has_queues(walk: Option<Walk>) -> bool
 fn change_in_hand<C: Seated<N>, const N: usize>(
     queues: &mut Queues<C, N>,
     seat: u8,
-    walk: Walk,
+    walk: Walk<C>,
     row: &[u64; N],
 )
     requires below { seat < 64 }
-    requires free { is_queuing (Some walk) ≡ true → times seat queues.old ≡ 0 }
+    requires free { has_armed (Some walk) ≡ true → times seat queues.old ≡ 0 }
+    requires no_variables { queues.old.cvs ≡ replicate 4 [] }
     ensures { queues.new.lock ≡ in_hand (truths C.holds C.is_same C.is_quiet) seat walk row.now queues.old.lock }
 {
     match walk {
-        Walk::Queue(mode, woken, _) => queue_self(queues, seat, mode, woken),
+        Walk::Queue(aim, woken, _) => queue_self(queues, seat, aim.mode(), woken),
         Walk::ReleaseReturning(_, _) => {
             let _ = queues.scan(row);
+        }
+        Walk::Wait(wait, place) => wait_in_hand(queues, seat, wait, place, row),
+        _ => (),
+    }
+}
+
+/// Does to the queues what a wait at this place has done to them in hand.
+fn wait_in_hand<C: Seated<N>, const N: usize>(
+    queues: &mut Queues<C, N>,
+    seat: u8,
+    wait: Wait<C>,
+    place: WaitPlace,
+    row: &[u64; N],
+)
+    requires below { seat < 64 }
+    requires free { place_has_armed place ≡ true → times seat queues.old ≡ 0 }
+    requires no_variables { queues.old.cvs ≡ replicate 4 [] }
+    ensures { queues.new.lock ≡ in_hand (truths C.holds C.is_same C.is_quiet) seat (Walk.Wait wait place) row.now queues.old.lock }
+{
+    match place {
+        WaitPlace::Queue(again, _) => {
+            let _ = scan_and_queue(queues, row, seat, wait, again);
+        }
+        WaitPlace::Leave(_, _) => {
+            let _ = remove_self(queues, seat);
         }
         _ => (),
     }
@@ -53,11 +93,12 @@ fn change_in_hand<C: Seated<N>, const N: usize>(
 fn in_hand<C: Seated<N>, const N: usize>(
     queues: &Queues<C, N>,
     seat: u8,
-    walk: Option<Walk>,
+    walk: Option<Walk<C>>,
     row: &[u64; N],
 ) -> Queues<C, N>
     requires below { seat < 64 }
-    requires free { is_queuing walk ≡ true → times seat queues.now ≡ 0 }
+    requires no_variables { queues.now.cvs ≡ replicate 4 [] }
+    requires free { has_armed walk ≡ true → times seat queues.now ≡ 0 }
     ensures { result.lock ≡ hand_of (truths C.holds C.is_same C.is_quiet) seat walk row.now queues.now.lock }
 {
     let mut hand = queues.copied();
@@ -93,8 +134,9 @@ pub(crate) fn shown_lock<C: Seated<N>, const N: usize>(
     seats: &[Seat<C, N>],
     row: &[u64; N],
 ) -> ArrayVec<Shown, 64>
+    requires no_variables { queues.now.cvs ≡ replicate 4 [] }
     requires below { (i : ℕ) (seat : _) → slice_get seats.now i ≡ Some seat → seat.number < 64 }
-    requires free { (i : ℕ) (seat : _) → slice_get seats.now i ≡ Some seat → is_queuing seat.walk ≡ true → times seat.number queues.now ≡ 0 }
+    requires free { (i : ℕ) (seat : _) → slice_get seats.now i ≡ Some seat → has_armed seat.walk ≡ true → times seat.number queues.now ≡ 0 }
     ensures { result.items ≡ map shown_of (lock_by (truths C.holds C.is_same C.is_quiet) row.now queues.now.lock (map view_of seats.now)) }
 {
     for seat in seats {

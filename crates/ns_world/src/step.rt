@@ -3,16 +3,19 @@
 ghost use Rattle.std.specs.Prelude.{◌≡◌, IfOk, IfErr};
 ghost use Rattle.ns_word.specs.Codec.{word_of};
 ghost use Rattle.ns_word.specs.Steps.{truths};
-ghost use Rattle.ns_world.specs.Begins.{Begins, BeginFault};
-ghost use Rattle.ns_world.specs.Calls.{CellFits, mode_of};
+ghost use Rattle.ns_world.specs.Begins.{Begins, BeginFault, placed};
+ghost use Rattle.ns_world.specs.Calls.{CallInRange, mode_of};
 ghost use Rattle.ns_world.specs.World.{now, IsLawfulWorld, StepOf, StepFault};
 
-use crate::call::Call;
+use crate::call::{Call, Start};
+use crate::environment::Environment;
 use crate::fault::Fault;
+use crate::looks::step_env;
 use crate::packed::unpacked;
 use crate::perform::perform;
 use crate::room::Seated;
 use crate::seat::Seat;
+use crate::seats::is_busy;
 use ns_model::event::{Event, Mode};
 use ns_queue::queues::Queues;
 use ns_word::codec::encode;
@@ -24,7 +27,8 @@ use ns_word::walk::Reply;
 pub enum Step {
     /// A step was made, and the call goes on.
     Went,
-    /// A step was made, and found nothing to go on with: the call repeats until it does.
+    /// A step was made, after which the call has to wait for another seat: it repeats a place until
+    /// it need not.
     Idle,
     /// A step was made, and the call is over with this answer.
     Finished(Reply),
@@ -53,37 +57,47 @@ fn mode_of<C: Seated<N>, const N: usize>(held: &Option<Held<C, N>>) -> Option<Mo
     }
 }
 
+/// Puts the seat at the beginning of a call, which has tested no condition yet.
+fn place<C: Seated<N>, const N: usize>(seat: &mut Seat<C, N>, start: Start<C>)
+    ensures { seat.new ≡ placed seat.old start }
+{
+    seat.tests = 0;
+    match start {
+        Start::Lock(walk) => seat.walk = Some(walk),
+        Start::Ask(walk) => seat.asking = Some(walk),
+    }
+}
+
 /// Begins a call of the seat.
 pub(crate) fn begin_at<C: Seated<N>, const N: usize>(
     word: &u64,
     row: &[u64; N],
     queues: &Queues<C, N>,
     flags: &[u8; 64],
+    env: &Environment,
     seats: &mut Vec<Seat<C, N>>,
     history: &Vec<Event<C, N>>,
     number: u8,
-    call: Call,
+    call: Call<C>,
 ) -> Result<Begun, Fault>
-    requires lawful { IsLawfulWorld (now (truths C.holds C.is_same C.is_quiet) (word_of word.now) row.now queues.now flags.now seats.old.items history.now.items) }
-    requires cell { CellFits N call }
-    ensures lawful { IsLawfulWorld (now (truths C.holds C.is_same C.is_quiet) (word_of word.now) row.now queues.now flags.now seats.new.items history.now.items) }
-    ensures ok { IfOk result (λ begun. Begins (now (truths C.holds C.is_same C.is_quiet) (word_of word.now) row.now queues.now flags.now seats.old.items history.now.items) (now (truths C.holds C.is_same C.is_quiet) (word_of word.now) row.now queues.now flags.now seats.new.items history.now.items) number call begun) }
-    ensures err { IfErr result (λ fault. (now (truths C.holds C.is_same C.is_quiet) (word_of word.now) row.now queues.now flags.now seats.new.items history.now.items ≡ now (truths C.holds C.is_same C.is_quiet) (word_of word.now) row.now queues.now flags.now seats.old.items history.now.items) × BeginFault (now (truths C.holds C.is_same C.is_quiet) (word_of word.now) row.now queues.now flags.now seats.old.items history.now.items) number fault) }
+    requires lawful { IsLawfulWorld (now (truths C.holds C.is_same C.is_quiet) (word_of word.now) row.now queues.now flags.now env.now seats.old.items history.now.items) }
+    requires range { CallInRange N call }
+    ensures lawful { IsLawfulWorld (now (truths C.holds C.is_same C.is_quiet) (word_of word.now) row.now queues.now flags.now env.now seats.new.items history.now.items) }
+    ensures ok { IfOk result (λ begun. Begins (now (truths C.holds C.is_same C.is_quiet) (word_of word.now) row.now queues.now flags.now env.now seats.old.items history.now.items) (now (truths C.holds C.is_same C.is_quiet) (word_of word.now) row.now queues.now flags.now env.now seats.new.items history.now.items) number call begun) }
+    ensures err { IfErr result (λ fault. (now (truths C.holds C.is_same C.is_quiet) (word_of word.now) row.now queues.now flags.now env.now seats.new.items history.now.items ≡ now (truths C.holds C.is_same C.is_quiet) (word_of word.now) row.now queues.now flags.now env.now seats.old.items history.now.items) × BeginFault (now (truths C.holds C.is_same C.is_quiet) (word_of word.now) row.now queues.now flags.now env.now seats.old.items history.now.items) number fault) }
 {
     let at = number as usize;
     if at >= seats.len() {
         return Err(Fault::NoSuchSeat);
     }
     let seat = &seats[at];
-    if seat.walk.is_some() {
+    if is_busy(seat) {
         return Ok(Begun::Busy);
     }
-    match call.start::<N>(mode_of(&seat.held)) {
+    match call.start::<N>(mode_of(&seat.held), &env.notes) {
         None => Ok(Begun::Misuse),
         Some(start) => {
-            let seat = &mut seats[at];
-            seat.walk = Some(start);
-            seat.tests = 0;
+            place(&mut seats[at], start);
             Ok(Begun::Started)
         }
     }
@@ -95,18 +109,22 @@ pub(crate) fn step_at<C: Seated<N>, const N: usize>(
     row: &mut [u64; N],
     queues: &mut Queues<C, N>,
     flags: &mut [u8; 64],
+    env: &mut Environment,
     seats: &mut Vec<Seat<C, N>>,
     history: &mut Vec<Event<C, N>>,
     number: u8,
 ) -> Result<Step, Fault>
-    requires { IsLawfulWorld (now (truths C.holds C.is_same C.is_quiet) (word_of word.old) row.old queues.old flags.old seats.old.items history.old.items) }
-    ensures lawful { IsLawfulWorld (now (truths C.holds C.is_same C.is_quiet) (word_of word.new) row.new queues.new flags.new seats.new.items history.new.items) }
-    ensures ok { IfOk result (λ step. StepOf (now (truths C.holds C.is_same C.is_quiet) (word_of word.old) row.old queues.old flags.old seats.old.items history.old.items) (now (truths C.holds C.is_same C.is_quiet) (word_of word.new) row.new queues.new flags.new seats.new.items history.new.items) number step) }
-    ensures err { IfErr result (λ fault. (now (truths C.holds C.is_same C.is_quiet) (word_of word.new) row.new queues.new flags.new seats.new.items history.new.items ≡ now (truths C.holds C.is_same C.is_quiet) (word_of word.old) row.old queues.old flags.old seats.old.items history.old.items) × StepFault (now (truths C.holds C.is_same C.is_quiet) (word_of word.old) row.old queues.old flags.old seats.old.items history.old.items) number fault) }
+    requires { IsLawfulWorld (now (truths C.holds C.is_same C.is_quiet) (word_of word.old) row.old queues.old flags.old env.old seats.old.items history.old.items) }
+    ensures lawful { IsLawfulWorld (now (truths C.holds C.is_same C.is_quiet) (word_of word.new) row.new queues.new flags.new env.new seats.new.items history.new.items) }
+    ensures ok { IfOk result (λ step. StepOf (now (truths C.holds C.is_same C.is_quiet) (word_of word.old) row.old queues.old flags.old env.old seats.old.items history.old.items) (now (truths C.holds C.is_same C.is_quiet) (word_of word.new) row.new queues.new flags.new env.new seats.new.items history.new.items) number step) }
+    ensures err { IfErr result (λ fault. (now (truths C.holds C.is_same C.is_quiet) (word_of word.new) row.new queues.new flags.new env.new seats.new.items history.new.items ≡ now (truths C.holds C.is_same C.is_quiet) (word_of word.old) row.old queues.old flags.old env.old seats.old.items history.old.items) × StepFault (now (truths C.holds C.is_same C.is_quiet) (word_of word.old) row.old queues.old flags.old env.old seats.old.items history.old.items) number fault) }
 {
     let at = number as usize;
     if at >= seats.len() {
         return Err(Fault::NoSuchSeat);
+    }
+    if let Some(place) = seats[at].asking {
+        return Ok(step_env(env, &mut seats[at], place));
     }
     let Some(walk) = seats[at].walk else {
         return Ok(Step::Nothing);

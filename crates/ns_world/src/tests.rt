@@ -16,9 +16,9 @@ use ns_word::word::Word;
 use std::alloc::{AllocError, Global};
 use std::test::Fail;
 
-/// A condition that is never true. No call of a world reads one yet.
+/// A condition that is never true.
 #[derive(Clone, Copy)]
-struct Never;
+pub(crate) struct Never;
 
 impl Condition<8> for Never {
     ghost use Rattle.std.proofs.Common.{rules};
@@ -68,7 +68,7 @@ fn line(thread: u8, call: u16, reply: Reply) -> Line {
 }
 
 /// The calls of the first path: an acquire, a write, a read, and the release.
-fn first_calls(alloc: Global) -> Result<Vec<Call>, AllocError>
+fn first_calls(alloc: Global) -> Result<Vec<Call<Never>>, AllocError>
     ensures { IfOk result (λ calls. ListFits 8 calls.items) }
 {
     let mut calls = Vec::new(alloc);

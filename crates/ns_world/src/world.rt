@@ -1,4 +1,4 @@
-//! The world: a lock, its row and its seats, one step at a time.
+//! The world: a lock, its row, a clock, notes, and the seats, one step at a time.
 
 ghost use Rattle.std.specs.Prelude.{◌≡◌, ◌≤◌, ◌<◌, ℕ, [], length, map, slice_index, MatchResult, IfOk, IfErr, All};
 ghost use Rattle.std.specs.List.{flat_map};
@@ -8,11 +8,12 @@ ghost use Rattle.ns_queue.specs.Waiters.{shown_of};
 ghost use Rattle.ns_word.specs.Lawful.{IsLawful};
 ghost use Rattle.ns_word.specs.Steps.{truths};
 ghost use Rattle.ns_world.specs.Begins.{Begins, BeginFault};
-ghost use Rattle.ns_world.specs.Calls.{CellFits};
+ghost use Rattle.ns_world.specs.Calls.{CallInRange};
 ghost use Rattle.ns_world.specs.Shows.{lock_shown, wakes_owed};
 ghost use Rattle.ns_world.specs.World.{fresh, seen, is_busy, NewFault, StepOf, StepFault};
 
 use crate::call::Call;
+use crate::environment::Environment;
 use crate::fault::Fault;
 use crate::packed::unpacked;
 use crate::room::Seated;
@@ -31,18 +32,21 @@ use ns_word::word::Word;
 use std::alloc::Global;
 use std::marker::Model;
 
-/// A lock with a row of `N` cells, up to 64 seats, and all that has happened.
+/// A lock with a row of `N` cells, a clock, up to 64 notes, up to 64 seats, and all that has
+/// happened to the row.
 ///
-/// Its contracts speak of the word, the row, each seat's view, and the history. Between any two
-/// calls the law of the lock holds of them, which `ns_word` states: one writer or readers, the
-/// queues in one hand, each waiter placed, nobody forgotten, and one legal history by seats of
-/// this world.
+/// Its contracts speak of the word, the row, each seat's view, the history, the clock, the notes,
+/// and each seat's place in a call on these. Between any two calls the law of the lock holds of
+/// them, which `ns_word` states: one writer or readers, as many as the word counts, the queues in
+/// one hand, each waiter placed, nobody forgotten, and one legal history by seats of this world. The clock and the notes are as a legal history by seats of this world leaves them,
+/// and who is to store a note has taken its number.
 #[derive(Drop)]
 pub struct World<C: Condition<N>, const N: usize> {
     word: u64,
     row: [u64; N],
     queues: Queues<C, N>,
     flags: [u8; 64],
+    env: Environment,
     seats: Vec<Seat<C, N>>,
     history: Vec<Event<C, N>>,
 }
@@ -54,9 +58,9 @@ impl<C: Condition<N>, const N: usize> Model for World<C, N> {
 
     ghost Value = { Kept C N };
 
-    ghost view = { λ w. kept (word_of w.word) w.row w.queues w.flags w.seats.items w.history.items };
+    ghost view = { λ w. kept (word_of w.word) w.row w.queues w.flags w.env w.seats.items w.history.items };
 
-    ghost invariant = { λ w. IsLawfulWorld (now (truths C.holds C.is_same C.is_quiet) (word_of w.word) w.row w.queues w.flags w.seats.items w.history.items) };
+    ghost invariant = { λ w. IsLawfulWorld (now (truths C.holds C.is_same C.is_quiet) (word_of w.word) w.row w.queues w.flags w.env w.seats.items w.history.items) };
 }
 
 /// A world as it stands.
@@ -79,7 +83,8 @@ pub struct State<const N: usize> {
 }
 
 impl<C: Seated<N>, const N: usize> World<C, N> {
-    /// A free lock over a row of zeros, with so many seats, before any event.
+    /// A free lock over a row of zeros, with so many seats, a clock at 0 and no note, before any
+    /// event.
     ///
     /// Needs at most 16 counters and at most 16 once cells; no call of a world reads them yet.
     /// Refuses more than 64 seats (`TooManySeats`), before it asks for memory (`OutOfMemory`).
@@ -97,6 +102,7 @@ impl<C: Seated<N>, const N: usize> World<C, N> {
             row: [0; N],
             queues: Queues::new(),
             flags: [0; 64],
+            env: Environment::new(),
             seats,
             history: Vec::new(alloc),
         })
@@ -104,10 +110,11 @@ impl<C: Seated<N>, const N: usize> World<C, N> {
 
     /// Begins a call of the seat, which makes no step yet. `Misuse` and `Busy` change nothing.
     ///
-    /// Needs a call whose cell is below `N`. Refuses a number that is no seat's (`NoSuchSeat`),
+    /// Needs a call whose cell is below `N`, whose notes are below 64, and whose moments are below
+    /// 2^54. Refuses a number that is no seat's (`NoSuchSeat`),
     /// and then nothing has changed.
-    pub fn begin(&mut self, seat: u8, call: Call) -> Result<Begun, Fault>
-        requires { CellFits N call }
+    pub fn begin(&mut self, seat: u8, call: Call<C>) -> Result<Begun, Fault>
+        requires { CallInRange N call }
         ensures ok { IfOk result (λ begun. Begins (seen (truths C.holds C.is_same C.is_quiet) self.old) (seen (truths C.holds C.is_same C.is_quiet) self.new) seat call begun) }
         ensures err { IfErr result (λ fault. (seen (truths C.holds C.is_same C.is_quiet) self.new ≡ seen (truths C.holds C.is_same C.is_quiet) self.old) × BeginFault (seen (truths C.holds C.is_same C.is_quiet) self.old) seat fault) }
     {
@@ -116,6 +123,7 @@ impl<C: Seated<N>, const N: usize> World<C, N> {
             &self.row,
             &self.queues,
             &self.flags,
+            &self.env,
             &mut self.seats,
             &self.history,
             seat,
@@ -127,7 +135,7 @@ impl<C: Seated<N>, const N: usize> World<C, N> {
     ///
     /// Refuses a number that is no seat's (`NoSuchSeat`), and want of memory (`OutOfMemory`),
     /// which can only come where a release is made, whose event is to be kept; then nothing has
-    /// changed.
+    /// changed. A step on the clock or the notes takes no memory.
     pub fn step(&mut self, seat: u8) -> Result<Step, Fault>
         ensures ok { IfOk result (λ step. StepOf (seen (truths C.holds C.is_same C.is_quiet) self.old) (seen (truths C.holds C.is_same C.is_quiet) self.new) seat step) }
         ensures err { IfErr result (λ fault. (seen (truths C.holds C.is_same C.is_quiet) self.new ≡ seen (truths C.holds C.is_same C.is_quiet) self.old) × StepFault (seen (truths C.holds C.is_same C.is_quiet) self.old) seat fault) }
@@ -137,6 +145,7 @@ impl<C: Seated<N>, const N: usize> World<C, N> {
             &mut self.row,
             &mut self.queues,
             &mut self.flags,
+            &mut self.env,
             &mut self.seats,
             &mut self.history,
             seat,
@@ -159,7 +168,7 @@ impl<C: Seated<N>, const N: usize> World<C, N> {
         ensures variables { All (λ list. list.items ≡ []) result.cvs }
         ensures owed { result.owed.items ≡ wakes_owed self.now.views }
         ensures row { result.row ≡ self.now.row }
-        ensures busy { (seat : ℕ) → is_in result.busy seat ≡ is_busy self.now.views seat }
+        ensures busy { (seat : ℕ) → is_in result.busy seat ≡ is_busy self.now.views self.now.asking seat }
         ensures lawful { IsLawful (truths C.holds C.is_same C.is_quiet) (length self.now.views) self.now.history (seen (truths C.holds C.is_same C.is_quiet) self.now).state }
     {
         State {

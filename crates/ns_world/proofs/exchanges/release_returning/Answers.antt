@@ -1,4 +1,4 @@
-use Rattle.std.proofs.Common.{rules, refl, sym, ◌∙◌, ap, not}
+use Rattle.std.proofs.Common.{refl, sym, ◌∙◌, ap, not}
 use Rattle.std.proofs.lemmas.Result.{err_from_is_err_and}
 use Rattle.ns_word.specs.Steps.{truths}
 use Rattle.ns_world.proofs.Released.{scanned, missed, some_left, can_some}
@@ -10,7 +10,7 @@ returns-then-not-is_same-clause-ok g c = λ flags.
     (c.if-not-is_same.ensures.another refl)
 
 pub commit-requires : goal.commit-requires
-commit-requires g c = (search rules, (search rules, can_some (truths g.C.Condition.holds g.C.Condition.is_same g.C.Condition.is_quiet) c.args.leaving c.args.seat.now.held c.requires))
+commit-requires g c = (g.met.C.Fits.held_fits, (g.met.C.Fits.event_fits, can_some (truths g.C.Condition.holds g.C.Condition.is_same g.C.Condition.is_quiet) c.args.leaving c.args.seat.now.held c.requires))
 
 pub returns-in_err-commit-clause-err : goal.returns-in_err-commit-clause-err
 returns-in_err-commit-clause-err g c =

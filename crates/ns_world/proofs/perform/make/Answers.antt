@@ -1,12 +1,38 @@
 use Rattle.std.proofs.Common.{rules, [], refl, sym}
 use Rattle.std.proofs.lemmas.List.{append-nil}
+use Rattle.ns_world.proofs.Waited.{free_change, free_here}
 use Rattle.ns_world.proofs.perform.make.Goals as goal
 
+pub acquire-found-requires : goal.acquire-found-requires
+acquire-found-requires g c = let fits = rw c.in-Acquire.is at c.requires.fits in (search rules, (g.met.C.Fits.held_fits, (fits.0, (fits.1, fits.2))))
+
+pub return_queues-found-requires : goal.return_queues-found-requires
+return_queues-found-requires g c =
+    let fits = rw c.in-ReturnQueues.is at c.requires.fits in
+    (search rules, (fits.0, (free_change c.args.seat.now.number c.in-ReturnQueues.change c.args.word.now c.args.row.now c.args.flags.now c.args.seat.now.owed.items c.args.seat.now.held c.args.queues.now c.requires.no_variables fits.1, c.requires.no_variables)))
+
+pub release-requires : goal.release-requires
+release-requires g c = (g.met.C.Fits.held_fits, (g.met.C.Fits.event_fits, rw c.in-Release.is at c.requires.fits))
+
 pub release_returning-requires : goal.release_returning-requires
-release_returning-requires g c = (search rules, (search rules, (search rules, (search rules, (rw c.in-ReleaseReturning.is at c.requires.fits).0))))
+release_returning-requires g c = (search rules, (search rules, (g.met.C.Seated.seat_fits, (g.met.C.Fits.event_fits, (rw c.in-ReleaseReturning.is at c.requires.fits).0))))
+
+pub wait_returning-requires : goal.wait_returning-requires
+wait_returning-requires g c =
+    let fits = rw c.in-WaitReturning.is at c.requires.fits in
+    (search rules, (search rules, (g.met.C.Seated.seat_fits, (g.met.C.Fits.event_fits, (fits.0, (fits.2, free_here c.args.seat.now.number c.args.queues.now c.requires.no_variables fits.3))))))
+
+pub judge-found-requires : goal.judge-found-requires
+judge-found-requires g c = (g.met.C.Fits.held_fits, (rw c.in-JudgeQuiet.is at c.requires.fits).0)
+
+pub judge_met-found-requires : goal.judge_met-found-requires
+judge_met-found-requires g c = (g.met.C.Fits.held_fits, (rw c.in-JudgeMet.is at c.requires.fits).0)
 
 pub store-found-requires : goal.store-found-requires
-store-found-requires g c = let fits = rw c.in-StoreCell.is at c.requires.fits in (search rules, (search rules, (fits.0, fits.1)))
+store-found-requires g c = let fits = rw c.in-StoreCell.is at c.requires.fits in (search rules, (g.met.C.Fits.held_fits, (fits.0, fits.1)))
+
+pub pay_wake-found-requires : goal.pay_wake-found-requires
+pay_wake-found-requires g c = rw c.in-PayWake.is at c.requires.fits
 
 pub returns-in-LoadWord-clause-ok : goal.returns-in-LoadWord-clause-ok
 returns-in-LoadWord-clause-ok g c = rw c.in-LoadWord.is (record { commits = []; effect = (refl, refl, refl); grows = sym (append-nil _) })
@@ -72,3 +98,13 @@ returns-in-PayWake-clause-ok g c = rw c.in-PayWake.is (record {
 
 pub returns-in-LoadFlag-clause-ok : goal.returns-in-LoadFlag-clause-ok
 returns-in-LoadFlag-clause-ok g c = rw c.in-LoadFlag.is (record { commits = []; effect = (refl, refl, refl); grows = sym (append-nil _) })
+
+pub returns-in_ok-found-in-WaitReturning-clause-ok : goal.returns-in_ok-found-in-WaitReturning-clause-ok
+returns-in_ok-found-in-WaitReturning-clause-ok g c = rw c.in-WaitReturning.is (c.in_ok-found-in-WaitReturning.ensures.ok c.args.flags.now)
+
+pub returns-in-JudgeMet-clause-ok : goal.returns-in-JudgeMet-clause-ok
+returns-in-JudgeMet-clause-ok g c = rw c.in-JudgeMet.is (record {
+  commits = [];
+  effect = c.judge_met-found.ensures c.args.seat.now.number c.args.word.now c.args.row.now c.args.queues.now c.args.flags.now c.args.seat.now.owed.items;
+  grows = sym (append-nil _);
+})

@@ -1,10 +1,11 @@
-use Rattle.std.proofs.Common.{rules, refl, sym, ap, ◌∙◌}
+use Rattle.std.proofs.Common.{rules, ap, ◌∙◌}
 use Rattle.ns_word.specs.Walks.{walk_after}
+use Rattle.ns_world.specs.Looks.{look_of}
 use Rattle.ns_world.specs.Performs.{step_of, tests_after}
 use Rattle.ns_world.proofs.perform.perform.Goals as goal
 
 pub make-requires : goal.make-requires
-make-requires g c = (search rules, (search rules, (search rules, (search rules, (rw c.want.ensures c.requires.fits, c.requires.no_variables)))))
+make-requires g c = (search rules, (search rules, (g.met.C.Seated.seat_fits, (g.met.C.Fits.event_fits, (rw c.want.ensures c.requires.fits, (rw c.want.ensures c.requires.inside, c.requires.no_variables))))))
 
 pub returns-clause-ok : goal.returns-clause-ok
 returns-clause-ok g c =
@@ -16,6 +17,7 @@ returns-clause-ok g c =
       effect = rw (← c.want.ensures) made.effect;
       number = kept.number;
       goes = ap walk_after c.got.ensures;
+      asking = ap (λ next. look_of (walk_after next)) c.got.ensures;
       tests = c.tests_after-seat.ensures ∙ ap (tests_after c.in_ok-found.found) kept.tests;
       grows = made.grows;
       answers = c.settle.ensures.step ∙ ap step_of c.got.ensures;

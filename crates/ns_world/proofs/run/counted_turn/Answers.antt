@@ -50,8 +50,11 @@ pub returns-clause-counted : goal.returns-clause-counted
 returns-clause-counted g c =
     let before = progress (seen (truths g.C.Condition.holds g.C.Condition.is_same g.C.Condition.is_quiet) c.args.world.now) c.args.tally.now.over c.args.tally.now.lines.items in
     let counted = counts_progress (seen (truths g.C.Condition.holds g.C.Condition.is_same g.C.Condition.is_quiet) c.args.world.now) (seen (truths g.C.Condition.holds g.C.Condition.is_same g.C.Condition.is_quiet) c.turn.new.world) c.args.tally.now.over c.count.new.tally.over c.args.tally.now.lines.items c.count.new.tally.lines.items c.args.seat c.tests.result c.in_ok-step.step c.tests.ensures c.in_ok-count.ensures.ok in
-    let calls = map (λ (calls : Vec Call Global). calls.items) c.args.lists.now in
+    let calls = map (λ (calls : Vec (Call _) Global). calls.items) c.args.lists.now in
     let turn = c.in_ok-step.ensures.ok calls c.args.tally.now.over c.args.tally.now.lines.items (sym c.next_call-next.ensures) in
     let few = (calls_fit g.row.N c.args.lists.now c.args.seat c.requires.lists).0 in
     subst (λ (q : Progress _ _). IsCounted q.world q.over) (sym counted)
     (turn_counted calls before (progressed before c.args.seat c.in_ok-step.step (seen (truths g.C.Condition.holds g.C.Condition.is_same g.C.Condition.is_quiet) c.turn.new.world)) c.args.seat c.in_ok-step.step few (omega arith) turn c.requires.counted)
+
+pub count-requires-clause-over : goal.count-requires-clause-over
+count-requires-clause-over g c = let most = c.requires.counted.most c.args.seat in omega (arith, most)

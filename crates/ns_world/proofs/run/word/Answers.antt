@@ -10,7 +10,7 @@ use Rattle.ns_world.proofs.run.word.Goals as goal
 
 pub loop-init : goal.loop-init
 loop-init g c =
-    let calls = map (λ (calls : Vec Call Global). calls.items) c.args.lists.now in
+    let calls = map (λ (calls : Vec (Call _) Global). calls.items) c.args.lists.now in
     let first = progress (seen (truths g.C.Condition.holds g.C.Condition.is_same g.C.Condition.is_quiet) c.args.world.now) c.args.tally.now.over c.args.tally.now.lines.items in
     record {
       advances = advance_none calls c.args.limit first c.args.tally.now.turns [] c.requires.turns;
@@ -23,7 +23,7 @@ item-requires g c = (search rules, (c.requires.lists, (c.loop.invariant.counted,
 pub returns-in_err-item-clause-err : goal.returns-in_err-item-clause-err
 returns-in_err-item-clause-err g c =
     let p = err_from_is_err_and c.from_residual.result c.from_residual.ensures.1 in
-    let calls = map (λ (calls : Vec Call Global). calls.items) c.args.lists.now in
+    let calls = map (λ (calls : Vec (Call _) Global). calls.items) c.args.lists.now in
     let first = progress (seen (truths g.C.Condition.holds g.C.Condition.is_same g.C.Condition.is_quiet) c.args.world.now) c.args.tally.now.over c.args.tally.now.lines.items in
     let now = progress (seen (truths g.C.Condition.holds g.C.Condition.is_same g.C.Condition.is_quiet) c.loop.world) c.loop.tally.over c.loop.tally.lines.items in
     rw (p.1, p.2) (stops_again calls c.args.limit first now c.args.tally.now.turns c.loop.tally.turns c.loop.counter c.args.turn.now.times (record { seat = c.args.turn.now.thread; whole = c.args.turn.now.whole }) (seen (truths g.C.Condition.holds g.C.Condition.is_same g.C.Condition.is_quiet) c.item.new.world) c.in_err-item.field-0.0
@@ -31,7 +31,7 @@ returns-in_err-item-clause-err g c =
 
 pub loop-preserved : goal.loop-preserved
 loop-preserved g c =
-    let calls = map (λ (calls : Vec Call Global). calls.items) c.args.lists.now in
+    let calls = map (λ (calls : Vec (Call _) Global). calls.items) c.args.lists.now in
     let first = progress (seen (truths g.C.Condition.holds g.C.Condition.is_same g.C.Condition.is_quiet) c.args.world.now) c.args.tally.now.over c.args.tally.now.lines.items in
     let now = progress (seen (truths g.C.Condition.holds g.C.Condition.is_same g.C.Condition.is_quiet) c.loop.world) c.loop.tally.over c.loop.tally.lines.items in
     let next = progress (seen (truths g.C.Condition.holds g.C.Condition.is_same g.C.Condition.is_quiet) c.item.new.world) c.item.new.tally.over c.item.new.tally.lines.items in

@@ -6,4 +6,4 @@ use Rattle.ns_world.proofs.seats.busy_seats.Given as goal
 
 -- the seats so far
 abbrev pub invariant-loop-at : goal.invariant-loop-at
-invariant-loop-at g l = (seat : ℕ) → is_in l.busy seat ≡ is_busy (map view_of (take l.at l.seats)) seat
+invariant-loop-at g l = (seat : ℕ) → is_in l.busy seat ≡ is_busy (map view_of (take l.at l.seats)) (map (λ seat. seat.asking) (take l.at l.seats)) seat

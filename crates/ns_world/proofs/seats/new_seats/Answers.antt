@@ -1,7 +1,7 @@
-use Rattle.std.proofs.Common.{◌≡◌, ◌+◌, ◌-◌, ◌++◌, [], map, replicate, refl, sym, ◌∙◌, arith}
+use Rattle.std.proofs.Common.{◌≡◌, ◌+◌, ◌-◌, map, None, refl, sym, ◌∙◌, arith}
 use Rattle.std.proofs.lemmas.List.{append-nil}
 use Rattle.ns_world.specs.Performs.{view_of}
-use Rattle.ns_world.proofs.Fresh.{tests_next, moved, seat_moved}
+use Rattle.ns_world.proofs.Fresh.{copies_next, moved, seat_moved}
 use Rattle.ns_world.proofs.seats.new_seats.Goals as goal
 
 pub loop-number-preserved : goal.loop-number-preserved
@@ -10,7 +10,8 @@ loop-number-preserved g c =
     let count : c.args.seats - (n + 1) ≡ c.args.seats - n - 1 = omega arith in
     rw (c.in_ok-push.ensures.items, count) (
       seat_moved c.loop-number.made.items _ n (c.args.seats - n) _ refl refl refl c.new.ensures (omega arith) c.loop-number.invariant.0,
-      moved (λ s. s.tests) c.loop-number.made.items _ _ _ _ (tests_next (c.args.seats - n) (omega arith)) c.loop-number.invariant.1,
+      moved (λ s. s.tests) c.loop-number.made.items _ _ _ _ (copies_next 0 (c.args.seats - n) (omega arith)) c.loop-number.invariant.1,
+      moved (λ s. s.asking) c.loop-number.made.items _ _ _ _ (copies_next None (c.args.seats - n) (omega arith)) c.loop-number.invariant.2,
     )
 
 pub returns-clause-views : goal.returns-clause-views
@@ -22,3 +23,13 @@ pub returns-clause-tests : goal.returns-clause-tests
 returns-clause-tests g c =
     let past : c.args.seats - c.loop-number.number ≡ 0 = omega arith in
     sym (append-nil (map (λ s. s.tests) c.loop-number.made.items)) ∙ rw past at c.loop-number.invariant.1
+
+pub returns-clause-asking : goal.returns-clause-asking
+returns-clause-asking g c =
+    let past : c.args.seats - c.loop-number.number ≡ 0 = omega arith in
+    sym (append-nil (map (λ s. s.asking) c.loop-number.made.items)) ∙ rw past at c.loop-number.invariant.2
+
+pub loop-number-init : goal.loop-number-init
+loop-number-init g c =
+    let all : c.args.seats - 0 ≡ c.args.seats = omega arith in
+    rw (c.new-made.ensures.items, all) (refl, refl, refl)

@@ -1,17 +1,15 @@
-use Rattle.std.proofs.Common.{◌≡◌, ◌+◌, ◌≤◌, rules, suc, [], length, map, drop, Some, ap, sym, ◌∙◌, arith}
+use Rattle.std.proofs.Common.{◌≡◌, ◌+◌, rules, suc, map, Some, ap, sym, ◌∙◌, arith}
 use Rattle.std.specs.Prelude.{slice_get}
 use Rattle.std.proofs.lemmas.Option.{slice_get-get_or}
 use Rattle.ns_queue.specs.Waiters.{shown_of}
 use Rattle.ns_word.specs.Steps.{truths}
-use Rattle.ns_world.specs.Performs.{view_of}
-use Rattle.ns_world.specs.Shows.{lock_by}
 use Rattle.ns_world.proofs.Showing.{lock_here, lock_later, none_left}
 use Rattle.ns_world.proofs.shows.shown_lock.Goals as goal
 
 pub in_hand-requires : goal.in_hand-requires
 in_hand-requires g c =
     let at : slice_get c.args.seats.now c.loop-seat.seat-index ≡ Some c.seat-item.result = slice_get-get_or c.args.seats.now c.loop-seat.seat-index c.seat-item.result c.loop-seat-test.true ∙ ap Some (sym c.seat-item.is) in
-    (search rules, (search rules, (c.requires.below c.loop-seat.seat-index c.seat-item.result at, c.requires.free c.loop-seat.seat-index c.seat-item.result at)))
+    (search rules, (search rules, (c.requires.below c.loop-seat.seat-index c.seat-item.result at, (c.requires.no_variables, c.requires.free c.loop-seat.seat-index c.seat-item.result at))))
 
 pub returns-then-has_queues : goal.returns-then-has_queues
 returns-then-has_queues g c =

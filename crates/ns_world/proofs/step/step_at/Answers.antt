@@ -1,4 +1,4 @@
-use Rattle.std.proofs.Common.{◌<◌, length, rules, arith, Some, None, refl, sym, ◌∙◌}
+use Rattle.std.proofs.Common.{◌<◌, ◌≤◌, Some, length, rules, arith, refl, inl}
 use Rattle.std.proofs.lemmas.List.{set-get_or}
 use Rattle.ns_word.specs.Codec.{word_of}
 use Rattle.ns_word.specs.Steps.{truths}
@@ -7,63 +7,118 @@ use Rattle.ns_world.specs.Performs.{view_of}
 use Rattle.ns_world.specs.World.{now}
 use Rattle.ns_world.proofs.Mapped.{got-map}
 use Rattle.ns_world.proofs.Packable.{packable}
-use Rattle.ns_world.proofs.Worlds.{act_here, goes_here, lawful_after, same_element, told}
+use Rattle.ns_world.proofs.Worlds.{act_here, ask_here, asks_for, inside_here, goes_here, moved_here, asks_unasked, unasked_cleared, past_views, lawful_after, same_element, told}
 use Rattle.ns_world.proofs.step.step_at.Goals as goal
 
+pub returns-then-at-len-clause-err : goal.returns-then-at-len-clause-err
+returns-then-at-len-clause-err g c = let past : length c.args.seats.now.items ≤ c.args.number = omega arith in (refl, past_views c.args.seats.now.items c.args.number past)
+
+pub step_env-requires : goal.step_env-requires
+step_env-requires g c =
+    let seat = c.index_mut.result.now in
+    let within : c.args.number < length c.args.seats.now.items = omega arith in
+    let same = same_element c.args.seats.now.items c.args.number c.index.result.now seat within c.index.ensures c.index_mut.ensures.value in
+    let stands = rw (same, c.index_mut.ensures.value) at c.in-Some.is in (
+      g.met.C.Seated.seat_fits,
+      (
+        rw c.index_mut.ensures.value (asks_for (truths g.C.Condition.holds g.C.Condition.is_same g.C.Condition.is_quiet) g.met.C.Condition.has_cells.0 g.met.C.Condition.quiet_keeps (word_of c.args.word.now) c.args.row.now c.args.queues.now c.args.flags.now c.args.env.now c.args.seats.now.items c.args.history.now.items c.requires c.args.number seat within (Some c.in-Some.place) stands),
+        ask_here (truths g.C.Condition.holds g.C.Condition.is_same g.C.Condition.is_quiet) g.met.C.Condition.has_cells.0 g.met.C.Condition.quiet_keeps (word_of c.args.word.now) c.args.row.now c.args.queues.now c.args.flags.now c.args.env.now c.args.seats.now.items c.args.history.now.items c.requires c.args.number seat within c.in-Some.place stands,
+      ),
+    )
+
+pub returns-in-Some-clause-lawful : goal.returns-in-Some-clause-lawful
+returns-in-Some-clause-lawful g c =
+    let seat = c.index_mut.result.now in
+    let within : c.args.number < length c.args.seats.now.items = omega arith in
+    let same = same_element c.args.seats.now.items c.args.number c.index.result.now seat within c.index.ensures c.index_mut.ensures.value in
+    let stands = rw (same, c.index_mut.ensures.value) at c.in-Some.is in
+    (moved_here (truths g.C.Condition.holds g.C.Condition.is_same g.C.Condition.is_quiet) g.met.C.Condition.has_cells.0 g.met.C.Condition.quiet_keeps (word_of c.args.word.now) c.args.row.now c.args.queues.now c.args.flags.now c.args.env.now c.args.seats.now.items c.args.history.now.items c.requires c.args.number seat within c.in-Some.place stands c.step_env.new.env c.step_env.new.seat c.step_env.result (rw (← c.index_mut.ensures.value) c.step_env.ensures)).1
+
+pub returns-in-Some-clause-ok : goal.returns-in-Some-clause-ok
+returns-in-Some-clause-ok g c =
+    let seat = c.index_mut.result.now in
+    let within : c.args.number < length c.args.seats.now.items = omega arith in
+    let same = same_element c.args.seats.now.items c.args.number c.index.result.now seat within c.index.ensures c.index_mut.ensures.value in
+    let stands = rw (same, c.index_mut.ensures.value) at c.in-Some.is in
+    told _ _ c.args.number c.step_env.result
+    (moved_here (truths g.C.Condition.holds g.C.Condition.is_same g.C.Condition.is_quiet) g.met.C.Condition.has_cells.0 g.met.C.Condition.quiet_keeps (word_of c.args.word.now) c.args.row.now c.args.queues.now c.args.flags.now c.args.env.now c.args.seats.now.items c.args.history.now.items c.requires c.args.number seat within c.in-Some.place stands c.step_env.new.env c.step_env.new.seat c.step_env.result (rw (← c.index_mut.ensures.value) c.step_env.ensures)).0
+
 pub unpacked-found-requires : goal.unpacked-found-requires
-unpacked-found-requires g c = packable (now (truths g.C.Condition.holds g.C.Condition.is_same g.C.Condition.is_quiet) (word_of c.args.word.now) c.args.row.now c.args.queues.now c.args.flags.now c.args.seats.now.items c.args.history.now.items) c.requires
+unpacked-found-requires g c = packable (now (truths g.C.Condition.holds g.C.Condition.is_same g.C.Condition.is_quiet) (word_of c.args.word.now) c.args.row.now c.args.queues.now c.args.flags.now c.args.env.now c.args.seats.now.items c.args.history.now.items) c.requires
 
 pub perform-requires : goal.perform-requires
 perform-requires g c =
-    let seat = c.index_mut.result.now in
+    let seat = c.index_mut-2.result.now in
     let within : c.args.number < length c.args.seats.now.items = omega arith in
-    let same = same_element c.args.seats.now.items c.args.number c.index.result.now seat within c.index.ensures c.index_mut.ensures.value in
-    let walks = rw same at c.in-Some.is in
-    let act = act_here (truths g.C.Condition.holds g.C.Condition.is_same g.C.Condition.is_quiet) g.met.C.Condition.quiet_keeps (word_of c.args.word.now) c.args.row.now c.args.queues.now c.args.flags.now c.args.seats.now.items c.args.history.now.items c.requires c.args.number seat within c.in-Some.walk (rw c.index_mut.ensures.value at walks) in
-    (search rules, (search rules, (search rules, (search rules, (walks, (rw (c.unpacked-found.ensures, c.index_mut.ensures.value) act, c.requires.no_variables))))))
+    let same = same_element c.args.seats.now.items c.args.number c.index-2.result.now seat within c.index-2.ensures c.index_mut-2.ensures.value in
+    let walks = rw same at c.in-Some-walk.is in
+    let act = act_here (truths g.C.Condition.holds g.C.Condition.is_same g.C.Condition.is_quiet) g.met.C.Condition.has_cells.0 g.met.C.Condition.quiet_keeps (word_of c.args.word.now) c.args.row.now c.args.queues.now c.args.flags.now c.args.env.now c.args.seats.now.items c.args.history.now.items c.requires c.args.number seat within c.in-Some-walk.walk (rw c.index_mut-2.ensures.value at walks) in
+    let unasked = rw (same_element c.args.seats.now.items c.args.number c.index.result.now seat within c.index.ensures c.index_mut-2.ensures.value, c.index_mut-2.ensures.value) at c.in_default.is in
+    let inside = inside_here (truths g.C.Condition.holds g.C.Condition.is_same g.C.Condition.is_quiet) g.met.C.Condition.has_cells.0 g.met.C.Condition.quiet_keeps (word_of c.args.word.now) c.args.row.now c.args.queues.now c.args.flags.now c.args.env.now c.args.seats.now.items c.args.history.now.items c.requires c.args.number seat within c.in-Some-walk.walk (rw c.index_mut-2.ensures.value at walks) unasked in
+    (search rules, (search rules, (g.met.C.Seated.seat_fits, (g.met.C.Fits.event_fits, (walks, (rw (c.unpacked-found.ensures, c.index_mut-2.ensures.value) act, (inside, c.requires.no_variables)))))))
 
-pub returns-in_default-clause-ok : goal.returns-in_default-clause-ok
-returns-in_default-clause-ok g c =
+pub returns-in_default-walk-clause-ok : goal.returns-in_default-walk-clause-ok
+returns-in_default-walk-clause-ok g c =
     let within : c.args.number < length c.args.seats.now.items = omega arith in
-    (refl, record { view = view_of c.index.result.now; at = rw c.index.ensures (got-map view_of c.args.seats.now.items c.args.number c.index.result.now within); idle = c.in_default.is })
+    let same = same_element c.args.seats.now.items c.args.number c.index.result.now c.index-2.result.now within c.index.ensures c.index-2.ensures in (
+      refl,
+      record {
+        view = view_of c.index-2.result.now;
+        at = rw c.index-2.ensures (got-map view_of c.args.seats.now.items c.args.number c.index-2.result.now within);
+        idle = c.in_default-walk.is;
+        unasked = asks_unasked c.args.seats.now.items c.args.number c.index.result.now within c.index.ensures c.in_default.is;
+      },
+    )
 
 pub encode-requires : goal.encode-requires
 encode-requires g c =
-    let seat = c.index_mut.result.now in
+    let seat = c.index_mut-2.result.now in
     let within : c.args.number < length c.args.seats.now.items = omega arith in
-    let same = same_element c.args.seats.now.items c.args.number c.index.result.now seat within c.index.ensures c.index_mut.ensures.value in
-    packable _ (lawful_after (truths g.C.Condition.holds g.C.Condition.is_same g.C.Condition.is_quiet) g.met.C.Condition.quiet_keeps (word_of c.args.word.now) c.args.row.now c.args.queues.now c.args.flags.now c.args.seats.now.items c.args.history.now.items c.requires c.args.number seat within c.in-Some.walk (rw (same, c.index_mut.ensures.value) at c.in-Some.is) c.perform.new.word c.perform.new.row c.perform.new.queues c.perform.new.flags c.perform.new.seat c.perform.new.history.items c.in-Ok.step c.in-Ok.ensures.others
-    (rw (← c.index_mut.ensures.value, ← c.unpacked-found.ensures) c.in-Ok.ensures.ok))
+    let same = same_element c.args.seats.now.items c.args.number c.index-2.result.now seat within c.index-2.ensures c.index_mut-2.ensures.value in
+    let unasked = rw (same_element c.args.seats.now.items c.args.number c.index.result.now seat within c.index.ensures c.index_mut-2.ensures.value, c.index_mut-2.ensures.value) at c.in_default.is in
+    packable _ (lawful_after (truths g.C.Condition.holds g.C.Condition.is_same g.C.Condition.is_quiet) g.met.C.Condition.has_cells.0 g.met.C.Condition.quiet_keeps (word_of c.args.word.now) c.args.row.now c.args.queues.now c.args.flags.now c.args.env.now c.args.seats.now.items c.args.history.now.items c.requires c.args.number seat within c.in-Some-walk.walk (rw (same, c.index_mut-2.ensures.value) at c.in-Some-walk.is) c.perform.new.word c.perform.new.row c.perform.new.queues c.perform.new.flags c.perform.new.seat c.perform.new.history.items c.in-Ok.step c.in-Ok.ensures.others
+    (rw (← c.index_mut-2.ensures.value, ← c.unpacked-found.ensures) c.in-Ok.ensures.ok) _ (unasked_cleared (truths g.C.Condition.holds g.C.Condition.is_same g.C.Condition.is_quiet) g.met.C.Condition.has_cells.0 g.met.C.Condition.quiet_keeps (word_of c.args.word.now) c.args.row.now c.args.queues.now c.args.flags.now c.args.env.now c.args.seats.now.items c.args.history.now.items c.requires c.args.number seat within unasked))
 
 pub returns-in-Ok-clause-ok : goal.returns-in-Ok-clause-ok
 returns-in-Ok-clause-ok g c =
-    let seat = c.index_mut.result.now in
+    let seat = c.index_mut-2.result.now in
     let within : c.args.number < length c.args.seats.now.items = omega arith in
-    let same = same_element c.args.seats.now.items c.args.number c.index.result.now seat within c.index.ensures c.index_mut.ensures.value in
-    rw (c.encode.ensures, decoded c.perform.new.word) (told _ _ c.args.number c.in-Ok.step (goes_here (truths g.C.Condition.holds g.C.Condition.is_same g.C.Condition.is_quiet) g.met.C.Condition.quiet_keeps (word_of c.args.word.now) c.args.row.now c.args.queues.now c.args.flags.now c.args.seats.now.items c.args.history.now.items c.requires c.args.number seat within c.in-Some.walk (rw (same, c.index_mut.ensures.value) at c.in-Some.is) c.perform.new.word c.perform.new.row c.perform.new.queues c.perform.new.flags c.perform.new.seat c.perform.new.history.items c.in-Ok.step c.in-Ok.ensures.others
-    (rw (← c.index_mut.ensures.value, ← c.unpacked-found.ensures) c.in-Ok.ensures.ok)))
+    let same = same_element c.args.seats.now.items c.args.number c.index-2.result.now seat within c.index-2.ensures c.index_mut-2.ensures.value in
+    let unasked = rw (same_element c.args.seats.now.items c.args.number c.index.result.now seat within c.index.ensures c.index_mut-2.ensures.value, c.index_mut-2.ensures.value) at c.in_default.is in
+    rw (c.encode.ensures, decoded c.perform.new.word) (told _ _ c.args.number c.in-Ok.step (inl (
+      goes_here (truths g.C.Condition.holds g.C.Condition.is_same g.C.Condition.is_quiet) g.met.C.Condition.has_cells.0 g.met.C.Condition.quiet_keeps (word_of c.args.word.now) c.args.row.now c.args.queues.now c.args.flags.now c.args.env.now c.args.seats.now.items c.args.history.now.items c.requires c.args.number seat within c.in-Some-walk.walk (rw (same, c.index_mut-2.ensures.value) at c.in-Some-walk.is) c.perform.new.word c.perform.new.row c.perform.new.queues c.perform.new.flags c.perform.new.seat c.perform.new.history.items c.in-Ok.step c.in-Ok.ensures.others
+          (rw (← c.index_mut-2.ensures.value, ← c.unpacked-found.ensures) c.in-Ok.ensures.ok),
+      asks_unasked c.args.seats.now.items c.args.number c.index.result.now within c.index.ensures c.in_default.is,
+    )))
 
 pub returns-in-Ok-clause-lawful : goal.returns-in-Ok-clause-lawful
 returns-in-Ok-clause-lawful g c =
-    let seat = c.index_mut.result.now in
+    let seat = c.index_mut-2.result.now in
     let within : c.args.number < length c.args.seats.now.items = omega arith in
-    let same = same_element c.args.seats.now.items c.args.number c.index.result.now seat within c.index.ensures c.index_mut.ensures.value in
-    rw (c.encode.ensures, decoded c.perform.new.word) (lawful_after (truths g.C.Condition.holds g.C.Condition.is_same g.C.Condition.is_quiet) g.met.C.Condition.quiet_keeps (word_of c.args.word.now) c.args.row.now c.args.queues.now c.args.flags.now c.args.seats.now.items c.args.history.now.items c.requires c.args.number seat within c.in-Some.walk (rw (same, c.index_mut.ensures.value) at c.in-Some.is) c.perform.new.word c.perform.new.row c.perform.new.queues c.perform.new.flags c.perform.new.seat c.perform.new.history.items c.in-Ok.step c.in-Ok.ensures.others
-    (rw (← c.index_mut.ensures.value, ← c.unpacked-found.ensures) c.in-Ok.ensures.ok))
+    let same = same_element c.args.seats.now.items c.args.number c.index-2.result.now seat within c.index-2.ensures c.index_mut-2.ensures.value in
+    let unasked = rw (same_element c.args.seats.now.items c.args.number c.index.result.now seat within c.index.ensures c.index_mut-2.ensures.value, c.index_mut-2.ensures.value) at c.in_default.is in
+    rw (c.encode.ensures, decoded c.perform.new.word) (lawful_after (truths g.C.Condition.holds g.C.Condition.is_same g.C.Condition.is_quiet) g.met.C.Condition.has_cells.0 g.met.C.Condition.quiet_keeps (word_of c.args.word.now) c.args.row.now c.args.queues.now c.args.flags.now c.args.env.now c.args.seats.now.items c.args.history.now.items c.requires c.args.number seat within c.in-Some-walk.walk (rw (same, c.index_mut-2.ensures.value) at c.in-Some-walk.is) c.perform.new.word c.perform.new.row c.perform.new.queues c.perform.new.flags c.perform.new.seat c.perform.new.history.items c.in-Ok.step c.in-Ok.ensures.others
+    (rw (← c.index_mut-2.ensures.value, ← c.unpacked-found.ensures) c.in-Ok.ensures.ok) _ (unasked_cleared (truths g.C.Condition.holds g.C.Condition.is_same g.C.Condition.is_quiet) g.met.C.Condition.has_cells.0 g.met.C.Condition.quiet_keeps (word_of c.args.word.now) c.args.row.now c.args.queues.now c.args.flags.now c.args.env.now c.args.seats.now.items c.args.history.now.items c.requires c.args.number seat within unasked))
+
+pub returns-in-Err-clause-lawful : goal.returns-in-Err-clause-lawful
+returns-in-Err-clause-lawful g c =
+    let seat = c.index_mut-2.result.now in
+    let err = c.in-Err.ensures.err in
+    rw (err.2, err.3, err.4, err.5, err.6, c.index_mut-2.ensures.value, set-get_or c.args.seats.now.items c.args.number seat) c.requires
 
 pub returns-in-Err-clause-err : goal.returns-in-Err-clause-err
 returns-in-Err-clause-err g c =
-    let seat = c.index_mut.result.now in
+    let seat = c.index_mut-2.result.now in
     let within : c.args.number < length c.args.seats.now.items = omega arith in
-    let same = same_element c.args.seats.now.items c.args.number c.index.result.now seat within c.index.ensures c.index_mut.ensures.value in
+    let same = same_element c.args.seats.now.items c.args.number c.index-2.result.now seat within c.index-2.ensures c.index_mut-2.ensures.value in
     let err = c.in-Err.ensures.err in (
-      rw (err.2, err.3, err.4, err.5, err.6, c.index_mut.ensures.value, set-get_or c.args.seats.now.items c.args.number seat) refl,
+      rw (err.2, err.3, err.4, err.5, err.6, c.index_mut-2.ensures.value, set-get_or c.args.seats.now.items c.args.number seat) refl,
       (
         record {
           view = view_of seat;
-          at = rw c.index_mut.ensures.value (got-map view_of c.args.seats.now.items c.args.number seat within);
-          walk = c.in-Some.walk;
-          walks = rw same at c.in-Some.is;
+          at = rw c.index_mut-2.ensures.value (got-map view_of c.args.seats.now.items c.args.number seat within);
+          walk = c.in-Some-walk.walk;
+          walks = rw same at c.in-Some-walk.is;
         },
         rw c.unpacked-found.ensures at err.0,
       ),

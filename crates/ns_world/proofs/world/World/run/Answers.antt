@@ -11,7 +11,7 @@ use Rattle.ns_world.proofs.world.World.run.Goals as goal
 
 pub loop-turn-init : goal.loop-turn-init
 loop-turn-init g c =
-    let calls = map (λ (calls : Vec Call Global). calls.items) c.args.lists.now in
+    let calls = map (λ (calls : Vec (Call _) Global). calls.items) c.args.lists.now in
     rw c.new.ensures.items (record {
       advances = advance_none calls c.args.limit (start (seen (truths g.C.Condition.holds g.C.Condition.is_same g.C.Condition.is_quiet) c.args.self.now)) 0 _ (omega arith);
       counted = start_counted (seen (truths g.C.Condition.holds g.C.Condition.is_same g.C.Condition.is_quiet) c.args.self.now) c.requires.idle;
@@ -20,14 +20,14 @@ loop-turn-init g c =
 pub returns-in_err-word : goal.returns-in_err-word
 returns-in_err-word g c =
     let p = err_from_is_err_and c.from_residual.result c.from_residual.ensures.1 in
-    let calls = map (λ (calls : Vec Call Global). calls.items) c.args.lists.now in
+    let calls = map (λ (calls : Vec (Call _) Global). calls.items) c.args.lists.now in
     let now = progress (seen (truths g.C.Condition.holds g.C.Condition.is_same g.C.Condition.is_quiet) c.loop-turn.self) c.loop-turn.tally.over c.loop-turn.tally.lines.items in
     rw (p.1, p.2) (stops_word calls c.args.limit (start (seen (truths g.C.Condition.holds g.C.Condition.is_same g.C.Condition.is_quiet) c.args.self.now)) now 0 c.loop-turn.tally.turns c.loop-turn.turn-index c.args.schedule.now _ (seen (truths g.C.Condition.holds g.C.Condition.is_same g.C.Condition.is_quiet) c.word.new.world) c.in_err-word.field-0.0
     c.loop-turn-test.true c.loop-turn.invariant.advances c.in_err-word.ensures.err)
 
 pub loop-turn-preserved : goal.loop-turn-preserved
 loop-turn-preserved g c =
-    let calls = map (λ (calls : Vec Call Global). calls.items) c.args.lists.now in
+    let calls = map (λ (calls : Vec (Call _) Global). calls.items) c.args.lists.now in
     let now = progress (seen (truths g.C.Condition.holds g.C.Condition.is_same g.C.Condition.is_quiet) c.loop-turn.self) c.loop-turn.tally.over c.loop-turn.tally.lines.items in
     let next = progress (seen (truths g.C.Condition.holds g.C.Condition.is_same g.C.Condition.is_quiet) c.word.new.world) c.word.new.tally.over c.word.new.tally.lines.items in
     record {

@@ -1,4 +1,4 @@
-use Rattle.std.proofs.Common.{rules, sym, ◌∙◌}
+use Rattle.std.proofs.Common.{rules}
 use Rattle.ns_word.specs.Codec.{word_of}
 use Rattle.ns_word.specs.Steps.{truths}
 use Rattle.ns_world.proofs.Lists.{all_empty}
@@ -16,9 +16,12 @@ shown_lock-requires g c = (
     g.met.C.Seated.seat_fits,
     (
       search rules,
-      rw c.deref.ensures.value (
-        λ i seat at. number_below (truths g.C.Condition.holds g.C.Condition.is_same g.C.Condition.is_quiet) (word_of c.self.inside.word) c.self.inside.row c.self.inside.queues c.self.inside.flags c.self.inside.seats.items c.self.inside.history.items c.self.invariant i seat at,
-        λ i seat at. nowhere (truths g.C.Condition.holds g.C.Condition.is_same g.C.Condition.is_quiet) (word_of c.self.inside.word) c.self.inside.row c.self.inside.queues c.self.inside.flags c.self.inside.seats.items c.self.inside.history.items c.self.invariant i seat at,
+      (
+        c.self.invariant.no_variables,
+        rw c.deref.ensures.value (
+          λ i seat at. number_below (truths g.C.Condition.holds g.C.Condition.is_same g.C.Condition.is_quiet) (word_of c.self.inside.word) c.self.inside.row c.self.inside.queues c.self.inside.flags c.self.inside.env c.self.inside.seats.items c.self.inside.history.items c.self.invariant i seat at,
+          λ i seat at. nowhere (truths g.C.Condition.holds g.C.Condition.is_same g.C.Condition.is_quiet) (word_of c.self.inside.word) c.self.inside.row c.self.inside.queues c.self.inside.flags c.self.inside.env c.self.inside.seats.items c.self.inside.history.items c.self.invariant i seat at,
+        ),
       ),
     ),
   ),
@@ -28,10 +31,19 @@ pub owed_wakes-requires : goal.owed_wakes-requires
 owed_wakes-requires g c = (g.met.C.Seated.seat_fits, rw c.deref-2.ensures.value (wakes_few _ _ _ _ c.self.invariant.few c.self.invariant.lawful))
 
 pub busy_seats-requires : goal.busy_seats-requires
-busy_seats-requires g c = (g.met.C.Seated.seat_fits, rw c.deref-3.ensures.value (few_seats (truths g.C.Condition.holds g.C.Condition.is_same g.C.Condition.is_quiet) (word_of c.self.inside.word) c.self.inside.row c.self.inside.queues c.self.inside.flags c.self.inside.seats.items c.self.inside.history.items c.self.invariant))
+busy_seats-requires g c = (g.met.C.Seated.seat_fits, rw c.deref-3.ensures.value (few_seats (truths g.C.Condition.holds g.C.Condition.is_same g.C.Condition.is_quiet) (word_of c.self.inside.word) c.self.inside.row c.self.inside.queues c.self.inside.flags c.self.inside.env c.self.inside.seats.items c.self.inside.history.items c.self.invariant))
 
 pub returns-clause-busy : goal.returns-clause-busy
 returns-clause-busy g c = λ seat. rw (← c.self.view_is) (rw c.deref-3.ensures.value at (c.busy_seats.ensures seat))
 
 pub returns-clause-variables : goal.returns-clause-variables
 returns-clause-variables g c = all_empty c.new.result c.new-2.result c.new-3.result c.new-4.result c.new.ensures c.new-2.ensures c.new-3.ensures c.new-4.ensures
+
+pub returns-clause-word : goal.returns-clause-word
+returns-clause-word g c = rw (← c.self.view_is) c.unpacked.ensures
+
+pub returns-clause-lock : goal.returns-clause-lock
+returns-clause-lock g c = rw (← c.self.view_is) (rw c.deref.ensures.value at c.shown_lock.ensures)
+
+pub returns-clause-owed : goal.returns-clause-owed
+returns-clause-owed g c = rw (← c.self.view_is) (rw c.deref-2.ensures.value at c.owed_wakes.ensures)

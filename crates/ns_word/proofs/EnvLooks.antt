@@ -1,0 +1,109 @@
+-- What a chain of notes finds, and where it goes.
+use Rattle.std.proofs.Common.{◌≡◌, ℕ, zero, suc, ◌<◌, Bool, true, false, ◌||◌, cond, List, Option, None, Some, slice_get, refl, sym, ap, ◌∙◌, arith}
+use Rattle.ns_model.specs.declared.environment.EnvEvent.{EnvEvent}
+use Rattle.ns_model.specs.Environments.{NoteStanding, env_after, is_over, is_due, notified_in, is_notified, expiry_of, earlier, IsMade}
+use Rattle.ns_model.proofs.Environments.{sound_after, notified_in-up, notified_in-root}
+use Rattle.ns_word.specs.declared.limits.Cause.TheVariants.{Deadline}
+use Rattle.ns_word.specs.declared.env_act.NoteState.{NoteState}
+use Rattle.ns_word.specs.declared.env_act.EnvFound.TheVariants.{Note}
+use Rattle.ns_word.specs.declared.env_walk.Chain.{Chain}
+use Rattle.ns_word.specs.declared.env_walk.Chain.TheVariants.{Look, IsNotified, NoteWait}
+use Rattle.ns_word.specs.declared.env_walk.EnvWalk.TheVariants.{ClockLoad, NoteLoad, ExpiryLoad}
+use Rattle.ns_word.specs.declared.env_walk.EnvNext.{EnvNext}
+use Rattle.ns_word.specs.declared.env_walk.EnvNext.TheVariants.{On, Idle, Done, Saw}
+use Rattle.ns_word.specs.declared.walk.Reply.TheVariants.{Is, Expiry}
+use Rattle.ns_word.specs.EnvWalks.{standing_of, env_got_of, stopped, passed, up_to, lowered_to}
+use Rattle.ns_word.specs.EnvSteps.{EnvPlain, EnvState, Meets, IsLawfulEnv, up_by, looked}
+use Rattle.ns_word.proofs.EnvKeeps.{lowered_all}
+
+-- ---- in one go
+
+by_stopped : (follow : ℕ → EnvNext) (chain : Chain) → up_by follow (stopped chain) ≡ stopped chain
+by_stopped follow (Look limits) = refl
+by_stopped follow (IsNotified note) = refl
+by_stopped follow (NoteWait note deadline) = refl
+
+by_cond : (follow : ℕ → EnvNext) (b : Bool) (one other : EnvNext) → up_by follow one ≡ one → up_by follow other ≡ other → up_by follow (cond b one other) ≡ cond b one other
+by_cond follow true one other p q = p
+by_cond follow false one other p q = q
+
+by_passed : (follow : ℕ → EnvNext) (chain : Chain) (clock : ℕ) → up_by follow (passed chain clock) ≡ passed chain clock
+by_passed follow (Look limits) clock = by_cond follow (is_due clock limits.deadline) (Saw (Some Deadline)) (Saw None) refl refl
+by_passed follow (IsNotified note) clock = refl
+by_passed follow (NoteWait note deadline) clock = by_cond follow (is_due clock deadline) (Done (Is false)) (Idle (ClockLoad (NoteWait note deadline))) refl refl
+
+-- one note of a chain: it stops here, or it is as the rest of it finds
+one_note : (follow : ℕ → EnvNext) (chain : Chain) (clock : ℕ) (b up all : Bool) (parent : Option ℕ) → all ≡ (b || up) →
+    up_by follow (up_to chain clock parent) ≡ cond up (stopped chain) (passed chain clock) → up_by follow (cond b (stopped chain) (up_to chain clock parent)) ≡ cond all (stopped chain) (passed chain clock)
+one_note follow chain clock true up all parent is rest = rw is (by_stopped follow chain)
+one_note follow chain clock false up all parent is rest = rw is rest
+
+module _ (h : List EnvEvent) (plain : EnvPlain) (m : Meets h plain) where
+  -- the notes and the clock are those of the history
+  note_is : (note : ℕ) → plain.notes note ≡ (env_after h).notes note
+  note_is note = ap (λ (notes : ℕ → NoteStanding). notes note) m.notes
+
+  over_is : (note : ℕ) → is_over plain.clock (plain.notes note) ≡ is_over (env_after h).clock ((env_after h).notes note)
+  over_is note = ap (λ (clock : ℕ). is_over clock (plain.notes note)) m.clock ∙ ap (is_over (env_after h).clock) (note_is note)
+
+  go_from : (most : ℕ) (chain : Chain) (note : ℕ) (parent : Option ℕ) → ((p : ℕ) → parent ≡ Some p → looked most plain chain p ≡ cond (notified_in (env_after h) p) (stopped chain) (passed chain plain.clock)) → (plain.notes note).parent ≡ parent →
+      up_by (looked most plain chain) (cond (is_over plain.clock (plain.notes note)) (stopped chain) (up_to chain plain.clock parent)) ≡ cond (notified_in (env_after h) note) (stopped chain) (passed chain plain.clock)
+  go_from most chain note None rest up =
+      one_note (looked most plain chain) chain plain.clock (is_over plain.clock (plain.notes note)) false (notified_in (env_after h) note) None
+      (notified_in-root (env_after h) note (ap (λ (s : NoteStanding). s.parent) (sym (note_is note)) ∙ up) ∙ ap (λ b. b || false) (sym (over_is note)))
+      (by_passed (looked most plain chain) chain plain.clock)
+  go_from most chain note (Some p) rest up =
+      one_note (looked most plain chain) chain plain.clock (is_over plain.clock (plain.notes note)) (notified_in (env_after h) p) (notified_in (env_after h) note) (Some p)
+      (notified_in-up (env_after h) note p (sound_after h m.legal) (ap (λ (s : NoteStanding). s.parent) (sym (note_is note)) ∙ up) ∙ ap (λ b. b || notified_in (env_after h) p) (sym (over_is note)))
+      (rest p refl)
+
+  in_one_go : (most : ℕ) (chain : Chain) (note : ℕ) → note < most → looked most plain chain note ≡ cond (notified_in (env_after h) note) (stopped chain) (passed chain plain.clock)
+  in_one_go zero chain note low = absurd (omega (arith, low))
+  in_one_go (suc most) chain note low =
+      go_from most chain note (plain.notes note).parent
+      (λ p e. let s = sound_after h m.legal in let below = (s.above note p (ap (λ (x : NoteStanding). x.parent) (sym (note_is note)) ∙ e)).0 in in_one_go most chain p (omega (arith, low, below))) refl
+
+  pub finds_notified : (most : ℕ) (chain : Chain) (note : ℕ) → note < most → looked most plain chain note ≡ cond (is_notified h note) (stopped chain) (passed chain plain.clock)
+  unfolding is_notified
+  finds_notified most chain note low = in_one_go most chain note low
+
+-- ---- the next note of a chain
+
+stopped_not : (chain chain' : Chain) (clock next : ℕ) → stopped chain ≡ On (NoteLoad chain' clock next) → ⊥
+stopped_not (Look limits) chain' clock next e = absurd (cc)
+stopped_not (IsNotified note) chain' clock next e = absurd (cc)
+stopped_not (NoteWait note deadline) chain' clock next e = absurd (cc)
+
+either_not : (b : Bool) (one other next : EnvNext) → (one ≡ next → ⊥) → (other ≡ next → ⊥) → cond b one other ≡ next → ⊥
+either_not true one other next p q e = p e
+either_not false one other next p q e = q e
+
+passed_not : (chain chain' : Chain) (at clock next : ℕ) → passed chain at ≡ On (NoteLoad chain' clock next) → ⊥
+passed_not (Look limits) chain' at clock next e = either_not (is_due at limits.deadline) (Saw (Some Deadline)) (Saw None) (On (NoteLoad chain' clock next)) (λ e. absurd (cc)) (λ e. absurd (cc)) e
+passed_not (IsNotified note) chain' at clock next e = absurd (cc)
+passed_not (NoteWait note deadline) chain' at clock next e = either_not (is_due at deadline) (Done (Is false)) (Idle (ClockLoad (NoteWait note deadline))) (On (NoteLoad chain' clock next)) (λ e. absurd (cc)) (λ e. absurd (cc)) e
+
+goes_up : (chain chain' : Chain) (clock clock' next : ℕ) (b : Bool) (parent : Option ℕ) → cond b (stopped chain) (up_to chain clock parent) ≡ On (NoteLoad chain' clock' next) → parent ≡ Some next
+goes_up chain chain' clock clock' next true parent e = absurd (stopped_not chain chain' clock' next e)
+goes_up chain chain' clock clock' next false None e = absurd (passed_not chain chain' clock clock' next e)
+goes_up chain chain' clock clock' next false (Some p) e = cc
+
+pub chain_up : (h : List EnvEvent) (plain : EnvPlain) (chain chain' : Chain) (clock clock' at next : ℕ) (note : NoteState) → Meets h plain → standing_of note ≡ plain.notes at →
+    env_got_of (NoteLoad chain clock at) (Note note) ≡ On (NoteLoad chain' clock' next) → (next < at) × IsMade h next
+chain_up h plain chain chain' clock clock' at next note m is e =
+    (sound_after h m.legal).above at next (ap (λ (s : NoteStanding). s.parent) (sym (is ∙ ap (λ (notes : ℕ → NoteStanding). notes at) m.notes)) ∙ goes_up chain chain' clock clock' next (is_over clock (standing_of note)) note.parent e)
+
+-- ---- an expiry
+
+lowered_is : (asked : ℕ) (parent least answer : Option ℕ) → lowered_to asked parent least ≡ Done (Expiry answer) → (parent ≡ None) × (least ≡ answer)
+lowered_is asked None least answer e = (refl, cc)
+lowered_is asked (Some p) least answer e = absurd (cc)
+
+pub expiry_is : (h : List EnvEvent) (state : EnvState) (seat asked at : ℕ) (least answer : Option ℕ) (note : NoteState) → IsLawfulEnv h state → slice_get state.askings seat ≡ Some (Some (ExpiryLoad asked at least)) →
+    standing_of note ≡ state.plain.notes at → env_got_of (ExpiryLoad asked at least) (Note note) ≡ Done (Expiry answer) → answer ≡ expiry_of h asked
+unfolding expiry_of
+expiry_is h state seat asked at least answer note lawful walks is e =
+    let p = lowered_is asked note.parent (earlier least note.deadline) answer e in
+    let same : standing_of note ≡ (env_after h).notes at = is ∙ ap (λ (notes : ℕ → NoteStanding). notes at) lawful.meets.notes in
+    let fits = lawful.each seat (ExpiryLoad asked at least) walks in
+    sym p.1 ∙ lowered_all (env_after h) asked at least note.deadline (ap (λ (s : NoteStanding). s.parent) (sym same) ∙ p.0) (ap (λ (s : NoteStanding). s.deadline) (sym same)) fits.2

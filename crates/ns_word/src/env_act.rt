@@ -1,0 +1,48 @@
+//! What one atomic step on the clock and the notes does, and what it finds.
+
+/// A note as it stands.
+#[derive(Clone, Copy, Debug, PartialEq, Eq)]
+pub struct NoteState {
+    /// Whether the note is made.
+    pub made: bool,
+    /// Whether it was notified by a call.
+    pub called: bool,
+    /// The number of its parent, if it has one.
+    pub parent: Option<u8>,
+    /// The moment from which on it is notified, in ticks, if it has one.
+    pub deadline: Option<u64>,
+}
+
+/// One atomic step on the clock or the notes. A moment is in ticks.
+#[derive(Clone, Copy, Debug, PartialEq, Eq)]
+pub enum EnvAct {
+    /// Loads the number that the next note gets.
+    LoadNext,
+    /// Takes the number that the next note gets.
+    TakeNumber,
+    /// Stores the note of this number, with this parent and this deadline.
+    MakeNote(u8, Option<u8>, Option<u64>),
+    /// Notifies the note.
+    Notify(u8),
+    /// Moves the clock on to the moment, or leaves it where it stands later.
+    Advance(u64),
+    /// Loads the clock.
+    LoadClock,
+    /// Loads the note.
+    LoadNote(u8),
+}
+
+/// What a step on the clock or the notes found.
+#[derive(Clone, Copy, Debug, PartialEq, Eq)]
+pub enum EnvFound {
+    /// The next note's number.
+    Next(u8),
+    /// The next note's number as it was before it was taken.
+    Taken(u8),
+    /// The step was made.
+    Made,
+    /// The clock.
+    Clock(u64),
+    /// A note.
+    Note(NoteState),
+}

@@ -1,0 +1,55 @@
+//! The law of the steps on the clock and the notes.
+
+ghost use Rattle.std.specs.Prelude.{◌≡◌, ℕ, ◌<◌, ◌++◌, [], List, Option, Some, slice_get, if◌then◌else◌};
+ghost use Rattle.ns_model.specs.declared.environment.EnvEvent.{EnvEvent};
+ghost use Rattle.ns_model.specs.Environments.{IsMade, is_notified, expiry_of};
+ghost use Rattle.ns_word.specs.declared.env_act.NoteState.{NoteState};
+ghost use Rattle.ns_word.specs.declared.env_act.EnvFound.{EnvFound};
+ghost use Rattle.ns_word.specs.declared.env_act.EnvFound.TheVariants.{Note};
+ghost use Rattle.ns_word.specs.declared.env_walk.Chain.{Chain};
+ghost use Rattle.ns_word.specs.declared.env_walk.EnvWalk.{EnvWalk};
+ghost use Rattle.ns_word.specs.declared.env_walk.EnvWalk.TheVariants.{NoteLoad, ExpiryLoad};
+ghost use Rattle.ns_word.specs.declared.env_walk.EnvNext.TheVariants.{On, Done};
+ghost use Rattle.ns_word.specs.declared.walk.Reply.TheVariants.{Expiry};
+ghost use Rattle.ns_word.specs.EnvWalks.{env_got_of, standing_of, stopped, passed};
+ghost use Rattle.ns_word.specs.EnvSteps.{EnvPlain, EnvState, EnvStep, EnvBegins, IsLawfulEnv, Meets, fresh_asks, looked};
+
+/// A clock at 0 without notes is lawful, with any number of seats.
+pub fn a_fresh_environment_is_lawful()
+    ensures { (seats : ℕ) → IsLawfulEnv [] (fresh_asks seats) }
+{}
+
+/// A seat that stands in no call on the clock and the notes may begin one whose notes are made:
+/// the law stays, with the same events.
+pub fn beginning_to_ask_keeps_the_law()
+    ensures { (events : List EnvEvent) (old new : EnvState) (seat : ℕ) (walk : EnvWalk) →
+        EnvBegins old seat walk new → IsLawfulEnv events old → IsLawfulEnv events new }
+{}
+
+/// A step of any seat keeps the law, and the events grow by those of the step.
+pub fn asking_keeps_the_law()
+    ensures { (events more : List EnvEvent) (old new : EnvState) (seat : ℕ) (found : EnvFound) →
+        EnvStep old seat found new more → IsLawfulEnv events old → IsLawfulEnv (events ++ more) new }
+{}
+
+/// A chain finds in one go whether its note is notified.
+pub fn a_chain_finds_the_notified()
+    ensures { (events : List EnvEvent) (plain : EnvPlain) (chain : Chain) (most note : ℕ) →
+        Meets events plain → IsMade events note → note < most →
+        looked most plain chain note ≡ (if is_notified events note then stopped chain else passed chain plain.clock) }
+{}
+
+/// A chain goes on to a note that is made and has a smaller number, so it ends.
+pub fn a_chain_goes_up()
+    ensures { (events : List EnvEvent) (plain : EnvPlain) (chain chain' : Chain) (clock clock' at next : ℕ) (note : NoteState) →
+        Meets events plain → standing_of note ≡ plain.notes at →
+        env_got_of (NoteLoad chain clock at) (Note note) ≡ On (NoteLoad chain' clock' next) →
+        (next < at) × IsMade events next }
+{}
+
+/// What an expiry answers is the earliest deadline from its note up to the root, as it stands.
+pub fn an_expiry_is_the_earliest()
+    ensures { (events : List EnvEvent) (state : EnvState) (seat asked at : ℕ) (least answer : Option ℕ) (note : NoteState) →
+        IsLawfulEnv events state → slice_get state.askings seat ≡ Some (Some (ExpiryLoad asked at least)) → standing_of note ≡ state.plain.notes at →
+        env_got_of (ExpiryLoad asked at least) (Note note) ≡ Done (Expiry answer) → answer ≡ expiry_of events asked }
+{}

@@ -1,0 +1,273 @@
+//! The walks of the calls on the clock and the notes, one atomic step at a time.
+//!
+//! | place | wants | where an answer leads |
+//! |---|---|---|
+//! | `NextLoad` | load the next number | `TakeNumber`, or `NotesFull` from 64 on |
+//! | `TakeNumber` | take the next number | `MakeNote` of it, or `NotesFull` from 64 on |
+//! | `MakeNote` | store the note | its `Number` |
+//! | `Notify` | notify the note | `Ok` |
+//! | `Advance` | move the clock on | `Ok` |
+//! | `ClockLoad` | load the clock | `NoteLoad` of the chain's note; with none the end of the chain |
+//! | `NoteLoad` | load the note | over at the clock loaded: the chain stops; else `NoteLoad` of its parent; with none the end of the chain |
+//! | `ExpiryLoad` | load the note | `ExpiryLoad` of its parent; with none the earliest deadline on the way |
+//!
+//! A chain goes from a note up to its root. Where it stops, `isnotified` and `notewait` answer
+//! `true`, and a look shows `Note`. At its end `isnotified` answers `false`; `notewait` answers
+//! `false` if its own deadline has come, and else is idle and loads the clock again; a look shows
+//! `Deadline` if its own deadline has come, and else nothing. So a look judges the note before
+//! the deadline. All are judged by the clock that was loaded first.
+
+ghost use Rattle.std.specs.Prelude.{◌≡◌};
+ghost use Rattle.ns_model.specs.Environments.{is_due as is_due_of, is_over as is_over_of, earlier as earlier_of};
+ghost use Rattle.ns_word.specs.EnvWalks.{standing_of, env_want_of, env_got_of, chain_note, stopped, passed, up_to, lowered_to};
+
+use crate::env_act::{EnvAct, EnvFound, NoteState};
+use crate::limits::{Cause, Limits};
+use crate::walk::Reply;
+
+/// What a chain of notes, from one up to its root, is loaded for.
+#[derive(Clone, Copy, Debug, PartialEq, Eq)]
+pub enum Chain {
+    /// A wait looks whether it is to end early.
+    Look(Limits),
+    /// A call asks whether the note is notified.
+    IsNotified(u8),
+    /// A call waits for the note, at most until the deadline.
+    NoteWait(u8, Option<u64>),
+}
+
+/// A place in a call on the clock and the notes. A moment is in ticks.
+#[derive(Clone, Copy, Debug, PartialEq, Eq)]
+pub enum EnvWalk {
+    /// A note is to be made with this parent and this deadline, and the next number is to be
+    /// loaded.
+    NextLoad(Option<u8>, Option<u64>),
+    /// A number was still left, and one is to be taken.
+    TakeNumber(Option<u8>, Option<u64>),
+    /// This number was taken, and its note is to be stored.
+    MakeNote(u8, Option<u8>, Option<u64>),
+    /// The note is to be notified.
+    Notify(u8),
+    /// The clock is to be moved on.
+    Advance(u64),
+    /// The clock is to be loaded, then the chain's note, if it has one.
+    ClockLoad(Chain),
+    /// The clock was this, and this note of the chain is to be loaded.
+    NoteLoad(Chain, u64, u8),
+    /// The expiry of the first note is asked. The second, which is the first or one above it, is
+    /// to be loaded; of those before it this is the earliest deadline.
+    ExpiryLoad(u8, u8, Option<u64>),
+}
+
+/// Where a walk on the clock and the notes goes.
+#[derive(Clone, Copy, Debug, PartialEq, Eq)]
+pub enum EnvNext {
+    /// It goes on at this place.
+    On(EnvWalk),
+    /// It has to wait for another seat, and repeats from this place.
+    Idle(EnvWalk),
+    /// The call is over.
+    Done(Reply),
+    /// The look is over, and shows what ends the wait, if anything does.
+    Saw(Option<Cause>),
+}
+
+/// Whether the clock has come to the deadline. Where there is none, it never has.
+fn is_due(clock: u64, deadline: Option<u64>) -> bool
+    ensures { result ≡ is_due_of clock deadline }
+{
+    match deadline {
+        None => false,
+        Some(moment) => moment <= clock,
+    }
+}
+
+/// The earlier of two deadlines, where there are two.
+fn earlier(one: Option<u64>, other: Option<u64>) -> Option<u64>
+    ensures { result ≡ earlier_of one other }
+{
+    match (one, other) {
+        (Some(moment), Some(later)) => Some(moment.min(later)),
+        (None, deadline) => deadline,
+        (deadline, None) => deadline,
+    }
+}
+
+/// Whether the note itself is notified, by a call or by its deadline.
+fn is_over(clock: u64, note: NoteState) -> bool
+    ensures { result ≡ is_over_of clock (standing_of note) }
+{
+    note.called || is_due(clock, note.deadline)
+}
+
+impl Chain {
+    /// The note at which the chain begins, if it has one.
+    fn note(self) -> Option<u8>
+        ensures { result ≡ chain_note self }
+    {
+        match self {
+            Chain::Look(limits) => limits.note,
+            Chain::IsNotified(note) => Some(note),
+            Chain::NoteWait(note, _) => Some(note),
+        }
+    }
+
+    /// Where it goes at a note that is over.
+    fn stopped(self) -> EnvNext
+        ensures { result ≡ stopped self }
+    {
+        match self {
+            Chain::Look(_) => EnvNext::Saw(Some(Cause::Note)),
+            Chain::IsNotified(_) => EnvNext::Done(Reply::Is(true)),
+            Chain::NoteWait(_, _) => EnvNext::Done(Reply::Is(true)),
+        }
+    }
+
+    /// Where it goes at its end, with the clock that was loaded.
+    fn passed(self, clock: u64) -> EnvNext
+        ensures { result ≡ passed self clock }
+    {
+        match self {
+            Chain::Look(limits) => {
+                if is_due(clock, limits.deadline) {
+                    EnvNext::Saw(Some(Cause::Deadline))
+                } else {
+                    EnvNext::Saw(None)
+                }
+            }
+            Chain::IsNotified(_) => EnvNext::Done(Reply::Is(false)),
+            Chain::NoteWait(note, deadline) => {
+                if is_due(clock, deadline) {
+                    EnvNext::Done(Reply::Is(false))
+                } else {
+                    EnvNext::Idle(EnvWalk::ClockLoad(Chain::NoteWait(note, deadline)))
+                }
+            }
+        }
+    }
+
+    /// Where it goes that has this note before it, or none.
+    fn up_to(self, clock: u64, note: Option<u8>) -> EnvNext
+        ensures { result ≡ up_to self clock note }
+    {
+        match note {
+            None => self.passed(clock),
+            Some(next) => EnvNext::On(EnvWalk::NoteLoad(self, clock, next)),
+        }
+    }
+}
+
+/// Where an expiry goes that has this note before it, or none, with the earliest deadline so far.
+fn lowered_to(asked: u8, note: Option<u8>, least: Option<u64>) -> EnvNext
+    ensures { result ≡ lowered_to asked note least }
+{
+    match note {
+        None => EnvNext::Done(Reply::Expiry(least)),
+        Some(next) => EnvNext::On(EnvWalk::ExpiryLoad(asked, next, least)),
+    }
+}
+
+impl EnvWalk {
+    /// The step that the walk wants next.
+    pub fn want(&self) -> EnvAct
+        ensures { result ≡ env_want_of self.now }
+    {
+        match *self {
+            EnvWalk::NextLoad(_, _) => EnvAct::LoadNext,
+            EnvWalk::TakeNumber(_, _) => EnvAct::TakeNumber,
+            EnvWalk::MakeNote(note, parent, deadline) => EnvAct::MakeNote(note, parent, deadline),
+            EnvWalk::Notify(note) => EnvAct::Notify(note),
+            EnvWalk::Advance(moment) => EnvAct::Advance(moment),
+            EnvWalk::ClockLoad(_) => EnvAct::LoadClock,
+            EnvWalk::NoteLoad(_, _, note) => EnvAct::LoadNote(note),
+            EnvWalk::ExpiryLoad(_, note, _) => EnvAct::LoadNote(note),
+        }
+    }
+
+    /// Where the walk goes with what its step found. What no step of the place finds leaves it
+    /// where it is.
+    pub fn got(self, found: EnvFound) -> EnvNext
+        ensures { result ≡ env_got_of self found }
+    {
+        match found {
+            EnvFound::Next(next) => self.got_next(next),
+            EnvFound::Taken(number) => self.got_taken(number),
+            EnvFound::Made => self.got_made(),
+            EnvFound::Clock(clock) => self.got_clock(clock),
+            EnvFound::Note(note) => self.got_note(note),
+        }
+    }
+
+    /// Where the walk goes with the next note's number.
+    fn got_next(self, next: u8) -> EnvNext
+        ensures { result ≡ env_got_of self (EnvFound.Next next) }
+    {
+        match self {
+            EnvWalk::NextLoad(parent, deadline) => {
+                if next < 64 {
+                    EnvNext::On(EnvWalk::TakeNumber(parent, deadline))
+                } else {
+                    EnvNext::Done(Reply::NotesFull)
+                }
+            }
+            walk => EnvNext::On(walk),
+        }
+    }
+
+    /// Where the walk goes with the number that it has taken.
+    fn got_taken(self, number: u8) -> EnvNext
+        ensures { result ≡ env_got_of self (EnvFound.Taken number) }
+    {
+        match self {
+            EnvWalk::TakeNumber(parent, deadline) => {
+                if number < 64 {
+                    EnvNext::On(EnvWalk::MakeNote(number, parent, deadline))
+                } else {
+                    EnvNext::Done(Reply::NotesFull)
+                }
+            }
+            walk => EnvNext::On(walk),
+        }
+    }
+
+    /// Where the walk goes when its step was made.
+    fn got_made(self) -> EnvNext
+        ensures { result ≡ env_got_of self EnvFound.Made }
+    {
+        match self {
+            EnvWalk::MakeNote(note, _, _) => EnvNext::Done(Reply::Number(note as u64)),
+            EnvWalk::Notify(_) => EnvNext::Done(Reply::Ok),
+            EnvWalk::Advance(_) => EnvNext::Done(Reply::Ok),
+            walk => EnvNext::On(walk),
+        }
+    }
+
+    /// Where the walk goes with the clock.
+    fn got_clock(self, clock: u64) -> EnvNext
+        ensures { result ≡ env_got_of self (EnvFound.Clock clock) }
+    {
+        match self {
+            EnvWalk::ClockLoad(chain) => chain.up_to(clock, chain.note()),
+            walk => EnvNext::On(walk),
+        }
+    }
+
+    /// Where the walk goes with a note.
+    fn got_note(self, note: NoteState) -> EnvNext
+        ensures { result ≡ env_got_of self (EnvFound.Note note) }
+    {
+        match self {
+            EnvWalk::NoteLoad(chain, clock, _) => {
+                if is_over(clock, note) {
+                    chain.stopped()
+                } else {
+                    chain.up_to(clock, note.parent)
+                }
+            }
+            EnvWalk::ExpiryLoad(asked, _, least) => {
+                lowered_to(asked, note.parent, earlier(least, note.deadline))
+            }
+            walk => EnvNext::On(walk),
+        }
+    }
+}

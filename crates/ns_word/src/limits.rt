@@ -1,0 +1,18 @@
+//! What may end a wait before its condition is met, and what did.
+
+/// What may end a wait early: a deadline, in ticks of the clock, and a note, by its number. A wait
+/// with neither goes on until its condition is met.
+#[derive(Clone, Copy, Debug, PartialEq, Eq)]
+pub struct Limits {
+    /// The moment from which on the wait ends, in ticks.
+    pub deadline: Option<u64>,
+    /// The number of the note that ends the wait once it is notified.
+    pub note: Option<u8>,
+}
+
+/// What ended a wait early: its deadline passed, or its note was notified.
+#[derive(Clone, Copy, Debug, PartialEq, Eq)]
+pub enum Cause {
+    Deadline,
+    Note,
+}

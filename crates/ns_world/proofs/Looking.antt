@@ -1,0 +1,238 @@
+-- The looks of a wait, over plain data: where a wait goes that looks, and what it needs of the notes.
+use Rattle.std.proofs.Common.{◌≡◌, ℕ, ◌+◌, ◌-◌, not, Bool, true, false, cond, List, [], Option, None, Some, IsSome, refl, ap, sym, ◌∙◌, subst, eq-eqb, inl, inr}
+use Rattle.std.specs.Prelude.{nat_lt, ◌==◌}
+use Rattle.std.proofs.lemmas.Bool.{cases_eq, ne_eqb}
+use Rattle.ns_model.specs.declared.environment.EnvEvent.{EnvEvent}
+use Rattle.ns_model.specs.Environments.{NoteStanding, is_due, is_over, but_at, made_note, notified_note}
+use Rattle.ns_word.specs.declared.limits.Limits.{Limits}
+use Rattle.ns_word.specs.declared.limits.Cause.{Cause}
+use Rattle.ns_word.specs.declared.limits.Cause.TheVariants.{Deadline}
+use Rattle.ns_word.specs.declared.word.Word.{Word}
+use Rattle.ns_word.specs.declared.word.Leaving.{Leaving}
+use Rattle.ns_word.specs.declared.wait.Wait.{Wait}
+use Rattle.ns_word.specs.declared.wait.Aim.{Aim}
+use Rattle.ns_word.specs.declared.wait.Aim.TheVariants.{Lock, Back}
+use Rattle.ns_word.specs.declared.wait.Visit.{Visit}
+use Rattle.ns_word.specs.declared.wait.Visit.TheVariants.{Entry, Back as CameBack}
+use Rattle.ns_word.specs.declared.wait.WaitPlace.{WaitPlace}
+use Rattle.ns_word.specs.declared.wait.WaitPlace.TheVariants.{TestCells, TestLast, LookIn, Load, Take, Arm as ArmWaiting, Queue as QueueWaiting, Pay as PayWaiting, Round as RoundWaiting, LookOut, LeaveLoad, TakeToLeave, Leave, LeaveRound}
+use Rattle.ns_word.specs.declared.walk.Walk.{Walk}
+use Rattle.ns_word.specs.declared.walk.Walk.TheVariants.{TryLoad, TryAcquire, AcquireLoad, Acquire, TakeToQueue, Arm, Queue, Round, QuietCells, QuietLast, ReleaseLoad, Release, TakeToScan, ScanCells, ReleaseReturning, Pay, Get, SetLoad, SetStore, Wait as Waiting}
+use Rattle.ns_word.specs.declared.walk.Next.{Next}
+use Rattle.ns_word.specs.declared.walk.Next.TheVariants.{On}
+use Rattle.ns_word.specs.declared.act.Act.{Act}
+use Rattle.ns_word.specs.declared.act.Act.TheVariants.{Look}
+use Rattle.ns_word.specs.declared.act.Found.{Found}
+use Rattle.ns_word.specs.declared.act.Found.TheVariants.{Word as Saw, Made, Cell, Quiet, Met, Scanned, Paid, Left, Flag, Looked}
+use Rattle.ns_word.specs.declared.env_act.EnvAct.{EnvAct}
+use Rattle.ns_word.specs.declared.env_act.EnvAct.TheVariants.{LoadNext, TakeNumber as TakeNext, MakeNote as StoreNote, Notify as NotifyNote, Advance as MoveClock, LoadClock, LoadNote}
+use Rattle.ns_word.specs.declared.env_act.EnvFound.{EnvFound}
+use Rattle.ns_word.specs.declared.env_act.EnvFound.TheVariants.{Next as NextNumber, Taken, Made as Stored, Clock, Note}
+use Rattle.ns_word.specs.declared.env_walk.Chain.TheVariants.{Look as LookChain}
+use Rattle.ns_word.specs.declared.env_walk.EnvWalk.{EnvWalk}
+use Rattle.ns_word.specs.declared.env_walk.EnvWalk.TheVariants.{ClockLoad, NoteLoad}
+use Rattle.ns_word.specs.declared.env_walk.EnvNext.{EnvNext}
+use Rattle.ns_word.specs.declared.env_walk.EnvNext.TheVariants.{On as EnvOn, Saw as Shows}
+use Rattle.ns_word.specs.EnvWalks.{standing_of, env_want_of, env_got_of, passed, up_to, stopped}
+use Rattle.ns_word.specs.EnvSteps.{EnvPlain, EnvEffect, IfMade, IsFirstAsk, events_of}
+use Rattle.ns_word.specs.Walks.{want_of, got_of, got_waiting, walk_after, acquire_by, acquired_for, release_by, test_place, unmet_by}
+use Rattle.ns_word.specs.Words.{may_acquire, needs_scan}
+use Rattle.ns_word.specs.Waits.{is_limited, mode_for}
+use Rattle.ns_word.specs.Steps.{Truths, Part, Effect, MayShow, held_after}
+use Rattle.ns_world.specs.Looks.{looks_at, came_back, look_place, look_of, LookFits, AsksFor, note_for, note_in}
+
+-- ---- the note that may end a wait
+
+-- a wait keeps its note: what holds of the note that may end the wait, and of none, holds after a step
+record Keeps {C : Type 0} (P : Option ℕ → Type 0) (next : Next C) : Type 0 where
+  note : P (note_in (walk_after next))
+
+by_two : {C : Type 0} {P : Option ℕ → Type 0} {x y : Next C} (b : Bool) → Keeps P x → Keeps P y → Keeps P (cond b x y)
+by_two true p q = p
+by_two false p q = q
+
+by_walks : {C : Type 0} {P : Option ℕ → Type 0} {x y : Walk C} (b : Bool) → Keeps P (On x) → Keeps P (On y) → Keeps P (On (cond b x y))
+by_walks true p q = p
+by_walks false p q = q
+
+module _ {C : Type 0} (N : ℕ) (P : Option ℕ → Type 0) where
+  acquire_noted : (aim : Aim C) (woken : Bool) (word : Word) → P (note_for aim) → Keeps P (acquire_by aim woken word)
+  acquire_noted aim woken word p = by_two (may_acquire (mode_for aim) woken word) (record { note = p }) (by_two word.spin (record { note = p }) (record { note = p }))
+
+  release_noted : (leaving : Leaving) (word : Word) → P None → Keeps {C = C} P (release_by leaving word)
+  release_noted leaving word none = by_two (not (needs_scan leaving word)) (record { note = none }) (by_two word.spin (record { note = none }) (record { note = none }))
+
+  test_noted : (wait : Wait C) (visit : Visit) (loaded : ℕ) → P wait.limits.note → Keeps P (On (test_place N wait visit loaded))
+  test_noted wait visit loaded p = by_walks (nat_lt loaded (N - 1)) (record { note = p }) (record { note = p })
+
+  acquired_noted : (aim : Aim C) → P None → P (note_for aim) → Keeps P (acquired_for N aim)
+  acquired_noted (Lock mode) none p = record { note = none }
+  acquired_noted (Back wait kept) none p = test_noted wait (CameBack kept) 0 p
+
+  unmet_noted : (wait : Wait C) (visit : Visit) → P None → P wait.limits.note → Keeps P (unmet_by wait visit)
+  unmet_noted wait Entry none p = by_two (is_limited wait.limits) (record { note = p }) (record { note = p })
+  unmet_noted wait (CameBack None) none p = by_two (is_limited wait.limits) (record { note = p }) (record { note = p })
+  unmet_noted wait (CameBack (Some cause)) none p = record { note = none }
+
+  wait_noted : (wait : Wait C) (place : WaitPlace) (found : Found) → P None → P wait.limits.note → Keeps P (got_waiting N wait place found)
+  wait_noted wait (TestCells visit i) (Cell v) none p = test_noted wait visit (i + 1) p
+  wait_noted wait (TestLast visit i) (Met true) none p = record { note = none }
+  wait_noted wait (TestLast visit i) (Met false) none p = unmet_noted wait visit none p
+  wait_noted wait (LookIn again) (Looked None) none p = record { note = p }
+  wait_noted wait (LookIn again) (Looked (Some cause)) none p = record { note = none }
+  wait_noted wait (Load again) (Saw word) none p = by_two word.spin (record { note = p }) (record { note = p })
+  wait_noted wait (Take again last) (Saw word) none p = by_two word.spin (record { note = p }) (record { note = p })
+  wait_noted wait (Take again last) Made none p = record { note = p }
+  wait_noted wait (ArmWaiting again last) Made none p = record { note = p }
+  wait_noted wait (QueueWaiting again last) (Saw word) none p = record { note = p }
+  wait_noted wait (QueueWaiting again last) (Scanned owes tests) none p = by_two owes (record { note = p }) (record { note = p })
+  wait_noted wait PayWaiting (Paid owes) none p = by_two owes (record { note = p }) (record { note = p })
+  wait_noted wait RoundWaiting (Flag v) none p = by_two (v == 0) (record { note = p }) (by_two (is_limited wait.limits) (record { note = p }) (record { note = p }))
+  wait_noted wait LookOut (Looked None) none p = record { note = p }
+  wait_noted wait LookOut (Looked (Some cause)) none p = record { note = p }
+  wait_noted wait (LeaveLoad cause) (Saw word) none p = by_two word.spin (record { note = p }) (record { note = p })
+  wait_noted wait (TakeToLeave cause last) (Saw word) none p = by_two word.spin (record { note = p }) (record { note = p })
+  wait_noted wait (TakeToLeave cause last) Made none p = record { note = p }
+  wait_noted wait (Leave cause last) (Saw word) none p = record { note = p }
+  wait_noted wait (Leave cause last) (Left stood) none p = by_two stood (record { note = p }) (record { note = p })
+  wait_noted wait (LeaveRound cause) (Flag v) none p = by_two (v == 0) (record { note = p }) (record { note = p })
+  wait_noted wait place found none p = record { note = p }
+
+  walk_noted : (walk : Walk C) (found : Found) → P None → P (note_in (Some walk)) → Keeps P (got_of N walk found)
+  walk_noted (TryLoad mode) (Saw word) none p = by_two (may_acquire mode false word) (record { note = none }) (record { note = none })
+  walk_noted (TryAcquire mode last) (Saw word) none p = record { note = none }
+  walk_noted (TryAcquire mode last) Made none p = record { note = none }
+  walk_noted (AcquireLoad aim woken) (Saw word) none p = acquire_noted aim woken word p
+  walk_noted (Acquire aim woken last) (Saw word) none p = acquire_noted aim woken word p
+  walk_noted (Acquire aim woken last) Made none p = acquired_noted aim none p
+  walk_noted (TakeToQueue aim woken last) (Saw word) none p = acquire_noted aim woken word p
+  walk_noted (TakeToQueue aim woken last) Made none p = record { note = p }
+  walk_noted (Arm aim woken last) Made none p = record { note = p }
+  walk_noted (Queue aim woken last) (Saw word) none p = record { note = p }
+  walk_noted (Queue aim woken last) Made none p = record { note = p }
+  walk_noted (Round aim) (Flag v) none p = by_two (v == 0) (record { note = p }) (record { note = p })
+  walk_noted (QuietCells i) (Cell v) none p = by_walks (nat_lt (i + 1) (N - 1)) (record { note = none }) (record { note = none })
+  walk_noted (QuietLast i) (Quiet is_quiet) none p = by_two is_quiet (record { note = none }) (record { note = none })
+  walk_noted (ReleaseLoad leaving) (Saw word) none p = release_noted leaving word none
+  walk_noted (Release leaving last) (Saw word) none p = release_noted leaving word none
+  walk_noted (Release leaving last) Made none p = record { note = none }
+  walk_noted (TakeToScan leaving last) (Saw word) none p = release_noted leaving word none
+  walk_noted (TakeToScan leaving last) Made none p = by_walks last.cond (by_walks (nat_lt 0 N) (record { note = none }) (record { note = none })) (record { note = none })
+  walk_noted (ScanCells leaving last i) (Cell v) none p = by_walks (nat_lt (i + 1) N) (record { note = none }) (record { note = none })
+  walk_noted (ReleaseReturning leaving last) (Saw word) none p = record { note = none }
+  walk_noted (ReleaseReturning leaving last) (Scanned owes tests) none p = by_two owes (record { note = none }) (record { note = none })
+  walk_noted Pay (Paid owes) none p = by_two owes (record { note = none }) (record { note = none })
+  walk_noted (Get i) (Cell v) none p = record { note = none }
+  walk_noted (SetLoad i v) (Cell w) none p = record { note = none }
+  walk_noted (SetStore i v) Made none p = record { note = none }
+  walk_noted (Waiting wait place) found none p = wait_noted wait place found none p
+  walk_noted walk found none p = record { note = p }
+
+  pub noted : (walk : Walk C) (found : Found) → P None → P (note_in (Some walk)) → P (note_in (walk_after (got_of N walk found)))
+  noted walk found none p = (walk_noted walk found none p).note
+
+-- a note that is made stays made
+but_made : (notes : ℕ → NoteStanding) (at : ℕ) (note : NoteStanding) (n : ℕ) → note.made ≡ true → (notes n).made ≡ true → ((but_at at note notes) n).made ≡ true
+but_made notes at note n p q = elim (n == at) as (λ b. (cond b note (notes n)).made ≡ true) [ true ↦ p | false ↦ q ]
+
+but_called : (notes : ℕ → NoteStanding) (at n : ℕ) → (notes n).made ≡ true → ((but_at at (notified_note (notes at)) notes) n).made ≡ true
+but_called notes at n q = elim (cases_eq n at) [
+  | inl e ↦ rw (eq-eqb n at e) (subst (λ m. (notes m).made ≡ true) e q)
+  | inr ne ↦ rw (ne_eqb n at ne) q
+]
+
+pub made_stays : (seat : ℕ) (act : EnvAct) (old new : EnvPlain) (found : EnvFound) (events : List EnvEvent) → EnvEffect seat act old found new events → (n : ℕ) → (old.notes n).made ≡ true → (new.notes n).made ≡ true
+made_stays seat LoadNext old new (NextNumber next) events e n p = subst (λ (x : EnvPlain). (x.notes n).made ≡ true) (sym e.1) p
+made_stays seat TakeNext old new (Taken number) events e n p = subst (λ (x : EnvPlain). (x.notes n).made ≡ true) (sym e.1) p
+made_stays seat (StoreNote note parent deadline) old new Stored events e n p = subst (λ (x : EnvPlain). (x.notes n).made ≡ true) (sym e.0) (but_made old.notes note (made_note parent deadline) n refl p)
+made_stays seat (NotifyNote note) old new Stored events e n p = subst (λ (x : EnvPlain). (x.notes n).made ≡ true) (sym e.0) (but_called old.notes note n p)
+made_stays seat (MoveClock moment) old new Stored events e n p = subst (λ (x : EnvPlain). (x.notes n).made ≡ true) (sym e.0) p
+made_stays seat LoadClock old new (Clock clock) events e n p = subst (λ (x : EnvPlain). (x.notes n).made ≡ true) (sym e.1) p
+made_stays seat (LoadNote at) old new (Note note) events e n p = subst (λ (x : EnvPlain). (x.notes n).made ≡ true) (sym e.1) p
+made_stays seat act old new found events e n p = absurd e
+
+pub if_made_stays : (seat : ℕ) (act : EnvAct) (old new : EnvPlain) (found : EnvFound) (events : List EnvEvent) → EnvEffect seat act old found new events → (given : Option ℕ) → IfMade old.notes given → IfMade new.notes given
+if_made_stays seat act old new found events e None p = tt
+if_made_stays seat act old new found events e (Some n) p = made_stays seat act old new found events e n p
+
+-- ---- where a look begins
+
+-- the first place of a look that is to begin, if one is
+abbrev pub FirstIf : (ℕ → NoteStanding) → Option EnvWalk → Type 0
+FirstIf notes None = Unit {0}
+FirstIf notes (Some place) = IsFirstAsk notes place
+
+module _ {C : Type 0} where
+  first_look : (notes : ℕ → NoteStanding) (walk : Walk C) → IfMade notes (note_in (Some walk)) → FirstIf notes (look_place (want_of walk))
+  first_look notes (Waiting wait (LookIn again)) p = p
+  first_look notes (Waiting wait LookOut) p = p
+  first_look notes walk p = tt
+
+  pub first_if : (notes : ℕ → NoteStanding) (walk : Option (Walk C)) → IfMade notes (note_in walk) → FirstIf notes (look_of walk)
+  first_if notes None p = tt
+  first_if notes (Some walk) p = first_look notes walk p
+
+  right_by : (walk : Walk C) (act : Act C) → want_of walk ≡ act → AsksFor (Some walk) (look_place act)
+  right_by walk (Look limits again) e = (limits, ap looks_at e, refl)
+  right_by walk act e = ap looks_at e
+
+  pub right_here : (walk : Option (Walk C)) → AsksFor walk (look_of walk)
+  right_here None = tt
+  right_here (Some walk) = right_by walk (want_of walk) refl
+
+-- ---- a step of a look
+
+-- it is a load, and no event
+pub look_effect : (limits : Limits) (place : EnvWalk) → LookFits limits place → (seat : ℕ) (old new : EnvPlain) (found : EnvFound) → EnvEffect seat (env_want_of place) old found new (events_of seat (env_want_of place) found) →
+    EnvEffect seat (env_want_of place) old found new [] × (new ≡ old)
+look_effect limits (ClockLoad (LookChain by)) fits seat old new (Clock clock) e = (e, e.1)
+look_effect limits (NoteLoad (LookChain by) clock note) fits seat old new (Note state) e = (e, e.1)
+look_effect limits (ClockLoad (LookChain by)) fits seat old new found e = absurd e
+look_effect limits (NoteLoad (LookChain by) clock note) fits seat old new found e = absurd e
+look_effect limits place fits seat old new found e = absurd fits
+
+-- so it leaves the clock and the notes as they are
+pub look_stays : (limits : Limits) (place : EnvWalk) → LookFits limits place → (seat : ℕ) (old new : EnvPlain) (found : EnvFound) → EnvEffect seat (env_want_of place) old found new [] → new ≡ old
+look_stays limits (ClockLoad (LookChain by)) fits seat old new (Clock clock) e = e.1
+look_stays limits (NoteLoad (LookChain by) clock note) fits seat old new (Note state) e = e.1
+look_stays limits (ClockLoad (LookChain by)) fits seat old new found e = absurd e
+look_stays limits (NoteLoad (LookChain by) clock note) fits seat old new found e = absurd e
+look_stays limits place fits seat old new found e = absurd fits
+
+-- it goes on, or shows what its limits may show
+abbrev pub LookLeads : Limits → EnvNext → Type 0
+LookLeads limits (EnvOn next) = LookFits limits next
+LookLeads limits (Shows cause) = MayShow limits cause
+LookLeads limits next = ⊥
+
+given : {A : Type 0} (o : Option A) (x : A) → o ≡ Some x → IsSome o
+given o x e = subst (λ y. IsSome y) (sym e) refl
+
+passed_at : (limits : Limits) (clock : ℕ) (deadline : Option ℕ) → limits.deadline ≡ deadline → LookLeads limits (cond (is_due clock deadline) (Shows (Some Deadline)) (Shows None))
+passed_at limits clock None e = tt
+passed_at limits clock (Some d) e = elim (is_due clock (Some d)) as (λ b. LookLeads limits (cond b (Shows (Some Deadline)) (Shows None))) [ true ↦ given limits.deadline d e | false ↦ tt ]
+
+passed_leads : (by limits : Limits) (clock : ℕ) → by ≡ limits → LookLeads limits (passed (LookChain by) clock)
+passed_leads by limits clock e = passed_at limits clock by.deadline (ap (λ (x : Limits). x.deadline) (sym e))
+
+clock_leads : (by limits : Limits) (clock : ℕ) (note : Option ℕ) → by ≡ limits → by.note ≡ note → LookLeads limits (up_to (LookChain by) clock note)
+clock_leads by limits clock None e f = passed_leads by limits clock e
+clock_leads by limits clock (Some n) e f = (e, given limits.note n (ap (λ (x : Limits). x.note) (sym e) ∙ f))
+
+over_leads : (by limits : Limits) (clock : ℕ) (b : Bool) (next : Option ℕ) → by ≡ limits → IsSome limits.note → LookLeads limits (cond b (stopped (LookChain by)) (up_to (LookChain by) clock next))
+over_leads by limits clock true next e some = some
+over_leads by limits clock false None e some = passed_leads by limits clock e
+over_leads by limits clock false (Some n) e some = (e, some)
+
+pub look_leads : (limits : Limits) (place : EnvWalk) → LookFits limits place → (seat : ℕ) (old new : EnvPlain) (found : EnvFound) (events : List EnvEvent) → EnvEffect seat (env_want_of place) old found new events → LookLeads limits (env_got_of place found)
+look_leads limits (ClockLoad (LookChain by)) fits seat old new (Clock clock) events e = clock_leads by limits clock by.note fits refl
+look_leads limits (NoteLoad (LookChain by) clock note) fits seat old new (Note state) events e = over_leads by limits clock (is_over clock (standing_of state)) state.parent fits.0 fits.1
+look_leads limits (ClockLoad (LookChain by)) fits seat old new found events e = absurd e
+look_leads limits (NoteLoad (LookChain by) clock note) fits seat old new found events e = absurd e
+look_leads limits place fits seat old new found events e = absurd fits
+
+-- what it shows is a step of the wait
+pub shown_effect : {C : Type 0} {N : ℕ} (truths : Truths C) (seat : ℕ) (act : Act C) (limits : Limits) (cause : Option Cause) (part : Part C N) → looks_at act ≡ Some limits → MayShow limits cause →
+    Effect truths seat act part (Looked cause) (record part { held = held_after (came_back act) cause part.held }) []
+shown_effect truths seat (Look by again) limits cause part e may = let same : Some by ≡ Some limits = e in let is : by ≡ limits = cc in (subst (λ l. MayShow l cause) (sym is) may, refl, refl)
+shown_effect truths seat act limits cause part e may = absurd (cc)

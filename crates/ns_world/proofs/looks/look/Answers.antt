@@ -1,0 +1,42 @@
+use Rattle.std.proofs.Common.{Some, refl, sym, ◌∙◌, subst}
+use Rattle.ns_word.specs.EnvSteps.{events_of}
+use Rattle.ns_word.specs.EnvWalks.{env_want_of}
+use Rattle.ns_world.specs.Asks.{plain_of}
+use Rattle.ns_world.specs.declared.step.Step.TheVariants.{Went}
+use Rattle.ns_world.specs.Looked.{SeatLooks}
+use Rattle.ns_world.proofs.Looking.{look_effect, look_leads, LookLeads}
+use Rattle.ns_world.proofs.looks.look.Goals as goal
+
+pub unreachable-requires : goal.unreachable-requires
+unreachable-requires g c =
+    let fits = c.requires.looks in
+    let effect = rw c.want.ensures at (c.make-found.ensures 0) in
+    let leads = look_leads fits.0 c.args.place fits.2 0 (plain_of c.args.env.now) (plain_of c.make-found.new.self) c.make-found.result (events_of 0 (env_want_of c.args.place) c.make-found.result) effect in
+    subst (λ next. LookLeads fits.0 next) (sym c.got.ensures ∙ c.in-Idle.is) leads
+
+pub unreachable-requires-in-Done : goal.unreachable-requires-in-Done
+unreachable-requires-in-Done g c =
+    let fits = c.requires.looks in
+    let effect = rw c.want.ensures at (c.make-found.ensures 0) in
+    let leads = look_leads fits.0 c.args.place fits.2 0 (plain_of c.args.env.now) (plain_of c.make-found.new.self) c.make-found.result (events_of 0 (env_want_of c.args.place) c.make-found.result) effect in
+    subst (λ next. LookLeads fits.0 next) (sym c.got.ensures ∙ c.in-Done.is) leads
+
+pub returns-in-On : goal.returns-in-On
+returns-in-On g c =
+    let fits = c.requires.looks in
+    let effect = rw c.want.ensures at (c.make-found.ensures c.args.seat.now.number) in
+    record {
+      found = c.make-found.result;
+      effect = (look_effect fits.0 c.args.place fits.2 c.args.seat.now.number (plain_of c.args.env.now) (plain_of c.make-found.new.self) c.make-found.result effect).0;
+      goes = subst (λ next. SeatLooks next c.args.seat.now c.args.walk (record c.args.seat.now { asking = Some c.in-On.next }) Went) (sym c.in-On.is ∙ c.got.ensures) (refl, refl);
+    }
+
+pub returns-in-Saw : goal.returns-in-Saw
+returns-in-Saw g c =
+    let fits = c.requires.looks in
+    let effect = rw c.want.ensures at (c.make-found.ensures c.args.seat.now.number) in
+    record {
+      found = c.make-found.result;
+      effect = (look_effect fits.0 c.args.place fits.2 c.args.seat.now.number (plain_of c.args.env.now) (plain_of c.make-found.new.self) c.make-found.result effect).0;
+      goes = subst (λ next. SeatLooks next c.args.seat.now c.args.walk c.see.new.seat c.see.result) (sym c.in-Saw.is ∙ c.got.ensures) c.see.ensures;
+    }

@@ -1,0 +1,39 @@
+-- The clock and the notes of a world, and one step on them.
+use Rattle.std.specs.Prelude.{◌≡◌, ℕ, List, Option, get_or}
+use Rattle.ns_model.specs.Environments.{NoteStanding, no_note}
+use Rattle.ns_word.specs.declared.env_act.NoteState.{NoteState}
+use Rattle.ns_word.specs.declared.env_act.EnvFound.{EnvFound}
+use Rattle.ns_word.specs.declared.env_walk.EnvWalk.{EnvWalk}
+use Rattle.ns_word.specs.declared.env_walk.EnvNext.{EnvNext}
+use Rattle.ns_word.specs.declared.env_walk.EnvNext.TheVariants.{On, Idle as Idles, Done, Saw}
+use Rattle.ns_word.specs.EnvWalks.{standing_of, state_of, env_want_of, env_got_of, env_walk_after}
+use Rattle.ns_word.specs.EnvSteps.{EnvPlain, EnvState, EnvEffect, events_of}
+use Rattle.ns_world.specs.declared.environment.Environment.{Environment}
+use Rattle.ns_world.specs.declared.seat.Seat.{Seat}
+use Rattle.ns_world.specs.declared.step.Step.{Step}
+use Rattle.ns_world.specs.declared.step.Step.TheVariants.{Went, Idle, Finished}
+
+-- the notes of a list
+abbrev pub note_at : List NoteState → ℕ → NoteStanding
+note_at notes note = standing_of (get_or notes note (state_of no_note))
+
+-- a world's clock and notes as the machine sees them
+abbrev pub plain_of : Environment → EnvPlain
+plain_of env = record { clock = env.clock; next = env.next; notes = note_at env.notes }
+
+abbrev pub env_state : EnvPlain → List (Option EnvWalk) → EnvState
+env_state plain askings = record { plain = plain; askings = askings }
+
+-- what a step on them was, by where it leads; after a look the call goes on
+abbrev pub env_step_of : EnvNext → Step
+env_step_of (On walk) = Went
+env_step_of (Idles walk) = Idle
+env_step_of (Done reply) = Finished reply
+env_step_of (Saw cause) = Went
+
+-- the step of the walk was made, and the seat is where it leads
+pub record Asked {C : Type 0} {N : ℕ} (old new : EnvPlain) (seat : Seat C N) (walk : EnvWalk) (seat' : Seat C N) (step : Step) : Type 0 where
+  pub found : EnvFound
+  pub effect : EnvEffect seat.number (env_want_of walk) old found new (events_of seat.number (env_want_of walk) found)
+  pub goes : seat' ≡ record seat { asking = env_walk_after (env_got_of walk found) }
+  pub answers : step ≡ env_step_of (env_got_of walk found)

@@ -1,0 +1,60 @@
+-- The looks of a wait: where a seat stands on the clock and the notes while its wait looks.
+use Rattle.std.specs.Prelude.{◌≡◌, ℕ, Bool, false, Option, None, Some, IsSome}
+use Rattle.ns_word.specs.declared.limits.Limits.{Limits}
+use Rattle.ns_word.specs.declared.wait.Aim.{Aim}
+use Rattle.ns_word.specs.declared.wait.Aim.TheVariants.{Lock, Back}
+use Rattle.ns_word.specs.declared.walk.Walk.{Walk}
+use Rattle.ns_word.specs.declared.walk.Walk.TheVariants.{AcquireLoad, Acquire, TakeToQueue, Arm, Queue, Round, Wait as Waiting}
+use Rattle.ns_word.specs.declared.act.Act.{Act}
+use Rattle.ns_word.specs.declared.act.Act.TheVariants.{Look}
+use Rattle.ns_word.specs.declared.env_walk.Chain.TheVariants.{Look as LookChain}
+use Rattle.ns_word.specs.declared.env_walk.EnvWalk.{EnvWalk}
+use Rattle.ns_word.specs.declared.env_walk.EnvWalk.TheVariants.{ClockLoad, NoteLoad}
+use Rattle.ns_word.specs.Walks.{want_of}
+
+-- what a look goes by, where the act is one
+abbrev pub looks_at : {C : Type 0} → Act C → Option Limits
+looks_at (Look limits again) = Some limits
+looks_at act = None
+
+-- the act is a look of a wait that has come back
+abbrev pub came_back : {C : Type 0} → Act C → Bool
+came_back (Look limits again) = again
+came_back act = false
+
+-- the first place of the look that the act is, if it is one
+abbrev pub look_place : {C : Type 0} → Act C → Option EnvWalk
+look_place (Look limits again) = Some (ClockLoad (LookChain limits))
+look_place act = None
+
+-- where a seat stands on the clock and the notes that has come to this place in its call on the lock
+abbrev pub look_of : {C : Type 0} → Option (Walk C) → Option EnvWalk
+look_of None = None
+look_of (Some walk) = look_place (want_of walk)
+
+-- a place in a look by these limits
+abbrev pub LookFits : Limits → EnvWalk → Type 0
+LookFits limits (ClockLoad (LookChain by)) = by ≡ limits
+LookFits limits (NoteLoad (LookChain by) clock note) = (by ≡ limits) × IsSome limits.note
+LookFits limits walk = ⊥
+
+-- A seat stands in a call of its own on the clock and the notes where it is in none on the lock; else it stands there just where its wait looks.
+abbrev pub AsksFor : {C : Type 0} → Option (Walk C) → Option EnvWalk → Type 0
+AsksFor None asking = Unit {0}
+AsksFor (Some walk) None = looks_at (want_of walk) ≡ None
+AsksFor (Some walk) (Some place) = (limits : Limits) × (looks_at (want_of walk) ≡ Some limits) × LookFits limits place
+
+-- the note that may end the wait that a seat is in
+abbrev pub note_for : {C : Type 0} → Aim C → Option ℕ
+note_for (Lock mode) = None
+note_for (Back wait kept) = wait.limits.note
+
+abbrev pub note_in : {C : Type 0} → Option (Walk C) → Option ℕ
+note_in (Some (AcquireLoad aim woken)) = note_for aim
+note_in (Some (Acquire aim woken last)) = note_for aim
+note_in (Some (TakeToQueue aim woken last)) = note_for aim
+note_in (Some (Arm aim woken last)) = note_for aim
+note_in (Some (Queue aim woken last)) = note_for aim
+note_in (Some (Round aim)) = note_for aim
+note_in (Some (Waiting wait place)) = wait.limits.note
+note_in walk = None

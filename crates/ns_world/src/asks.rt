@@ -1,0 +1,50 @@
+//! One atomic step on the clock and the notes, as the seat's place in its call wants it.
+
+ghost use Rattle.std.specs.Prelude.{◌≡◌};
+ghost use Rattle.ns_word.specs.EnvSteps.{EnvActFits};
+ghost use Rattle.ns_word.specs.EnvWalks.{env_want_of, env_walk_after};
+ghost use Rattle.ns_world.specs.Asks.{Asked, plain_of, env_step_of};
+
+use crate::environment::Environment;
+use crate::room::Seated;
+use crate::seat::Seat;
+use crate::step::Step;
+use ns_word::env_walk::{EnvNext, EnvWalk};
+
+/// Puts the seat where its walk goes, and tells what the step was. After a look the call goes on.
+fn settle<C: Seated<N>, const N: usize>(seat: &mut Seat<C, N>, next: EnvNext) -> Step
+    ensures step { result ≡ env_step_of next }
+    ensures seat { seat.new ≡ record seat.old { asking = env_walk_after next } }
+{
+    match next {
+        EnvNext::On(walk) => {
+            seat.asking = Some(walk);
+            Step::Went
+        }
+        EnvNext::Idle(walk) => {
+            seat.asking = Some(walk);
+            Step::Idle
+        }
+        EnvNext::Done(reply) => {
+            seat.asking = None;
+            Step::Finished(reply)
+        }
+        EnvNext::Saw(_) => {
+            seat.asking = None;
+            Step::Went
+        }
+    }
+}
+
+/// Makes the step that the seat's walk wants.
+pub(crate) fn ask<C: Seated<N>, const N: usize>(
+    env: &mut Environment,
+    seat: &mut Seat<C, N>,
+    walk: EnvWalk,
+) -> Step
+    requires { EnvActFits env.old.next (env_want_of walk) }
+    ensures { Asked (plain_of env.old) (plain_of env.new) seat.old walk seat.new result }
+{
+    let found = env.make(walk.want());
+    settle(seat, walk.got(found))
+}

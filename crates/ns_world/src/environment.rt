@@ -1,0 +1,103 @@
+//! The clock and the notes of a world.
+
+ghost use Rattle.std.specs.Prelude.{◌≡◌, ◌<◌, ℕ, true};
+ghost use Rattle.std.specs.Option.{option_map_or};
+ghost use Rattle.ns_word.specs.EnvSteps.{EnvEffect, EnvActFits, events_of, fresh_plain};
+ghost use Rattle.ns_world.specs.Asks.{plain_of, note_at};
+
+use ns_word::env_act::{EnvAct, EnvFound, NoteState};
+
+/// A number without a note.
+const NO_NOTE: NoteState = NoteState {
+    made: false,
+    called: false,
+    parent: None,
+    deadline: None,
+};
+
+/// The clock, in ticks, the number of the next note, which goes on past the last, and the notes.
+#[derive(Drop)]
+pub(crate) struct Environment {
+    pub(crate) clock: u64,
+    pub(crate) next: u8,
+    pub(crate) notes: [NoteState; 64],
+}
+
+impl Environment {
+    /// A clock at 0, and no note.
+    pub(crate) fn new() -> Environment
+        ensures { plain_of result ≡ fresh_plain }
+    {
+        Environment {
+            clock: 0,
+            next: 0,
+            notes: [NO_NOTE; 64],
+        }
+    }
+
+    /// Makes the act.
+    pub(crate) fn make(&mut self, act: EnvAct) -> EnvFound
+        requires { EnvActFits self.old.next act }
+        ensures { (seat : ℕ) → EnvEffect seat act (plain_of self.old) result (plain_of self.new) (events_of seat act result) }
+    {
+        match act {
+            EnvAct::LoadNext => EnvFound::Next(self.next),
+            EnvAct::TakeNumber => {
+                let number = self.next;
+                self.next = number + 1;
+                EnvFound::Taken(number)
+            }
+            EnvAct::MakeNote(note, parent, deadline) => self.store_note(note, parent, deadline),
+            EnvAct::Notify(note) => self.notify(note),
+            EnvAct::Advance(moment) => {
+                self.clock = self.clock.max(moment);
+                EnvFound::Made
+            }
+            EnvAct::LoadClock => EnvFound::Clock(self.clock),
+            EnvAct::LoadNote(note) => EnvFound::Note(self.notes[note as usize]),
+        }
+    }
+
+    /// Stores a note.
+    fn store_note(&mut self, note: u8, parent: Option<u8>, deadline: Option<u64>) -> EnvFound
+        requires { note < 64 }
+        ensures { (seat : ℕ) → EnvEffect seat (EnvAct.MakeNote note parent deadline) (plain_of self.old) result (plain_of self.new) (events_of seat (EnvAct.MakeNote note parent deadline) result) }
+    {
+        self.notes[note as usize] = NoteState {
+            made: true,
+            called: false,
+            parent,
+            deadline,
+        };
+        EnvFound::Made
+    }
+
+    /// Notifies a note.
+    fn notify(&mut self, note: u8) -> EnvFound
+        requires { note < 64 }
+        ensures { (seat : ℕ) → EnvEffect seat (EnvAct.Notify note) (plain_of self.old) result (plain_of self.new) (events_of seat (EnvAct.Notify note) result) }
+    {
+        self.notes[note as usize].called = true;
+        EnvFound::Made
+    }
+}
+
+/// Whether the note is made.
+pub(crate) fn is_made(notes: &[NoteState; 64], note: u8) -> bool
+    ensures { result ≡ (note_at notes.now note).made }
+{
+    match notes.get(note as usize) {
+        None => false,
+        Some(state) => state.made,
+    }
+}
+
+/// Whether the note is made, where one is given.
+pub(crate) fn is_made_or_none(notes: &[NoteState; 64], note: Option<u8>) -> bool
+    ensures { result ≡ option_map_or (λ given. (note_at notes.now given).made) note true }
+{
+    match note {
+        None => true,
+        Some(given) => is_made(notes, given),
+    }
+}

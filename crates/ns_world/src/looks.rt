@@ -1,0 +1,111 @@
+//! One atomic step of a look of a wait, which loads the clock or a note.
+
+ghost use Rattle.std.specs.Prelude.{◌≡◌, Some, IsSome};
+ghost use Rattle.ns_word.specs.EnvSteps.{EnvActFits};
+ghost use Rattle.ns_word.specs.EnvWalks.{env_want_of};
+ghost use Rattle.ns_word.specs.Steps.{held_after, opening_by};
+ghost use Rattle.ns_word.specs.Walks.{want_of};
+ghost use Rattle.ns_world.specs.Asks.{plain_of};
+ghost use Rattle.ns_world.specs.Looks.{AsksFor, came_back, looks_at};
+ghost use Rattle.ns_world.specs.Looked.{EnvMoves, Looked, Sees};
+
+use crate::asks::ask;
+use crate::environment::Environment;
+use crate::perform::settle;
+use crate::room::Seated;
+use crate::seat::Seat;
+use crate::step::Step;
+use ns_word::act::{Act, Found};
+use ns_word::env_walk::{EnvNext, EnvWalk};
+use ns_word::limits::Cause;
+use ns_word::view::{Held, Opening};
+use ns_word::walk::Walk;
+
+/// A section that came back from a wait, once it is known what ended that.
+fn opening_by<C: Seated<N>, const N: usize>(entry: Opening<C>, cause: Cause) -> Opening<C>
+    ensures { result ≡ opening_by cause entry }
+{
+    match entry {
+        Opening::Plain => Opening::Plain,
+        Opening::Waited(cond, _) => Opening::Waited(cond, cause),
+    }
+}
+
+/// A section that has come back from a wait goes by what its look shows.
+fn keep<C: Seated<N>, const N: usize>(
+    held: &mut Option<Held<C, N>>,
+    again: bool,
+    cause: Option<Cause>,
+)
+    ensures { held.new ≡ held_after again cause held.old }
+{
+    let Some(cause) = cause else { return };
+    let Some(section) = *held else { return };
+    if again {
+        *held = Some(Held {
+            entry: opening_by(section.entry, cause),
+            ..section
+        });
+    }
+}
+
+/// Whether the act is a look of a wait that has come back.
+fn came_back<C: Seated<N>, const N: usize>(act: Act<C>) -> bool
+    ensures { result ≡ came_back act }
+{
+    match act {
+        Act::Look(_, again) => again,
+        _ => false,
+    }
+}
+
+/// The wait goes on with what its look has shown.
+fn see<C: Seated<N>, const N: usize>(
+    seat: &mut Seat<C, N>,
+    walk: Walk<C>,
+    cause: Option<Cause>,
+) -> Step
+    ensures { Sees seat.old walk cause seat.new result }
+{
+    keep(&mut seat.held, came_back(walk.want()), cause);
+    settle(seat, walk.got::<N>(Found::Looked(cause)))
+}
+
+/// Makes the next step of the look that the seat's wait wants.
+fn look<C: Seated<N>, const N: usize>(
+    env: &mut Environment,
+    seat: &mut Seat<C, N>,
+    walk: Walk<C>,
+    place: EnvWalk,
+) -> Step
+    requires looks { AsksFor (Some walk) (Some place) }
+    requires fits { EnvActFits env.old.next (env_want_of place) }
+    ensures { Looked (plain_of env.old) (plain_of env.new) seat.old walk place seat.new result }
+{
+    let found = env.make(place.want());
+    match place.got(found) {
+        EnvNext::On(next) => {
+            seat.asking = Some(next);
+            Step::Went
+        }
+        EnvNext::Saw(cause) => see(seat, walk, cause),
+        EnvNext::Idle(_) => unreachable!(),
+        EnvNext::Done(_) => unreachable!(),
+    }
+}
+
+/// Makes the seat's next step on the clock and the notes: of a call of its own, or of a look.
+pub(crate) fn step_env<C: Seated<N>, const N: usize>(
+    env: &mut Environment,
+    seat: &mut Seat<C, N>,
+    place: EnvWalk,
+) -> Step
+    requires asks { AsksFor seat.old.walk (Some place) }
+    requires fits { EnvActFits env.old.next (env_want_of place) }
+    ensures { EnvMoves (plain_of env.old) (plain_of env.new) seat.old place seat.new result }
+{
+    match seat.walk {
+        None => ask(env, seat, place),
+        Some(walk) => look(env, seat, walk, place),
+    }
+}
