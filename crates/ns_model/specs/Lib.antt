@@ -1,6 +1,7 @@
 pub mod Beginnings
 pub mod Environments
 pub mod Histories
+pub mod Lines
 pub mod Phases
 pub mod Room
 pub mod Seats

@@ -1,8 +1,10 @@
 use Rattle.std.proofs.Common.{sym, ap, ◌∙◌, subst}
 use Rattle.ns_model.specs.Environments.{env_after}
+use Rattle.ns_model.specs.Lines.{IsLeftAt}
 use Rattle.ns_model.proofs.Environments.{made_below}
+use Rattle.ns_model.proofs.Lines.{line_stops, line_goes_on, line_falls, nearer}
 use Rattle.ns_note.specs.declared.note.NoteWord.{NoteWord}
-use Rattle.ns_note.proofs.Lines.{IsLeftAt, line_stops, line_goes_on, line_falls, over_from, nearer}
+use Rattle.ns_note.proofs.Lines.{over_from}
 use Rattle.ns_note.proofs.Rests.{grows_through}
 use Rattle.ns_note.proofs.env.Env.stops.Goals as goal
 
