@@ -40,7 +40,7 @@ one_note follow chain clock false up all parent is rest = rw is rest
 
 module _ (h : List EnvEvent) (plain : EnvPlain) (m : Meets h plain) where
   -- the notes and the clock are those of the history
-  note_is : (note : ℕ) → plain.notes note ≡ (env_after h).notes note
+  pub note_is : (note : ℕ) → plain.notes note ≡ (env_after h).notes note
   note_is note = ap (λ (notes : ℕ → NoteStanding). notes note) m.notes
 
   over_is : (note : ℕ) → is_over plain.clock (plain.notes note) ≡ is_over (env_after h).clock ((env_after h).notes note)
@@ -91,7 +91,7 @@ goes_up chain chain' clock clock' next false (Some p) e = cc
 pub chain_up : (h : List EnvEvent) (plain : EnvPlain) (chain chain' : Chain) (clock clock' at next : ℕ) (note : NoteState) → Meets h plain → standing_of note ≡ plain.notes at →
     env_got_of (NoteLoad chain clock at) (Note note) ≡ On (NoteLoad chain' clock' next) → (next < at) × IsMade h next
 chain_up h plain chain chain' clock clock' at next note m is e =
-    (sound_after h m.legal).above at next (ap (λ (s : NoteStanding). s.parent) (sym (is ∙ ap (λ (notes : ℕ → NoteStanding). notes at) m.notes)) ∙ goes_up chain chain' clock clock' next (is_over clock (standing_of note)) note.parent e)
+    (sound_after h m.legal).above at next (ap (λ (s : NoteStanding). s.parent) (sym (is ∙ note_is h plain m at)) ∙ goes_up chain chain' clock clock' next (is_over clock (standing_of note)) note.parent e)
 
 -- ---- an expiry
 
@@ -104,6 +104,6 @@ pub expiry_is : (h : List EnvEvent) (state : EnvState) (seat asked at : ℕ) (le
 unfolding expiry_of
 expiry_is h state seat asked at least answer note lawful walks is e =
     let p = lowered_is asked note.parent (earlier least note.deadline) answer e in
-    let same : standing_of note ≡ (env_after h).notes at = is ∙ ap (λ (notes : ℕ → NoteStanding). notes at) lawful.meets.notes in
+    let same : standing_of note ≡ (env_after h).notes at = is ∙ note_is h state.plain lawful.meets at in
     let fits = lawful.each seat (ExpiryLoad asked at least) walks in
     sym p.1 ∙ lowered_all (env_after h) asked at least note.deadline (ap (λ (s : NoteStanding). s.parent) (sym same) ∙ p.0) (ap (λ (s : NoteStanding). s.deadline) (sym same)) fits.2

@@ -1,4 +1,5 @@
 pub mod Acts
+pub mod Chains
 pub mod Codes
 pub mod Dispatch
 pub mod EnvBegins

@@ -1,4 +1,5 @@
 pub mod Begins
+pub mod Chains
 pub mod Codec
 pub mod EnvSteps
 pub mod EnvWalks

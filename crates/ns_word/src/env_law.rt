@@ -2,17 +2,19 @@
 
 ghost use Rattle.std.specs.Prelude.{◌≡◌, ℕ, ◌<◌, ◌++◌, [], List, Option, Some, slice_get, if◌then◌else◌};
 ghost use Rattle.ns_model.specs.declared.environment.EnvEvent.{EnvEvent};
+ghost use Rattle.ns_model.specs.Beginnings.{BeginsWith};
 ghost use Rattle.ns_model.specs.Environments.{IsMade, is_notified, expiry_of};
 ghost use Rattle.ns_word.specs.declared.env_act.NoteState.{NoteState};
 ghost use Rattle.ns_word.specs.declared.env_act.EnvFound.{EnvFound};
-ghost use Rattle.ns_word.specs.declared.env_act.EnvFound.TheVariants.{Note};
+ghost use Rattle.ns_word.specs.declared.env_act.EnvFound.TheVariants.{Clock, Note};
 ghost use Rattle.ns_word.specs.declared.env_walk.Chain.{Chain};
 ghost use Rattle.ns_word.specs.declared.env_walk.EnvWalk.{EnvWalk};
-ghost use Rattle.ns_word.specs.declared.env_walk.EnvWalk.TheVariants.{NoteLoad, ExpiryLoad};
+ghost use Rattle.ns_word.specs.declared.env_walk.EnvWalk.TheVariants.{ClockLoad, NoteLoad, ExpiryLoad};
 ghost use Rattle.ns_word.specs.declared.env_walk.EnvNext.TheVariants.{On, Done};
 ghost use Rattle.ns_word.specs.declared.walk.Reply.TheVariants.{Expiry};
 ghost use Rattle.ns_word.specs.EnvWalks.{env_got_of, standing_of, stopped, passed};
 ghost use Rattle.ns_word.specs.EnvSteps.{EnvPlain, EnvState, EnvStep, EnvBegins, IsLawfulEnv, Meets, fresh_asks, looked};
+ghost use Rattle.ns_word.specs.Chains.{ChainFits};
 
 /// A clock at 0 without notes is lawful, with any number of seats.
 pub fn a_fresh_environment_is_lawful()
@@ -45,6 +47,22 @@ pub fn a_chain_goes_up()
         Meets events plain → standing_of note ≡ plain.notes at →
         env_got_of (NoteLoad chain clock at) (Note note) ≡ On (NoteLoad chain' clock' next) →
         (next < at) × IsMade events next }
+{}
+
+/// A chain begins at the clock that it loads: it goes to its note, or has none and is over at once.
+pub fn a_chain_begins_at_its_clock()
+    ensures { (now : List EnvEvent) (state : EnvState) (seat : ℕ) (chain : Chain) →
+        IsLawfulEnv now state → slice_get state.askings seat ≡ Some (Some (ClockLoad chain)) →
+        ChainFits now now chain (env_got_of (ClockLoad chain) (Clock state.plain.clock)) }
+{}
+
+/// Whatever happened since its clock was loaded, a chain that loads a note answers rightly or goes
+/// on: that its note is notified is so by now, and that it wasn't was so when the clock was
+/// loaded, with a deadline that had or hadn't come by then.
+pub fn a_chain_answers_rightly()
+    ensures { (point now : List EnvEvent) (state : EnvState) (chain : Chain) (clock at : ℕ) (note : NoteState) →
+        IsLawfulEnv now state → BeginsWith now point → ChainFits point now chain (On (NoteLoad chain clock at)) → standing_of note ≡ state.plain.notes at →
+        ChainFits point now chain (env_got_of (NoteLoad chain clock at) (Note note)) }
 {}
 
 /// What an expiry answers is the earliest deadline from its note up to the root, as it stands.
