@@ -1,4 +1,5 @@
 pub mod Acts
+pub mod Answers
 pub mod Chains
 pub mod Codes
 pub mod Dispatch

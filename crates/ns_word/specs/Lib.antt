@@ -1,3 +1,4 @@
+pub mod Answers
 pub mod Begins
 pub mod Chains
 pub mod Codec

@@ -1,15 +1,25 @@
 //! The law of the steps.
 
-ghost use Rattle.std.specs.Prelude.{◌≡◌, ◌≢◌, ℕ, ◌≤◌, List, [], ◌∷◌, ◌++◌, Option, None, Some, slice_get};
+ghost use Rattle.std.specs.Prelude.{◌≡◌, ◌≢◌, ℕ, ◌≤◌, true, false, List, [], ◌∷◌, ◌++◌, Option, None, Some, slice_get};
+ghost use Rattle.ns_model.specs.declared.event.Answer.{Answer};
+ghost use Rattle.ns_model.specs.declared.event.Entry.TheVariants.{Waited};
 ghost use Rattle.ns_model.specs.declared.event.Event.{Event};
 ghost use Rattle.ns_model.specs.declared.phase.Phase.TheVariants.{Cond};
 ghost use Rattle.ns_model.specs.Histories.{phase_of};
+ghost use Rattle.ns_model.specs.Sections.{is_met};
 ghost use Rattle.ns_queue.specs.declared.waiter.Waiter.{Waiter};
+ghost use Rattle.ns_word.specs.declared.wait.Wait.{Wait};
+ghost use Rattle.ns_word.specs.declared.wait.WaitPlace.{WaitPlace};
+ghost use Rattle.ns_word.specs.declared.view.Held.{Held};
 ghost use Rattle.ns_word.specs.declared.view.SeatView.{SeatView};
 ghost use Rattle.ns_word.specs.declared.walk.Walk.{Walk};
+ghost use Rattle.ns_word.specs.declared.walk.Walk.TheVariants.{Wait as Waiting};
+ghost use Rattle.ns_word.specs.declared.walk.Next.TheVariants.{Done};
+ghost use Rattle.ns_word.specs.declared.walk.Reply.TheVariants.{Answered};
 ghost use Rattle.ns_word.specs.declared.act.Found.{Found};
+ghost use Rattle.ns_word.specs.Answers.{has_come_back};
 ghost use Rattle.ns_word.specs.Begins.{Begins, FirstStep, fresh_state};
-ghost use Rattle.ns_word.specs.Steps.{State, Step, truths};
+ghost use Rattle.ns_word.specs.Steps.{State, Step, entry_of, truths};
 ghost use Rattle.ns_word.specs.Lawful.{IsLawful};
 ghost use Rattle.ns_word.specs.Told.{Told, IsTold, nothing_told, told_after, BeginsWith};
 ghost use Rattle.ns_word.specs.Walks.{got_of, walk_after};
@@ -90,4 +100,24 @@ pub fn first_steps_tell_no_other<C: Condition<N>, const N: usize>()
     ensures { (seats : ℕ) (history : List (Event C N)) (old new : State C N) (view : SeatView C N) (begun : Walk C) (found : Found) (commits : List (Event C N)) (other : ℕ) (walk : Option (Walk C)) (told : Told C N) →
         FirstStep (truths C.holds C.is_same C.is_quiet) old view begun found new commits →
         view.seat ≢ other → IsTold C.holds seats history other walk told → IsTold C.holds seats (history ++ commits) other walk told }
+{}
+
+/// A wait answers that its condition was met exactly where it holds of the row that the wait comes
+/// back to, with the section in hand in the wait's mode. Where it has waited, its section says of
+/// itself just that answer.
+pub fn waits_answer_rightly<C: Condition<N>, const N: usize>()
+    ensures { (seats : ℕ) (history : List (Event C N)) (old new : State C N) (view : SeatView C N) (found : Found) (commits : List (Event C N)) (wait : Wait C) (place : WaitPlace) (answer : Answer) →
+        (step : Step (truths C.holds C.is_same C.is_quiet) old view found new commits) →
+        IsLawful (truths C.holds C.is_same C.is_quiet) seats history old → step.walk ≡ Waiting wait place → got_of N step.walk found ≡ Done (Answered answer) →
+        (held : Held C N) × (step.held ≡ Some held) × (held.mode ≡ wait.mode) × (is_met answer ≡ C.holds wait.cond held.row)
+        × (has_come_back step.walk ≡ true → entry_of C.holds held.before held.entry ≡ Waited wait.cond answer) }
+{}
+
+/// What a section says of how it began stays until it is left: only a wait that has come back with
+/// it, and hasn't answered yet, may settle that.
+pub fn sections_keep_their_beginning<C: Condition<N>, const N: usize>()
+    ensures { (old new : State C N) (view : SeatView C N) (found : Found) (commits : List (Event C N)) (was held : Held C N) →
+        (step : Step (truths C.holds C.is_same C.is_quiet) old view found new commits) →
+        has_come_back step.walk ≡ false → view.held ≡ Some was → step.held ≡ Some held →
+        (held.mode ≡ was.mode) × (held.before ≡ was.before) × (held.entry ≡ was.entry) }
 {}
