@@ -1,12 +1,15 @@
 //! What one atomic step does, and what it finds.
 
+ghost use Rattle.std.specs.Prelude.{◌≡◌, ⊤};
+
 use crate::limits::{Cause, Limits};
 use crate::wait::{Aim, Wait};
 use crate::word::{Leaving, Taking, Word};
 use ns_model::event::Mode;
+use std::alloc::AllocError;
 
 /// What is done to the lock list in hand before it is put back.
-#[derive(Clone, Copy, Debug, PartialEq, Eq)]
+#[derive(Clone, Copy, PartialEq, Eq)]
 pub enum Change {
     /// One puts itself in, without condition, in this mode: at the back, or at the front if it was
     /// woken from the list before, so that it loses no turn.
@@ -18,7 +21,7 @@ pub enum Change {
 /// One atomic step. Where it is a compare-exchange, the word is the one last seen. A look reads a
 /// clock and notes, one load after another, and nothing of the lock: whoever runs the walk makes
 /// it, and tells what it has shown.
-#[derive(Clone, Copy, Debug, PartialEq, Eq)]
+#[derive(Copy, PartialEq, Eq)]
 pub enum Act<C> {
     /// Loads the lock word.
     LoadWord,
@@ -55,8 +58,18 @@ pub enum Act<C> {
     Look(Limits, bool),
 }
 
+impl<C: Copy> Clone for Act<C> {
+    ghost is_clone = { λ one other. other ≡ one };
+
+    ghost is_infallible = { λ _. ⊤ };
+
+    fn clone(&self) -> Result<Self, AllocError> {
+        Ok(*self)
+    }
+}
+
 /// What a step found.
-#[derive(Clone, Copy, Debug, PartialEq, Eq)]
+#[derive(Clone, Copy, PartialEq, Eq)]
 pub enum Found {
     /// The lock word, by a load or by a compare-exchange that failed.
     Word(Word),

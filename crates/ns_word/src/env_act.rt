@@ -14,7 +14,7 @@ pub struct NoteState {
 }
 
 /// One atomic step on the clock or the notes. A moment is in ticks.
-#[derive(Clone, Copy, Debug, PartialEq, Eq)]
+#[derive(Clone, Copy, PartialEq, Eq)]
 pub enum EnvAct {
     /// Loads the number that the next note gets.
     LoadNext,
@@ -33,7 +33,7 @@ pub enum EnvAct {
 }
 
 /// What a step on the clock or the notes found.
-#[derive(Clone, Copy, Debug, PartialEq, Eq)]
+#[derive(Clone, Copy, PartialEq, Eq)]
 pub enum EnvFound {
     /// The next note's number.
     Next(u8),

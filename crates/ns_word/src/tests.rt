@@ -683,48 +683,32 @@ fn waits_go_step_by_step(rt: HostRuntime) {
         assert!(rt; goes(row), "wait {i}");
     }
     let idle = Next::Idle(Walk::Wait(PATIENT, WaitPlace::Round));
-    assert_eq!(rt;
-        Walk::Wait(PATIENT, WaitPlace::Round).got::<2>(Found::Flag(1)),
-        idle
-    );
-    assert_eq!(rt;
-        Walk::wait::<1>(TIMED),
-        Walk::Wait(TIMED, WaitPlace::TestLast(Visit::Entry, 0))
-    );
-    assert_eq!(rt;
-        Walk::wait::<2>(TIMED),
-        Walk::Wait(TIMED, WaitPlace::TestCells(Visit::Entry, 0))
-    );
+    assert!(rt; Walk::Wait(PATIENT, WaitPlace::Round).got::<2>(Found::Flag(1)) == idle);
+    let last = WaitPlace::TestLast(Visit::Entry, 0);
+    assert!(rt; Walk::wait::<1>(TIMED) == Walk::Wait(TIMED, last));
+    let first = WaitPlace::TestCells(Visit::Entry, 0);
+    assert!(rt; Walk::wait::<2>(TIMED) == Walk::Wait(TIMED, first));
 }
 
 #[test]
 fn releases_decide_by_the_word(rt: HostRuntime) {
     for (i, (leaving, word, next)) in RELEASES.iter().enumerate() {
-        assert_eq!(rt;
-            Walk::<bool>::ReleaseLoad(*leaving).got::<2>(Found::Word(*word)),
-            *next,
-            "release {i}"
-        );
+        let goes = Walk::<bool>::ReleaseLoad(*leaving).got::<2>(Found::Word(*word));
+        assert!(rt; goes == *next, "release {i}");
     }
 }
 
 #[test]
 fn cells_are_read_and_stored(rt: HostRuntime) {
-    assert_eq!(rt;
-        Walk::<bool>::Get(1).got::<2>(Found::Cell(5)),
-        Next::Done(Reply::Number(5))
-    );
-    assert_eq!(rt;
-        Walk::<bool>::SetLoad(1, 9).got::<2>(Found::Cell(5)),
-        Next::On(Walk::SetStore(1, 9))
-    );
-    assert_eq!(rt; Walk::<bool>::SetStore(1, 9).want(), Act::StoreCell(1, 9));
-    assert_eq!(rt;
-        Walk::<bool>::SetStore(1, 9).got::<2>(Found::Made),
-        Next::Done(Reply::Ok)
-    );
-    assert_eq!(rt; Walk::<bool>::quiet_release::<1>(), Walk::QuietLast(0));
-    assert_eq!(rt; Walk::<bool>::quiet_release::<2>(), Walk::QuietCells(0));
+    let got = Walk::<bool>::Get(1).got::<2>(Found::Cell(5));
+    assert!(rt; got == Next::Done(Reply::Number(5)));
+    let loaded = Walk::<bool>::SetLoad(1, 9).got::<2>(Found::Cell(5));
+    assert!(rt; loaded == Next::On(Walk::SetStore(1, 9)));
+    assert!(rt; Walk::<bool>::SetStore(1, 9).want() == Act::StoreCell(1, 9));
+    let stored = Walk::<bool>::SetStore(1, 9).got::<2>(Found::Made);
+    assert!(rt; stored == Next::Done(Reply::Ok));
+    assert!(rt; Walk::<bool>::quiet_release::<1>() == Walk::QuietLast(0));
+    assert!(rt; Walk::<bool>::quiet_release::<2>() == Walk::QuietCells(0));
 }
 
 #[test]

@@ -1,12 +1,15 @@
 //! What a seat has in hand.
 
+ghost use Rattle.std.specs.Prelude.{◌≡◌, ⊤};
+
 use crate::limits::Cause;
 use crate::walk::Walk;
 use ns_model::event::Mode;
+use std::alloc::AllocError;
 use std::collections::LinkedList;
 
 /// How a section in hand began.
-#[derive(Clone, Copy)]
+#[derive(Copy)]
 pub enum Opening<C> {
     /// A call locked.
     Plain,
@@ -17,8 +20,18 @@ pub enum Opening<C> {
     Waited(C, Cause),
 }
 
+impl<C: Copy> Clone for Opening<C> {
+    ghost is_clone = { λ one other. other ≡ one };
+
+    ghost is_infallible = { λ _. ⊤ };
+
+    fn clone(&self) -> Result<Self, AllocError> {
+        Ok(*self)
+    }
+}
+
 /// A section in hand.
-#[derive(Clone, Copy)]
+#[derive(Copy)]
 pub struct Held<C, const N: usize> {
     /// The mode that the lock is held in.
     pub mode: Mode,
@@ -28,6 +41,16 @@ pub struct Held<C, const N: usize> {
     pub before: [u64; N],
     /// Its row now.
     pub row: [u64; N],
+}
+
+impl<C: Copy, const N: usize> Clone for Held<C, N> {
+    ghost is_clone = { λ one other. other ≡ one };
+
+    ghost is_infallible = { λ _. ⊤ };
+
+    fn clone(&self) -> Result<Self, AllocError> {
+        Ok(*self)
+    }
 }
 
 /// A seat.

@@ -1,14 +1,15 @@
 //! Waits for a condition.
 
-ghost use Rattle.std.specs.Prelude.{◌≡◌};
+ghost use Rattle.std.specs.Prelude.{◌≡◌, ⊤};
 ghost use Rattle.ns_word.specs.Waits.{answer_of, is_limited, mode_for};
 
 use crate::limits::{Cause, Limits};
 use crate::word::Word;
 use ns_model::event::{Answer, Mode};
+use std::alloc::AllocError;
 
 /// A wait for a condition.
-#[derive(Clone, Copy, Debug, PartialEq, Eq)]
+#[derive(Copy, PartialEq, Eq)]
 pub struct Wait<C> {
     /// The mode of the section that is left, in which the lock is acquired again.
     pub mode: Mode,
@@ -18,8 +19,18 @@ pub struct Wait<C> {
     pub limits: Limits,
 }
 
+impl<C: Copy> Clone for Wait<C> {
+    ghost is_clone = { λ one other. other ≡ one };
+
+    ghost is_infallible = { λ _. ⊤ };
+
+    fn clone(&self) -> Result<Self, AllocError> {
+        Ok(*self)
+    }
+}
+
 /// What an acquire is for.
-#[derive(Clone, Copy, Debug, PartialEq, Eq)]
+#[derive(Copy, PartialEq, Eq)]
 pub enum Aim<C> {
     /// For a call that locks in this mode.
     Lock(Mode),
@@ -27,8 +38,18 @@ pub enum Aim<C> {
     Back(Wait<C>, Option<Cause>),
 }
 
+impl<C: Copy> Clone for Aim<C> {
+    ghost is_clone = { λ one other. other ≡ one };
+
+    ghost is_infallible = { λ _. ⊤ };
+
+    fn clone(&self) -> Result<Self, AllocError> {
+        Ok(*self)
+    }
+}
+
 /// When the condition of a wait is tested.
-#[derive(Clone, Copy, Debug, PartialEq, Eq)]
+#[derive(Clone, Copy, PartialEq, Eq)]
 pub enum Visit {
     /// As the call begins.
     Entry,
@@ -38,7 +59,7 @@ pub enum Visit {
 
 /// A place in a wait. A word is the one last seen. The flag tells whether the wait queues again,
 /// after it was woken and found its condition false.
-#[derive(Clone, Copy, Debug, PartialEq, Eq)]
+#[derive(Clone, Copy, PartialEq, Eq)]
 pub enum WaitPlace {
     /// It tests its condition, and is about to load this cell, which isn't the last.
     TestCells(Visit, u8),

@@ -26,7 +26,7 @@
 //! `Release` where no scan is needed; else idle and from `ReleaseLoad` again where the spinlock
 //! bit is set; else `TakeToScan`.
 
-ghost use Rattle.std.specs.Prelude.{◌≡◌, ◌≤◌, if◌then◌else◌};
+ghost use Rattle.std.specs.Prelude.{◌≡◌, ◌≤◌, ⊤, if◌then◌else◌};
 ghost use Rattle.ns_word.specs.Walks.{want_of, got_of, acquire_by, acquired_for, release_by, quiet_place, scan_place, test_place};
 
 use crate::act::{Act, Change, Found};
@@ -35,10 +35,11 @@ use crate::wait::{Aim, Visit, Wait, WaitPlace};
 use crate::wait_walk::test_place;
 use crate::word::{Leaving, Taking, Word};
 use ns_model::event::{Answer, Mode};
+use std::alloc::AllocError;
 
 /// A place in a call. A word is the one last seen. The flag beside what an acquire is for tells
 /// whether the seat was woken from the lock list.
-#[derive(Clone, Copy, Debug, PartialEq, Eq)]
+#[derive(Copy, PartialEq, Eq)]
 pub enum Walk<C> {
     /// A try that is about to load the word.
     TryLoad(Mode),
@@ -83,6 +84,16 @@ pub enum Walk<C> {
     Wait(Wait<C>, WaitPlace),
 }
 
+impl<C: Copy> Clone for Walk<C> {
+    ghost is_clone = { λ one other. other ≡ one };
+
+    ghost is_infallible = { λ _. ⊤ };
+
+    fn clone(&self) -> Result<Self, AllocError> {
+        Ok(*self)
+    }
+}
+
 /// What a call answers.
 #[derive(Clone, Copy, Debug, PartialEq, Eq)]
 pub enum Reply {
@@ -107,7 +118,7 @@ pub enum Reply {
 }
 
 /// Where a walk goes.
-#[derive(Clone, Copy, Debug, PartialEq, Eq)]
+#[derive(Copy, PartialEq, Eq)]
 pub enum Next<C> {
     /// It goes on at this place.
     On(Walk<C>),
@@ -115,6 +126,16 @@ pub enum Next<C> {
     Idle(Walk<C>),
     /// It is over, and answers this.
     Done(Reply),
+}
+
+impl<C: Copy> Clone for Next<C> {
+    ghost is_clone = { λ one other. other ≡ one };
+
+    ghost is_infallible = { λ _. ⊤ };
+
+    fn clone(&self) -> Result<Self, AllocError> {
+        Ok(*self)
+    }
 }
 
 /// Where an acquire goes by the word last seen.
