@@ -1,68 +1,50 @@
 //! Which wakes are legal, by counts over the 64 seats.
 
-ghost use Rattle.std.specs.Prelude.{◌≡◌, ◌↔◌, IsTrue};
+ghost use Rattle.std.specs.Prelude.{◌≡◌, ◌<◌, ◌↔◌, IsTrue};
+ghost use Rattle.ns_model.specs.Phases.{count_seats};
 ghost use Rattle.ns_model.specs.Histories.{standing_after};
-ghost use Rattle.ns_model.specs.Wakes.{woken_strangers, left_waiting, waiting_as, woken_as, IsLegalSignal, IsLegalBroadcast, IsLegalLeave};
+ghost use Rattle.ns_model.specs.Wakes.{is_counted, IsLegalSignal, IsLegalBroadcast, IsLegalLeave};
 
 use crate::event::Event;
 use crate::history::phase_of;
 use crate::phase::Phase;
 use crate::seats::Seats;
 
-/// How many wait for the variable as writers, or as readers.
-#[tactic(auto, using(crate::proofs::Counts::count_none, crate::proofs::Counts::count_more, crate::proofs::Counts::count_most))]
-fn waiting_as<C: Copy, const N: usize>(writes: bool, k: u8, past: &[Event<C, N>]) -> u8
-    ensures { result ≡ waiting_as writes k (standing_after past.now).phases }
-{
-    let mut count = 0;
-    for seat in 0..64 {
-        let phase = phase_of(past, seat);
-        if phase.is_waiting_as(writes, k) {
-            count += 1;
-        }
-    }
-    count
+/// Whom a count is of, of a variable and of the seats that are woken.
+#[derive(Clone, Copy)]
+enum Counted {
+    /// Those that wait for the variable, as writers or as readers.
+    WaitingAs { writes: bool },
+    /// Those of them that are woken.
+    WokenAs { writes: bool },
+    /// The woken that don't wait for it.
+    Stranger,
+    /// Those that wait for it and aren't woken.
+    Left,
 }
 
-/// How many of those are woken.
-#[tactic(auto, using(crate::proofs::Counts::count_none, crate::proofs::Counts::count_more, crate::proofs::Counts::count_most))]
-fn woken_as<C: Copy, const N: usize>(writes: bool, k: u8, woken: Seats, past: &[Event<C, N>]) -> u8
-    ensures { result ≡ woken_as writes k woken (standing_after past.now).phases }
+/// Whether the count is of this seat, which is in this phase.
+fn is_counted<C: Copy>(who: Counted, k: u8, woken: Seats, seat: u8, phase: &Phase<C>) -> bool
+    requires { seat < 64 }
+    ensures { result ≡ is_counted who k woken seat phase.now }
 {
-    let mut count = 0;
-    for seat in 0..64 {
-        let phase = phase_of(past, seat);
-        if woken.contains(seat) && phase.is_waiting_as(writes, k) {
-            count += 1;
-        }
+    match who {
+        Counted::WaitingAs { writes } => phase.is_waiting_as(writes, k),
+        Counted::WokenAs { writes } => woken.contains(seat) && phase.is_waiting_as(writes, k),
+        Counted::Stranger => woken.contains(seat) && !phase.is_waiting(k),
+        Counted::Left => !woken.contains(seat) && phase.is_waiting(k),
     }
-    count
 }
 
-/// How many of the woken don't wait for the variable.
+/// How many of the seats the count is of.
 #[tactic(auto, using(crate::proofs::Counts::count_none, crate::proofs::Counts::count_more, crate::proofs::Counts::count_most))]
-fn woken_strangers<C: Copy, const N: usize>(k: u8, woken: Seats, past: &[Event<C, N>]) -> u8
-    ensures { result ≡ woken_strangers k woken (standing_after past.now).phases }
+fn count<C: Copy, const N: usize>(who: Counted, k: u8, woken: Seats, past: &[Event<C, N>]) -> u8
+    ensures { result ≡ count_seats 64 (is_counted who k woken) (standing_after past.now).phases }
 {
     let mut count = 0;
     for seat in 0..64 {
         let phase = phase_of(past, seat);
-        if woken.contains(seat) && !phase.is_waiting(k) {
-            count += 1;
-        }
-    }
-    count
-}
-
-/// How many of those that wait for the variable aren't woken.
-#[tactic(auto, using(crate::proofs::Counts::count_none, crate::proofs::Counts::count_more, crate::proofs::Counts::count_most))]
-fn left_waiting<C: Copy, const N: usize>(k: u8, woken: Seats, past: &[Event<C, N>]) -> u8
-    ensures { result ≡ left_waiting k woken (standing_after past.now).phases }
-{
-    let mut count = 0;
-    for seat in 0..64 {
-        let phase = phase_of(past, seat);
-        if !woken.contains(seat) && phase.is_waiting(k) {
+        if is_counted(who, k, woken, seat, &phase) {
             count += 1;
         }
     }
@@ -77,11 +59,13 @@ pub(crate) fn signal_fits<C: Copy, const N: usize>(
 ) -> bool
     ensures { IsTrue result ↔ IsLegalSignal k woken (standing_after past.now).phases }
 {
-    let writers = woken_as(true, k, woken, past);
-    let readers = woken_as(false, k, woken, past);
-    woken_strangers(k, woken, past) == 0
+    let writers = count(Counted::WokenAs { writes: true }, k, woken, past);
+    let readers = count(Counted::WokenAs { writes: false }, k, woken, past);
+    let waiting_writers = count(Counted::WaitingAs { writes: true }, k, woken, past);
+    let waiting_readers = count(Counted::WaitingAs { writes: false }, k, woken, past);
+    count(Counted::Stranger, k, woken, past) == 0
         && (writers == 1 && readers == 0
-            || writers == waiting_as(true, k, past).min(1) && readers == waiting_as(false, k, past))
+            || writers == waiting_writers.min(1) && readers == waiting_readers)
 }
 
 /// Whether a broadcast may wake these after the past.
@@ -92,7 +76,7 @@ pub(crate) fn broadcast_fits<C: Copy, const N: usize>(
 ) -> bool
     ensures { IsTrue result ↔ IsLegalBroadcast k woken (standing_after past.now).phases }
 {
-    woken_strangers(k, woken, past) == 0 && left_waiting(k, woken, past) == 0
+    count(Counted::Stranger, k, woken, past) == 0 && count(Counted::Left, k, woken, past) == 0
 }
 
 /// Whether one in this phase may leave the variable.

@@ -34,6 +34,24 @@ fn notes(rt: HostRuntime) {
             STATE,
             "0 0 ok\n0 1 0\n1 0 false\n0 2 ok\n0 3 ok\nrow 0 0 0 0 0 0 0 0\nword readers=0\nqueue\n",
         ),
+        // A call on a note notifies all below it.
+        (
+            "{\"version\":1,\"threads\":[[\"newnote - -\",\"newnote 0 -\",\"newnote 1 -\",\"isnotified 2\",\"notify 0\",\"isnotified 0\",\"isnotified 1\",\"isnotified 2\"]],\"schedule\":\"0!*8\"}",
+            PLAIN,
+            "0 0 0\n0 1 1\n0 2 2\n0 3 false\n0 4 ok\n0 5 true\n0 6 true\n0 7 true\nrow 0 0 0 0 0 0 0 0\n",
+        ),
+        // A wait for a note sees no tick too early, and the note before the deadline.
+        (
+            "{\"version\":1,\"threads\":[[\"newnote - -\",\"newnote 0 -\",\"advance 4\",\"advance 5\",\"notify 0\"],[\"notewait 1 5\",\"notewait 1 5\"]],\"schedule\":\"0!*2 1! 0! 1! 0! 1! 0! 1!\"}",
+            PLAIN,
+            "0 0 0\n0 1 1\n0 2 ok\n0 3 ok\n1 0 false\n0 4 ok\n1 1 true\nrow 0 0 0 0 0 0 0 0\n",
+        ),
+        // A note whose number is taken is none before it is stored.
+        (
+            "{\"version\":1,\"threads\":[[\"newnote 0 -\",\"notify 0\",\"isnotified 0\",\"expiry 0\",\"notewait 0 -\",\"isnotified 0\"],[\"newnote - -\"]],\"schedule\":\"1*2 0!*5 1 0!\"}",
+            STATE,
+            "0 0 misuse\n0 1 misuse\n0 2 misuse\n0 3 misuse\n0 4 misuse\n1 0 0\n0 5 false\nrow 0 0 0 0 0 0 0 0\nword readers=0\nqueue\n",
+        ),
         // Two makers that load the next number together get different ones.
         (
             "{\"version\":1,\"threads\":[[\"newnote - -\"],[\"newnote - -\"]],\"schedule\":\"0 1 0*2 1*2\"}",
@@ -61,6 +79,26 @@ fn sixty_four_notes(rt: HostRuntime) -> Result<(), Fail> {
         writeln!(&mut text, "0 {number} {number}")?;
     }
     text.push_str("0 64 notesfull\n0 65 never\n")?;
+    text.push_str(ROW)?;
+    let (outcome, done) = replayed(rt.alloc(), script.as_str(), PLAIN, text.as_str());
+    assert_eq!(rt; outcome, Ok(()));
+    assert!(rt; done);
+    Ok(())
+}
+
+/// Two threads see the last number left, and one takes it: the other makes no note.
+#[test]
+fn the_last_number(rt: HostRuntime) -> Result<(), Fail> {
+    let calls = repeated(rt.alloc(), "\"newnote - -\"", ",", 64)?;
+    let mut script = String::new(rt.alloc());
+    script.push_str("{\"version\":1,\"threads\":[[")?;
+    script.push_str(calls.as_str())?;
+    script.push_str("],[\"newnote - -\"]],\"schedule\":\"0!*63 0 1*2 0 1\"}")?;
+    let mut text = String::new(rt.alloc());
+    for number in 0..63 {
+        writeln!(&mut text, "0 {number} {number}")?;
+    }
+    text.push_str("0 63 notesfull\n1 0 63\n")?;
     text.push_str(ROW)?;
     let (outcome, done) = replayed(rt.alloc(), script.as_str(), PLAIN, text.as_str());
     assert_eq!(rt; outcome, Ok(()));

@@ -1,0 +1,9 @@
+use Rattle.std.proofs.Common.{◌≡◌}
+use Rattle.ns_model.specs.Phases.{count_seats}
+use Rattle.ns_model.specs.Wakes.{is_counted}
+use Rattle.ns_model.specs.Histories.{standing_after}
+use Rattle.ns_model.proofs.wakes.count.Given as goal
+
+-- the count of the seats so far
+abbrev pub invariant-loop-seat : goal.invariant-loop-seat
+invariant-loop-seat g l = l.count ≡ count_seats l.seat (is_counted l.who l.k l.woken) (standing_after l.past).phases
