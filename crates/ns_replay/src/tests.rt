@@ -4,6 +4,7 @@
 mod memory;
 mod notes;
 mod waits;
+mod worlds;
 
 use self::memory::{Expects, Interrupted, Pieces};
 use super::*;

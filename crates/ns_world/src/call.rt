@@ -1,6 +1,6 @@
 //! The calls of a world.
 
-ghost use Rattle.std.specs.Prelude.{◌≡◌, ◌≤◌, MatchOption, Some, None, ◌&&◌, is_some, if◌then◌else◌};
+ghost use Rattle.std.specs.Prelude.{◌≡◌, ◌≤◌, ⊤, MatchOption, Some, None, ◌&&◌, is_some, if◌then◌else◌};
 ghost use Rattle.ns_world.specs.Asks.{note_at};
 ghost use Rattle.ns_world.specs.Calls.{start_of, CallFits, SectionFits};
 
@@ -12,9 +12,10 @@ use ns_word::limits::Limits;
 use ns_word::wait::{Aim, Wait};
 use ns_word::walk::Walk;
 use ns_word::word::Leaving;
+use std::alloc::AllocError;
 
 /// A call.
-#[derive(Clone, Copy, Debug, PartialEq, Eq)]
+#[derive(Copy)]
 pub enum Call<C> {
     /// Locks in write mode. Needs no section in hand. Answers `Ok`, once the lock was acquired.
     Lock,
@@ -60,13 +61,33 @@ pub enum Call<C> {
     NoteWait(u8, Option<u64>),
 }
 
+impl<C: Copy> Clone for Call<C> {
+    ghost is_clone = { λ one other. other ≡ one };
+
+    ghost is_infallible = { λ _. ⊤ };
+
+    fn clone(&self) -> Result<Self, AllocError> {
+        Ok(*self)
+    }
+}
+
 /// Where a call begins.
-#[derive(Clone, Copy, Debug, PartialEq, Eq)]
+#[derive(Copy)]
 pub enum Start<C> {
     /// On the lock.
     Lock(Walk<C>),
     /// On the clock and the notes.
     Ask(EnvWalk),
+}
+
+impl<C: Copy> Clone for Start<C> {
+    ghost is_clone = { λ one other. other ≡ one };
+
+    ghost is_infallible = { λ _. ⊤ };
+
+    fn clone(&self) -> Result<Self, AllocError> {
+        Ok(*self)
+    }
 }
 
 /// A call on the clock and the notes begins where its need is met.

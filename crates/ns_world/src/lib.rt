@@ -8,8 +8,6 @@
 
 mod asks;
 pub mod call;
-#[cfg(test)]
-mod env_tests;
 mod environment;
 mod exchanges;
 pub mod fault;
@@ -23,8 +21,4 @@ mod seat;
 pub mod seats;
 mod shows;
 pub mod step;
-#[cfg(test)]
-mod tests;
-#[cfg(test)]
-mod wait_tests;
 pub mod world;
