@@ -26,7 +26,7 @@ use Rattle.ns_world.specs.declared.step.Step.{Step}
 use Rattle.ns_world.specs.declared.step.Step.TheVariants.{Went, Idle, Finished, Nothing}
 use Rattle.ns_world.specs.Calls.{start_of, mode_of, mode_left}
 use Rattle.ns_world.specs.Commits.{Commits}
-use Rattle.ns_world.specs.Begins.{Begins, Starts, begun_at}
+use Rattle.ns_world.specs.Begins.{Begins, BeginFault, Starts, begun_at}
 use Rattle.ns_world.specs.World.{Now, LookGoes, Moves, IsWalking, IsBusy, IsIdle, StepOf, StepFault, is_walking, is_asking, is_busy}
 use Rattle.ns_world.specs.Runs.{Progress, progress, progressed, finished, Leads, TurnOf, TurnsWith, TurnFault}
 use Rattle.ns_world.proofs.Busy.{or_true, both, walking_at, walking_set_same, walking_set_other, asking_at, asking_set_same, asking_set_other}
@@ -218,3 +218,9 @@ module _ {C : Type 0} {N : ℕ} where
   turn_fault old begun seat NoSuchSeat e p = subst (λ (world : Now C N). length world.state.views ≤ seat) e p
   turn_fault old begun seat TooManySeats e p = p
   turn_fault old begun seat StepLimit e p = p
+
+  pub begin_fault : (world : Now C N) (seat : ℕ) (fault : Fault) → BeginFault world seat fault → TurnFault world seat fault
+  begin_fault world seat OutOfMemory p = tt
+  begin_fault world seat NoSuchSeat p = p
+  begin_fault world seat TooManySeats p = p
+  begin_fault world seat StepLimit p = p

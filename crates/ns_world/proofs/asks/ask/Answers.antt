@@ -9,3 +9,9 @@ returns g c = record {
   goes = rw c.got.ensures at c.settle.ensures.seat;
   answers = c.settle.ensures.step ∙ ap env_step_of c.got.ensures;
 }
+
+pub make-found-requires : goal.make-found-requires
+make-found-requires g c = rw c.want.ensures c.requires
+
+pub settle-requires : goal.settle-requires
+settle-requires g c = g.met.C.Seated.seat_fits

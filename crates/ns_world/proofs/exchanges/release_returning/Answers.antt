@@ -1,3 +1,4 @@
+use Rattle.ns_queue.specs.Queues.{Lists}
 use Rattle.std.proofs.Common.{refl, sym, ◌∙◌, ap, not}
 use Rattle.std.proofs.lemmas.Result.{err_from_is_err_and}
 use Rattle.ns_word.specs.Steps.{truths}
@@ -24,3 +25,18 @@ returns-clause-ok g c = λ flags.
     c.args.queues.now c.scan-scan.new.self c.args.seat.now.owed.items c.scan-scan.result.woken.items c.args.seat.now.held c.commit.new.held (not c.is_empty-owes.result) c.scan-scan.result.tests c.bits.result
     c.requires c.in_ok-commit.ensures.ok (c.if-not-is_same.ensures.same refl) c.released_returning.ensures c.in_ok-commit.ensures.over
     c.scan-scan.ensures.left c.scan-scan.ensures.woken (ap not c.is_empty-owes.ensures ∙ some_left _) c.bits.ensures c.scan-scan.ensures.tests
+
+pub returns-then-not-is_same-clause-kept : goal.returns-then-not-is_same-clause-kept
+returns-then-not-is_same-clause-kept g c = record { number = refl; walk = refl; asking = refl; tests = refl }
+
+pub returns-in_err-commit-clause-kept : goal.returns-in_err-commit-clause-kept
+returns-in_err-commit-clause-kept g c = record { number = refl; walk = refl; asking = refl; tests = refl }
+
+pub returns-clause-kept : goal.returns-clause-kept
+returns-clause-kept g c = record { number = refl; walk = refl; asking = refl; tests = refl }
+
+pub returns-in_err-commit-clause-ok : goal.returns-in_err-commit-clause-ok
+returns-in_err-commit-clause-ok g c = let p = err_from_is_err_and c.from_residual.result c.from_residual.ensures.1 in rw p.1 tt
+
+pub returns-clause-others : goal.returns-clause-others
+returns-clause-others g c = ap (λ (q : Lists _). q.cvs) c.scan-scan.ensures.left

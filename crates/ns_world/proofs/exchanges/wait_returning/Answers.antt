@@ -1,4 +1,4 @@
-use Rattle.std.proofs.Common.{refl, sym, ap, not, ◌∙◌}
+use Rattle.std.proofs.Common.{refl, sym, ap, not, ◌∙◌, rules}
 use Rattle.std.proofs.lemmas.Result.{err_from_is_err_and}
 use Rattle.ns_word.specs.Steps.{truths}
 use Rattle.ns_world.proofs.Released.{some_left}
@@ -25,3 +25,21 @@ returns-clause-ok g c = λ flags.
     c.args.queues.now c.scan_and_queue-scan.new.queues c.args.seat.now.owed.items c.scan_and_queue-scan.result.woken.items c.args.seat.now.held c.leave_section.new.held (not c.is_empty-owes.result) c.scan_and_queue-scan.result.tests c.bits.result
     c.requires.can c.in_ok-leave_section.ensures.ok (c.if-not-is_same.ensures.same refl) (rw (← c.leaving_of.ensures) c.released_returning.ensures) c.in_ok-leave_section.ensures.over
     c.scan_and_queue-scan.ensures.lock c.scan_and_queue-scan.ensures.woken (ap not c.is_empty-owes.ensures ∙ some_left _) c.bits.ensures c.scan_and_queue-scan.ensures.tests
+
+pub returns-then-not-is_same-clause-kept : goal.returns-then-not-is_same-clause-kept
+returns-then-not-is_same-clause-kept g c = record { number = refl; walk = refl; asking = refl; tests = refl }
+
+pub returns-in_err-leave_section-clause-kept : goal.returns-in_err-leave_section-clause-kept
+returns-in_err-leave_section-clause-kept g c = record { number = refl; walk = refl; asking = refl; tests = refl }
+
+pub returns-clause-kept : goal.returns-clause-kept
+returns-clause-kept g c = record { number = refl; walk = refl; asking = refl; tests = refl }
+
+pub returns-in_err-leave_section-clause-ok : goal.returns-in_err-leave_section-clause-ok
+returns-in_err-leave_section-clause-ok g c = let p = err_from_is_err_and c.from_residual.result c.from_residual.ensures.1 in rw p.1 tt
+
+pub returns-clause-others : goal.returns-clause-others
+returns-clause-others g c = c.scan_and_queue-scan.ensures.others
+
+pub scan_and_queue-scan-requires : goal.scan_and_queue-scan-requires
+scan_and_queue-scan-requires g c = (search rules, (search rules, (c.requires.below, c.requires.free)))

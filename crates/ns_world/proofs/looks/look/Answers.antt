@@ -40,3 +40,9 @@ returns-in-Saw g c =
       effect = (look_effect fits.0 c.args.place fits.2 c.args.seat.now.number (plain_of c.args.env.now) (plain_of c.make-found.new.self) c.make-found.result effect).0;
       goes = subst (λ next. SeatLooks next c.args.seat.now c.args.walk c.see.new.seat c.see.result) (sym c.in-Saw.is ∙ c.got.ensures) c.see.ensures;
     }
+
+pub make-found-requires : goal.make-found-requires
+make-found-requires g c = rw c.want.ensures c.requires.fits
+
+pub see-requires : goal.see-requires
+see-requires g c = g.met.C.Seated.seat_fits

@@ -1,3 +1,4 @@
+use Rattle.std.proofs.lemmas.Result.{err_from_is_err_and}
 use Rattle.std.proofs.Common.{rules, [], refl, sym}
 use Rattle.std.proofs.lemmas.List.{append-nil}
 use Rattle.ns_world.proofs.Waited.{free_change, free_here}
@@ -108,3 +109,156 @@ returns-in-JudgeMet-clause-ok g c = rw c.in-JudgeMet.is (record {
   effect = c.judge_met-found.ensures c.args.seat.now.number c.args.word.now c.args.row.now c.args.queues.now c.args.flags.now c.args.seat.now.owed.items;
   grows = sym (append-nil _);
 })
+
+pub returns-in-LoadWord-clause-err : goal.returns-in-LoadWord-clause-err
+returns-in-LoadWord-clause-err g c = tt
+
+pub returns-in-LoadWord-clause-kept : goal.returns-in-LoadWord-clause-kept
+returns-in-LoadWord-clause-kept g c = record { number = refl; walk = refl; asking = refl; tests = refl }
+
+pub returns-in-LoadWord-clause-others : goal.returns-in-LoadWord-clause-others
+returns-in-LoadWord-clause-others g c = refl
+
+pub returns-in-Acquire-clause-err : goal.returns-in-Acquire-clause-err
+returns-in-Acquire-clause-err g c = tt
+
+pub returns-in-Acquire-clause-kept : goal.returns-in-Acquire-clause-kept
+returns-in-Acquire-clause-kept g c = record { number = refl; walk = refl; asking = refl; tests = refl }
+
+pub returns-in-Acquire-clause-others : goal.returns-in-Acquire-clause-others
+returns-in-Acquire-clause-others g c = refl
+
+pub returns-in-TakeQueues-clause-err : goal.returns-in-TakeQueues-clause-err
+returns-in-TakeQueues-clause-err g c = tt
+
+pub returns-in-TakeQueues-clause-kept : goal.returns-in-TakeQueues-clause-kept
+returns-in-TakeQueues-clause-kept g c = record { number = refl; walk = refl; asking = refl; tests = refl }
+
+pub returns-in-TakeQueues-clause-others : goal.returns-in-TakeQueues-clause-others
+returns-in-TakeQueues-clause-others g c = refl
+
+pub returns-in-ReturnQueues-clause-err : goal.returns-in-ReturnQueues-clause-err
+returns-in-ReturnQueues-clause-err g c = tt
+
+pub returns-in-ReturnQueues-clause-kept : goal.returns-in-ReturnQueues-clause-kept
+returns-in-ReturnQueues-clause-kept g c = record { number = refl; walk = refl; asking = refl; tests = refl }
+
+pub returns-in-ReturnQueues-clause-others : goal.returns-in-ReturnQueues-clause-others
+returns-in-ReturnQueues-clause-others g c = c.return_queues-found.ensures.others
+
+pub returns-in-LoadCell-clause-err : goal.returns-in-LoadCell-clause-err
+returns-in-LoadCell-clause-err g c = tt
+
+pub returns-in-LoadCell-clause-kept : goal.returns-in-LoadCell-clause-kept
+returns-in-LoadCell-clause-kept g c = record { number = refl; walk = refl; asking = refl; tests = refl }
+
+pub returns-in-LoadCell-clause-others : goal.returns-in-LoadCell-clause-others
+returns-in-LoadCell-clause-others g c = refl
+
+pub returns-in-JudgeQuiet-clause-err : goal.returns-in-JudgeQuiet-clause-err
+returns-in-JudgeQuiet-clause-err g c = tt
+
+pub returns-in-JudgeQuiet-clause-kept : goal.returns-in-JudgeQuiet-clause-kept
+returns-in-JudgeQuiet-clause-kept g c = record { number = refl; walk = refl; asking = refl; tests = refl }
+
+pub returns-in-JudgeQuiet-clause-others : goal.returns-in-JudgeQuiet-clause-others
+returns-in-JudgeQuiet-clause-others g c = refl
+
+pub returns-in-StoreCell-clause-err : goal.returns-in-StoreCell-clause-err
+returns-in-StoreCell-clause-err g c = tt
+
+pub returns-in-StoreCell-clause-kept : goal.returns-in-StoreCell-clause-kept
+returns-in-StoreCell-clause-kept g c = record { number = refl; walk = refl; asking = refl; tests = refl }
+
+pub returns-in-StoreCell-clause-others : goal.returns-in-StoreCell-clause-others
+returns-in-StoreCell-clause-others g c = refl
+
+pub returns-in-ArmFlag-clause-err : goal.returns-in-ArmFlag-clause-err
+returns-in-ArmFlag-clause-err g c = tt
+
+pub returns-in-ArmFlag-clause-kept : goal.returns-in-ArmFlag-clause-kept
+returns-in-ArmFlag-clause-kept g c = record { number = refl; walk = refl; asking = refl; tests = refl }
+
+pub returns-in-ArmFlag-clause-others : goal.returns-in-ArmFlag-clause-others
+returns-in-ArmFlag-clause-others g c = refl
+
+pub returns-in-PayWake-clause-err : goal.returns-in-PayWake-clause-err
+returns-in-PayWake-clause-err g c = tt
+
+pub returns-in-PayWake-clause-kept : goal.returns-in-PayWake-clause-kept
+returns-in-PayWake-clause-kept g c = record { number = refl; walk = refl; asking = refl; tests = refl }
+
+pub returns-in-PayWake-clause-others : goal.returns-in-PayWake-clause-others
+returns-in-PayWake-clause-others g c = refl
+
+pub returns-in-LoadFlag-clause-err : goal.returns-in-LoadFlag-clause-err
+returns-in-LoadFlag-clause-err g c = tt
+
+pub returns-in-LoadFlag-clause-kept : goal.returns-in-LoadFlag-clause-kept
+returns-in-LoadFlag-clause-kept g c = record { number = refl; walk = refl; asking = refl; tests = refl }
+
+pub returns-in-LoadFlag-clause-others : goal.returns-in-LoadFlag-clause-others
+returns-in-LoadFlag-clause-others g c = refl
+
+pub returns-in-JudgeMet-clause-err : goal.returns-in-JudgeMet-clause-err
+returns-in-JudgeMet-clause-err g c = tt
+
+pub returns-in-JudgeMet-clause-kept : goal.returns-in-JudgeMet-clause-kept
+returns-in-JudgeMet-clause-kept g c = record { number = refl; walk = refl; asking = refl; tests = refl }
+
+pub returns-in-JudgeMet-clause-others : goal.returns-in-JudgeMet-clause-others
+returns-in-JudgeMet-clause-others g c = refl
+
+pub returns-in_ok-found-in-Release-clause-kept : goal.returns-in_ok-found-in-Release-clause-kept
+returns-in_ok-found-in-Release-clause-kept g c = record { number = refl; walk = refl; asking = refl; tests = refl }
+
+pub returns-in_ok-found-in-Release-clause-others : goal.returns-in_ok-found-in-Release-clause-others
+returns-in_ok-found-in-Release-clause-others g c = refl
+
+pub returns-in_err-found-in-Release-clause-kept : goal.returns-in_err-found-in-Release-clause-kept
+returns-in_err-found-in-Release-clause-kept g c = record { number = refl; walk = refl; asking = refl; tests = refl }
+
+pub returns-in_err-found-in-Release-clause-others : goal.returns-in_err-found-in-Release-clause-others
+returns-in_err-found-in-Release-clause-others g c = refl
+
+pub returns-in_ok-found-in-Release-clause-err : goal.returns-in_ok-found-in-Release-clause-err
+returns-in_ok-found-in-Release-clause-err g c = tt
+
+pub returns-in_err-found-in-Release-clause-ok : goal.returns-in_err-found-in-Release-clause-ok
+returns-in_err-found-in-Release-clause-ok g c = let p = err_from_is_err_and c.from_residual.result c.from_residual.ensures.1 in rw p.1 tt
+
+pub returns-in_ok-found-in-ReleaseReturning-clause-kept : goal.returns-in_ok-found-in-ReleaseReturning-clause-kept
+returns-in_ok-found-in-ReleaseReturning-clause-kept g c = c.in_ok-found-in-ReleaseReturning.ensures.kept
+
+pub returns-in_ok-found-in-ReleaseReturning-clause-others : goal.returns-in_ok-found-in-ReleaseReturning-clause-others
+returns-in_ok-found-in-ReleaseReturning-clause-others g c = c.in_ok-found-in-ReleaseReturning.ensures.others
+
+pub returns-in_err-found-in-ReleaseReturning-clause-kept : goal.returns-in_err-found-in-ReleaseReturning-clause-kept
+returns-in_err-found-in-ReleaseReturning-clause-kept g c = c.in_err-found-in-ReleaseReturning.ensures.kept
+
+pub returns-in_err-found-in-ReleaseReturning-clause-others : goal.returns-in_err-found-in-ReleaseReturning-clause-others
+returns-in_err-found-in-ReleaseReturning-clause-others g c = c.in_err-found-in-ReleaseReturning.ensures.others
+
+pub returns-in_ok-found-in-ReleaseReturning-clause-err : goal.returns-in_ok-found-in-ReleaseReturning-clause-err
+returns-in_ok-found-in-ReleaseReturning-clause-err g c = tt
+
+pub returns-in_err-found-in-ReleaseReturning-clause-ok : goal.returns-in_err-found-in-ReleaseReturning-clause-ok
+returns-in_err-found-in-ReleaseReturning-clause-ok g c = let p = err_from_is_err_and c.from_residual-in_err-found-in-ReleaseReturning.result c.from_residual-in_err-found-in-ReleaseReturning.ensures.1 in rw p.1 tt
+
+pub returns-in_ok-found-in-WaitReturning-clause-kept : goal.returns-in_ok-found-in-WaitReturning-clause-kept
+returns-in_ok-found-in-WaitReturning-clause-kept g c = c.in_ok-found-in-WaitReturning.ensures.kept
+
+pub returns-in_ok-found-in-WaitReturning-clause-others : goal.returns-in_ok-found-in-WaitReturning-clause-others
+returns-in_ok-found-in-WaitReturning-clause-others g c = c.in_ok-found-in-WaitReturning.ensures.others
+
+pub returns-in_err-found-in-WaitReturning-clause-kept : goal.returns-in_err-found-in-WaitReturning-clause-kept
+returns-in_err-found-in-WaitReturning-clause-kept g c = c.in_err-found-in-WaitReturning.ensures.kept
+
+pub returns-in_err-found-in-WaitReturning-clause-others : goal.returns-in_err-found-in-WaitReturning-clause-others
+returns-in_err-found-in-WaitReturning-clause-others g c = c.in_err-found-in-WaitReturning.ensures.others
+
+pub returns-in_ok-found-in-WaitReturning-clause-err : goal.returns-in_ok-found-in-WaitReturning-clause-err
+returns-in_ok-found-in-WaitReturning-clause-err g c = tt
+
+pub returns-in_err-found-in-WaitReturning-clause-ok : goal.returns-in_err-found-in-WaitReturning-clause-ok
+returns-in_err-found-in-WaitReturning-clause-ok g c = let p = err_from_is_err_and c.from_residual-in_err-found-in-WaitReturning.result c.from_residual-in_err-found-in-WaitReturning.ensures.1 in rw p.1 tt

@@ -22,3 +22,6 @@ returns-clause-ok g c =
       grows = made.grows;
       answers = c.settle.ensures.step ∙ ap step_of c.got.ensures;
     })
+
+pub settle-requires : goal.settle-requires
+settle-requires g c = g.met.C.Seated.seat_fits

@@ -1,3 +1,5 @@
+use Rattle.std.proofs.lemmas.Result.{err_from_is_err_and}
+use Rattle.std.proofs.Common.{rules}
 use Rattle.ns_word.specs.Steps.{truths}
 use Rattle.ns_world.specs.World.{seen}
 use Rattle.ns_world.proofs.Turns.{map_ok, map_err, turns_without, turns_started, turns_busy, started_steps}
@@ -20,3 +22,12 @@ pub returns-in-Busy-clause-ok : goal.returns-in-Busy-clause-ok
 returns-in-Busy-clause-ok g c =
     let busy = rw c.in-Busy.is at c.in_ok-begin.ensures.ok in
     rw c.in-Some.is (map_ok c.step-in-Busy.result (λ step p. turns_busy (seen (truths g.C.Condition.holds g.C.Condition.is_same g.C.Condition.is_quiet) c.args.world.now) (seen (truths g.C.Condition.holds g.C.Condition.is_same g.C.Condition.is_quiet) c.begin.new.self) (seen (truths g.C.Condition.holds g.C.Condition.is_same g.C.Condition.is_quiet) c.step-in-Busy.new.self) c.args.seat c.in-Some.call step busy p) c.step-in-Busy.ensures.ok)
+
+pub begin-requires : goal.begin-requires
+begin-requires g c = (search rules, rw c.in-Some.is at c.requires)
+
+pub returns-in_err-begin-clause-ok : goal.returns-in_err-begin-clause-ok
+returns-in_err-begin-clause-ok g c = let p = err_from_is_err_and c.from_residual.result c.from_residual.ensures.1 in rw p.1 tt
+
+pub returns-in-Misuse-clause-err : goal.returns-in-Misuse-clause-err
+returns-in-Misuse-clause-err g c = tt

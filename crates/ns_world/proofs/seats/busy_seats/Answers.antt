@@ -17,3 +17,15 @@ returns g c = λ number.
     let seats = c.args.seats.now in
     let past : c.loop-at.at ≡ length seats = omega arith in
     rw (past, take-length seats) at c.loop-at.invariant number
+
+pub loop-at-init : goal.loop-at-init
+loop-at-init g c = λ number. c.none-busy.ensures number
+
+pub overflow_cast-at : goal.overflow_cast-at
+overflow_cast-at g c = omega (arith, c.requires, c.loop-at-test.true)
+
+pub with-busy-requires : goal.with-busy-requires
+with-busy-requires g c = omega (arith, c.requires, c.loop-at-test.true)
+
+pub is_busy-requires : goal.is_busy-requires
+is_busy-requires g c = g.met.C.Seated.seat_fits

@@ -59,3 +59,21 @@ returns-in-Some-clause-ok g c =
     let fits = subst (λ m. CallFits (note_at c.args.env.now.notes) c.args.call m) c.mode_of.ensures c.in-Some.ensures.1 in
     rw (c.place.ensures, is) (starts_here (truths g.C.Condition.holds g.C.Condition.is_same g.C.Condition.is_quiet) (word_of c.args.word.now) c.args.row.now c.args.queues.now c.args.flags.now c.args.env.now c.args.seats.now.items c.args.history.now.items c.args.number seat within c.args.call c.in-Some.start (rw (c.mode_of.ensures, same, is) at c.in-Some.ensures.0)
     (rw (same, is) at walk) (rw (same, is) at ask) (rw (same, is) at fits))
+
+pub is_busy-requires : goal.is_busy-requires
+is_busy-requires g c = g.met.C.Seated.seat_fits
+
+pub place-requires : goal.place-requires
+place-requires g c = g.met.C.Seated.seat_fits
+
+pub mode_of-requires : goal.mode_of-requires
+mode_of-requires g c = g.met.C.Fits.held_fits
+
+pub returns-then-at-len-clause-lawful : goal.returns-then-at-len-clause-lawful
+returns-then-at-len-clause-lawful g c = c.requires.lawful
+
+pub returns-then-is_busy-clause-lawful : goal.returns-then-is_busy-clause-lawful
+returns-then-is_busy-clause-lawful g c = c.requires.lawful
+
+pub returns-in-None-clause-lawful : goal.returns-in-None-clause-lawful
+returns-in-None-clause-lawful g c = c.requires.lawful

@@ -123,3 +123,9 @@ returns-in-Err-clause-err g c =
         rw c.unpacked-found.ensures at err.0,
       ),
     )
+
+pub returns-then-at-len-clause-lawful : goal.returns-then-at-len-clause-lawful
+returns-then-at-len-clause-lawful g c = c.requires
+
+pub returns-in_default-walk-clause-lawful : goal.returns-in_default-walk-clause-lawful
+returns-in_default-walk-clause-lawful g c = c.requires

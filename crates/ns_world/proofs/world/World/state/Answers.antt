@@ -1,4 +1,4 @@
-use Rattle.std.proofs.Common.{rules}
+use Rattle.std.proofs.Common.{rules, refl}
 use Rattle.ns_word.specs.Codec.{word_of}
 use Rattle.ns_word.specs.Steps.{truths}
 use Rattle.ns_world.proofs.Lists.{all_empty}
@@ -47,3 +47,9 @@ returns-clause-lock g c = rw (← c.self.view_is) (rw c.deref.ensures.value at c
 
 pub returns-clause-owed : goal.returns-clause-owed
 returns-clause-owed g c = rw (← c.self.view_is) (rw c.deref-2.ensures.value at c.owed_wakes.ensures)
+
+pub returns-clause-lawful : goal.returns-clause-lawful
+returns-clause-lawful g c = rw (← c.self.view_is) c.self.invariant.lawful
+
+pub returns-clause-row : goal.returns-clause-row
+returns-clause-row g c = rw (← c.self.view_is) refl

@@ -1,0 +1,21 @@
+use Rattle.std.proofs.Common.{◌<◌, length, ap, sym, ◌∙◌, arith}
+use Rattle.std.proofs.lemmas.List.{length-map}
+use Rattle.ns_world.specs.Performs.{view_of}
+use Rattle.ns_world.proofs.Mapped.{index-map}
+use Rattle.ns_world.proofs.world.World.tests.Goals as goal
+
+pub index-requires : goal.index-requires
+index-requires g c =
+    let seats = c.self.inside.seats in
+    let same = length-map seats.items view_of in
+    let within = rw (← c.self.view_is) at c.requires in
+    let all = seats.ok.0 in
+    omega (arith, same, within, all)
+
+pub returns : goal.returns
+returns g c =
+    let seats = c.self.inside.seats in
+    let same = length-map seats.items view_of in
+    let within = rw (← c.self.view_is) at c.requires in
+    let inside : c.args.seat < length seats.items = omega (arith, same, within) in
+    rw (← c.self.view_is) (ap (λ s. s.tests) c.index.ensures ∙ sym (index-map (λ s. s.tests) seats.items c.args.seat c.index.result.now inside))
