@@ -13,3 +13,6 @@ returns g c = (rw (c.in_ok-seats.ensures.views, c.in_ok-seats.ensures.tests, c.i
 
 pub new-requires : goal.new-requires
 new-requires g c = omega (arith, g.met.C.Queueable.list_fits)
+
+pub new_seats-requires : goal.new_seats-requires
+new_seats-requires g c = g.met.C.Seated.seat_fits

@@ -1,0 +1,15 @@
+use Rattle.ns_world.specs.Performs.{step_of}
+use Rattle.std.proofs.Common.{ap, ◌∙◌}
+use Rattle.ns_world.proofs.looks.see.Goals as goal
+
+pub settle-requires : goal.settle-requires
+settle-requires g c = g.met.C.Seated.seat_fits
+
+pub keep-requires : goal.keep-requires
+keep-requires g c = g.met.C.Fits.held_fits
+
+pub returns : goal.returns
+returns g c = record {
+  goes = rw (c.got.ensures, c.keep.ensures, c.came_back.ensures, c.want.ensures) at c.settle.ensures.seat;
+  answers = c.settle.ensures.step ∙ ap step_of c.got.ensures;
+}
