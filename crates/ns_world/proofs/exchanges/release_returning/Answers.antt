@@ -1,5 +1,5 @@
 use Rattle.ns_queue.specs.Queues.{Lists}
-use Rattle.std.proofs.Common.{refl, sym, ◌∙◌, ap, not}
+use Rattle.std.proofs.Common.{refl, sym, ◌∙◌, ap, not, rules}
 use Rattle.std.proofs.lemmas.Result.{err_from_is_err_and}
 use Rattle.ns_word.specs.Steps.{truths}
 use Rattle.ns_world.proofs.Released.{scanned, missed, some_left, can_some}
@@ -40,3 +40,9 @@ returns-in_err-commit-clause-ok g c = let p = err_from_is_err_and c.from_residua
 
 pub returns-clause-others : goal.returns-clause-others
 returns-clause-others g c = ap (λ (q : Lists _). q.cvs) c.scan-scan.ensures.left
+
+pub scan-scan-requires : goal.scan-scan-requires
+scan-scan-requires g c = (search rules, search rules)
+
+pub bits-requires : goal.bits-requires
+bits-requires g c = search rules
