@@ -1,20 +1,84 @@
-//! A world of `ns_world`, stepped by its own calls. What its contracts say is not tested again;
-//! they leave open that memory is there.
+//! A world of `ns_world`, by its own calls and over a condition of its own. What its contracts say
+//! is not tested again; they leave open that memory is there.
 
-use crate::condition::ScriptCondition;
+ghost use Rattle.std.specs.Prelude.{IfOk};
+ghost use Rattle.ns_world.specs.Runs.{ListFits};
+
+use ns_model::condition::Condition;
 use ns_model::event::{Entry, Event, Exit, Mode};
+use ns_model::history::{legal, row_after};
 use ns_word::walk::Reply;
 use ns_world::call::Call;
 use ns_world::fault::Fault;
-use ns_world::step::Step;
+use ns_world::schedule::Turn;
+use ns_world::step::{Begun, Step};
 use ns_world::world::World;
+use std::alloc::{AllocError, Global};
 use std::test::Fail;
+
+/// A condition that is never true.
+#[derive(Clone, Copy)]
+struct Never;
+
+impl Condition<8> for Never {
+    ghost use Rattle.std.proofs.Common.{rules};
+    ghost use Rattle.std.specs.Prelude.{false, true, refl};
+
+    ghost holds = { λ c row. false };
+
+    ghost is_same = { λ c d. true };
+
+    ghost is_quiet = { λ before after. true };
+
+    fn test(&self, _row: &[u64; 8]) -> bool {
+        false
+    }
+
+    fn same(&self, _other: &Self) -> bool {
+        true
+    }
+
+    fn quiet(_before: &[u64; 8], _after: &[u64; 8]) -> bool {
+        true
+    }
+
+    ghost same_agrees = { λ c d row n e. refl };
+
+    ghost quiet_keeps = { λ c before after n m quiet h. h };
+
+    ghost has_cells = { Prim.search rules };
+
+    ghost has_room = { Prim.search rules };
+}
+
+/// One of two tries is busy.
+#[test]
+fn two_try(rt: HostRuntime) -> Result<(), Fail> {
+    let mut world = World::<Never, 8>::new(rt.alloc(), 2, &[], 0)?;
+    for seat in [0, 1] {
+        let begun = world.begin(seat, Call::TryLock)?;
+        assert_eq!(rt; begun, Begun::Started);
+    }
+    let table = [
+        (0, Step::Went),
+        (1, Step::Went),
+        (0, Step::Finished(Reply::Ok)),
+        (1, Step::Finished(Reply::Busy)),
+        (0, Step::Nothing),
+    ];
+    for (seat, expected) in table {
+        let step = world.step(seat)?;
+        assert_eq!(rt; step, expected, "a step of {seat}");
+    }
+    assert!(rt; legal(world.history()));
+    Ok(())
+}
 
 /// With every allocation refused in turn, each answer is `OutOfMemory` and nothing is lost, or
 /// the answer with ample memory.
 #[test]
 fn refused_memory_loses_nothing(rt: HostRuntime) -> Result<(), Fail> {
-    let mut world = match World::<ScriptCondition, 8>::new(rt.alloc(), 1, &[], 0) {
+    let mut world = match World::<Never, 8>::new(rt.alloc(), 1, &[], 0) {
         Ok(world) => world,
         Err(fault) => {
             assert_eq!(rt; fault, Fault::OutOfMemory);
@@ -36,19 +100,55 @@ fn refused_memory_loses_nothing(rt: HostRuntime) -> Result<(), Fail> {
         }
     }
     assert_eq!(rt; world.history().len(), 1);
-    if let Some(
-        Event::Section {
-            who,
-            mode,
-            entry,
-            after,
-            exit,
-            ..
-        },
-    ) = world.history().first()
-    {
-        assert!(rt; *who == 0 && *mode == Mode::Write && *after == [5, 0, 0, 0, 0, 0, 0, 0]);
-        assert!(rt; matches!(entry, Entry::Plain) && matches!(exit, Exit::Plain));
+    assert!(rt;
+        matches!(
+            world.history().first(),
+            Some(Event::Section {
+                who: 0,
+                mode: Mode::Write,
+                entry: Entry::Plain,
+                after: [5, 0, 0, 0, 0, 0, 0, 0],
+                exit: Exit::Plain,
+                ..
+            })
+        )
+    );
+    Ok(())
+}
+
+/// The calls of the first path: an acquire, a write, a read, and the release.
+fn first_calls(alloc: Global) -> Result<Vec<Call<Never>>, AllocError>
+    ensures { IfOk result (λ calls. ListFits 8 calls.items) }
+{
+    let mut calls = Vec::new(alloc);
+    calls.push(Call::TryLock)?;
+    calls.push(Call::Set(0, 5))?;
+    calls.push(Call::Get(0))?;
+    calls.push(Call::Unlock)?;
+    Ok(calls)
+}
+
+/// The same of a run.
+#[test]
+fn a_run_refused_memory_is_as_its_last_turn_left_it(rt: HostRuntime) -> Result<(), Fail> {
+    let Ok(mut world) = World::<Never, 8>::new(rt.alloc(), 1, &[], 0) else {
+        return Ok(());
+    };
+    let Ok(calls) = first_calls(rt.alloc()) else {
+        return Ok(());
+    };
+    let schedule = [Turn {
+        thread: 0,
+        whole: true,
+        times: 4,
+    }];
+    match world.run(rt.alloc(), &[calls], &schedule, 7) {
+        Ok(lines) => assert_eq!(rt; lines.len(), 4),
+        Err(fault) => assert_eq!(rt; fault, Fault::OutOfMemory),
+    }
+    let state = world.state();
+    if !state.word.write {
+        assert_eq!(rt; row_after(world.history()), state.row);
     }
     Ok(())
 }
