@@ -262,3 +262,18 @@ returns-in_ok-found-in-WaitReturning-clause-err g c = tt
 
 pub returns-in_err-found-in-WaitReturning-clause-ok : goal.returns-in_err-found-in-WaitReturning-clause-ok
 returns-in_err-found-in-WaitReturning-clause-ok g c = let p = err_from_is_err_and c.from_residual-in_err-found-in-WaitReturning.result c.from_residual-in_err-found-in-WaitReturning.ensures.1 in rw p.1 tt
+
+pub take_queues-found-requires : goal.take_queues-found-requires
+take_queues-found-requires g c = rw c.in-TakeQueues.is at c.requires.fits
+
+pub arm_flag-found-requires : goal.arm_flag-found-requires
+arm_flag-found-requires g c = rw c.in-ArmFlag.is at c.requires.fits
+
+pub bounds-row-i : goal.bounds-row-i
+bounds-row-i g c = rw c.in-LoadCell.is at c.requires.fits
+
+pub bounds-flags-seat : goal.bounds-flags-seat
+bounds-flags-seat g c = rw c.in-LoadFlag.is at c.requires.fits
+
+pub unreachable-requires : goal.unreachable-requires
+unreachable-requires g c = let no = rw c.in-Look.is at c.requires.inside in absurd (cc)
