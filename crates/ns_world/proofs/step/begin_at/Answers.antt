@@ -77,3 +77,9 @@ returns-then-is_busy-clause-lawful g c = c.requires.lawful
 
 pub returns-in-None-clause-lawful : goal.returns-in-None-clause-lawful
 returns-in-None-clause-lawful g c = c.requires.lawful
+
+pub index-seat-requires : goal.index-seat-requires
+index-seat-requires g c = rw (← c.len.ensures) c.if-at-len.false
+
+pub index_mut-requires : goal.index_mut-requires
+index_mut-requires g c = rw (← c.len.ensures) c.if-at-len.false

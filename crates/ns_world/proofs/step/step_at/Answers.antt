@@ -129,3 +129,15 @@ returns-then-at-len-clause-lawful g c = c.requires
 
 pub returns-in_default-walk-clause-lawful : goal.returns-in_default-walk-clause-lawful
 returns-in_default-walk-clause-lawful g c = c.requires
+
+pub index-requires : goal.index-requires
+index-requires g c = rw (← c.len.ensures) c.if-at-len.false
+
+pub index-requires-2 : goal.index-requires-2
+index-requires-2 g c = rw (← c.len.ensures) c.if-at-len.false
+
+pub index_mut-requires : goal.index_mut-requires
+index_mut-requires g c = rw (← c.len.ensures) c.if-at-len.false
+
+pub index_mut-requires-2 : goal.index_mut-requires-2
+index_mut-requires-2 g c = rw (← c.len.ensures) c.if-at-len.false
