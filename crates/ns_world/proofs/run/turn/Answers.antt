@@ -31,3 +31,12 @@ returns-in_err-begin-clause-ok g c = let p = err_from_is_err_and c.from_residual
 
 pub returns-in-Misuse-clause-err : goal.returns-in-Misuse-clause-err
 returns-in-Misuse-clause-err g c = tt
+
+pub step-requires : goal.step-requires
+step-requires g c = search rules
+
+pub step-requires-in-Started : goal.step-requires-in-Started
+step-requires-in-Started g c = search rules
+
+pub step-requires-in-Busy : goal.step-requires-in-Busy
+step-requires-in-Busy g c = search rules
