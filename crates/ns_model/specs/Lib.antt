@@ -1,4 +1,5 @@
 pub mod Beginnings
+pub mod Counted
 pub mod Environments
 pub mod Histories
 pub mod Lines

@@ -3,8 +3,6 @@ use Rattle.std.specs.Prelude.{◌≡◌, ℕ, min, Bool, true, false, not, ◌&&
 use Rattle.ns_model.specs.declared.phase.Phase.{Phase}
 use Rattle.ns_model.specs.declared.phase.Phase.TheVariants.{Waiting}
 use Rattle.ns_model.specs.declared.seats.Seats.{Seats}
-use Rattle.ns_model.specs.declared.wakes.Counted.{Counted}
-use Rattle.ns_model.specs.declared.wakes.Counted.TheVariants.{WaitingAs, WokenAs, Stranger, Left}
 use Rattle.ns_model.specs.Seats.{is_in}
 use Rattle.ns_model.specs.Phases.{is_waiting, is_waiting_as, count_seats}
 
@@ -23,13 +21,6 @@ waiting_as writes k phases = count_seats 64 (λ seat phase. is_waiting_as writes
 -- how many of those are woken
 abbrev pub woken_as : {C : Type 0} → Bool → ℕ → Seats → (ℕ → Phase C) → ℕ
 woken_as writes k woken phases = count_seats 64 (λ seat phase. is_in woken seat && is_waiting_as writes k phase) phases
-
--- whether such a count is of the seat, which is in this phase
-abbrev pub is_counted : {C : Type 0} → Counted → ℕ → Seats → ℕ → Phase C → Bool
-is_counted (WaitingAs writes) k woken seat phase = is_waiting_as writes k phase
-is_counted (WokenAs writes) k woken seat phase = is_in woken seat && is_waiting_as writes k phase
-is_counted Stranger k woken seat phase = is_in woken seat && not (is_waiting k phase)
-is_counted Left k woken seat phase = not (is_in woken seat) && is_waiting k phase
 
 -- A signal wakes only who waits, and at least one if there is one: one writer alone; or every reader, and with them one of the writers, if there are any.
 pub record IsLegalSignal {C : Type 0} (k : ℕ) (woken : Seats) (phases : ℕ → Phase C) : Type 0 where

@@ -1,9 +1,10 @@
 //! Which wakes are legal, by counts over the 64 seats.
 
 ghost use Rattle.std.specs.Prelude.{◌≡◌, ◌<◌, ◌↔◌, IsTrue};
+ghost use Rattle.ns_model.specs.Counted.{is_counted};
 ghost use Rattle.ns_model.specs.Phases.{count_seats};
 ghost use Rattle.ns_model.specs.Histories.{standing_after};
-ghost use Rattle.ns_model.specs.Wakes.{is_counted, IsLegalSignal, IsLegalBroadcast, IsLegalLeave};
+ghost use Rattle.ns_model.specs.Wakes.{IsLegalSignal, IsLegalBroadcast, IsLegalLeave};
 
 use crate::event::Event;
 use crate::history::phase_of;

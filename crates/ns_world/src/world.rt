@@ -38,8 +38,9 @@ use std::marker::Model;
 /// Its contracts speak of the word, the row, each seat's view, the history, the clock, the notes,
 /// and each seat's place in a call on these. Between any two calls the law of the lock holds of
 /// them, which `ns_word` states: one writer or readers, as many as the word counts, the queues in
-/// one hand, each waiter placed, nobody forgotten, and one legal history by seats of this world. The clock and the notes are as a legal history by seats of this world leaves them,
-/// and who is to store a note has taken its number.
+/// one hand, each waiter placed, nobody forgotten, and one legal history by seats of this world.
+/// The clock and the notes are as a legal history by seats of this world leaves them, and who is
+/// to store a note has taken its number.
 #[derive(Drop)]
 pub struct World<C: Condition<N>, const N: usize> {
     word: u64,
