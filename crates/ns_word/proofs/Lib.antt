@@ -10,6 +10,7 @@ pub mod EnvRanges
 pub mod Groups
 pub mod Homes
 pub mod Keeps
+pub mod Kept
 pub mod Knows
 pub mod Leads
 pub mod Made

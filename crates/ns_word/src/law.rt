@@ -1,6 +1,6 @@
 //! The law of the steps.
 
-ghost use Rattle.std.specs.Prelude.{◌≡◌, ◌≢◌, ℕ, ◌≤◌, true, false, List, [], ◌∷◌, ◌++◌, Option, None, Some, slice_get};
+ghost use Rattle.std.specs.Prelude.{◌≡◌, ◌≢◌, ◌⊎◌, ℕ, ◌≤◌, true, false, List, [], ◌∷◌, ◌++◌, Option, None, Some, slice_get};
 ghost use Rattle.ns_model.specs.declared.event.Answer.{Answer};
 ghost use Rattle.ns_model.specs.declared.event.Entry.TheVariants.{Waited};
 ghost use Rattle.ns_model.specs.declared.event.Event.{Event};
@@ -8,6 +8,7 @@ ghost use Rattle.ns_model.specs.declared.phase.Phase.TheVariants.{Cond};
 ghost use Rattle.ns_model.specs.Histories.{phase_of};
 ghost use Rattle.ns_model.specs.Sections.{is_met};
 ghost use Rattle.ns_queue.specs.declared.waiter.Waiter.{Waiter};
+ghost use Rattle.ns_word.specs.declared.limits.Cause.{Cause};
 ghost use Rattle.ns_word.specs.declared.wait.Wait.{Wait};
 ghost use Rattle.ns_word.specs.declared.wait.WaitPlace.{WaitPlace};
 ghost use Rattle.ns_word.specs.declared.view.Held.{Held};
@@ -17,11 +18,13 @@ ghost use Rattle.ns_word.specs.declared.walk.Walk.TheVariants.{Wait as Waiting};
 ghost use Rattle.ns_word.specs.declared.walk.Next.TheVariants.{Done};
 ghost use Rattle.ns_word.specs.declared.walk.Reply.TheVariants.{Answered};
 ghost use Rattle.ns_word.specs.declared.act.Found.{Found};
-ghost use Rattle.ns_word.specs.Answers.{has_come_back};
-ghost use Rattle.ns_word.specs.Begins.{Begins, FirstStep, fresh_state};
+ghost use Rattle.ns_word.specs.declared.act.Found.TheVariants.{Looked};
+ghost use Rattle.ns_word.specs.Answers.{cause_kept, has_come_back, is_back};
+ghost use Rattle.ns_word.specs.Begins.{Begins, FirstStep, IsFirst, fresh_state};
 ghost use Rattle.ns_word.specs.Steps.{State, Step, entry_of, truths};
 ghost use Rattle.ns_word.specs.Lawful.{IsLawful};
 ghost use Rattle.ns_word.specs.Told.{Told, IsTold, nothing_told, told_after, BeginsWith};
+ghost use Rattle.ns_word.specs.Waits.{answer_of};
 ghost use Rattle.ns_word.specs.Walks.{got_of, walk_after};
 
 use ns_model::condition::Condition;
@@ -113,11 +116,33 @@ pub fn waits_answer_rightly<C: Condition<N>, const N: usize>()
         × (has_come_back step.walk ≡ true → entry_of C.holds held.before held.entry ≡ Waited wait.cond answer) }
 {}
 
-/// What a section says of how it began stays until it is left: only a wait that has come back with
-/// it, and hasn't answered yet, may settle that.
+/// A wait answers that it was ended early only by what a look of its own has shown, the deadline or
+/// the note. Its place keeps a cause only where the place before kept it, or where the step was a
+/// look that showed it; and it answers by a cause only where its place has kept that, or where the
+/// step was such a look.
+pub fn early_answers_were_shown<C: Condition<N>, const N: usize>()
+    ensures { (walk : Walk C) (found : Found) (cause : Cause) →
+        ((next : Walk C) → walk_after (got_of N walk found) ≡ Some next → cause_kept next ≡ Some cause → (cause_kept walk ≡ Some cause) ⊎ (found ≡ Looked (Some cause)))
+        × (got_of N walk found ≡ Done (Answered (answer_of cause)) → (cause_kept walk ≡ Some cause) ⊎ (found ≡ Looked (Some cause))) }
+{}
+
+/// No call begins at a place that keeps a cause.
+pub fn no_call_begins_ended<C: Condition<N>, const N: usize>()
+    ensures { (walk : Walk C) → IsFirst N walk → cause_kept walk ≡ None }
+{}
+
+/// What a section says of how it began stays from the answer until the section is left. Only a wait
+/// that has come back with it, and hasn't answered yet, may settle that; no step of any other call
+/// changes it, and none leads to such a wait while the section is in hand.
 pub fn sections_keep_their_beginning<C: Condition<N>, const N: usize>()
     ensures { (old new : State C N) (view : SeatView C N) (found : Found) (commits : List (Event C N)) (was held : Held C N) →
         (step : Step (truths C.holds C.is_same C.is_quiet) old view found new commits) →
         has_come_back step.walk ≡ false → view.held ≡ Some was → step.held ≡ Some held →
-        (held.mode ≡ was.mode) × (held.before ≡ was.before) × (held.entry ≡ was.entry) }
+        (held.mode ≡ was.mode) × (held.before ≡ was.before) × (held.entry ≡ was.entry) × (is_back (walk_after (got_of N step.walk found)) ≡ false) }
+{}
+
+/// No call begins at a place where a wait has come back, so neither do the calls that a seat makes
+/// between the answer and the end of its section.
+pub fn no_call_begins_back<C: Condition<N>, const N: usize>()
+    ensures { (walk : Walk C) → IsFirst N walk → has_come_back walk ≡ false }
 {}
