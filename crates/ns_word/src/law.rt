@@ -105,8 +105,8 @@ pub fn first_steps_tell_no_other<C: Condition<N>, const N: usize>()
         view.seat ≢ other → IsTold C.holds seats history other walk told → IsTold C.holds seats (history ++ commits) other walk told }
 {}
 
-/// A wait answers that its condition was met exactly where it holds of the row that the wait comes
-/// back to, with the section in hand in the wait's mode. Where it has waited, its section says of
+/// A wait answers that its condition was met exactly where it holds of the row that the wait returns
+/// with, and its section is in the mode that it was called in. Where it has waited, its section says of
 /// itself just that answer.
 pub fn waits_answer_rightly<C: Condition<N>, const N: usize>()
     ensures { (seats : ℕ) (history : List (Event C N)) (old new : State C N) (view : SeatView C N) (found : Found) (commits : List (Event C N)) (wait : Wait C) (place : WaitPlace) (answer : Answer) →
