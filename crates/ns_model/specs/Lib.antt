@@ -7,4 +7,5 @@ pub mod Phases
 pub mod Room
 pub mod Seats
 pub mod Sections
+pub mod Truths
 pub mod Wakes

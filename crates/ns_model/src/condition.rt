@@ -1,7 +1,8 @@
 //! A caller's condition on the guarded row.
 
-ghost use Rattle.std.specs.Prelude.{◌≡◌, ◌≤◌, ℕ, List, Bool, true, length};
+ghost use Rattle.std.specs.Prelude.{◌≡◌, ◌≤◌};
 ghost use Rattle.ns_model.specs.Room.{HasRoom};
+ghost use Rattle.ns_model.specs.Truths.{Truths, SameAgrees, QuietKeeps};
 
 /// A truth on rows of `N` cells, `N` from 1 to 16. It depends on the row alone, and a test
 /// changes nothing: whoever holds the lock may test it, not always the waiter.
@@ -10,34 +11,29 @@ ghost use Rattle.ns_model.specs.Room.{HasRoom};
 /// are nsync's: two conditions may be declared equivalent, and then one test serves both; a
 /// change of the row may be declared quiet, and then it makes no false condition true.
 pub trait Condition<const N: usize>: Copy {
-    /// Where the condition is true.
-    ghost holds: { Self → List ℕ → Bool };
-
-    /// Which conditions are declared equivalent.
-    ghost is_same: { Self → Self → Bool };
-
-    /// Which changes of the row are declared quiet.
-    ghost is_quiet: { List ℕ → List ℕ → Bool };
+    /// Where each condition is true, which are declared equivalent, and which changes of the row are
+    /// declared quiet.
+    ghost means: { Truths Self };
 
     /// Whether the condition is true of the row.
     fn test(&self, row: &[u64; N]) -> bool
-        ensures { result ≡ holds self.now row.now };
+        ensures { result ≡ means.holds self.now row.now };
 
     /// Whether the conditions are declared equivalent. It need be neither symmetric nor
     /// transitive, and `false` is always right.
     fn same(&self, other: &Self) -> bool
-        ensures { result ≡ is_same self.now other.now };
+        ensures { result ≡ means.same self.now other.now };
 
     /// Whether a change of the row from `before` to `after` is declared quiet. `false` is always
     /// right.
     fn quiet(before: &[u64; N], after: &[u64; N]) -> bool
-        ensures { result ≡ is_quiet before.now after.now };
+        ensures { result ≡ means.quiet before.now after.now };
 
     /// Equivalent conditions are true of the same rows.
-    ghost same_agrees: { (c d : Self) (row : List ℕ) → length row ≡ N → is_same c d ≡ true → holds c row ≡ holds d row };
+    ghost same_agrees: { SameAgrees N means };
 
     /// What holds after a quiet change held before it.
-    ghost quiet_keeps: { (c : Self) (before after : List ℕ) → length before ≡ N → length after ≡ N → is_quiet before after ≡ true → holds c after ≡ true → holds c before ≡ true };
+    ghost quiet_keeps: { QuietKeeps N means };
 
     /// A row has 1 to 16 cells.
     ghost has_cells: { (1 ≤ N) × (N ≤ 16) };

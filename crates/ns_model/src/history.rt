@@ -83,7 +83,7 @@ fn is_row_after<C: Copy, const N: usize>(history: &[Event<C, N>], row: &[u64; N]
 
 /// Whether the event is legal after those of the past.
 fn event_fits<C: Condition<N>, const N: usize>(past: &[Event<C, N>], event: &Event<C, N>) -> bool
-    ensures { IsTrue result ↔ IsLegalEvent C.holds (standing_after past.now) event.now }
+    ensures { IsTrue result ↔ IsLegalEvent C.means.holds (standing_after past.now) event.now }
 {
     match event {
         Event::Section {
@@ -111,7 +111,7 @@ fn event_fits<C: Condition<N>, const N: usize>(past: &[Event<C, N>], event: &Eve
 /// Takes no memory. The time grows with the square of the history's length, since the past is
 /// read again for each event.
 pub fn legal<C: Condition<N>, const N: usize>(history: &[Event<C, N>]) -> bool
-    ensures { IsTrue result ↔ IsLegal C.holds history.now }
+    ensures { IsTrue result ↔ IsLegal C.means.holds history.now }
 {
     for (i, event) in history.iter().enumerate() {
         if !event_fits(&history[..i], event) {

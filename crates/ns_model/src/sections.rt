@@ -16,7 +16,7 @@ pub(crate) fn entry_fits<C: Condition<N>, const N: usize>(
     entry: &Entry<C>,
     phase: Phase<C>,
 ) -> bool
-    ensures { IsTrue result ↔ EntryFits C.holds before.now mode entry.now phase }
+    ensures { IsTrue result ↔ EntryFits C.means.holds before.now mode entry.now phase }
 {
     match (entry, &phase) {
         (Entry::Plain, Phase::Idle) => true,
@@ -36,7 +36,7 @@ pub(crate) fn entry_fits<C: Condition<N>, const N: usize>(
 
 /// Whether a section may end so at this row.
 pub(crate) fn exit_fits<C: Condition<N>, const N: usize>(after: &[u64; N], exit: &Exit<C>) -> bool
-    ensures { IsTrue result ↔ ExitFits C.holds after.now exit.now }
+    ensures { IsTrue result ↔ ExitFits C.means.holds after.now exit.now }
 {
     match exit {
         Exit::Plain => true,

@@ -1,6 +1,7 @@
 //! Histories that are legal, and the same changed in one place, which are not.
 
 ghost use Rattle.std.specs.Prelude.{◌≡◌, nat_le, ◌==◌, slice_index, false};
+ghost use Rattle.ns_model.specs.Truths.{truths};
 
 use crate::condition::Condition;
 use crate::event::{Answer, Entry, Event, Exit, Mode};
@@ -15,11 +16,7 @@ struct AtLeast(u64);
 impl Condition<8> for AtLeast {
     ghost use Rattle.std.proofs.Common.{arith, rules};
 
-    ghost holds = { λ c row. nat_le c.0 (slice_index row 0) };
-
-    ghost is_same = { λ c d. c.0 == d.0 };
-
-    ghost is_quiet = { λ before after. false };
+    ghost means = { truths (λ c row. nat_le c.0 (slice_index row 0)) (λ c d. c.0 == d.0) (λ before after. false) };
 
     fn test(&self, row: &[u64; 8]) -> bool {
         self.0 <= row[0]

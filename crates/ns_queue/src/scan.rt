@@ -32,7 +32,7 @@ struct Choice {
 
 /// Whether the waiter's condition is declared the same as the one given.
 fn is_alike<C: Queueable<N>, const N: usize>(waiter: &Waiter<C>, first: Option<&C>) -> bool
-    ensures { result ≡ is_alike C.is_same waiter.now.cond (option_copied first.entry) }
+    ensures { result ≡ is_alike C.means.same waiter.now.cond (option_copied first.entry) }
 {
     match (&waiter.cond, first) {
         (Some(next), Some(first)) => next.same(first),
@@ -42,7 +42,7 @@ fn is_alike<C: Queueable<N>, const N: usize>(waiter: &Waiter<C>, first: Option<&
 
 /// Whether the condition, if there is one, is true of the row.
 fn is_met<C: Queueable<N>, const N: usize>(first: Option<&C>, row: &[u64; N]) -> bool
-    ensures { result ≡ is_met (λ c. C.holds c row.now) (option_copied first.entry) }
+    ensures { result ≡ is_met (λ c. C.means.holds c row.now) (option_copied first.entry) }
 {
     match first {
         Some(c) => c.test(row),
@@ -58,7 +58,7 @@ fn ask<C: Queueable<N>, const N: usize>(
     truth: Option<bool>,
     row: &[u64; N],
 ) -> (Option<bool>, u32)
-    ensures truth { result.0 ≡ asked_for (λ c. C.holds c row.now) needed (option_copied first.entry) truth }
+    ensures truth { result.0 ≡ asked_for (λ c. C.means.holds c row.now) needed (option_copied first.entry) truth }
     ensures tests { result.1 ≡ asking needed (option_copied first.entry) truth }
 {
     if !needed || truth.is_some() {
@@ -71,8 +71,8 @@ fn ask<C: Queueable<N>, const N: usize>(
 /// Decides who is taken.
 fn choose<C: Queueable<N>, const N: usize>(waiters: &[Waiter<C>], row: &[u64; N]) -> Choice
     requires { length waiters.now ≤ 64 }
-    ensures marks { result.marks.items ≡ scan_marks (λ c. C.holds c row.now) Seeking waiters.now }
-    ensures tests { result.tests ≡ tests_from C.is_same (λ c. C.holds c row.now) Seeking None false waiters.now }
+    ensures marks { result.marks.items ≡ scan_marks (λ c. C.means.holds c row.now) Seeking waiters.now }
+    ensures tests { result.tests ≡ tests_from C.means.same (λ c. C.means.holds c row.now) Seeking None false waiters.now }
 {
     let mut stage = Stage::Seeking;
     let mut first = None;
@@ -105,9 +105,9 @@ fn scan_list<C: Queueable<N>, const N: usize>(
     waiters: &mut ArrayVec<Waiter<C>, 64>,
     row: &[u64; N],
 ) -> Scan
-    ensures woken { result.woken.items ≡ seats_of (woken_of (λ c. C.holds c row.now) waiters.old.items) }
-    ensures left { waiters.new.items ≡ left_of (λ c. C.holds c row.now) waiters.old.items }
-    ensures tests { result.tests ≡ tests_of C.is_same (λ c. C.holds c row.now) waiters.old.items }
+    ensures woken { result.woken.items ≡ seats_of (woken_of (λ c. C.means.holds c row.now) waiters.old.items) }
+    ensures left { waiters.new.items ≡ left_of (λ c. C.means.holds c row.now) waiters.old.items }
+    ensures tests { result.tests ≡ tests_of C.means.same (λ c. C.means.holds c row.now) waiters.old.items }
 {
     let choice = choose(waiters.as_slice(), row);
     let woken = marked_seats(waiters.as_slice(), choice.marks.as_slice());
@@ -125,10 +125,10 @@ impl<C: Queueable<N>, const N: usize> Queues<C, N> {
     ///
     /// Equivalent conditions of neighbours are tested once, and only where their truth is needed.
     pub fn scan(&mut self, row: &[u64; N]) -> Scan
-        ensures woken { result.woken.items ≡ seats_of (woken_of (λ c. C.holds c row.now) self.old.lock) }
-        ensures left { self.new ≡ with_waiters self.old Which.Lock (left_of (λ c. C.holds c row.now) self.old.lock) }
-        ensures tests { result.tests ≡ tests_of C.is_same (λ c. C.holds c row.now) self.old.lock }
-        ensures at_most_runs { result.tests ≤ length (runs_of C.is_same (λ w. w.cond) self.old.lock) }
+        ensures woken { result.woken.items ≡ seats_of (woken_of (λ c. C.means.holds c row.now) self.old.lock) }
+        ensures left { self.new ≡ with_waiters self.old Which.Lock (left_of (λ c. C.means.holds c row.now) self.old.lock) }
+        ensures tests { result.tests ≡ tests_of C.means.same (λ c. C.means.holds c row.now) self.old.lock }
+        ensures at_most_runs { result.tests ≤ length (runs_of C.means.same (λ w. w.cond) self.old.lock) }
     {
         scan_list(&mut self.lock, row)
     }

@@ -1,6 +1,7 @@
 //! Scans and signals of small lists, and how often a scan tests.
 
 ghost use Rattle.std.specs.Prelude.{◌≡◌, ◌==◌, ◌&&◌, nat_lt, nat_le, false, slice_index, length};
+ghost use Rattle.ns_model.specs.Truths.{truths};
 ghost use Rattle.ns_queue.specs.Queues.{IsList};
 
 use crate::queues::Queues;
@@ -21,11 +22,7 @@ struct AtLeast<'a> {
 impl<'a> Condition<2> for AtLeast<'a> {
     ghost use Rattle.std.proofs.Common.{arith, rules};
 
-    ghost holds = { λ c row. nat_lt c.cell (length row) && nat_le c.value (slice_index row c.cell) };
-
-    ghost is_same = { λ c d. (c.cell == d.cell) && (c.value == d.value) };
-
-    ghost is_quiet = { λ before after. false };
+    ghost means = { truths (λ c row. nat_lt c.cell (length row) && nat_le c.value (slice_index row c.cell)) (λ c d. (c.cell == d.cell) && (c.value == d.value)) (λ before after. false) };
 
     fn test(&self, row: &[u64; 2]) -> bool {
         self.tests.set(self.tests.get().wrapping_add(1));

@@ -70,14 +70,10 @@ impl fmt::Display for ScriptCondition {
 }
 
 impl Condition<8> for ScriptCondition {
-    ghost use Rattle.ns_replay.specs.Condition.{is_true_of, is_same_condition, none_rose};
+    ghost use Rattle.ns_replay.specs.Condition.{script_truths};
     ghost use Rattle.ns_replay.specs.ConditionLaws.{same_conditions, quiet_conditions};
 
-    ghost holds = { is_true_of };
-
-    ghost is_same = { is_same_condition };
-
-    ghost is_quiet = { none_rose };
+    ghost means = { script_truths };
 
     fn test(&self, row: &[u64; 8]) -> bool {
         match self.second {

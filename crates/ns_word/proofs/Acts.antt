@@ -13,7 +13,8 @@ use Rattle.ns_word.specs.declared.wait.WaitPlace.TheVariants.{TestCells, TestLas
 use Rattle.ns_word.specs.Lists.{has_some, times_among}
 use Rattle.ns_word.specs.Walks.{want_waiting, want_of, place_pays, awaits, pays}
 use Rattle.ns_word.specs.Views.{walk_at, AreApart}
-use Rattle.ns_word.specs.Steps.{Truths, State, part_of}
+use Rattle.ns_model.specs.Truths.{Truths}
+use Rattle.ns_word.specs.Steps.{State, part_of}
 use Rattle.ns_word.specs.Places.{WaitFits, PlaceFits, ActFits, OwesOne}
 use Rattle.ns_word.specs.Lawful.{EachFits, ViewFits, IsLawful}
 use Rattle.ns_word.proofs.Views.{walk_here, apart_parts, each_parts}

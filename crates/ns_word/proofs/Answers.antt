@@ -27,7 +27,8 @@ use Rattle.ns_word.specs.declared.walk.Next.{Next}
 use Rattle.ns_word.specs.declared.walk.Next.TheVariants.{On, Done}
 use Rattle.ns_word.specs.Waits.{answer_of, is_limited, cause_or}
 use Rattle.ns_word.specs.Walks.{want_waiting, want_of, got_waiting, got_of, reply_of, unmet_by, look_or_queue}
-use Rattle.ns_word.specs.Steps.{Truths, State, Part, Effect, Step, part_of, entry_of, opening_by, held_after}
+use Rattle.ns_model.specs.Truths.{Truths}
+use Rattle.ns_word.specs.Steps.{State, Part, Effect, Step, part_of, entry_of, opening_by, held_after}
 use Rattle.ns_word.specs.Places.{PlaceFits, WaitFits, Tests, MayWait, CanWait, ComesBack}
 use Rattle.ns_word.specs.Lawful.{EachFits, IsLawful}
 use Rattle.ns_word.specs.Answers.{comes_back, place_has_come_back, has_come_back}

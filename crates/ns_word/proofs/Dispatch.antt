@@ -33,7 +33,8 @@ use Rattle.ns_word.specs.Lists.{has_some, bits_of, queued}
 use Rattle.ns_word.specs.Waits.{mode_for, phase_for}
 use Rattle.ns_word.specs.Walks.{want_waiting, want_of, got_waiting, got_of, walk_after, acquired_for, pay_waiting, rest_or_look, place_has_queues, place_has_armed, place_awaits, place_pays, has_queues, is_queuing, has_armed, waits_in, pays, is_on_way, phase_by}
 use Rattle.ns_word.specs.Views.{NoneIs}
-use Rattle.ns_word.specs.Steps.{Truths, QuietKeeps, State, Part, Effect, Step, section_of, opening_for, newly_held, held_after, flags_with, meets_at, waited_in}
+use Rattle.ns_model.specs.Truths.{Truths, QuietKeeps}
+use Rattle.ns_word.specs.Steps.{State, Part, Effect, Step, section_of, opening_for, newly_held, held_after, flags_with, meets_at, waited_in}
 use Rattle.ns_word.specs.Places.{WaitFits, PlaceFits, HasMode, CanLeave, IsLeft, MayWait, CanWait}
 use Rattle.ns_word.specs.Lawful.{IsLawful, phase_before}
 use Rattle.ns_word.proofs.Groups.{Homed, Known, Groups, groups_of, lawful_by}

@@ -7,7 +7,8 @@ use Rattle.ns_word.specs.declared.word.Word.{Word}
 use Rattle.ns_word.specs.declared.view.SeatView.{SeatView}
 use Rattle.ns_word.specs.Lists.{has_some, bits_of}
 use Rattle.ns_word.specs.Views.{queuers, AreApart}
-use Rattle.ns_word.specs.Steps.{Truths, State}
+use Rattle.ns_model.specs.Truths.{Truths}
+use Rattle.ns_word.specs.Steps.{State}
 use Rattle.ns_word.specs.Lawful.{OneWriter, ReadersCounted, OneHistory, SpinHeldOnce, bits_in, WaitersPlaced, WaitersOwn, DesigOnItsWay, IdleWaitersFalse, AllfalseTrue, IsLawful}
 
 -- the sections

@@ -25,7 +25,8 @@ use Rattle.ns_word.specs.Words.{mode_left, may_acquire, needs_scan, word_acquire
 use Rattle.ns_word.specs.Lists.{has_some, has_eligible, bits_of, queued}
 use Rattle.ns_word.specs.Walks.{has_queues, is_queuing, has_armed, waits_in, awaits, pays, is_on_way, phase_by}
 use Rattle.ns_word.specs.Views.{NoneIs}
-use Rattle.ns_word.specs.Steps.{Truths, State, section_of, flags_with, meets_at}
+use Rattle.ns_model.specs.Truths.{Truths}
+use Rattle.ns_word.specs.Steps.{State, section_of, flags_with, meets_at}
 use Rattle.ns_word.specs.Places.{PlaceFits}
 use Rattle.ns_word.specs.Lawful.{is_set, is_due, ViewFits, bits_in, phase_before}
 use Rattle.ns_word.proofs.Groups.{Safe, Homed, Known, Groups}

@@ -28,7 +28,8 @@ use Rattle.ns_word.specs.Words.{may_acquire, needs_scan}
 use Rattle.ns_word.specs.Waits.{answer_of, is_limited, mode_for}
 use Rattle.ns_word.specs.Walks.{want_of, got_waiting, got_of, walk_after, unmet_by, look_or_queue, test_place, quiet_place, scan_place, acquire_by, acquired_for, release_by}
 use Rattle.ns_word.specs.Begins.{IsFirst}
-use Rattle.ns_word.specs.Steps.{Truths, State, Part, Effect, Step, part_of}
+use Rattle.ns_model.specs.Truths.{Truths}
+use Rattle.ns_word.specs.Steps.{State, Part, Effect, Step, part_of}
 use Rattle.ns_word.specs.Answers.{comes_back, place_has_come_back, has_come_back, is_back, cause_for, cause_by, place_cause_kept, cause_kept}
 
 -- ---- what ends a wait early

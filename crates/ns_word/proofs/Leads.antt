@@ -27,7 +27,8 @@ use Rattle.ns_word.specs.Words.{mode_left, may_acquire, needs_scan}
 use Rattle.ns_word.specs.Lists.{has_eligible}
 use Rattle.ns_word.specs.Waits.{is_limited, mode_for}
 use Rattle.ns_word.specs.Walks.{walk_after, acquire_by, acquired_for, release_by, quiet_place, scan_place, test_place, unmet_by, queue_by, pay_waiting, rest_or_look, leave_by, has_queues, is_queuing, has_armed, waits_in, pays, phase_by}
-use Rattle.ns_word.specs.Steps.{Truths, QuietKeeps, newly_held, opening_by, held_after, meets_at}
+use Rattle.ns_model.specs.Truths.{Truths, QuietKeeps}
+use Rattle.ns_word.specs.Steps.{newly_held, opening_by, held_after, meets_at}
 use Rattle.ns_word.specs.Places.{PlaceFits, HasMode, CanLeave, IsLeft, Tests, CanWait}
 use Rattle.ns_word.specs.Lawful.{phase_before}
 use Rattle.ns_word.proofs.Scans.{quiet_eligible}

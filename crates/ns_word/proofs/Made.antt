@@ -14,7 +14,8 @@ use Rattle.ns_word.specs.declared.act.Act.TheVariants.{ReleaseReturning, WaitRet
 use Rattle.ns_word.specs.declared.act.Found.TheVariants.{Scanned}
 use Rattle.ns_word.specs.Words.{mode_left, leaving_of, word_released_returning}
 use Rattle.ns_word.specs.Lists.{has_some, bits_of}
-use Rattle.ns_word.specs.Steps.{Truths, Part, Effect, section_of, meets_at, waited_in}
+use Rattle.ns_model.specs.Truths.{Truths}
+use Rattle.ns_word.specs.Steps.{Part, Effect, section_of, meets_at, waited_in}
 use Rattle.ns_word.proofs.Scans.{some_seats}
 
 pub returning_made : {C : Type 0} {N : ℕ} (truths : Truths C) (seat : ℕ) (leaving : Leaving) (last : Word) (old : Part C N) (held : Held C N) (word : Word) (lock : List (Waiter C)) (owed : List ℕ) (owes : Bool) (tests : ℕ) →

@@ -17,7 +17,8 @@ use Rattle.ns_word.specs.declared.walk.Walk.{Walk}
 use Rattle.ns_word.specs.declared.walk.Walk.TheVariants.{Round, Wait as Waiting}
 use Rattle.ns_word.specs.Walks.{Stance, place_awaits, waits_in}
 use Rattle.ns_word.specs.Views.{walk_at}
-use Rattle.ns_word.specs.Steps.{Truths, State}
+use Rattle.ns_model.specs.Truths.{Truths}
+use Rattle.ns_word.specs.Steps.{State}
 use Rattle.ns_word.specs.Places.{WaitFits, PlaceFits}
 use Rattle.ns_word.specs.Lawful.{SectionFits, EachFits, WaiterFits, WaitersOwn, IsLawful}
 

@@ -12,7 +12,8 @@ use Rattle.ns_word.specs.declared.view.SeatView.{SeatView}
 use Rattle.ns_word.specs.Lists.{times_among}
 use Rattle.ns_word.specs.Walks.{awaits}
 use Rattle.ns_word.specs.Views.{is_reading, readers, owed_to, walk_at, NoneIs, AreApart}
-use Rattle.ns_word.specs.Steps.{Truths, State, flags_with}
+use Rattle.ns_model.specs.Truths.{Truths}
+use Rattle.ns_word.specs.Steps.{State, flags_with}
 use Rattle.ns_word.specs.Lawful.{EachFits, WaitersPlaced, IsLawful, is_due}
 use Rattle.ns_word.proofs.Views.{one_if, one_most, owed_at, none_parts, each_parts}
 use Rattle.ns_word.proofs.Knows.{due_awaits}

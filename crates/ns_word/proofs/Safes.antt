@@ -22,7 +22,8 @@ use Rattle.ns_word.specs.Lists.{has_some}
 use Rattle.ns_word.specs.Waits.{answer_of}
 use Rattle.ns_word.specs.Walks.{pays, phase_by}
 use Rattle.ns_word.specs.Views.{is_writing, is_reading, writers, readers}
-use Rattle.ns_word.specs.Steps.{Truths, entry_of, section_of}
+use Rattle.ns_model.specs.Truths.{Truths}
+use Rattle.ns_word.specs.Steps.{entry_of, section_of}
 use Rattle.ns_word.specs.Places.{PlaceFits}
 use Rattle.ns_word.specs.Lawful.{HeldFits, SectionFits, phase_before}
 use Rattle.ns_word.proofs.Groups.{Safe}

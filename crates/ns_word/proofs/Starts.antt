@@ -14,7 +14,8 @@ use Rattle.ns_word.specs.declared.wait.WaitPlace.TheVariants.{TestCells, TestLas
 use Rattle.ns_word.specs.declared.view.Held.{Held}
 use Rattle.ns_word.specs.Walks.{has_armed, quiet_place, test_place}
 use Rattle.ns_word.specs.Views.{writers, readers, takers, queuers, owed_to, walk_at, NoneIs, AreApart}
-use Rattle.ns_word.specs.Steps.{Truths, State}
+use Rattle.ns_model.specs.Truths.{Truths}
+use Rattle.ns_word.specs.Steps.{State}
 use Rattle.ns_word.specs.Places.{PlaceFits, Tests}
 use Rattle.ns_word.specs.Lawful.{EachFits, IsLawful}
 use Rattle.ns_word.specs.Begins.{fresh_views, fresh_state, IsFirst, Begins}

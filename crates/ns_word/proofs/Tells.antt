@@ -13,7 +13,8 @@ use Rattle.ns_word.specs.declared.act.Act.TheVariants.{LoadWord, Acquire, TakeQu
 use Rattle.ns_word.specs.declared.act.Found.{Found}
 use Rattle.ns_word.specs.declared.act.Found.TheVariants.{Word as Saw, Made, Cell, Quiet, Met, Scanned, Paid, Left, Flag, Looked}
 use Rattle.ns_word.specs.Walks.{want_of, got_of, walk_after}
-use Rattle.ns_word.specs.Steps.{Truths, QuietKeeps, State, Part, Effect, Step}
+use Rattle.ns_model.specs.Truths.{Truths, QuietKeeps}
+use Rattle.ns_word.specs.Steps.{State, Part, Effect, Step}
 use Rattle.ns_word.specs.Begins.{IsFirst, FirstStep}
 use Rattle.ns_word.specs.Lawful.{IsLawful}
 use Rattle.ns_word.specs.Told.{Told, IsTold, nothing_told, told_after, AreBy, BeginsWith, walk_over, LedBy, IsLed}

@@ -9,7 +9,7 @@ use Rattle.ns_word.specs.declared.walk.Walk.{Walk}
 use Rattle.ns_word.specs.Lists.{times_among}
 use Rattle.ns_word.specs.Walks.{has_queues, is_queuing}
 use Rattle.ns_word.specs.Views.{is_writing, is_reading, writers, readers, takers, queuers, owed_to, walk_at, NoneIs, AreApart}
-use Rattle.ns_word.specs.Steps.{Truths}
+use Rattle.ns_model.specs.Truths.{Truths}
 use Rattle.ns_word.specs.Lawful.{ViewFits, SectionFits, EachFits}
 
 abbrev pub one_if : Bool → ℕ

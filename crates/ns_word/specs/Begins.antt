@@ -10,7 +10,8 @@ use Rattle.ns_word.specs.declared.wait.Aim.TheVariants.{Lock}
 use Rattle.ns_word.specs.declared.wait.Visit.TheVariants.{Entry}
 use Rattle.ns_word.specs.declared.wait.WaitPlace.TheVariants.{TestCells, TestLast}
 use Rattle.ns_word.specs.declared.act.Found.{Found}
-use Rattle.ns_word.specs.Steps.{Truths, State, Step}
+use Rattle.ns_model.specs.Truths.{Truths}
+use Rattle.ns_word.specs.Steps.{State, Step}
 use Rattle.ns_word.specs.Places.{PlaceFits}
 
 -- the word of a free lock for which nobody waits

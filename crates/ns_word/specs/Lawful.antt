@@ -19,7 +19,8 @@ use Rattle.ns_word.specs.Lists.{has_some, has_eligible, bits_of}
 use Rattle.ns_word.specs.Walks.{Stance, has_armed, waits_in, awaits, pays, is_on_way, phase_by}
 use Rattle.ns_word.specs.Views.{writers, readers, takers, queuers, owed_to, walk_at, AreApart}
 use Rattle.ns_word.specs.Places.{PlaceFits}
-use Rattle.ns_word.specs.Steps.{Truths, State}
+use Rattle.ns_model.specs.Truths.{Truths}
+use Rattle.ns_word.specs.Steps.{State}
 
 -- ---- the sections
 

@@ -21,7 +21,8 @@ use Rattle.ns_word.specs.declared.act.Act.{Act}
 use Rattle.ns_word.specs.declared.act.Act.TheVariants.{LoadWord, Acquire as AcquireWord, TakeQueues, ReturnQueues, Release as ReleaseWord, ReleaseReturning as ReleaseReturningWord, WaitReturning, LoadCell, JudgeQuiet, JudgeMet, StoreCell, ArmFlag, PayWake, LoadFlag, Look}
 use Rattle.ns_word.specs.Words.{mode_left, may_acquire, needs_scan}
 use Rattle.ns_word.specs.Waits.{cause_or, mode_for}
-use Rattle.ns_word.specs.Steps.{Truths, Part}
+use Rattle.ns_model.specs.Truths.{Truths}
+use Rattle.ns_word.specs.Steps.{Part}
 
 -- a section in this mode is in hand
 abbrev pub HasMode : {C : Type 0} {N : ℕ} → Mode → Option (Held C N) → Type 0

@@ -8,6 +8,7 @@ use Rattle.ns_model.specs.declared.event.Exit.{Exit}
 use Rattle.ns_model.specs.declared.event.Exit.TheVariants.{Plain as Released, CondWait}
 use Rattle.ns_model.specs.declared.event.Event.{Event}
 use Rattle.ns_model.specs.declared.event.Event.TheVariants.{Section}
+use Rattle.ns_model.specs.Truths.{Truths}
 use Rattle.ns_queue.specs.declared.waiter.Waiter.{Waiter}
 use Rattle.ns_queue.specs.Waiters.{seats_of, times_in, without_in}
 use Rattle.ns_queue.specs.Scans.{woken_of, left_of, tests_of}
@@ -35,19 +36,6 @@ use Rattle.ns_word.specs.Words.{mode_left, leaving_of, may_acquire, word_acquire
 use Rattle.ns_word.specs.Waits.{answer_of, cause_or, mode_for}
 use Rattle.ns_word.specs.Lists.{has_some, bits_of, queued}
 use Rattle.ns_word.specs.Walks.{want_of, got_of, walk_after}
-
--- what the conditions of a lock mean: where each is true, which are declared the same, which changes of the row are declared quiet
-pub record Truths (C : Type 0) : Type 0 where
-  pub holds : C → List ℕ → Bool
-  pub same : C → C → Bool
-  pub quiet : List ℕ → List ℕ → Bool
-
-abbrev pub truths : {C : Type 0} → (C → List ℕ → Bool) → (C → C → Bool) → (List ℕ → List ℕ → Bool) → Truths C
-truths holds same quiet = record { holds = holds; same = same; quiet = quiet }
-
--- what holds after a quiet change of a row of N cells held before it
-abbrev pub QuietKeeps : {C : Type 0} → ℕ → Truths C → Type 0
-QuietKeeps {C} N truths = (c : C) (before after : List ℕ) → length before ≡ N → length after ≡ N → truths.quiet before after ≡ true → truths.holds c after ≡ true → truths.holds c before ≡ true
 
 -- the lock word, the row's cells, the lock list as it last stood at home, each seat's flag, and each seat's view
 pub record State (C : Type 0) (N : ℕ) : Type 0 where

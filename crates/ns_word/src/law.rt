@@ -21,7 +21,7 @@ ghost use Rattle.ns_word.specs.declared.act.Found.{Found};
 ghost use Rattle.ns_word.specs.declared.act.Found.TheVariants.{Looked};
 ghost use Rattle.ns_word.specs.Answers.{cause_kept, has_come_back, is_back};
 ghost use Rattle.ns_word.specs.Begins.{Begins, FirstStep, IsFirst, fresh_state};
-ghost use Rattle.ns_word.specs.Steps.{State, Step, entry_of, truths};
+ghost use Rattle.ns_word.specs.Steps.{State, Step, entry_of};
 ghost use Rattle.ns_word.specs.Lawful.{IsLawful};
 ghost use Rattle.ns_word.specs.Told.{Told, IsTold, nothing_told, told_after, BeginsWith};
 ghost use Rattle.ns_word.specs.Waits.{answer_of};
@@ -31,45 +31,45 @@ use ns_model::condition::Condition;
 
 /// A fresh lock with up to 64 seats is lawful.
 pub fn a_fresh_lock_is_lawful<C: Condition<N>, const N: usize>()
-    ensures { (seats : ℕ) → seats ≤ 64 → IsLawful (truths C.holds C.is_same C.is_quiet) seats [] (fresh_state {C = C} {N = N} seats) }
+    ensures { (seats : ℕ) → seats ≤ 64 → IsLawful C.means seats [] (fresh_state {C = C} {N = N} seats) }
 {}
 
 /// A seat whose last call is over may begin one whose need is met: the law stays, with the same
 /// history.
 pub fn beginning_a_call_keeps_the_law<C: Condition<N>, const N: usize>()
     ensures { (seats : ℕ) (history : List (Event C N)) (old new : State C N) (view : SeatView C N) (walk : Walk C) →
-        Begins (truths C.holds C.is_same C.is_quiet) old view walk new →
-        IsLawful (truths C.holds C.is_same C.is_quiet) seats history old →
-        IsLawful (truths C.holds C.is_same C.is_quiet) seats history new }
+        Begins C.means old view walk new →
+        IsLawful C.means seats history old →
+        IsLawful C.means seats history new }
 {}
 
 /// A step of any of up to 64 seats keeps the law, and the history grows by what it commits.
 pub fn steps_keep_the_law<C: Condition<N>, const N: usize>()
     ensures { (seats : ℕ) (history : List (Event C N)) (old new : State C N) (view : SeatView C N) (found : Found) (commits : List (Event C N)) →
-        seats ≤ 64 → Step (truths C.holds C.is_same C.is_quiet) old view found new commits →
-        IsLawful (truths C.holds C.is_same C.is_quiet) seats history old →
-        IsLawful (truths C.holds C.is_same C.is_quiet) seats (history ++ commits) new }
+        seats ≤ 64 → Step C.means old view found new commits →
+        IsLawful C.means seats history old →
+        IsLawful C.means seats (history ++ commits) new }
 {}
 
 /// So does a step with which a call begins.
 pub fn first_steps_keep_the_law<C: Condition<N>, const N: usize>()
     ensures { (seats : ℕ) (history : List (Event C N)) (old new : State C N) (view : SeatView C N) (walk : Walk C) (found : Found) (commits : List (Event C N)) →
-        seats ≤ 64 → FirstStep (truths C.holds C.is_same C.is_quiet) old view walk found new commits →
-        IsLawful (truths C.holds C.is_same C.is_quiet) seats history old →
-        IsLawful (truths C.holds C.is_same C.is_quiet) seats (history ++ commits) new }
+        seats ≤ 64 → FirstStep C.means old view walk found new commits →
+        IsLawful C.means seats history old →
+        IsLawful C.means seats (history ++ commits) new }
 {}
 
 /// A waiter of the lock list that has a condition is in the wait for it, in its mode, by the
 /// history.
 pub fn waiters_are_in_their_phase<C: Condition<N>, const N: usize>()
     ensures { (seats : ℕ) (history : List (Event C N)) (s : State C N) (at : ℕ) (w : Waiter C) (c : C) →
-        IsLawful (truths C.holds C.is_same C.is_quiet) seats history s → slice_get s.lock at ≡ Some w → w.cond ≡ Some c →
+        IsLawful C.means seats history s → slice_get s.lock at ≡ Some w → w.cond ≡ Some c →
         phase_of history w.seat ≡ Cond c w.mode }
 {}
 
 /// A seat that has begun no call was told nothing.
 pub fn a_fresh_seat_was_told_nothing<C: Condition<N>, const N: usize>()
-    ensures { (seats seat : ℕ) → IsTold {N = N} C.holds seats [] seat None nothing_told }
+    ensures { (seats seat : ℕ) → IsTold {N = N} C.means.holds seats [] seat None nothing_told }
 {}
 
 /// What a seat is told by a step of its own: it has then seen the whole history, which begins with
@@ -77,32 +77,32 @@ pub fn a_fresh_seat_was_told_nothing<C: Condition<N>, const N: usize>()
 /// with is still the last that it has begun.
 pub fn steps_tell_their_seat<C: Condition<N>, const N: usize>()
     ensures { (seats : ℕ) (history : List (Event C N)) (old new : State C N) (view : SeatView C N) (found : Found) (commits : List (Event C N)) (told : Told C N) →
-        seats ≤ 64 → (step : Step (truths C.holds C.is_same C.is_quiet) old view found new commits) →
-        IsLawful (truths C.holds C.is_same C.is_quiet) seats history old → IsTold C.holds seats history view.seat view.walk told →
-        IsTold C.holds seats (history ++ commits) view.seat (walk_after (got_of N step.walk found)) (told_after history commits [] told) × BeginsWith (history ++ commits) told.seen }
+        seats ≤ 64 → (step : Step C.means old view found new commits) →
+        IsLawful C.means seats history old → IsTold C.means.holds seats history view.seat view.walk told →
+        IsTold C.means.holds seats (history ++ commits) view.seat (walk_after (got_of N step.walk found)) (told_after history commits [] told) × BeginsWith (history ++ commits) told.seen }
 {}
 
 /// What a seat is told by a step with which it begins a call: the same, and the call stands
 /// last among those that it has begun.
 pub fn first_steps_tell_their_seat<C: Condition<N>, const N: usize>()
     ensures { (seats : ℕ) (history : List (Event C N)) (old new : State C N) (view : SeatView C N) (walk : Walk C) (found : Found) (commits : List (Event C N)) (told : Told C N) →
-        seats ≤ 64 → FirstStep (truths C.holds C.is_same C.is_quiet) old view walk found new commits →
-        IsLawful (truths C.holds C.is_same C.is_quiet) seats history old → IsTold C.holds seats history view.seat view.walk told →
-        IsTold C.holds seats (history ++ commits) view.seat (walk_after (got_of N walk found)) (told_after history commits (walk ∷ []) told) × BeginsWith (history ++ commits) told.seen }
+        seats ≤ 64 → FirstStep C.means old view walk found new commits →
+        IsLawful C.means seats history old → IsTold C.means.holds seats history view.seat view.walk told →
+        IsTold C.means.holds seats (history ++ commits) view.seat (walk_after (got_of N walk found)) (told_after history commits (walk ∷ []) told) × BeginsWith (history ++ commits) told.seen }
 {}
 
 /// What a seat was told stays true after the steps of others.
 pub fn steps_tell_no_other<C: Condition<N>, const N: usize>()
     ensures { (seats : ℕ) (history : List (Event C N)) (old new : State C N) (view : SeatView C N) (found : Found) (commits : List (Event C N)) (other : ℕ) (walk : Option (Walk C)) (told : Told C N) →
-        Step (truths C.holds C.is_same C.is_quiet) old view found new commits →
-        view.seat ≢ other → IsTold C.holds seats history other walk told → IsTold C.holds seats (history ++ commits) other walk told }
+        Step C.means old view found new commits →
+        view.seat ≢ other → IsTold C.means.holds seats history other walk told → IsTold C.means.holds seats (history ++ commits) other walk told }
 {}
 
 /// And after those with which others begin a call.
 pub fn first_steps_tell_no_other<C: Condition<N>, const N: usize>()
     ensures { (seats : ℕ) (history : List (Event C N)) (old new : State C N) (view : SeatView C N) (begun : Walk C) (found : Found) (commits : List (Event C N)) (other : ℕ) (walk : Option (Walk C)) (told : Told C N) →
-        FirstStep (truths C.holds C.is_same C.is_quiet) old view begun found new commits →
-        view.seat ≢ other → IsTold C.holds seats history other walk told → IsTold C.holds seats (history ++ commits) other walk told }
+        FirstStep C.means old view begun found new commits →
+        view.seat ≢ other → IsTold C.means.holds seats history other walk told → IsTold C.means.holds seats (history ++ commits) other walk told }
 {}
 
 /// A wait answers that its condition was met exactly where it holds of the row that the wait returns
@@ -110,10 +110,10 @@ pub fn first_steps_tell_no_other<C: Condition<N>, const N: usize>()
 /// itself just that answer.
 pub fn waits_answer_rightly<C: Condition<N>, const N: usize>()
     ensures { (seats : ℕ) (history : List (Event C N)) (old new : State C N) (view : SeatView C N) (found : Found) (commits : List (Event C N)) (wait : Wait C) (place : WaitPlace) (answer : Answer) →
-        (step : Step (truths C.holds C.is_same C.is_quiet) old view found new commits) →
-        IsLawful (truths C.holds C.is_same C.is_quiet) seats history old → step.walk ≡ Waiting wait place → got_of N step.walk found ≡ Done (Answered answer) →
-        (held : Held C N) × (step.held ≡ Some held) × (held.mode ≡ wait.mode) × (is_met answer ≡ C.holds wait.cond held.row)
-        × (has_come_back step.walk ≡ true → entry_of C.holds held.before held.entry ≡ Waited wait.cond answer) }
+        (step : Step C.means old view found new commits) →
+        IsLawful C.means seats history old → step.walk ≡ Waiting wait place → got_of N step.walk found ≡ Done (Answered answer) →
+        (held : Held C N) × (step.held ≡ Some held) × (held.mode ≡ wait.mode) × (is_met answer ≡ C.means.holds wait.cond held.row)
+        × (has_come_back step.walk ≡ true → entry_of C.means.holds held.before held.entry ≡ Waited wait.cond answer) }
 {}
 
 /// A wait answers that it was ended early only by what a look of its own has shown, the deadline or
@@ -136,7 +136,7 @@ pub fn no_call_begins_ended<C: Condition<N>, const N: usize>()
 /// changes it, and none leads to such a wait while the section is in hand.
 pub fn sections_keep_their_beginning<C: Condition<N>, const N: usize>()
     ensures { (old new : State C N) (view : SeatView C N) (found : Found) (commits : List (Event C N)) (was held : Held C N) →
-        (step : Step (truths C.holds C.is_same C.is_quiet) old view found new commits) →
+        (step : Step C.means old view found new commits) →
         has_come_back step.walk ≡ false → view.held ≡ Some was → step.held ≡ Some held →
         (held.mode ≡ was.mode) × (held.before ≡ was.before) × (held.entry ≡ was.entry) × (is_back (walk_after (got_of N step.walk found)) ≡ false) }
 {}

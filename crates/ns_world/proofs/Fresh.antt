@@ -4,7 +4,7 @@ use Rattle.std.proofs.lemmas.List.{map-append, append_assoc}
 use Rattle.ns_word.specs.declared.view.SeatView.{SeatView}
 use Rattle.ns_word.specs.Begins.{fresh_views}
 use Rattle.ns_world.specs.declared.seat.Seat.{Seat}
-use Rattle.ns_word.specs.Steps.{Truths}
+use Rattle.ns_model.specs.Truths.{Truths}
 use Rattle.ns_model.specs.Environments.{NoteStanding, no_note}
 use Rattle.ns_word.specs.EnvWalks.{standing_of, state_of}
 use Rattle.ns_word.proofs.EnvBegins.{fresh_lawful}

@@ -38,7 +38,8 @@ use Rattle.ns_word.specs.EnvSteps.{EnvPlain, EnvEffect, IfMade, IsFirstAsk, even
 use Rattle.ns_word.specs.Walks.{want_of, got_of, got_waiting, walk_after, acquire_by, acquired_for, release_by, test_place, unmet_by}
 use Rattle.ns_word.specs.Words.{may_acquire, needs_scan}
 use Rattle.ns_word.specs.Waits.{is_limited, mode_for}
-use Rattle.ns_word.specs.Steps.{Truths, Part, Effect, MayShow, held_after}
+use Rattle.ns_model.specs.Truths.{Truths}
+use Rattle.ns_word.specs.Steps.{Part, Effect, MayShow, held_after}
 use Rattle.ns_world.specs.Looks.{looks_at, came_back, look_place, look_of, LookFits, AsksFor, note_for, note_in}
 
 -- ---- the note that may end a wait

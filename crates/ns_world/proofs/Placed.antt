@@ -5,7 +5,7 @@ use Rattle.ns_queue.specs.Queues.{Lists}
 use Rattle.ns_word.specs.declared.word.Word.{Word}
 use Rattle.ns_word.specs.declared.walk.Walk.{Walk}
 use Rattle.ns_word.specs.declared.env_walk.EnvWalk.{EnvWalk}
-use Rattle.ns_word.specs.Steps.{Truths}
+use Rattle.ns_model.specs.Truths.{Truths}
 use Rattle.ns_world.specs.declared.call.Call.{Call}
 use Rattle.ns_world.specs.declared.call.Start.{Start}
 use Rattle.ns_world.specs.declared.call.Start.TheVariants.{Lock as OnLock, Ask}

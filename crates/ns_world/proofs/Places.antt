@@ -11,7 +11,8 @@ use Rattle.ns_word.specs.declared.wait.WaitPlace.TheVariants.{TestCells, TestLas
 use Rattle.ns_word.specs.declared.walk.Walk.TheVariants.{QuietCells, QuietLast, Wait as Waiting}
 use Rattle.ns_word.specs.declared.act.Act.{Act}
 use Rattle.ns_word.specs.declared.act.Act.TheVariants.{LoadWord, Acquire, TakeQueues, ReturnQueues, Release, ReleaseReturning, WaitReturning, LoadCell, JudgeQuiet, JudgeMet, StoreCell, ArmFlag, PayWake, LoadFlag, Look}
-use Rattle.ns_word.specs.Steps.{Truths, Part}
+use Rattle.ns_model.specs.Truths.{Truths}
+use Rattle.ns_word.specs.Steps.{Part}
 use Rattle.ns_word.specs.Places.{HasMode, CanLeave, PlaceFits, ActFits, OwesOne}
 use Rattle.ns_word.specs.Begins.{IsFirst}
 use Rattle.ns_world.specs.declared.call.Call.{Call}

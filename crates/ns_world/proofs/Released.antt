@@ -18,7 +18,8 @@ use Rattle.ns_word.specs.declared.act.Act.TheVariants.{Release, ReleaseReturning
 use Rattle.ns_word.specs.declared.act.Found.TheVariants.{Word as Saw, Made, Scanned}
 use Rattle.ns_word.specs.Lists.{has_some, bits_of}
 use Rattle.ns_word.specs.Words.{word_released, word_released_returning}
-use Rattle.ns_word.specs.Steps.{Truths, meets_at, section_of}
+use Rattle.ns_model.specs.Truths.{Truths}
+use Rattle.ns_word.specs.Steps.{meets_at, section_of}
 use Rattle.ns_word.specs.Places.{CanLeave}
 use Rattle.ns_world.specs.Performs.{part, Makes}
 

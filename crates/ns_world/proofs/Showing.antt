@@ -4,7 +4,8 @@ use Rattle.std.proofs.lemmas.List.{take_more, drop_all, take-append-drop, map-ap
 use Rattle.std.proofs.lemmas.List.Concat.{flat_map-append}
 use Rattle.ns_queue.specs.declared.waiter.Waiter.{Waiter}
 use Rattle.ns_word.specs.Walks.{has_queues}
-use Rattle.ns_word.specs.Steps.{Truths, in_hand}
+use Rattle.ns_model.specs.Truths.{Truths}
+use Rattle.ns_word.specs.Steps.{in_hand}
 use Rattle.ns_word.specs.declared.walk.Walk.TheVariants.{TryLoad, TryAcquire, AcquireLoad, Acquire, TakeToQueue, Arm, Queue, Round, QuietCells, QuietLast, ReleaseLoad, Release, TakeToScan, ScanCells, ReleaseReturning, Pay, Get, SetLoad, SetStore, Wait as Waiting}
 use Rattle.ns_word.specs.declared.walk.Walk.{Walk}
 use Rattle.ns_word.specs.declared.wait.WaitPlace.{WaitPlace}

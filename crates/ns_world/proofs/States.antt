@@ -14,7 +14,8 @@ use Rattle.ns_word.specs.declared.view.SeatView.{SeatView}
 use Rattle.ns_word.specs.Lists.{times_among}
 use Rattle.ns_word.specs.Walks.{has_armed}
 use Rattle.ns_word.specs.Views.{owed_to, walk_at}
-use Rattle.ns_word.specs.Steps.{Truths, State}
+use Rattle.ns_model.specs.Truths.{Truths}
+use Rattle.ns_word.specs.Steps.{State}
 use Rattle.ns_word.specs.Lawful.{IsLawful, is_due}
 use Rattle.ns_word.proofs.Acts.{view_fits, stands_nowhere}
 use Rattle.ns_word.proofs.Ranges.{placed_below}

@@ -26,7 +26,8 @@ use Rattle.ns_word.specs.declared.act.Found.{Found}
 use Rattle.ns_word.specs.declared.act.Found.TheVariants.{Word as Saw, Scanned}
 use Rattle.ns_word.specs.Lists.{has_some, bits_of}
 use Rattle.ns_word.specs.Words.{leaving_of, word_returned, word_released_returning}
-use Rattle.ns_word.specs.Steps.{Truths, Effect, meets_at, section_of, changed, change_found, waited_in}
+use Rattle.ns_model.specs.Truths.{Truths}
+use Rattle.ns_word.specs.Steps.{Effect, meets_at, section_of, changed, change_found, waited_in}
 use Rattle.ns_word.specs.Places.{CanWait, ChangeFits}
 use Rattle.ns_word.proofs.Scans.{times_scan, some_seats}
 use Rattle.ns_world.specs.Performs.{part, IsQueuing, Makes}

@@ -20,7 +20,8 @@ use Rattle.ns_word.specs.declared.env_walk.EnvNext.TheVariants.{On as EnvOn, Idl
 use Rattle.ns_word.specs.EnvWalks.{env_want_of, env_got_of, env_walk_after}
 use Rattle.ns_word.specs.EnvSteps.{EnvPlain, EnvBegins, EnvStep, EnvActFits, EnvEffect, IfMade, IsFirstAsk, IsLawfulEnv, events_of}
 use Rattle.ns_word.specs.Walks.{want_of, got_of, walk_after}
-use Rattle.ns_word.specs.Steps.{Truths, Effect, MayShow, QuietKeeps}
+use Rattle.ns_model.specs.Truths.{Truths, QuietKeeps}
+use Rattle.ns_word.specs.Steps.{Effect, MayShow}
 use Rattle.ns_word.specs.Places.{PlaceFits, ActFits}
 use Rattle.ns_word.specs.Begins.{IsFirst, Begins}
 use Rattle.ns_word.specs.Lawful.{IsLawful}

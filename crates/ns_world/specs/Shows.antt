@@ -5,7 +5,8 @@ use Rattle.ns_queue.specs.declared.waiter.Waiter.{Waiter}
 use Rattle.ns_word.specs.declared.view.SeatView.{SeatView}
 use Rattle.ns_word.specs.declared.walk.Walk.{Walk}
 use Rattle.ns_word.specs.Walks.{has_queues}
-use Rattle.ns_word.specs.Steps.{Truths, in_hand}
+use Rattle.ns_model.specs.Truths.{Truths}
+use Rattle.ns_word.specs.Steps.{in_hand}
 use Rattle.ns_world.specs.World.{Now}
 
 -- the lock list as a seat at this place has it in hand

@@ -14,7 +14,8 @@ use Rattle.ns_model.specs.Environments.{NoteStanding}
 use Rattle.ns_word.specs.declared.env_act.EnvFound.{EnvFound}
 use Rattle.ns_word.specs.declared.env_walk.EnvWalk.{EnvWalk}
 use Rattle.ns_word.specs.Walks.{want_of, got_of, walk_after}
-use Rattle.ns_word.specs.Steps.{Truths, State, Step as Steps}
+use Rattle.ns_model.specs.Truths.{Truths}
+use Rattle.ns_word.specs.Steps.{State, Step as Steps}
 use Rattle.ns_word.specs.Lawful.{IsLawful}
 use Rattle.ns_word.specs.Begins.{fresh_state}
 use Rattle.ns_word.specs.declared.env_walk.EnvNext.{EnvNext}

@@ -8,7 +8,7 @@ ghost use Rattle.ns_queue.specs.Scans.{woken_of, tests_of};
 ghost use Rattle.ns_queue.specs.Waiters.{seats_of, times_in, without_in};
 ghost use Rattle.ns_word.specs.Lists.{bits_of, queued};
 ghost use Rattle.ns_word.specs.Places.{CanLeave, CanWait};
-ghost use Rattle.ns_word.specs.Steps.{changed, change_found, entry_of, opening_for, section_of, waited_in, truths, Effect};
+ghost use Rattle.ns_word.specs.Steps.{changed, change_found, entry_of, opening_for, section_of, waited_in, Effect};
 ghost use Rattle.ns_word.specs.Waits.{mode_for};
 ghost use Rattle.ns_word.specs.Words.{leaving_of, may_acquire};
 ghost use Rattle.ns_world.specs.Performs.{part, IsQueuing, IsSeat, Makes};
@@ -60,7 +60,7 @@ pub(crate) fn acquire<C: Seated<N>, const N: usize>(
     requires free { held.old ≡ None }
     requires may { may_acquire (mode_for aim) woken last ≡ true }
     requires few { word.old.readers < 64 }
-    ensures { (seat : ℕ) (queues : _) (flags owed : List ℕ) → Effect (truths C.holds C.is_same C.is_quiet) seat (Act.Acquire aim woken last) (part word.old row.now queues flags held.old owed) result (part word.new row.now queues flags held.new owed) [] }
+    ensures { (seat : ℕ) (queues : _) (flags owed : List ℕ) → Effect C.means seat (Act.Acquire aim woken last) (part word.old row.now queues flags held.old owed) result (part word.new row.now queues flags held.new owed) [] }
 {
     let unchanged = word.is_same(last);
     if !unchanged {
@@ -84,7 +84,7 @@ pub(crate) fn take_queues<C: Seated<N>, const N: usize>(
     last: Word,
 ) -> Found
     requires { last.spin ≡ false }
-    ensures { (seat : ℕ) (queues : _) (row flags owed : List ℕ) (held : _) → Effect {N = N} (truths C.holds C.is_same C.is_quiet) seat (Act.TakeQueues taking last) (part word.old row queues flags held owed) result (part word.new row queues flags held owed) [] }
+    ensures { (seat : ℕ) (queues : _) (row flags owed : List ℕ) (held : _) → Effect {N = N} C.means seat (Act.TakeQueues taking last) (part word.old row queues flags held owed) result (part word.new row queues flags held owed) [] }
 {
     if !word.is_same(last) {
         return Found::Word(*word);
@@ -175,7 +175,7 @@ pub(crate) fn return_queues<C: Seated<N>, const N: usize>(
     requires below { seat < 64 }
     requires free { IsQueuing change → times seat queues.old ≡ 0 }
     requires no_variables { queues.old.cvs ≡ replicate 4 [] }
-    ensures made { (row flags owed : List ℕ) (held : _) → Effect {N = N} (truths C.holds C.is_same C.is_quiet) seat (Act.ReturnQueues change last) (part word.old row queues.old flags held owed) result (part word.new row queues.new flags held owed) [] }
+    ensures made { (row flags owed : List ℕ) (held : _) → Effect {N = N} C.means seat (Act.ReturnQueues change last) (part word.old row queues.old flags held owed) result (part word.new row queues.new flags held owed) [] }
     ensures others { queues.new.cvs ≡ queues.old.cvs }
 {
     if !word.is_same(last) {
@@ -189,7 +189,7 @@ pub(crate) fn return_queues<C: Seated<N>, const N: usize>(
 /// How the section is said to begin in the history. A wait that came back is said to have met its
 /// condition where that is true of the row that the section began at.
 fn entry<C: Seated<N>, const N: usize>(section: &Held<C, N>) -> Entry<C>
-    ensures { result ≡ entry_of C.holds section.now.before section.now.entry }
+    ensures { result ≡ entry_of C.means.holds section.now.before section.now.entry }
 {
     match section.entry {
         Opening::Plain => Entry::Plain,
@@ -212,7 +212,7 @@ fn commit<C: Seated<N>, const N: usize>(
     exit: Exit<C>,
 ) -> Result<(), AllocError>
     requires { IsSome held.old }
-    ensures ok { OnOk result (IfSome held.old (λ section. history.new.items ≡ history.old.items ++ section_of C.holds seat section exit ∷ [])) }
+    ensures ok { OnOk result (IfSome held.old (λ section. history.new.items ≡ history.old.items ++ section_of C.means.holds seat section exit ∷ [])) }
     ensures over { OnOk result (held.new ≡ None) }
     ensures err { OnErr result ((held.new ≡ held.old) × (history.new.items ≡ history.old.items)) }
 {
@@ -239,8 +239,8 @@ pub(crate) fn release<C: Seated<N>, const N: usize>(
     leaving: Leaving,
     last: Word,
 ) -> Result<Found, AllocError>
-    requires { CanLeave (truths C.holds C.is_same C.is_quiet) leaving held.old }
-    ensures ok { IfOk result (λ found. (row flags owed : List ℕ) (queues : _) → Makes (truths C.holds C.is_same C.is_quiet) seat (Act.Release leaving last) (part word.old row queues flags held.old owed) history.old.items found (part word.new row queues flags held.new owed) history.new.items) }
+    requires { CanLeave C.means leaving held.old }
+    ensures ok { IfOk result (λ found. (row flags owed : List ℕ) (queues : _) → Makes C.means seat (Act.Release leaving last) (part word.old row queues flags held.old owed) history.old.items found (part word.new row queues flags held.new owed) history.new.items) }
     ensures err { OnErr result ((last ≡ word.old) × (word.new ≡ word.old) × (held.new ≡ held.old) × (history.new.items ≡ history.old.items)) }
 {
     let is_last = word.is_same(last);
@@ -264,8 +264,8 @@ pub(crate) fn release_returning<C: Seated<N>, const N: usize>(
     leaving: Leaving,
     last: Word,
 ) -> Result<Found, AllocError>
-    requires { CanLeave (truths C.holds C.is_same C.is_quiet) leaving seat.old.held }
-    ensures ok { IfOk result (λ found. (flags : List ℕ) → Makes (truths C.holds C.is_same C.is_quiet) seat.old.number (Act.ReleaseReturning leaving last) (part word.old row.now queues.old flags seat.old.held seat.old.owed.items) history.old.items found (part word.new row.now queues.new flags seat.new.held seat.new.owed.items) history.new.items) }
+    requires { CanLeave C.means leaving seat.old.held }
+    ensures ok { IfOk result (λ found. (flags : List ℕ) → Makes C.means seat.old.number (Act.ReleaseReturning leaving last) (part word.old row.now queues.old flags seat.old.held seat.old.owed.items) history.old.items found (part word.new row.now queues.new flags seat.new.held seat.new.owed.items) history.new.items) }
     ensures kept { IsSeat seat.old.number seat.old.walk seat.old.asking seat.old.tests seat.new }
     ensures others { queues.new.cvs ≡ queues.old.cvs }
     ensures err { OnErr result ((last ≡ word.old) × (word.new ≡ word.old) × (queues.new ≡ queues.old) × (seat.new ≡ seat.old) × (history.new.items ≡ history.old.items)) }
@@ -304,7 +304,7 @@ fn leave_section<C: Seated<N>, const N: usize>(
     again: bool,
 ) -> Result<(), AllocError>
     requires { IsSome held.old }
-    ensures ok { OnOk result (IfSome held.old (λ section. history.new.items ≡ history.old.items ++ (if again then [] else section_of C.holds seat section (CondWait cond) ∷ []))) }
+    ensures ok { OnOk result (IfSome held.old (λ section. history.new.items ≡ history.old.items ++ (if again then [] else section_of C.means.holds seat section (CondWait cond) ∷ []))) }
     ensures over { OnOk result (held.new ≡ None) }
     ensures err { OnErr result ((again ≡ false) × (held.new ≡ held.old) × (history.new.items ≡ history.old.items)) }
 {
@@ -325,10 +325,10 @@ pub(crate) fn scan_and_queue<C: Seated<N>, const N: usize>(
 ) -> Scan
     requires below { seat < 64 }
     requires free { times seat queues.old ≡ 0 }
-    ensures woken { result.woken.items ≡ seats_of (woken_of (λ c. C.holds c row.now) queues.old.lock) }
-    ensures lock { queues.new.lock ≡ waited_in (truths C.holds C.is_same C.is_quiet) seat wait again row.now queues.old.lock }
+    ensures woken { result.woken.items ≡ seats_of (woken_of (λ c. C.means.holds c row.now) queues.old.lock) }
+    ensures lock { queues.new.lock ≡ waited_in C.means seat wait again row.now queues.old.lock }
     ensures others { queues.new.cvs ≡ queues.old.cvs }
-    ensures tests { result.tests ≡ tests_of C.is_same (λ c. C.holds c row.now) queues.old.lock }
+    ensures tests { result.tests ≡ tests_of C.means.same (λ c. C.means.holds c row.now) queues.old.lock }
 {
     let scan = queues.scan(row);
     let waiter = Waiter {
@@ -353,10 +353,10 @@ pub(crate) fn wait_returning<C: Seated<N>, const N: usize>(
     again: bool,
     last: Word,
 ) -> Result<Found, AllocError>
-    requires can { CanWait (truths C.holds C.is_same C.is_quiet) wait again seat.old.held }
+    requires can { CanWait C.means wait again seat.old.held }
     requires below { seat.old.number < 64 }
     requires free { times seat.old.number queues.old ≡ 0 }
-    ensures ok { IfOk result (λ found. (flags : List ℕ) → Makes (truths C.holds C.is_same C.is_quiet) seat.old.number (Act.WaitReturning wait again last) (part word.old row.now queues.old flags seat.old.held seat.old.owed.items) history.old.items found (part word.new row.now queues.new flags seat.new.held seat.new.owed.items) history.new.items) }
+    ensures ok { IfOk result (λ found. (flags : List ℕ) → Makes C.means seat.old.number (Act.WaitReturning wait again last) (part word.old row.now queues.old flags seat.old.held seat.old.owed.items) history.old.items found (part word.new row.now queues.new flags seat.new.held seat.new.owed.items) history.new.items) }
     ensures kept { IsSeat seat.old.number seat.old.walk seat.old.asking seat.old.tests seat.new }
     ensures others { queues.new.cvs ≡ queues.old.cvs }
     ensures err { OnErr result ((again ≡ false) × (last ≡ word.old) × (word.new ≡ word.old) × (queues.new ≡ queues.old) × (seat.new ≡ seat.old) × (history.new.items ≡ history.old.items)) }

@@ -3,7 +3,7 @@
 ghost use Rattle.std.specs.Prelude.{◌≡◌, ◌<◌, ◌≤◌, Some, None, IsSome, IfOk, OnErr, ℕ, List, [], replicate};
 ghost use Rattle.ns_model.specs.declared.event.Mode.TheVariants.{Write};
 ghost use Rattle.ns_word.specs.Places.{ActFits, HasMode, OwesOne};
-ghost use Rattle.ns_word.specs.Steps.{Effect, truths};
+ghost use Rattle.ns_word.specs.Steps.{Effect};
 ghost use Rattle.ns_word.specs.Walks.{want_of, got_of, walk_after};
 ghost use Rattle.ns_world.specs.Commits.{Commits};
 ghost use Rattle.ns_world.specs.Looks.{look_of, look_place, looks_at};
@@ -34,7 +34,7 @@ fn store<C: Seated<N>, const N: usize>(
 ) -> Found
     requires mode { HasMode Write held.old }
     requires cell { i < N }
-    ensures { (seat : ℕ) (word queues : _) (flags owed : List ℕ) → Effect (truths C.holds C.is_same C.is_quiet) seat (Act.StoreCell i value) (part word row.old queues flags held.old owed) result (part word row.new queues flags held.new owed) [] }
+    ensures { (seat : ℕ) (word queues : _) (flags owed : List ℕ) → Effect C.means seat (Act.StoreCell i value) (part word row.old queues flags held.old owed) result (part word row.new queues flags held.new owed) [] }
 {
     let Some(mut section) = *held else {
         unreachable!()
@@ -48,7 +48,7 @@ fn store<C: Seated<N>, const N: usize>(
 /// Whether the section in hand is quiet.
 fn judge<C: Seated<N>, const N: usize>(held: &Option<Held<C, N>>, i: u8) -> Found
     requires { HasMode Write held.now }
-    ensures { (seat : ℕ) (word row queues : _) (flags owed : List ℕ) → Effect (truths C.holds C.is_same C.is_quiet) seat (Act.JudgeQuiet i) (part word row queues flags held.now owed) result (part word row queues flags held.now owed) [] }
+    ensures { (seat : ℕ) (word row queues : _) (flags owed : List ℕ) → Effect C.means seat (Act.JudgeQuiet i) (part word row queues flags held.now owed) result (part word row queues flags held.now owed) [] }
 {
     let Some(section) = *held else { unreachable!() };
     Found::Quiet(C::quiet(&section.before, &section.row))
@@ -57,7 +57,7 @@ fn judge<C: Seated<N>, const N: usize>(held: &Option<Held<C, N>>, i: u8) -> Foun
 /// Whether the condition is true of the row in hand.
 fn judge_met<C: Seated<N>, const N: usize>(held: &Option<Held<C, N>>, i: u8, cond: C) -> Found
     requires { IsSome held.now }
-    ensures { (seat : ℕ) (word row queues : _) (flags owed : List ℕ) → Effect (truths C.holds C.is_same C.is_quiet) seat (Act.JudgeMet i cond) (part word row queues flags held.now owed) result (part word row queues flags held.now owed) [] }
+    ensures { (seat : ℕ) (word row queues : _) (flags owed : List ℕ) → Effect C.means seat (Act.JudgeMet i cond) (part word row queues flags held.now owed) result (part word row queues flags held.now owed) [] }
 {
     let Some(section) = *held else { unreachable!() };
     Found::Met(cond.test(&section.row))
@@ -69,7 +69,7 @@ fn pay_wake<C: Seated<N>, const N: usize>(
     owed: &mut ArrayVec<u8, 64>,
 ) -> Found
     requires { OwesOne 64 owed.old.items }
-    ensures { (seat : ℕ) (word row queues held : _) → Effect {N = N} (truths C.holds C.is_same C.is_quiet) seat Act.PayWake (part word row queues flags.old held owed.old.items) result (part word row queues flags.new held owed.new.items) [] }
+    ensures { (seat : ℕ) (word row queues held : _) → Effect {N = N} C.means seat Act.PayWake (part word row queues flags.old held owed.old.items) result (part word row queues flags.new held owed.new.items) [] }
 {
     let woken = owed.remove(0);
     flags[woken as usize] = 0;
@@ -81,7 +81,7 @@ fn pay_wake<C: Seated<N>, const N: usize>(
 /// Sets the seat's own flag.
 fn arm_flag<C: Seated<N>, const N: usize>(flags: &mut [u8; 64], seat: u8) -> Found
     requires { seat < 64 }
-    ensures { (word row queues held : _) (owed : List ℕ) → Effect {N = N} (truths C.holds C.is_same C.is_quiet) seat Act.ArmFlag (part word row queues flags.old held owed) result (part word row queues flags.new held owed) [] }
+    ensures { (word row queues held : _) (owed : List ℕ) → Effect {N = N} C.means seat Act.ArmFlag (part word row queues flags.old held owed) result (part word row queues flags.new held owed) [] }
 {
     flags[seat as usize] = 1;
     Found::Made
@@ -97,10 +97,10 @@ fn make<C: Seated<N>, const N: usize>(
     history: &mut Vec<Event<C, N>>,
     act: Act<C>,
 ) -> Result<Found, AllocError>
-    requires fits { ActFits (truths C.holds C.is_same C.is_quiet) 64 seat.old.number act (seat_part word.old row.old queues.old flags.old seat.old) }
+    requires fits { ActFits C.means 64 seat.old.number act (seat_part word.old row.old queues.old flags.old seat.old) }
     requires inside { looks_at act ≡ None }
     requires no_variables { queues.old.cvs ≡ replicate 4 [] }
-    ensures ok { IfOk result (λ found. Makes (truths C.holds C.is_same C.is_quiet) seat.old.number act (seat_part word.old row.old queues.old flags.old seat.old) history.old.items found (seat_part word.new row.new queues.new flags.new seat.new) history.new.items) }
+    ensures ok { IfOk result (λ found. Makes C.means seat.old.number act (seat_part word.old row.old queues.old flags.old seat.old) history.old.items found (seat_part word.new row.new queues.new flags.new seat.new) history.new.items) }
     ensures kept { IsSeat seat.old.number seat.old.walk seat.old.asking seat.old.tests seat.new }
     ensures others { queues.new.cvs ≡ queues.old.cvs }
     ensures err { OnErr result ((Commits act word.old) × (word.new ≡ word.old) × (row.new ≡ row.old) × (queues.new ≡ queues.old) × (flags.new ≡ flags.old) × (seat.new ≡ seat.old) × (history.new.items ≡ history.old.items)) }
@@ -195,10 +195,10 @@ pub(crate) fn perform<C: Seated<N>, const N: usize>(
     walk: Walk<C>,
 ) -> Result<Step, AllocError>
     requires walks { seat.old.walk ≡ Some walk }
-    requires fits { ActFits (truths C.holds C.is_same C.is_quiet) 64 seat.old.number (want_of walk) (seat_part word.old row.old queues.old flags.old seat.old) }
+    requires fits { ActFits C.means 64 seat.old.number (want_of walk) (seat_part word.old row.old queues.old flags.old seat.old) }
     requires inside { looks_at (want_of walk) ≡ None }
     requires no_variables { queues.old.cvs ≡ replicate 4 [] }
-    ensures ok { IfOk result (λ step. Performs (truths C.holds C.is_same C.is_quiet) (seat_part word.old row.old queues.old flags.old seat.old) seat.old history.old.items walk (seat_part word.new row.new queues.new flags.new seat.new) seat.new history.new.items step) }
+    ensures ok { IfOk result (λ step. Performs C.means (seat_part word.old row.old queues.old flags.old seat.old) seat.old history.old.items walk (seat_part word.new row.new queues.new flags.new seat.new) seat.new history.new.items step) }
     ensures others { queues.new.cvs ≡ queues.old.cvs }
     ensures err { OnErr result ((Commits (want_of walk) word.old) × (word.new ≡ word.old) × (row.new ≡ row.old) × (queues.new ≡ queues.old) × (flags.new ≡ flags.old) × (seat.new ≡ seat.old) × (history.new.items ≡ history.old.items)) }
 {

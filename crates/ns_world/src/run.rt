@@ -3,7 +3,6 @@
 
 ghost use Rattle.std.specs.Prelude.{◌≡◌, ◌≤◌, ◌<◌, ◌+◌, ◌∷◌, [], Some, IfSome, IfOk, IfErr, OnOk, All, map, slice_get, slice_index, replicate, MatchResult, ◌^◌, ◌++◌};
 ghost use Rattle.ns_world.specs.Calls.{CallInRange};
-ghost use Rattle.ns_word.specs.Steps.{truths};
 ghost use Rattle.ns_world.specs.World.{seen};
 ghost use Rattle.ns_world.specs.Runs.{calls_of, Counts, progress, progressed, is_end, TurnsWith, tests_told, TurnFault, TurnOf, Advances, Stops, Runs, RunFault, AllIdle, IsCounted, ListFits, items_of};
 
@@ -41,8 +40,8 @@ fn turn<C: Seated<N>, const N: usize>(
     seat: u8,
 ) -> Result<Step, Fault>
     requires { IfSome next (CallInRange N) }
-    ensures ok { IfOk result (λ step. TurnsWith next (seen (truths C.holds C.is_same C.is_quiet) world.old) seat step (seen (truths C.holds C.is_same C.is_quiet) world.new)) }
-    ensures err { IfErr result (λ fault. ((seen (truths C.holds C.is_same C.is_quiet) world.new) ≡ (seen (truths C.holds C.is_same C.is_quiet) world.old)) × TurnFault (seen (truths C.holds C.is_same C.is_quiet) world.old) seat fault) }
+    ensures ok { IfOk result (λ step. TurnsWith next (seen C.means world.old) seat step (seen C.means world.new)) }
+    ensures err { IfErr result (λ fault. ((seen C.means world.new) ≡ (seen C.means world.old)) × TurnFault (seen C.means world.old) seat fault) }
 {
     let Some(call) = next else {
         return world.step(seat);
@@ -108,14 +107,14 @@ fn counted_turn<C: Seated<N>, const N: usize>(
     limit: u32,
 ) -> Result<Step, Fault>
     requires lists { All (λ calls. ListFits N calls.items) lists.now }
-    requires counted { IsCounted (seen (truths C.holds C.is_same C.is_quiet) world.old) tally.old.over }
+    requires counted { IsCounted (seen C.means world.old) tally.old.over }
     requires turns { tally.old.turns ≤ limit }
     ensures ok { IfOk result (λ step. let calls = map (λ calls. calls.items) lists.now in
-        TurnOf calls (progress (seen (truths C.holds C.is_same C.is_quiet) world.old) tally.old.over tally.old.lines.items) seat step (progress (seen (truths C.holds C.is_same C.is_quiet) world.new) tally.new.over tally.new.lines.items)) }
-    ensures counted { OnOk result (IsCounted (seen (truths C.holds C.is_same C.is_quiet) world.new) tally.new.over) }
+        TurnOf calls (progress (seen C.means world.old) tally.old.over tally.old.lines.items) seat step (progress (seen C.means world.new) tally.new.over tally.new.lines.items)) }
+    ensures counted { OnOk result (IsCounted (seen C.means world.new) tally.new.over) }
     ensures turns { OnOk result ((tally.new.turns ≡ tally.old.turns + 1) × (tally.new.turns ≤ limit)) }
     ensures err { IfErr result (λ fault. let calls = map (λ calls. calls.items) lists.now in
-        (whole : _) → Stops calls limit (progress (seen (truths C.holds C.is_same C.is_quiet) world.old) tally.old.over tally.old.lines.items) tally.old.turns (record { seat = seat; whole = whole } ∷ []) (seen (truths C.holds C.is_same C.is_quiet) world.new) fault) }
+        (whole : _) → Stops calls limit (progress (seen C.means world.old) tally.old.over tally.old.lines.items) tally.old.turns (record { seat = seat; whole = whole } ∷ []) (seen C.means world.new) fault) }
 {
     if seat as usize >= world.seats() {
         return Err(Fault::NoSuchSeat);
@@ -139,13 +138,13 @@ fn item<C: Seated<N>, const N: usize>(
     limit: u32,
 ) -> Result<(), Fault>
     requires lists { All (λ calls. ListFits N calls.items) lists.now }
-    requires counted { IsCounted (seen (truths C.holds C.is_same C.is_quiet) world.old) tally.old.over }
+    requires counted { IsCounted (seen C.means world.old) tally.old.over }
     requires turns { tally.old.turns ≤ limit }
     ensures ok { OnOk result (let calls = map (λ calls. calls.items) lists.now in
-        Advances calls limit (progress (seen (truths C.holds C.is_same C.is_quiet) world.old) tally.old.over tally.old.lines.items) tally.old.turns (record { seat = seat; whole = whole } ∷ []) [] (progress (seen (truths C.holds C.is_same C.is_quiet) world.new) tally.new.over tally.new.lines.items) tally.new.turns) }
-    ensures counted { OnOk result (IsCounted (seen (truths C.holds C.is_same C.is_quiet) world.new) tally.new.over) }
+        Advances calls limit (progress (seen C.means world.old) tally.old.over tally.old.lines.items) tally.old.turns (record { seat = seat; whole = whole } ∷ []) [] (progress (seen C.means world.new) tally.new.over tally.new.lines.items) tally.new.turns) }
+    ensures counted { OnOk result (IsCounted (seen C.means world.new) tally.new.over) }
     ensures err { IfErr result (λ fault. let calls = map (λ calls. calls.items) lists.now in
-        Stops calls limit (progress (seen (truths C.holds C.is_same C.is_quiet) world.old) tally.old.over tally.old.lines.items) tally.old.turns (record { seat = seat; whole = whole } ∷ []) (seen (truths C.holds C.is_same C.is_quiet) world.new) fault) }
+        Stops calls limit (progress (seen C.means world.old) tally.old.over tally.old.lines.items) tally.old.turns (record { seat = seat; whole = whole } ∷ []) (seen C.means world.new) fault) }
 {
     loop {
         let step = counted_turn(world, lists, tally, seat, limit)?;
@@ -164,13 +163,13 @@ fn word<C: Seated<N>, const N: usize>(
     limit: u32,
 ) -> Result<(), Fault>
     requires lists { All (λ calls. ListFits N calls.items) lists.now }
-    requires counted { IsCounted (seen (truths C.holds C.is_same C.is_quiet) world.old) tally.old.over }
+    requires counted { IsCounted (seen C.means world.old) tally.old.over }
     requires turns { tally.old.turns ≤ limit }
     ensures ok { OnOk result (let calls = map (λ calls. calls.items) lists.now in
-        Advances calls limit (progress (seen (truths C.holds C.is_same C.is_quiet) world.old) tally.old.over tally.old.lines.items) tally.old.turns (items_of (turn.now ∷ [])) [] (progress (seen (truths C.holds C.is_same C.is_quiet) world.new) tally.new.over tally.new.lines.items) tally.new.turns) }
-    ensures counted { OnOk result (IsCounted (seen (truths C.holds C.is_same C.is_quiet) world.new) tally.new.over) }
+        Advances calls limit (progress (seen C.means world.old) tally.old.over tally.old.lines.items) tally.old.turns (items_of (turn.now ∷ [])) [] (progress (seen C.means world.new) tally.new.over tally.new.lines.items) tally.new.turns) }
+    ensures counted { OnOk result (IsCounted (seen C.means world.new) tally.new.over) }
     ensures err { IfErr result (λ fault. let calls = map (λ calls. calls.items) lists.now in
-        Stops calls limit (progress (seen (truths C.holds C.is_same C.is_quiet) world.old) tally.old.over tally.old.lines.items) tally.old.turns (items_of (turn.now ∷ [])) (seen (truths C.holds C.is_same C.is_quiet) world.new) fault) }
+        Stops calls limit (progress (seen C.means world.old) tally.old.over tally.old.lines.items) tally.old.turns (items_of (turn.now ∷ [])) (seen C.means world.new) fault) }
 {
     for _ in 0..turn.times {
         item(world, lists, tally, turn.thread, turn.whole, limit)?;
@@ -194,10 +193,10 @@ impl<C: Seated<N>, const N: usize> World<C, N> {
         schedule: &[Turn],
         limit: u32,
     ) -> Result<Vec<Line>, Fault>
-        requires idle { AllIdle (seen (truths C.holds C.is_same C.is_quiet) self.old) }
+        requires idle { AllIdle (seen C.means self.old) }
         requires lists { All (λ calls. ListFits N calls.items) lists.now }
-        ensures { MatchResult result (λ lines. Runs (map (λ calls. calls.items) lists.now) schedule.now limit (seen (truths C.holds C.is_same C.is_quiet) self.old) (seen (truths C.holds C.is_same C.is_quiet) self.new) lines.items)
-            (RunFault (map (λ calls. calls.items) lists.now) schedule.now limit (seen (truths C.holds C.is_same C.is_quiet) self.old) (seen (truths C.holds C.is_same C.is_quiet) self.new)) }
+        ensures { MatchResult result (λ lines. Runs (map (λ calls. calls.items) lists.now) schedule.now limit (seen C.means self.old) (seen C.means self.new) lines.items)
+            (RunFault (map (λ calls. calls.items) lists.now) schedule.now limit (seen C.means self.old) (seen C.means self.new)) }
     {
         let mut tally = Tally {
             over: [0; 64],

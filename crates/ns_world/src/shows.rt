@@ -3,7 +3,7 @@
 ghost use Rattle.std.specs.Prelude.{◌≡◌, ◌≤◌, ◌<◌, ◌++◌, ◌+◌, ℕ, Some, true, [], length, map, slice_get, replicate};
 ghost use Rattle.ns_queue.specs.Queues.{times};
 ghost use Rattle.ns_queue.specs.Waiters.{shown_of};
-ghost use Rattle.ns_word.specs.Steps.{in_hand, truths};
+ghost use Rattle.ns_word.specs.Steps.{in_hand};
 ghost use Rattle.ns_word.specs.Walks.{has_queues, place_has_queues, has_armed, place_has_armed};
 ghost use Rattle.ns_world.specs.Performs.{view_of};
 ghost use Rattle.ns_world.specs.Shows.{hand_of, lock_by, wakes_of, wakes_owed};
@@ -53,7 +53,7 @@ fn change_in_hand<C: Seated<N>, const N: usize>(
     requires below { seat < 64 }
     requires free { has_armed (Some walk) ≡ true → times seat queues.old ≡ 0 }
     requires no_variables { queues.old.cvs ≡ replicate 4 [] }
-    ensures { queues.new.lock ≡ in_hand (truths C.holds C.is_same C.is_quiet) seat walk row.now queues.old.lock }
+    ensures { queues.new.lock ≡ in_hand C.means seat walk row.now queues.old.lock }
 {
     match walk {
         Walk::Queue(aim, woken, _) => queue_self(queues, seat, aim.mode(), woken),
@@ -76,7 +76,7 @@ fn wait_in_hand<C: Seated<N>, const N: usize>(
     requires below { seat < 64 }
     requires free { place_has_armed place ≡ true → times seat queues.old ≡ 0 }
     requires no_variables { queues.old.cvs ≡ replicate 4 [] }
-    ensures { queues.new.lock ≡ in_hand (truths C.holds C.is_same C.is_quiet) seat (Walk.Wait wait place) row.now queues.old.lock }
+    ensures { queues.new.lock ≡ in_hand C.means seat (Walk.Wait wait place) row.now queues.old.lock }
 {
     match place {
         WaitPlace::Queue(again, _) => {
@@ -99,7 +99,7 @@ fn in_hand<C: Seated<N>, const N: usize>(
     requires below { seat < 64 }
     requires no_variables { queues.now.cvs ≡ replicate 4 [] }
     requires free { has_armed walk ≡ true → times seat queues.now ≡ 0 }
-    ensures { result.lock ≡ hand_of (truths C.holds C.is_same C.is_quiet) seat walk row.now queues.now.lock }
+    ensures { result.lock ≡ hand_of C.means seat walk row.now queues.now.lock }
 {
     let mut hand = queues.copied();
     if let Some(place) = walk {
@@ -137,7 +137,7 @@ pub(crate) fn shown_lock<C: Seated<N>, const N: usize>(
     requires no_variables { queues.now.cvs ≡ replicate 4 [] }
     requires below { (i : ℕ) (seat : _) → slice_get seats.now i ≡ Some seat → seat.number < 64 }
     requires free { (i : ℕ) (seat : _) → slice_get seats.now i ≡ Some seat → has_armed seat.walk ≡ true → times seat.number queues.now ≡ 0 }
-    ensures { result.items ≡ map shown_of (lock_by (truths C.holds C.is_same C.is_quiet) row.now queues.now.lock (map view_of seats.now)) }
+    ensures { result.items ≡ map shown_of (lock_by C.means row.now queues.now.lock (map view_of seats.now)) }
 {
     for seat in seats {
         if has_queues(seat.walk) {

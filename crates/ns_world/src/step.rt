@@ -2,7 +2,6 @@
 
 ghost use Rattle.std.specs.Prelude.{◌≡◌, IfOk, IfErr};
 ghost use Rattle.ns_word.specs.Codec.{word_of};
-ghost use Rattle.ns_word.specs.Steps.{truths};
 ghost use Rattle.ns_world.specs.Begins.{Begins, BeginFault, placed};
 ghost use Rattle.ns_world.specs.Calls.{CallInRange, mode_of};
 ghost use Rattle.ns_world.specs.World.{now, IsLawfulWorld, StepOf, StepFault};
@@ -80,11 +79,11 @@ pub(crate) fn begin_at<C: Seated<N>, const N: usize>(
     number: u8,
     call: Call<C>,
 ) -> Result<Begun, Fault>
-    requires lawful { IsLawfulWorld (now (truths C.holds C.is_same C.is_quiet) (word_of word.now) row.now queues.now flags.now env.now seats.old.items history.now.items) }
+    requires lawful { IsLawfulWorld (now C.means (word_of word.now) row.now queues.now flags.now env.now seats.old.items history.now.items) }
     requires range { CallInRange N call }
-    ensures lawful { IsLawfulWorld (now (truths C.holds C.is_same C.is_quiet) (word_of word.now) row.now queues.now flags.now env.now seats.new.items history.now.items) }
-    ensures ok { IfOk result (λ begun. Begins (now (truths C.holds C.is_same C.is_quiet) (word_of word.now) row.now queues.now flags.now env.now seats.old.items history.now.items) (now (truths C.holds C.is_same C.is_quiet) (word_of word.now) row.now queues.now flags.now env.now seats.new.items history.now.items) number call begun) }
-    ensures err { IfErr result (λ fault. (now (truths C.holds C.is_same C.is_quiet) (word_of word.now) row.now queues.now flags.now env.now seats.new.items history.now.items ≡ now (truths C.holds C.is_same C.is_quiet) (word_of word.now) row.now queues.now flags.now env.now seats.old.items history.now.items) × BeginFault (now (truths C.holds C.is_same C.is_quiet) (word_of word.now) row.now queues.now flags.now env.now seats.old.items history.now.items) number fault) }
+    ensures lawful { IsLawfulWorld (now C.means (word_of word.now) row.now queues.now flags.now env.now seats.new.items history.now.items) }
+    ensures ok { IfOk result (λ begun. Begins (now C.means (word_of word.now) row.now queues.now flags.now env.now seats.old.items history.now.items) (now C.means (word_of word.now) row.now queues.now flags.now env.now seats.new.items history.now.items) number call begun) }
+    ensures err { IfErr result (λ fault. (now C.means (word_of word.now) row.now queues.now flags.now env.now seats.new.items history.now.items ≡ now C.means (word_of word.now) row.now queues.now flags.now env.now seats.old.items history.now.items) × BeginFault (now C.means (word_of word.now) row.now queues.now flags.now env.now seats.old.items history.now.items) number fault) }
 {
     let at = number as usize;
     if at >= seats.len() {
@@ -114,10 +113,10 @@ pub(crate) fn step_at<C: Seated<N>, const N: usize>(
     history: &mut Vec<Event<C, N>>,
     number: u8,
 ) -> Result<Step, Fault>
-    requires { IsLawfulWorld (now (truths C.holds C.is_same C.is_quiet) (word_of word.old) row.old queues.old flags.old env.old seats.old.items history.old.items) }
-    ensures lawful { IsLawfulWorld (now (truths C.holds C.is_same C.is_quiet) (word_of word.new) row.new queues.new flags.new env.new seats.new.items history.new.items) }
-    ensures ok { IfOk result (λ step. StepOf (now (truths C.holds C.is_same C.is_quiet) (word_of word.old) row.old queues.old flags.old env.old seats.old.items history.old.items) (now (truths C.holds C.is_same C.is_quiet) (word_of word.new) row.new queues.new flags.new env.new seats.new.items history.new.items) number step) }
-    ensures err { IfErr result (λ fault. (now (truths C.holds C.is_same C.is_quiet) (word_of word.new) row.new queues.new flags.new env.new seats.new.items history.new.items ≡ now (truths C.holds C.is_same C.is_quiet) (word_of word.old) row.old queues.old flags.old env.old seats.old.items history.old.items) × StepFault (now (truths C.holds C.is_same C.is_quiet) (word_of word.old) row.old queues.old flags.old env.old seats.old.items history.old.items) number fault) }
+    requires { IsLawfulWorld (now C.means (word_of word.old) row.old queues.old flags.old env.old seats.old.items history.old.items) }
+    ensures lawful { IsLawfulWorld (now C.means (word_of word.new) row.new queues.new flags.new env.new seats.new.items history.new.items) }
+    ensures ok { IfOk result (λ step. StepOf (now C.means (word_of word.old) row.old queues.old flags.old env.old seats.old.items history.old.items) (now C.means (word_of word.new) row.new queues.new flags.new env.new seats.new.items history.new.items) number step) }
+    ensures err { IfErr result (λ fault. (now C.means (word_of word.new) row.new queues.new flags.new env.new seats.new.items history.new.items ≡ now C.means (word_of word.old) row.old queues.old flags.old env.old seats.old.items history.old.items) × StepFault (now C.means (word_of word.old) row.old queues.old flags.old env.old seats.old.items history.old.items) number fault) }
 {
     let at = number as usize;
     if at >= seats.len() {

@@ -2,6 +2,7 @@
 //! is not tested again; they leave open that memory is there.
 
 ghost use Rattle.std.specs.Prelude.{IfOk};
+ghost use Rattle.ns_model.specs.Truths.{truths};
 ghost use Rattle.ns_world.specs.Runs.{ListFits};
 
 use ns_model::condition::Condition;
@@ -24,11 +25,7 @@ impl Condition<8> for Never {
     ghost use Rattle.std.proofs.Common.{rules};
     ghost use Rattle.std.specs.Prelude.{false, true, refl};
 
-    ghost holds = { λ c row. false };
-
-    ghost is_same = { λ c d. true };
-
-    ghost is_quiet = { λ before after. true };
+    ghost means = { truths (λ c row. false) (λ c d. true) (λ before after. true) };
 
     fn test(&self, _row: &[u64; 8]) -> bool {
         false

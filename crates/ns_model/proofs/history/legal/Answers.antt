@@ -5,7 +5,7 @@ use Rattle.ns_model.proofs.history.legal.Goals as goal
 
 pub returns-then-not-event_fits : goal.returns-then-not-event_fits
 returns-then-not-event_fits g c =
-    let holds = g.C.Condition.holds in
+    let holds = g.C.Condition.means.holds in
     let h = c.args.history.now in (
       λ no. absurd (cc),
       λ (whole : IsLegal holds h).
@@ -15,5 +15,5 @@ returns-then-not-event_fits g c =
 
 pub loop-i-preserved : goal.loop-i-preserved
 loop-i-preserved g c =
-    legal_more g.C.Condition.holds (first_standing g.row.N) c.args.history.now c.loop-i.i c.index-history-i.result c.loop-i-test.true c.loop-i.invariant
+    legal_more g.C.Condition.means.holds (first_standing g.row.N) c.args.history.now c.loop-i.i c.index-history-i.result c.loop-i-test.true c.loop-i.invariant
     (rw (← c.index-history-i.is) (c.event_fits.ensures.0 c.if-not-event_fits.false))

@@ -9,7 +9,7 @@ use Rattle.ns_queue.proofs.scan.choose.Given.{Over}
 use Rattle.ns_queue.proofs.scan.choose.Goals as goal
 use Rattle.ns_queue.proofs.scan.choose.Goals.{in-Ended, in_default, then-not-is_alike, else-not-is_alike, then-needed, else-needed}
 
-enters : (g : Over) (c : goal.After-after-stage g) → Enters g.C.Condition.is_same (λ d. g.C.Condition.holds d c.args.row.now) c.waiter-item.result.cond (option_copied c.loop-waiter.first) c.loop-waiter.truth (option_copied c.if-not-is_alike.first) c.if-not-is_alike.truth
+enters : (g : Over) (c : goal.After-after-stage g) → Enters g.C.Condition.means.same (λ d. g.C.Condition.means.holds d c.args.row.now) c.waiter-item.result.cond (option_copied c.loop-waiter.first) c.loop-waiter.truth (option_copied c.if-not-is_alike.first) c.if-not-is_alike.truth
 enters g c = elim c.if-not-is_alike.branch [
   | then-not-is_alike w ↦ inr (sym c.is_alike.ensures ∙ w.if-not-is_alike.true, ap option_copied w.first-is ∙ w.as_ref-first.ensures.value, w.truth-is)
   | else-not-is_alike w ↦ inl (sym c.is_alike.ensures ∙ w.if-not-is_alike.false, ap option_copied w.first-is, w.truth-is)
@@ -24,18 +24,18 @@ taken g c = elim c.if-needed.branch [
   | else-needed w ↦ w.taken-is ∙ by_false c.needs-needed.result (unwrap_or c.ask-answer.result.0 true) w.if-needed.false
 ]
 
-knows : (g : Over) (c : goal.After-after-stage g) → c.if-needed.taken ≡ takes (λ d. g.C.Condition.holds d c.args.row.now) c.loop-waiter.stage c.waiter-item.result
+knows : (g : Over) (c : goal.After-after-stage g) → c.if-needed.taken ≡ takes (λ d. g.C.Condition.means.holds d c.args.row.now) c.loop-waiter.stage c.waiter-item.result
 knows g c =
-    let meets = λ (d : g.row.C.Denot). g.C.Condition.holds d c.args.row.now in
-    let known = knows_entered g.C.Condition.is_same meets c.waiter-item.result.cond (option_copied c.loop-waiter.first) c.loop-waiter.truth (option_copied c.if-not-is_alike.first) c.if-not-is_alike.truth (enters g c) c.loop-waiter.invariant.known in
-    let met = met_entered g.C.Condition.is_same meets (λ d e alike. g.met.C.Condition.same_agrees d e c.args.row.now c.told-row alike) c.waiter-item.result.cond (option_copied c.loop-waiter.first) c.loop-waiter.truth (option_copied c.if-not-is_alike.first) c.if-not-is_alike.truth (enters g c) in
-    let asked = taken_asked g.C.Condition.is_same meets c.needs-needed.result (option_copied c.if-not-is_alike.first) c.if-not-is_alike.truth known in
+    let meets = λ (d : g.row.C.Denot). g.C.Condition.means.holds d c.args.row.now in
+    let known = knows_entered g.C.Condition.means.same meets c.waiter-item.result.cond (option_copied c.loop-waiter.first) c.loop-waiter.truth (option_copied c.if-not-is_alike.first) c.if-not-is_alike.truth (enters g c) c.loop-waiter.invariant.known in
+    let met = met_entered g.C.Condition.means.same meets (λ d e alike. g.met.C.Condition.same_agrees d e c.args.row.now c.told-row alike) c.waiter-item.result.cond (option_copied c.loop-waiter.first) c.loop-waiter.truth (option_copied c.if-not-is_alike.first) c.if-not-is_alike.truth (enters g c) in
+    let asked = taken_asked g.C.Condition.means.same meets c.needs-needed.result (option_copied c.if-not-is_alike.first) c.if-not-is_alike.truth known in
     taken g c ∙ ap (λ t. c.needs-needed.result && unwrap_or t true) c.ask-answer.ensures.truth ∙ asked ∙ ap (λ b. c.needs-needed.result && b) (sym met) ∙ ap (λ b. b && is_met meets c.waiter-item.result.cond) c.needs-needed.ensures
 
 pub loop-waiter-preserved : goal.loop-waiter-preserved
 loop-waiter-preserved g c =
-    let meets = λ (d : g.row.C.Denot). g.C.Condition.holds d c.args.row.now in
-    let same = g.C.Condition.is_same in
+    let meets = λ (d : g.row.C.Denot). g.C.Condition.means.holds d c.args.row.now in
+    let same = g.C.Condition.means.same in
     let known = knows_entered same meets c.waiter-item.result.cond (option_copied c.loop-waiter.first) c.loop-waiter.truth (option_copied c.if-not-is_alike.first) c.if-not-is_alike.truth (enters g c) c.loop-waiter.invariant.known in
     record {
       so_far = marks_on same meets c.args.waiters.now c.loop-waiter.waiter-index c.waiter-item.result c.loop-waiter.stage c.after-stage.result c.if-needed.taken _ _ _
@@ -51,8 +51,8 @@ loop-waiter-preserved g c =
 -- behind a writer that was taken
 pub loop-waiter-preserved-then-matches : goal.loop-waiter-preserved-then-matches
 loop-waiter-preserved-then-matches g c =
-    let meets = λ (d : g.row.C.Denot). g.C.Condition.holds d c.args.row.now in
-    let same = g.C.Condition.is_same in
+    let meets = λ (d : g.row.C.Denot). g.C.Condition.means.holds d c.args.row.now in
+    let same = g.C.Condition.means.same in
     let over : c.loop-waiter.stage ≡ Ended = elim c.match-matches.branch [ in-Ended w ↦ w.in-Ended.is | in_default w ↦ absurd (true≢false (sym c.if-matches.true ∙ w.matches-is)) ] in
     record {
       so_far = marks_ended same meets c.args.waiters.now c.loop-waiter.waiter-index c.waiter-item.result c.loop-waiter.stage _ _ _ over c.loop-waiter-test.true c.waiter-item.is c.push.ensures.items c.loop-waiter.invariant.so_far;

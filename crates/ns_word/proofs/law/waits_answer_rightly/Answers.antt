@@ -1,7 +1,6 @@
-use Rattle.ns_word.specs.Steps.{truths}
 use Rattle.ns_word.proofs.Answers.{answers_rightly}
 use Rattle.ns_word.proofs.law.waits_answer_rightly.Goals as goal
 
 pub returns : goal.returns
 returns g c = λ seats history old new view found commits wait place answer step lawful walks is.
-    answers_rightly (truths g.C.Condition.holds g.C.Condition.is_same g.C.Condition.is_quiet) seats history old new view found commits wait place answer step lawful walks is
+    answers_rightly g.C.Condition.means seats history old new view found commits wait place answer step lawful walks is

@@ -1,5 +1,4 @@
 use Rattle.std.proofs.Common.{refl}
-use Rattle.ns_word.specs.Steps.{truths}
 use Rattle.ns_world.proofs.Released.{released, release_missed, can_some}
 use Rattle.ns_world.proofs.exchanges.release.Goals as goal
 
@@ -8,7 +7,7 @@ returns-then-not-is_last-clause-ok g c = λ row flags owed queues.
     release_missed _ c.args.seat c.args.leaving c.args.last c.args.word.now row flags owed c.args.history.now.items queues c.args.held.now (c.if-not-is_last.ensures.another refl)
 
 pub commit-requires : goal.commit-requires
-commit-requires g c = (g.met.C.Fits.held_fits, (g.met.C.Fits.event_fits, can_some (truths g.C.Condition.holds g.C.Condition.is_same g.C.Condition.is_quiet) c.args.leaving c.args.held.now c.requires))
+commit-requires g c = (g.met.C.Fits.held_fits, (g.met.C.Fits.event_fits, can_some g.C.Condition.means c.args.leaving c.args.held.now c.requires))
 
 pub returns-clause-ok : goal.returns-clause-ok
 returns-clause-ok g c = λ row flags owed queues.

@@ -1,7 +1,6 @@
 use Rattle.ns_queue.specs.Queues.{Lists}
 use Rattle.std.proofs.Common.{refl, sym, ◌∙◌, ap, not, rules}
 use Rattle.std.proofs.lemmas.Result.{err_from_is_err_and}
-use Rattle.ns_word.specs.Steps.{truths}
 use Rattle.ns_world.proofs.Released.{scanned, missed, some_left, can_some}
 use Rattle.ns_world.proofs.exchanges.release_returning.Goals as goal
 
@@ -11,7 +10,7 @@ returns-then-not-is_same-clause-ok g c = λ flags.
     (c.if-not-is_same.ensures.another refl)
 
 pub commit-requires : goal.commit-requires
-commit-requires g c = (g.met.C.Fits.held_fits, (g.met.C.Fits.event_fits, can_some (truths g.C.Condition.holds g.C.Condition.is_same g.C.Condition.is_quiet) c.args.leaving c.args.seat.now.held c.requires))
+commit-requires g c = (g.met.C.Fits.held_fits, (g.met.C.Fits.event_fits, can_some g.C.Condition.means c.args.leaving c.args.seat.now.held c.requires))
 
 pub returns-in_err-commit-clause-err : goal.returns-in_err-commit-clause-err
 returns-in_err-commit-clause-err g c =

@@ -1,6 +1,5 @@
 use Rattle.std.proofs.Common.{refl, sym, ap, not, ◌∙◌, rules}
 use Rattle.std.proofs.lemmas.Result.{err_from_is_err_and}
-use Rattle.ns_word.specs.Steps.{truths}
 use Rattle.ns_world.proofs.Released.{some_left}
 use Rattle.ns_world.proofs.Waited.{waited, wait_missed, wait_some}
 use Rattle.ns_world.proofs.exchanges.wait_returning.Goals as goal
@@ -11,7 +10,7 @@ returns-then-not-is_same-clause-ok g c = λ flags.
     (c.if-not-is_same.ensures.another refl)
 
 pub leave_section-requires : goal.leave_section-requires
-leave_section-requires g c = (g.met.C.Fits.held_fits, (g.met.C.Fits.event_fits, wait_some (truths g.C.Condition.holds g.C.Condition.is_same g.C.Condition.is_quiet) c.args.wait c.args.again c.args.seat.now.held c.requires.can))
+leave_section-requires g c = (g.met.C.Fits.held_fits, (g.met.C.Fits.event_fits, wait_some g.C.Condition.means c.args.wait c.args.again c.args.seat.now.held c.requires.can))
 
 pub returns-in_err-leave_section-clause-err : goal.returns-in_err-leave_section-clause-err
 returns-in_err-leave_section-clause-err g c =

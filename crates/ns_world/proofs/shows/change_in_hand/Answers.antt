@@ -1,5 +1,4 @@
 use Rattle.ns_world.proofs.Showing.{in_hand_else}
-use Rattle.ns_word.specs.Steps.{truths}
 use Rattle.ns_queue.specs.Queues.{Lists}
 use Rattle.std.proofs.Common.{rules, refl, ap}
 use Rattle.ns_world.proofs.shows.change_in_hand.Goals as goal
@@ -20,4 +19,4 @@ pub returns-in-Wait : goal.returns-in-Wait
 returns-in-Wait g c = rw c.in-Wait.is c.wait_in_hand.ensures
 
 pub returns-in_default : goal.returns-in_default
-returns-in_default g c = in_hand_else (truths g.C.Condition.holds g.C.Condition.is_same g.C.Condition.is_quiet) c.args.seat c.args.walk c.args.row.now c.args.queues.now.lock c.in_default.not-Queue c.in_default.not-ReleaseReturning c.in_default.not-Wait
+returns-in_default g c = in_hand_else g.C.Condition.means c.args.seat c.args.walk c.args.row.now c.args.queues.now.lock c.in_default.not-Queue c.in_default.not-ReleaseReturning c.in_default.not-Wait

@@ -2,7 +2,6 @@ use Rattle.std.proofs.Common.{◌≡◌, ◌+◌, rules, suc, map, Some, ap, sym
 use Rattle.std.specs.Prelude.{slice_get}
 use Rattle.std.proofs.lemmas.Option.{slice_get-get_or}
 use Rattle.ns_queue.specs.Waiters.{shown_of}
-use Rattle.ns_word.specs.Steps.{truths}
 use Rattle.ns_world.proofs.Showing.{lock_here, lock_later, none_left}
 use Rattle.ns_world.proofs.shows.shown_lock.Goals as goal
 
@@ -13,15 +12,15 @@ in_hand-requires g c =
 
 pub returns-then-has_queues : goal.returns-then-has_queues
 returns-then-has_queues g c =
-    let here = lock_here c.args.seats.now c.loop-seat.seat-index c.seat-item.result c.loop-seat-test.true c.seat-item.is (truths g.C.Condition.holds g.C.Condition.is_same g.C.Condition.is_quiet) c.args.row.now c.args.queues.now.lock (sym c.has_queues.ensures ∙ c.if-has_queues.true) in
+    let here = lock_here c.args.seats.now c.loop-seat.seat-index c.seat-item.result c.loop-seat-test.true c.seat-item.is g.C.Condition.means c.args.row.now c.args.queues.now.lock (sym c.has_queues.ensures ∙ c.if-has_queues.true) in
     c.shown.ensures ∙ ap (map shown_of) (c.in_hand.ensures ∙ sym here ∙ c.loop-seat.invariant)
 
 pub loop-seat-preserved : goal.loop-seat-preserved
 loop-seat-preserved g c =
-    let later = lock_later c.args.seats.now c.loop-seat.seat-index c.seat-item.result c.loop-seat-test.true c.seat-item.is (truths g.C.Condition.holds g.C.Condition.is_same g.C.Condition.is_quiet) c.args.row.now c.args.queues.now.lock (sym c.has_queues.ensures ∙ c.if-has_queues.false) in
+    let later = lock_later c.args.seats.now c.loop-seat.seat-index c.seat-item.result c.loop-seat-test.true c.seat-item.is g.C.Condition.means c.args.row.now c.args.queues.now.lock (sym c.has_queues.ensures ∙ c.if-has_queues.false) in
     let next : c.loop-seat.seat-index + 1 ≡ suc c.loop-seat.seat-index = omega arith in
     rw next (sym later ∙ c.loop-seat.invariant)
 
 pub returns : goal.returns
 returns g c =
-    c.shown-2.ensures ∙ ap (map shown_of) (none_left c.args.seats.now c.loop-seat.seat-index c.loop-seat-test.false (truths g.C.Condition.holds g.C.Condition.is_same g.C.Condition.is_quiet) c.args.row.now c.args.queues.now.lock ∙ c.loop-seat.invariant)
+    c.shown-2.ensures ∙ ap (map shown_of) (none_left c.args.seats.now c.loop-seat.seat-index c.loop-seat-test.false g.C.Condition.means c.args.row.now c.args.queues.now.lock ∙ c.loop-seat.invariant)

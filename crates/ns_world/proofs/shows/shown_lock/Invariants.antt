@@ -1,5 +1,4 @@
 use Rattle.std.proofs.Common.{◌≡◌, drop, map}
-use Rattle.ns_word.specs.Steps.{truths}
 use Rattle.ns_world.specs.Performs.{view_of}
 use Rattle.ns_world.specs.Shows.{lock_by}
 use Rattle.ns_world.proofs.shows.shown_lock.Given as goal
@@ -7,5 +6,5 @@ use Rattle.ns_world.proofs.shows.shown_lock.Given as goal
 -- none of those before has the queues
 abbrev pub invariant-loop-seat : goal.invariant-loop-seat
 invariant-loop-seat g l =
-    lock_by (truths g.C.Condition.holds g.C.Condition.is_same g.C.Condition.is_quiet) l.row l.queues.lock (map view_of (drop l.seat-index l.seats))
-    ≡ lock_by (truths g.C.Condition.holds g.C.Condition.is_same g.C.Condition.is_quiet) l.row l.queues.lock (map view_of l.seats)
+    lock_by g.C.Condition.means l.row l.queues.lock (map view_of (drop l.seat-index l.seats))
+    ≡ lock_by g.C.Condition.means l.row l.queues.lock (map view_of l.seats)

@@ -1,5 +1,4 @@
 use Rattle.ns_world.proofs.Showing.{waiting_else}
-use Rattle.ns_word.specs.Steps.{truths}
 use Rattle.std.proofs.Common.{rules, refl}
 use Rattle.ns_world.proofs.shows.wait_in_hand.Goals as goal
 
@@ -16,4 +15,4 @@ pub returns-in-Queue : goal.returns-in-Queue
 returns-in-Queue g c = rw c.in-Queue.is c.scan_and_queue.ensures.lock
 
 pub returns-in_default : goal.returns-in_default
-returns-in_default g c = waiting_else (truths g.C.Condition.holds g.C.Condition.is_same g.C.Condition.is_quiet) c.args.seat c.args.wait c.args.place c.args.row.now c.args.queues.now.lock c.in_default.not-Queue c.in_default.not-Leave
+returns-in_default g c = waiting_else g.C.Condition.means c.args.seat c.args.wait c.args.place c.args.row.now c.args.queues.now.lock c.in_default.not-Queue c.in_default.not-Leave

@@ -1,6 +1,5 @@
 use Rattle.std.proofs.Common.{◌≡◌, ◌<◌, ◌≤◌, length, arith, refl, sym, ◌∙◌, subst, get_or}
 use Rattle.ns_word.specs.Codec.{word_of}
-use Rattle.ns_word.specs.Steps.{truths}
 use Rattle.ns_world.specs.Asks.{note_at}
 use Rattle.ns_world.specs.Calls.{CallFits}
 use Rattle.ns_world.specs.Performs.{view_of}
@@ -16,7 +15,7 @@ returns-then-at-len-clause-err g c = let past : length c.args.seats.now.items �
 pub returns-then-is_busy-clause-ok : goal.returns-then-is_busy-clause-ok
 returns-then-is_busy-clause-ok g c =
     let within : c.args.number < length c.args.seats.now.items = omega arith in
-    (refl, busy_here (truths g.C.Condition.holds g.C.Condition.is_same g.C.Condition.is_quiet) (word_of c.args.word.now) c.args.row.now c.args.queues.now c.args.flags.now c.args.env.now c.args.seats.now.items c.args.history.now.items c.args.number c.index-seat.result.now within c.index-seat.ensures (sym c.is_busy.ensures ∙ c.if-is_busy.true))
+    (refl, busy_here g.C.Condition.means (word_of c.args.word.now) c.args.row.now c.args.queues.now c.args.flags.now c.args.env.now c.args.seats.now.items c.args.history.now.items c.args.number c.index-seat.result.now within c.index-seat.ensures (sym c.is_busy.ensures ∙ c.if-is_busy.true))
 
 pub returns-in-None-clause-ok : goal.returns-in-None-clause-ok
 returns-in-None-clause-ok g c =
@@ -42,9 +41,9 @@ returns-in-Some-clause-lawful g c =
     let walk = idle_walk c.index-seat.result.now.walk c.index-seat.result.now.asking idle in
     let ask = idle_ask c.index-seat.result.now.walk c.index-seat.result.now.asking idle in
     let fits = subst (λ m. CallFits (note_at c.args.env.now.notes) c.args.call m) c.mode_of.ensures c.in-Some.ensures.1 in
-    let place = start_fits (truths g.C.Condition.holds g.C.Condition.is_same g.C.Condition.is_quiet) (note_at c.args.env.now.notes) c.args.call c.index-seat.result.now.held g.met.C.Condition.has_cells.0 c.requires.range fits in
-    let begins = subst (λ s. StartFits (truths g.C.Condition.holds g.C.Condition.is_same g.C.Condition.is_quiet) (note_at c.args.env.now.notes) s c.index-seat.result.now.held) (sym (rw c.mode_of.ensures at c.in-Some.ensures.0)) place in
-    rw (c.place.ensures, is) (lawful_placed (truths g.C.Condition.holds g.C.Condition.is_same g.C.Condition.is_quiet) g.met.C.Condition.has_cells.0 g.met.C.Condition.quiet_keeps (word_of c.args.word.now) c.args.row.now c.args.queues.now c.args.flags.now c.args.env.now c.args.seats.now.items c.args.history.now.items c.requires.lawful c.args.number seat within
+    let place = start_fits g.C.Condition.means (note_at c.args.env.now.notes) c.args.call c.index-seat.result.now.held g.met.C.Condition.has_cells.0 c.requires.range fits in
+    let begins = subst (λ s. StartFits g.C.Condition.means (note_at c.args.env.now.notes) s c.index-seat.result.now.held) (sym (rw c.mode_of.ensures at c.in-Some.ensures.0)) place in
+    rw (c.place.ensures, is) (lawful_placed g.C.Condition.means g.met.C.Condition.has_cells.0 g.met.C.Condition.quiet_keeps (word_of c.args.word.now) c.args.row.now c.args.queues.now c.args.flags.now c.args.env.now c.args.seats.now.items c.args.history.now.items c.requires.lawful c.args.number seat within
     c.in-Some.start (rw (same, is) at walk) (rw (same, is) at ask) (rw (same, is) at begins))
 
 pub returns-in-Some-clause-ok : goal.returns-in-Some-clause-ok
@@ -57,7 +56,7 @@ returns-in-Some-clause-ok g c =
     let walk = idle_walk c.index-seat.result.now.walk c.index-seat.result.now.asking idle in
     let ask = idle_ask c.index-seat.result.now.walk c.index-seat.result.now.asking idle in
     let fits = subst (λ m. CallFits (note_at c.args.env.now.notes) c.args.call m) c.mode_of.ensures c.in-Some.ensures.1 in
-    rw (c.place.ensures, is) (starts_here (truths g.C.Condition.holds g.C.Condition.is_same g.C.Condition.is_quiet) (word_of c.args.word.now) c.args.row.now c.args.queues.now c.args.flags.now c.args.env.now c.args.seats.now.items c.args.history.now.items c.args.number seat within c.args.call c.in-Some.start (rw (c.mode_of.ensures, same, is) at c.in-Some.ensures.0)
+    rw (c.place.ensures, is) (starts_here g.C.Condition.means (word_of c.args.word.now) c.args.row.now c.args.queues.now c.args.flags.now c.args.env.now c.args.seats.now.items c.args.history.now.items c.args.number seat within c.args.call c.in-Some.start (rw (c.mode_of.ensures, same, is) at c.in-Some.ensures.0)
     (rw (same, is) at walk) (rw (same, is) at ask) (rw (same, is) at fits))
 
 pub is_busy-requires : goal.is_busy-requires

@@ -1,7 +1,6 @@
 use Rattle.std.proofs.Common.{◌<◌, ◌≤◌, Some, length, rules, arith, refl, inl}
 use Rattle.std.proofs.lemmas.List.{set-get_or}
 use Rattle.ns_word.specs.Codec.{word_of}
-use Rattle.ns_word.specs.Steps.{truths}
 use Rattle.ns_word.proofs.Codes.{decoded}
 use Rattle.ns_world.specs.Performs.{view_of}
 use Rattle.ns_world.specs.World.{now}
@@ -21,8 +20,8 @@ step_env-requires g c =
     let stands = rw (same, c.index_mut.ensures.value) at c.in-Some.is in (
       g.met.C.Seated.seat_fits,
       (
-        rw c.index_mut.ensures.value (asks_for (truths g.C.Condition.holds g.C.Condition.is_same g.C.Condition.is_quiet) g.met.C.Condition.has_cells.0 g.met.C.Condition.quiet_keeps (word_of c.args.word.now) c.args.row.now c.args.queues.now c.args.flags.now c.args.env.now c.args.seats.now.items c.args.history.now.items c.requires c.args.number seat within (Some c.in-Some.place) stands),
-        ask_here (truths g.C.Condition.holds g.C.Condition.is_same g.C.Condition.is_quiet) g.met.C.Condition.has_cells.0 g.met.C.Condition.quiet_keeps (word_of c.args.word.now) c.args.row.now c.args.queues.now c.args.flags.now c.args.env.now c.args.seats.now.items c.args.history.now.items c.requires c.args.number seat within c.in-Some.place stands,
+        rw c.index_mut.ensures.value (asks_for g.C.Condition.means g.met.C.Condition.has_cells.0 g.met.C.Condition.quiet_keeps (word_of c.args.word.now) c.args.row.now c.args.queues.now c.args.flags.now c.args.env.now c.args.seats.now.items c.args.history.now.items c.requires c.args.number seat within (Some c.in-Some.place) stands),
+        ask_here g.C.Condition.means g.met.C.Condition.has_cells.0 g.met.C.Condition.quiet_keeps (word_of c.args.word.now) c.args.row.now c.args.queues.now c.args.flags.now c.args.env.now c.args.seats.now.items c.args.history.now.items c.requires c.args.number seat within c.in-Some.place stands,
       ),
     )
 
@@ -32,7 +31,7 @@ returns-in-Some-clause-lawful g c =
     let within : c.args.number < length c.args.seats.now.items = omega arith in
     let same = same_element c.args.seats.now.items c.args.number c.index.result.now seat within c.index.ensures c.index_mut.ensures.value in
     let stands = rw (same, c.index_mut.ensures.value) at c.in-Some.is in
-    (moved_here (truths g.C.Condition.holds g.C.Condition.is_same g.C.Condition.is_quiet) g.met.C.Condition.has_cells.0 g.met.C.Condition.quiet_keeps (word_of c.args.word.now) c.args.row.now c.args.queues.now c.args.flags.now c.args.env.now c.args.seats.now.items c.args.history.now.items c.requires c.args.number seat within c.in-Some.place stands c.step_env.new.env c.step_env.new.seat c.step_env.result (rw (← c.index_mut.ensures.value) c.step_env.ensures)).1
+    (moved_here g.C.Condition.means g.met.C.Condition.has_cells.0 g.met.C.Condition.quiet_keeps (word_of c.args.word.now) c.args.row.now c.args.queues.now c.args.flags.now c.args.env.now c.args.seats.now.items c.args.history.now.items c.requires c.args.number seat within c.in-Some.place stands c.step_env.new.env c.step_env.new.seat c.step_env.result (rw (← c.index_mut.ensures.value) c.step_env.ensures)).1
 
 pub returns-in-Some-clause-ok : goal.returns-in-Some-clause-ok
 returns-in-Some-clause-ok g c =
@@ -41,10 +40,10 @@ returns-in-Some-clause-ok g c =
     let same = same_element c.args.seats.now.items c.args.number c.index.result.now seat within c.index.ensures c.index_mut.ensures.value in
     let stands = rw (same, c.index_mut.ensures.value) at c.in-Some.is in
     told _ _ c.args.number c.step_env.result
-    (moved_here (truths g.C.Condition.holds g.C.Condition.is_same g.C.Condition.is_quiet) g.met.C.Condition.has_cells.0 g.met.C.Condition.quiet_keeps (word_of c.args.word.now) c.args.row.now c.args.queues.now c.args.flags.now c.args.env.now c.args.seats.now.items c.args.history.now.items c.requires c.args.number seat within c.in-Some.place stands c.step_env.new.env c.step_env.new.seat c.step_env.result (rw (← c.index_mut.ensures.value) c.step_env.ensures)).0
+    (moved_here g.C.Condition.means g.met.C.Condition.has_cells.0 g.met.C.Condition.quiet_keeps (word_of c.args.word.now) c.args.row.now c.args.queues.now c.args.flags.now c.args.env.now c.args.seats.now.items c.args.history.now.items c.requires c.args.number seat within c.in-Some.place stands c.step_env.new.env c.step_env.new.seat c.step_env.result (rw (← c.index_mut.ensures.value) c.step_env.ensures)).0
 
 pub unpacked-found-requires : goal.unpacked-found-requires
-unpacked-found-requires g c = packable (now (truths g.C.Condition.holds g.C.Condition.is_same g.C.Condition.is_quiet) (word_of c.args.word.now) c.args.row.now c.args.queues.now c.args.flags.now c.args.env.now c.args.seats.now.items c.args.history.now.items) c.requires
+unpacked-found-requires g c = packable (now g.C.Condition.means (word_of c.args.word.now) c.args.row.now c.args.queues.now c.args.flags.now c.args.env.now c.args.seats.now.items c.args.history.now.items) c.requires
 
 pub perform-requires : goal.perform-requires
 perform-requires g c =
@@ -52,9 +51,9 @@ perform-requires g c =
     let within : c.args.number < length c.args.seats.now.items = omega arith in
     let same = same_element c.args.seats.now.items c.args.number c.index-2.result.now seat within c.index-2.ensures c.index_mut-2.ensures.value in
     let walks = rw same at c.in-Some-walk.is in
-    let act = act_here (truths g.C.Condition.holds g.C.Condition.is_same g.C.Condition.is_quiet) g.met.C.Condition.has_cells.0 g.met.C.Condition.quiet_keeps (word_of c.args.word.now) c.args.row.now c.args.queues.now c.args.flags.now c.args.env.now c.args.seats.now.items c.args.history.now.items c.requires c.args.number seat within c.in-Some-walk.walk (rw c.index_mut-2.ensures.value at walks) in
+    let act = act_here g.C.Condition.means g.met.C.Condition.has_cells.0 g.met.C.Condition.quiet_keeps (word_of c.args.word.now) c.args.row.now c.args.queues.now c.args.flags.now c.args.env.now c.args.seats.now.items c.args.history.now.items c.requires c.args.number seat within c.in-Some-walk.walk (rw c.index_mut-2.ensures.value at walks) in
     let unasked = rw (same_element c.args.seats.now.items c.args.number c.index.result.now seat within c.index.ensures c.index_mut-2.ensures.value, c.index_mut-2.ensures.value) at c.in_default.is in
-    let inside = inside_here (truths g.C.Condition.holds g.C.Condition.is_same g.C.Condition.is_quiet) g.met.C.Condition.has_cells.0 g.met.C.Condition.quiet_keeps (word_of c.args.word.now) c.args.row.now c.args.queues.now c.args.flags.now c.args.env.now c.args.seats.now.items c.args.history.now.items c.requires c.args.number seat within c.in-Some-walk.walk (rw c.index_mut-2.ensures.value at walks) unasked in
+    let inside = inside_here g.C.Condition.means g.met.C.Condition.has_cells.0 g.met.C.Condition.quiet_keeps (word_of c.args.word.now) c.args.row.now c.args.queues.now c.args.flags.now c.args.env.now c.args.seats.now.items c.args.history.now.items c.requires c.args.number seat within c.in-Some-walk.walk (rw c.index_mut-2.ensures.value at walks) unasked in
     (search rules, (search rules, (g.met.C.Seated.seat_fits, (g.met.C.Fits.event_fits, (walks, (rw (c.unpacked-found.ensures, c.index_mut-2.ensures.value) act, (inside, c.requires.no_variables)))))))
 
 pub returns-in_default-walk-clause-ok : goal.returns-in_default-walk-clause-ok
@@ -76,8 +75,8 @@ encode-requires g c =
     let within : c.args.number < length c.args.seats.now.items = omega arith in
     let same = same_element c.args.seats.now.items c.args.number c.index-2.result.now seat within c.index-2.ensures c.index_mut-2.ensures.value in
     let unasked = rw (same_element c.args.seats.now.items c.args.number c.index.result.now seat within c.index.ensures c.index_mut-2.ensures.value, c.index_mut-2.ensures.value) at c.in_default.is in
-    packable _ (lawful_after (truths g.C.Condition.holds g.C.Condition.is_same g.C.Condition.is_quiet) g.met.C.Condition.has_cells.0 g.met.C.Condition.quiet_keeps (word_of c.args.word.now) c.args.row.now c.args.queues.now c.args.flags.now c.args.env.now c.args.seats.now.items c.args.history.now.items c.requires c.args.number seat within c.in-Some-walk.walk (rw (same, c.index_mut-2.ensures.value) at c.in-Some-walk.is) c.perform.new.word c.perform.new.row c.perform.new.queues c.perform.new.flags c.perform.new.seat c.perform.new.history.items c.in-Ok.step c.in-Ok.ensures.others
-    (rw (← c.index_mut-2.ensures.value, ← c.unpacked-found.ensures) c.in-Ok.ensures.ok) _ (unasked_cleared (truths g.C.Condition.holds g.C.Condition.is_same g.C.Condition.is_quiet) g.met.C.Condition.has_cells.0 g.met.C.Condition.quiet_keeps (word_of c.args.word.now) c.args.row.now c.args.queues.now c.args.flags.now c.args.env.now c.args.seats.now.items c.args.history.now.items c.requires c.args.number seat within unasked))
+    packable _ (lawful_after g.C.Condition.means g.met.C.Condition.has_cells.0 g.met.C.Condition.quiet_keeps (word_of c.args.word.now) c.args.row.now c.args.queues.now c.args.flags.now c.args.env.now c.args.seats.now.items c.args.history.now.items c.requires c.args.number seat within c.in-Some-walk.walk (rw (same, c.index_mut-2.ensures.value) at c.in-Some-walk.is) c.perform.new.word c.perform.new.row c.perform.new.queues c.perform.new.flags c.perform.new.seat c.perform.new.history.items c.in-Ok.step c.in-Ok.ensures.others
+    (rw (← c.index_mut-2.ensures.value, ← c.unpacked-found.ensures) c.in-Ok.ensures.ok) _ (unasked_cleared g.C.Condition.means g.met.C.Condition.has_cells.0 g.met.C.Condition.quiet_keeps (word_of c.args.word.now) c.args.row.now c.args.queues.now c.args.flags.now c.args.env.now c.args.seats.now.items c.args.history.now.items c.requires c.args.number seat within unasked))
 
 pub returns-in-Ok-clause-ok : goal.returns-in-Ok-clause-ok
 returns-in-Ok-clause-ok g c =
@@ -86,7 +85,7 @@ returns-in-Ok-clause-ok g c =
     let same = same_element c.args.seats.now.items c.args.number c.index-2.result.now seat within c.index-2.ensures c.index_mut-2.ensures.value in
     let unasked = rw (same_element c.args.seats.now.items c.args.number c.index.result.now seat within c.index.ensures c.index_mut-2.ensures.value, c.index_mut-2.ensures.value) at c.in_default.is in
     rw (c.encode.ensures, decoded c.perform.new.word) (told _ _ c.args.number c.in-Ok.step (inl (
-      goes_here (truths g.C.Condition.holds g.C.Condition.is_same g.C.Condition.is_quiet) g.met.C.Condition.has_cells.0 g.met.C.Condition.quiet_keeps (word_of c.args.word.now) c.args.row.now c.args.queues.now c.args.flags.now c.args.env.now c.args.seats.now.items c.args.history.now.items c.requires c.args.number seat within c.in-Some-walk.walk (rw (same, c.index_mut-2.ensures.value) at c.in-Some-walk.is) c.perform.new.word c.perform.new.row c.perform.new.queues c.perform.new.flags c.perform.new.seat c.perform.new.history.items c.in-Ok.step c.in-Ok.ensures.others
+      goes_here g.C.Condition.means g.met.C.Condition.has_cells.0 g.met.C.Condition.quiet_keeps (word_of c.args.word.now) c.args.row.now c.args.queues.now c.args.flags.now c.args.env.now c.args.seats.now.items c.args.history.now.items c.requires c.args.number seat within c.in-Some-walk.walk (rw (same, c.index_mut-2.ensures.value) at c.in-Some-walk.is) c.perform.new.word c.perform.new.row c.perform.new.queues c.perform.new.flags c.perform.new.seat c.perform.new.history.items c.in-Ok.step c.in-Ok.ensures.others
           (rw (← c.index_mut-2.ensures.value, ← c.unpacked-found.ensures) c.in-Ok.ensures.ok),
       asks_unasked c.args.seats.now.items c.args.number c.index.result.now within c.index.ensures c.in_default.is,
     )))
@@ -97,8 +96,8 @@ returns-in-Ok-clause-lawful g c =
     let within : c.args.number < length c.args.seats.now.items = omega arith in
     let same = same_element c.args.seats.now.items c.args.number c.index-2.result.now seat within c.index-2.ensures c.index_mut-2.ensures.value in
     let unasked = rw (same_element c.args.seats.now.items c.args.number c.index.result.now seat within c.index.ensures c.index_mut-2.ensures.value, c.index_mut-2.ensures.value) at c.in_default.is in
-    rw (c.encode.ensures, decoded c.perform.new.word) (lawful_after (truths g.C.Condition.holds g.C.Condition.is_same g.C.Condition.is_quiet) g.met.C.Condition.has_cells.0 g.met.C.Condition.quiet_keeps (word_of c.args.word.now) c.args.row.now c.args.queues.now c.args.flags.now c.args.env.now c.args.seats.now.items c.args.history.now.items c.requires c.args.number seat within c.in-Some-walk.walk (rw (same, c.index_mut-2.ensures.value) at c.in-Some-walk.is) c.perform.new.word c.perform.new.row c.perform.new.queues c.perform.new.flags c.perform.new.seat c.perform.new.history.items c.in-Ok.step c.in-Ok.ensures.others
-    (rw (← c.index_mut-2.ensures.value, ← c.unpacked-found.ensures) c.in-Ok.ensures.ok) _ (unasked_cleared (truths g.C.Condition.holds g.C.Condition.is_same g.C.Condition.is_quiet) g.met.C.Condition.has_cells.0 g.met.C.Condition.quiet_keeps (word_of c.args.word.now) c.args.row.now c.args.queues.now c.args.flags.now c.args.env.now c.args.seats.now.items c.args.history.now.items c.requires c.args.number seat within unasked))
+    rw (c.encode.ensures, decoded c.perform.new.word) (lawful_after g.C.Condition.means g.met.C.Condition.has_cells.0 g.met.C.Condition.quiet_keeps (word_of c.args.word.now) c.args.row.now c.args.queues.now c.args.flags.now c.args.env.now c.args.seats.now.items c.args.history.now.items c.requires c.args.number seat within c.in-Some-walk.walk (rw (same, c.index_mut-2.ensures.value) at c.in-Some-walk.is) c.perform.new.word c.perform.new.row c.perform.new.queues c.perform.new.flags c.perform.new.seat c.perform.new.history.items c.in-Ok.step c.in-Ok.ensures.others
+    (rw (← c.index_mut-2.ensures.value, ← c.unpacked-found.ensures) c.in-Ok.ensures.ok) _ (unasked_cleared g.C.Condition.means g.met.C.Condition.has_cells.0 g.met.C.Condition.quiet_keeps (word_of c.args.word.now) c.args.row.now c.args.queues.now c.args.flags.now c.args.env.now c.args.seats.now.items c.args.history.now.items c.requires c.args.number seat within unasked))
 
 pub returns-in-Err-clause-lawful : goal.returns-in-Err-clause-lawful
 returns-in-Err-clause-lawful g c =

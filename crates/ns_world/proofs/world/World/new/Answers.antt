@@ -1,12 +1,11 @@
 use Rattle.std.proofs.Common.{arith, refl}
 use Rattle.ns_word.specs.Begins.{free_word}
-use Rattle.ns_word.specs.Steps.{truths}
 use Rattle.ns_word.proofs.Codes.{decoded}
 use Rattle.ns_world.proofs.Fresh.{lawful_new, no_flags}
 use Rattle.ns_world.proofs.world.World.new.Goals as goal
 
 pub invariant_of-result : goal.invariant_of-result
-invariant_of-result g c = rw (c.in_ok-seats.ensures.views, c.in_ok-seats.ensures.tests, c.in_ok-seats.ensures.asking, c.new.ensures, c.new-2.ensures, c.new-3.ensures.items, c.encode.ensures, decoded free_word, no_flags) (lawful_new g.row.C.Denot g.row.N (truths g.C.Condition.holds g.C.Condition.is_same g.C.Condition.is_quiet) c.args.seats (omega arith))
+invariant_of-result g c = rw (c.in_ok-seats.ensures.views, c.in_ok-seats.ensures.tests, c.in_ok-seats.ensures.asking, c.new.ensures, c.new-2.ensures, c.new-3.ensures.items, c.encode.ensures, decoded free_word, no_flags) (lawful_new g.row.C.Denot g.row.N g.C.Condition.means c.args.seats (omega arith))
 
 pub returns : goal.returns
 returns g c = (rw (c.in_ok-seats.ensures.views, c.in_ok-seats.ensures.tests, c.in_ok-seats.ensures.asking, c.new.ensures, c.new-2.ensures, c.new-3.ensures.items, c.encode.ensures, decoded free_word, no_flags) refl, omega arith)

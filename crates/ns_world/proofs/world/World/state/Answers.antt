@@ -1,6 +1,5 @@
 use Rattle.std.proofs.Common.{rules, refl}
 use Rattle.ns_word.specs.Codec.{word_of}
-use Rattle.ns_word.specs.Steps.{truths}
 use Rattle.ns_world.proofs.Lists.{all_empty}
 use Rattle.ns_world.proofs.Packable.{packable}
 use Rattle.ns_world.proofs.States.{number_below, nowhere, few_seats, wakes_few}
@@ -19,8 +18,8 @@ shown_lock-requires g c = (
       (
         c.self.invariant.no_variables,
         rw c.deref.ensures.value (
-          λ i seat at. number_below (truths g.C.Condition.holds g.C.Condition.is_same g.C.Condition.is_quiet) (word_of c.self.inside.word) c.self.inside.row c.self.inside.queues c.self.inside.flags c.self.inside.env c.self.inside.seats.items c.self.inside.history.items c.self.invariant i seat at,
-          λ i seat at. nowhere (truths g.C.Condition.holds g.C.Condition.is_same g.C.Condition.is_quiet) (word_of c.self.inside.word) c.self.inside.row c.self.inside.queues c.self.inside.flags c.self.inside.env c.self.inside.seats.items c.self.inside.history.items c.self.invariant i seat at,
+          λ i seat at. number_below g.C.Condition.means (word_of c.self.inside.word) c.self.inside.row c.self.inside.queues c.self.inside.flags c.self.inside.env c.self.inside.seats.items c.self.inside.history.items c.self.invariant i seat at,
+          λ i seat at. nowhere g.C.Condition.means (word_of c.self.inside.word) c.self.inside.row c.self.inside.queues c.self.inside.flags c.self.inside.env c.self.inside.seats.items c.self.inside.history.items c.self.invariant i seat at,
         ),
       ),
     ),
@@ -31,7 +30,7 @@ pub owed_wakes-requires : goal.owed_wakes-requires
 owed_wakes-requires g c = (g.met.C.Seated.seat_fits, rw c.deref-2.ensures.value (wakes_few _ _ _ _ c.self.invariant.few c.self.invariant.lawful))
 
 pub busy_seats-requires : goal.busy_seats-requires
-busy_seats-requires g c = (g.met.C.Seated.seat_fits, rw c.deref-3.ensures.value (few_seats (truths g.C.Condition.holds g.C.Condition.is_same g.C.Condition.is_quiet) (word_of c.self.inside.word) c.self.inside.row c.self.inside.queues c.self.inside.flags c.self.inside.env c.self.inside.seats.items c.self.inside.history.items c.self.invariant))
+busy_seats-requires g c = (g.met.C.Seated.seat_fits, rw c.deref-3.ensures.value (few_seats g.C.Condition.means (word_of c.self.inside.word) c.self.inside.row c.self.inside.queues c.self.inside.flags c.self.inside.env c.self.inside.seats.items c.self.inside.history.items c.self.invariant))
 
 pub returns-clause-busy : goal.returns-clause-busy
 returns-clause-busy g c = λ seat. rw (← c.self.view_is) (rw c.deref-3.ensures.value at (c.busy_seats.ensures seat))
