@@ -7,7 +7,8 @@ use Rattle.ns_model.specs.declared.event.Answer.TheVariants.{Met, TimedOut, Canc
 use Rattle.ns_model.specs.declared.event.Entry.{Entry}
 use Rattle.ns_model.specs.declared.event.Entry.TheVariants.{Plain, Waited, AfterCv}
 use Rattle.ns_model.specs.declared.event.Exit.{Exit}
-use Rattle.ns_model.specs.declared.event.Exit.TheVariants.{Plain as Released, CondWait, CvWait}
+use Rattle.ns_model.specs.declared.event.Exit.TheVariants.{CondWait, CvWait}
+use Rattle.ns_model.specs.declared.event.Exit.TheVariants as TheExit
 use Rattle.ns_model.specs.declared.phase.Phase.{Phase}
 use Rattle.ns_model.specs.declared.phase.Phase.TheVariants.{Idle, Cond, Waiting, Woken, Left}
 
@@ -29,7 +30,7 @@ EntryFits holds before mode _ _ = ⊥
 
 -- a wait for a condition begins where it is false
 abbrev pub ExitFits : {C : Type 0} → (C → List ℕ → Bool) → List ℕ → Exit C → Type 0
-ExitFits holds after Released = Unit {0}
+ExitFits holds after TheExit.Plain = Unit {0}
 ExitFits holds after (CondWait c) = holds c after ≡ false
 ExitFits holds after (CvWait k) = Unit {0}
 
@@ -47,6 +48,6 @@ pub record IsLegalSection {C : Type 0} (holds : C → List ℕ → Bool) (row : 
 
 -- the phase that the section leaves its caller in
 abbrev pub phase_after : {C : Type 0} → Mode → Exit C → Phase C
-phase_after mode Released = Idle
+phase_after mode TheExit.Plain = Idle
 phase_after mode (CondWait c) = Cond c mode
 phase_after mode (CvWait k) = Waiting k mode

@@ -10,7 +10,7 @@ use Rattle.ns_model.proofs.Environments.{env_from-append, legal_env_append, by_s
 use Rattle.ns_note.specs.declared.view.Making.{Making}
 use Rattle.ns_note.specs.declared.view.Making.TheVariants.{Nothing, Adding, Taken}
 use Rattle.ns_note.specs.declared.view.SeatView.{SeatView}
-use Rattle.ns_note.specs.Law.{Views, total, Every, tally, one_if, adds, is_adding, is_who, MakingFits, Fits, NoteFits, IsLawful}
+use Rattle.ns_note.specs.Law.{Views, total, Every, tally, one_if, adds, is_adding, is_who, MakingFits, Fits, NoteFits, IsRuled}
 use Rattle.ns_note.specs.Told.{Adds}
 use Rattle.ns_note.proofs.Tallies.{total_set, total_most, total_none, Others, every_at, others_of, others_both, others_map, others_none, every_put}
 
@@ -72,7 +72,7 @@ fits_stays limit h e u l f apart = record {
   making = making_stays h e u.who u.making apart l f.making;
 }
 
-module _ (limit clock next : ℕ) (notes : List ℕ) (views : Views) (h : List EnvEvent) (l : IsLawful limit clock next notes views h) (id : ℕ) (v : SeatView) (at : get_elem? views id ≡ some (v ∷ [])) where
+module _ (limit clock next : ℕ) (notes : List ℕ) (views : Views) (h : List EnvEvent) (l : IsRuled limit clock next notes views h) (id : ℕ) (v : SeatView) (at : get_elem? views id ≡ some (v ∷ [])) where
   -- what the rule says of the one who steps
   pub its_fit : Fits limit h v
   its_fit = (every_at (Every (Fits limit h)) views id (v ∷ []) l.each at).0
@@ -94,7 +94,7 @@ module _ (limit clock next : ℕ) (notes : List ℕ) (views : Views) (h : List E
 
   -- the rule after a step with the view w after it
   keep : (w : SeatView) (clock' next' : ℕ) (notes' : List ℕ) (h' : List EnvEvent) → w.who ≡ v.who → clock' ≡ clock_of h' → clock' < 2 ^ 54 → takes_in h' ≡ min next' 64 → next' + tally is_adding (set views id (w ∷ [])) ≤ 127 → length notes' ≡ 64 → NotesAre notes' (env_after h')
-      → IsLegalEnv h' → IsEnvBySeats limit h' → Others (Every (Fits limit h')) id views → Fits limit h' w → IsLawful limit clock' next' notes' (set views id (w ∷ [])) h'
+      → IsLegalEnv h' → IsEnvBySeats limit h' → Others (Every (Fits limit h')) id views → Fits limit h' w → IsRuled limit clock' next' notes' (set views id (w ∷ [])) h'
   keep w clock' next' notes' h' same clock_is moment takes_are room width notes_are legal by_seats others mine = record {
     clock_is = clock_is;
     moment = moment;
@@ -124,7 +124,7 @@ module _ (limit clock next : ℕ) (notes : List ℕ) (views : Views) (h : List E
   abbrev pub looked : Making → SeatView
   looked m = view_with v m h v.mine
 
-  pub looks : (m : Making) (next' : ℕ) → takes_in h ≡ min next' 64 → MakingFits h v.who m → next' + tally is_adding (set views id (looked m ∷ [])) ≤ 127 → IsLawful limit clock next' notes (set views id (looked m ∷ [])) h
+  pub looks : (m : Making) (next' : ℕ) → takes_in h ≡ min next' 64 → MakingFits h v.who m → next' + tally is_adding (set views id (looked m ∷ [])) ≤ 127 → IsRuled limit clock next' notes (set views id (looked m ∷ [])) h
   looks m next' takes_are fits room = let f = its_fit in
       keep (looked m) clock next' notes h refl l.clock_is l.moment takes_are room l.width l.notes_are l.legal l.by_seats others_same (record { limited = f.limited; below = f.below; seen = begins_itself h; mine = f.mine; mine_seen = f.mine; making = fits })
 
@@ -149,7 +149,7 @@ module _ (limit clock next : ℕ) (notes : List ℕ) (views : Views) (h : List E
   own_more e is = env_own-mine h e v.who is ∙ ap (λ (k : List EnvEvent). k ++ e ∷ []) its_fit.mine
 
   pub does : (e : EnvEvent) (m : Making) (clock' next' : ℕ) (notes' : List ℕ) → env_who e ≡ v.who → IsLegalEnvEvent (env_after h) e → MakingFits (h ++ e ∷ []) v.who m → clock' ≡ (env_next (env_after h) e).clock → clock' < 2 ^ 54 → (env_next (env_after h) e).takes ≡ min next' 64
-      → next' + tally is_adding (set views id (done e m ∷ [])) ≤ 127 → length notes' ≡ 64 → NotesAre notes' (env_next (env_after h) e) → IsLawful limit clock' next' notes' (set views id (done e m ∷ [])) (h ++ e ∷ [])
+      → next' + tally is_adding (set views id (done e m ∷ [])) ≤ 127 → length notes' ≡ 64 → NotesAre notes' (env_next (env_after h) e) → IsRuled limit clock' next' notes' (set views id (done e m ∷ [])) (h ++ e ∷ [])
   does e m clock' next' notes' is le fits clock_is moment takes_are room width notes_are = let f = its_fit in let after = after_one h e in
       keep (done e m) clock' next' notes' (h ++ e ∷ []) refl (clock_is ∙ ap (λ (now : EnvStanding). now.clock) (sym after)) moment (ap (λ (now : EnvStanding). now.takes) after ∙ takes_are) room width
       (subst (λ (now : EnvStanding). NotesAre notes' now) (sym after) notes_are) (legal_more e le) (by_seats_more e is) (others_fit e is le)

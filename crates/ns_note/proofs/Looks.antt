@@ -6,7 +6,7 @@ use Rattle.ns_model.specs.Beginnings.{BeginsWith, IsBetween}
 use Rattle.ns_model.specs.Environments.{is_due, is_notified, IsNotified, clock_of}
 use Rattle.ns_model.proofs.Beginnings.{begins_itself, begins_through}
 use Rattle.ns_note.specs.declared.note.Note.{Note}
-use Rattle.ns_note.specs.Answers.{IsWaitedFor, LookAnswers, WaitAnswers}
+use Rattle.ns_note.specs.Answers.{IsUnnotifiedNote, LookAnswers, WaitAnswers}
 
 -- a true answer is of the last point, a false one of the point at which the clock was loaded
 pub notified_at : (answer : Bool) (old middle new : List EnvEvent) (note : ℕ) → BeginsWith middle old → BeginsWith new middle → (answer ≡ true → IsNotified new note) → (answer ≡ false → is_notified middle note ≡ false)
@@ -14,11 +14,11 @@ pub notified_at : (answer : Bool) (old middle new : List EnvEvent) (note : ℕ) 
 notified_at true old middle new note b d over not_yet = (new, (begins_through new middle old d b, begins_itself new), sym (over refl))
 notified_at false old middle new note b d over not_yet = (middle, (b, d), sym (not_yet refl))
 
-pub times_out : (given : Option Note) (deadline : Option ℕ) (old middle new : List EnvEvent) (clock : ℕ) → clock ≡ clock_of middle → is_due clock deadline ≡ true → IsBetween old middle new → IsWaitedFor given middle → LookAnswers given deadline old new (Some TimedOut)
+pub times_out : (given : Option Note) (deadline : Option ℕ) (old middle new : List EnvEvent) (clock : ℕ) → clock ≡ clock_of middle → is_due clock deadline ≡ true → IsBetween old middle new → IsUnnotifiedNote given middle → LookAnswers given deadline old new (Some TimedOut)
 times_out given None old middle new clock e due between waited = absurd (cc)
 times_out given (Some d) old middle new clock e due between waited = (middle, between, waited, (let h = leb-true d clock due in omega arith))
 
-pub shows_nothing : (given : Option Note) (deadline : Option ℕ) (old middle new : List EnvEvent) (clock : ℕ) → clock ≡ clock_of middle → is_due clock deadline ≡ false → IsBetween old middle new → IsWaitedFor given middle → LookAnswers given deadline old new None
+pub shows_nothing : (given : Option Note) (deadline : Option ℕ) (old middle new : List EnvEvent) (clock : ℕ) → clock ≡ clock_of middle → is_due clock deadline ≡ false → IsBetween old middle new → IsUnnotifiedNote given middle → LookAnswers given deadline old new None
 shows_nothing given None old middle new clock e due between waited = (middle, between, waited, tt)
 shows_nothing given (Some d) old middle new clock e due between waited = (middle, between, waited, (let h = leb-false d clock due in omega arith))
 

@@ -17,14 +17,14 @@ use Rattle.ns_model.proofs.Environments.{env_own-append}
 use Rattle.ns_note.specs.declared.view.Making.{Making}
 use Rattle.ns_note.specs.declared.view.SeatView.{SeatView}
 use Rattle.ns_note.specs.Known.{EnvKnown, known, known_of, the, the_second, IsOne, ArePair, SawAllOf, AreOfOneHistory, AreNew}
-use Rattle.ns_note.specs.Law.{Views, total, Every, tally, one_if, adds, is_adding, is_who, Fits, IsLawful, fresh_seat, fresh, first_of, rest_of, HoldsAt, Holds}
+use Rattle.ns_note.specs.Law.{Views, total, Every, tally, one_if, adds, is_adding, is_who, Fits, IsRuled, fresh_seat, fresh, first_of, rest_of, HoldsAt, Holds}
 use Rattle.ns_note.specs.Told.{Adds, HaveLearned, Learned}
 use Rattle.ns_note.proofs.Keeps.{view_with}
 use Rattle.ns_note.proofs.Tallies.{total_set, total-append, every_at, others_of, every_put, every-append}
 
 -- the rule reads the views by sums, and by what holds of each
-same_counts : (limit c x : ℕ) (notes : List ℕ) (views views' : Views) (h : List EnvEvent) → IsLawful limit c x notes views h → ((f : ℕ → Making → ℕ) → tally (λ v. f v.who v.making) views' ≡ tally (λ v. f v.who v.making) views) → Every (Every (Fits limit h)) views'
-    → IsLawful limit c x notes views' h
+same_counts : (limit c x : ℕ) (notes : List ℕ) (views views' : Views) (h : List EnvEvent) → IsRuled limit c x notes views h → ((f : ℕ → Making → ℕ) → tally (λ v. f v.who v.making) views' ≡ tally (λ v. f v.who v.making) views) → Every (Every (Fits limit h)) views'
+    → IsRuled limit c x notes views' h
 same_counts limit c x notes views views' h l same each = record {
   clock_is = l.clock_is;
   moment = l.moment;
@@ -94,7 +94,7 @@ one_history limit h a b env f g = ⊎_elim
     (λ (t : BeginsWith b.seen a.seen). let r : SawAllOf (known_of env b) (known_of env a) = record { begins = t; own = g.mine_seen; theirs = own_between h b.seen a.seen a.mine a.who g.seen t f.mine f.mine_seen } in inr r)
     (begins_either h a.seen b.seen f.seen g.seen)
 
-module _ (limit c x : ℕ) (notes : List ℕ) (views : Views) (h : List EnvEvent) (l : IsLawful limit c x notes views h) where
+module _ (limit c x : ℕ) (notes : List ℕ) (views : Views) (h : List EnvEvent) (l : IsRuled limit c x notes views h) where
   abbrev seen_now : SeatView → SeatView
   seen_now v = view_with v v.making h v.mine
 

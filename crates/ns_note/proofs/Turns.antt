@@ -15,7 +15,7 @@ use Rattle.ns_note.specs.declared.view.Making.TheVariants.{Nothing, Adding, Take
 use Rattle.ns_note.specs.declared.view.SeatView.{SeatView}
 use Rattle.ns_note.specs.Words.{WordFits, word_of, note_of}
 use Rattle.ns_note.specs.Known.{the, IsOne}
-use Rattle.ns_note.specs.Law.{Views, adds, MakingFits, note_word, NoteFits, IsLawful, HoldsAt, Holds}
+use Rattle.ns_note.specs.Law.{Views, adds, MakingFits, note_word, NoteFits, IsRuled, HoldsAt, Holds}
 use Rattle.ns_note.specs.Told.{Tells, Adds, Stepped, LoadedClock, LoadedNext, LoadedNote, Added, Made, NotifiedNote, AdvancedClock}
 use Rattle.ns_note.proofs.Codec.{note_of-word_of, marked}
 use Rattle.ns_note.proofs.Keeps.{after_one, NotesAre, its_fit, room_stays, room_below, looked, looks, tells_look, done, does, tells_done}
@@ -49,7 +49,7 @@ module _ (S : Type 0) (limit id : ℕ) where
 
   -- the seat with the view v may make a step that changes the word i by f, and tells this of the number found
   abbrev pub Turns : ℕ → (ℕ → ℕ) → (ℕ → Tells) → SeatView → Type 0
-  Turns i f tells v = (c x : ℕ) (notes : List ℕ) (views : Views) (h : _) (l : IsLawful limit c x notes views h) → get_elem? views id ≡ some (v ∷ [])
+  Turns i f tells v = (c x : ℕ) (notes : List ℕ) (views : Views) (h : _) (l : IsRuled limit c x notes views h) → get_elem? views id ≡ some (v ∷ [])
       → (w : SeatView) × HoldsAt limit (set (c ∷ x ∷ notes) i (f (get_or (c ∷ x ∷ notes) i 0))) (set views id (w ∷ [])) × tells (get_or (c ∷ x ∷ notes) i 0) v w
 
   turn_at : (i : ℕ) (f : ℕ → ℕ) (tells : ℕ → Tells) (ws : List ℕ) (views : Views) (vs : V) (cs : List (ℕ × S)) → IsOne vs → Turns i f tells (the vs) → HoldsAt limit ws views → get_elem? views id ≡ some vs

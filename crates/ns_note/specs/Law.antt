@@ -65,7 +65,7 @@ NoteFits word note = (word ≡ word_of (note_word note)) × WordFits (note_word 
 
 -- The rule: the words are as a history leaves them, which is legal, by these seats, and begins with what each seat has seen.
 -- The next number may pass 64, where seats saw it below 64 and add at once, but no further than the seats go: at most 127.
-pub record IsLawful (limit clock next : ℕ) (notes : List ℕ) (views : Views) (h : List EnvEvent) : Type 0 where
+pub record IsRuled (limit clock next : ℕ) (notes : List ℕ) (views : Views) (h : List EnvEvent) : Type 0 where
   pub clock_is : clock ≡ clock_of h
   pub moment : clock < 2 ^ 54
   pub takes_are : takes_in h ≡ min next 64
@@ -99,7 +99,7 @@ rest_of (v ∷ vs) = vs
 abbrev pub HoldsAt : ℕ → List ℕ → Views → Type 0
 HoldsAt limit [] views = ⊥
 HoldsAt limit (clock ∷ []) views = ⊥
-HoldsAt limit (clock ∷ next ∷ notes) views = (h : List EnvEvent) × IsLawful limit clock next notes views h
+HoldsAt limit (clock ∷ next ∷ notes) views = (h : List EnvEvent) × IsRuled limit clock next notes views h
 
 abbrev pub Holds : {S : Type 0} → ℕ → State S (List SeatView) → Type 0
 Holds limit s = HoldsAt limit s.words s.views

@@ -4,7 +4,7 @@ use Rattle.std.specs.Prelude.{unwrap_or}
 use Rattle.ns_queue.specs.declared.waiter.Waiter.{Waiter}
 use Rattle.ns_queue.specs.declared.stage.Stage.{Stage}
 use Rattle.ns_queue.specs.declared.stage.Stage.TheVariants.{Ended}
-use Rattle.ns_queue.specs.Scans.{is_met, is_alike}
+use Rattle.ns_queue.specs.Scans.{is_satisfied, is_alike}
 use Rattle.ns_queue.specs.Marks.{needs, takes, stage_next, stage_after, asked_for, asking, scan_marks, tests_from}
 use Rattle.ns_queue.proofs.Marking.{drop_step, pushed_on}
 
@@ -14,9 +14,9 @@ module _ {C : Type 0} (same : C → C → Bool) (meets : C → Bool) where
   Enters cond first truth first' truth' = ((is_alike same cond first ≡ true) × (first' ≡ first) × (truth' ≡ truth)) ⊎ ((is_alike same cond first ≡ false) × (first' ≡ cond) × (truth' ≡ None))
 
   abbrev pub Knows : Option C → Option Bool → Type 0
-  Knows first truth = IfSome truth (λ t. t ≡ is_met meets first)
+  Knows first truth = IfSome truth (λ t. t ≡ is_satisfied meets first)
 
-  met_alike : ((c d : C) → same c d ≡ true → meets c ≡ meets d) → (o p : Option C) → is_alike same o p ≡ true → is_met meets o ≡ is_met meets p
+  met_alike : ((c d : C) → same c d ≡ true → meets c ≡ meets d) → (o p : Option C) → is_alike same o p ≡ true → is_satisfied meets o ≡ is_satisfied meets p
   met_alike agree (Some c) (Some d) alike = agree c d alike
   met_alike agree (Some c) None alike = absurd (cc)
   met_alike agree None p alike = absurd (cc)
@@ -26,16 +26,16 @@ module _ {C : Type 0} (same : C → C → Bool) (meets : C → Bool) where
   knows_entered o first truth first' truth' (inr e) known = rw (e.1, e.2) tt
 
   pub met_entered : ((c d : C) → same c d ≡ true → meets c ≡ meets d) → (o first : Option C) (truth : Option Bool) (first' : Option C) (truth' : Option Bool) →
-      Enters o first truth first' truth' → is_met meets o ≡ is_met meets first'
-  met_entered agree o first truth first' truth' (inl e) = met_alike agree o first e.0 ∙ ap (is_met meets) (sym e.1)
-  met_entered agree o first truth first' truth' (inr e) = ap (is_met meets) (sym e.1)
+      Enters o first truth first' truth' → is_satisfied meets o ≡ is_satisfied meets first'
+  met_entered agree o first truth first' truth' (inl e) = met_alike agree o first e.0 ∙ ap (is_satisfied meets) (sym e.1)
+  met_entered agree o first truth first' truth' (inr e) = ap (is_satisfied meets) (sym e.1)
 
   pub knows_asked : (needed : Bool) (first : Option C) (truth : Option Bool) → Knows first truth → Knows first (asked_for meets needed first truth)
   knows_asked true first None known = refl
   knows_asked true first (Some t) known = known
   knows_asked false first truth known = known
 
-  pub taken_asked : (needed : Bool) (first : Option C) (truth : Option Bool) → Knows first truth → (needed && unwrap_or (asked_for meets needed first truth) true) ≡ (needed && is_met meets first)
+  pub taken_asked : (needed : Bool) (first : Option C) (truth : Option Bool) → Knows first truth → (needed && unwrap_or (asked_for meets needed first truth) true) ≡ (needed && is_satisfied meets first)
   taken_asked true first None known = refl
   taken_asked true first (Some t) known = known
   taken_asked false first truth known = refl

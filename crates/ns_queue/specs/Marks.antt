@@ -6,7 +6,7 @@ use Rattle.ns_queue.specs.declared.stage.Stage.TheVariants.{Seeking, Reading, En
 use Rattle.ns_queue.specs.declared.signal.Wanted.{Wanted}
 use Rattle.ns_queue.specs.declared.signal.Wanted.TheVariants.{Anybody, ReadersAndWriter, Readers, Nobody}
 use Rattle.ns_queue.specs.Waiters.{reads, writes}
-use Rattle.ns_queue.specs.Scans.{is_eligible, is_met, is_alike}
+use Rattle.ns_queue.specs.Scans.{is_eligible, is_satisfied, is_alike}
 
 -- those with a mark, and those without
 abbrev pub marked : {A : Type 0} → List Bool → List A → List A
@@ -39,7 +39,7 @@ stage_after meets stage w = stage_next stage (takes meets stage w) w
 
 -- what is known of a run with this first condition after its truth was asked for, and how many tests that took
 abbrev pub asked_for : {C : Type 0} → (C → Bool) → Bool → Option C → Option Bool → Option Bool
-asked_for meets needed first truth = if needed && is_none truth then Some (is_met meets first) else truth
+asked_for meets needed first truth = if needed && is_none truth then Some (is_satisfied meets first) else truth
 
 abbrev pub asking : {C : Type 0} → Bool → Option C → Option Bool → ℕ
 asking needed first truth = if needed && is_none truth && is_some first then 1 else 0

@@ -5,12 +5,12 @@ use Rattle.ns_queue.specs.declared.waiter.Waiter.{Waiter}
 use Rattle.ns_queue.specs.Waiters.{reads, writes}
 
 -- no condition, or one that is true
-abbrev pub is_met : {C : Type 0} → (C → Bool) → Option C → Bool
-is_met meets None = true
-is_met meets (Some c) = meets c
+abbrev pub is_satisfied : {C : Type 0} → (C → Bool) → Option C → Bool
+is_satisfied meets None = true
+is_satisfied meets (Some c) = meets c
 
 abbrev pub is_eligible : {C : Type 0} → (C → Bool) → Waiter C → Bool
-is_eligible meets w = is_met meets w.cond
+is_eligible meets w = is_satisfied meets w.cond
 
 -- Taken is the first waiter that is eligible, and with a reader each eligible reader behind it.
 abbrev pub woken_of : {C : Type 0} → (C → Bool) → List (Waiter C) → List (Waiter C)

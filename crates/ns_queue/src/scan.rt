@@ -3,7 +3,7 @@
 ghost use Rattle.std.specs.Prelude.{◌≡◌, ◌≤◌, false, length};
 ghost use Rattle.std.specs.Option.{option_copied};
 ghost use Rattle.ns_queue.specs.Marks.{asked_for, asking, scan_marks, tests_from};
-ghost use Rattle.ns_queue.specs.Scans.{is_alike, is_met, left_of, runs_of, tests_of, woken_of};
+ghost use Rattle.ns_queue.specs.Scans.{is_alike, is_satisfied, left_of, runs_of, tests_of, woken_of};
 ghost use Rattle.ns_queue.specs.Queues.{with_waiters};
 ghost use Rattle.ns_queue.specs.Waiters.{seats_of};
 ghost use Rattle.ns_queue.specs.declared.stage.Stage.TheVariants.{Seeking};
@@ -42,7 +42,7 @@ fn is_alike<C: Queueable<N>, const N: usize>(waiter: &Waiter<C>, first: Option<&
 
 /// Whether the condition, if there is one, is true of the row.
 fn is_met<C: Queueable<N>, const N: usize>(first: Option<&C>, row: &[u64; N]) -> bool
-    ensures { result ≡ is_met (λ c. C.means.holds c row.now) (option_copied first.entry) }
+    ensures { result ≡ is_satisfied (λ c. C.means.holds c row.now) (option_copied first.entry) }
 {
     match first {
         Some(c) => c.test(row),

@@ -12,12 +12,12 @@ use Rattle.ns_world.specs.declared.step.Step.TheVariants.{Went, Idle, Finished, 
 use Rattle.ns_world.specs.declared.fault.Fault.{Fault as WorldFault}
 use Rattle.ns_world.specs.declared.fault.Fault.TheVariants as world
 use Rattle.ns_word.specs.declared.env_walk.EnvNext.{EnvNext}
-use Rattle.ns_word.specs.declared.env_walk.EnvNext.TheVariants.{On, Idle as EnvIdle, Done, Saw}
+use Rattle.ns_word.specs.declared.env_walk.EnvNext.TheVariants.{Go, Repeat, Over, Shown}
 use Rattle.ns_word.specs.EnvWalks.{env_got_of}
 use Rattle.ns_word.specs.Begins.{fresh_views}
 use Rattle.ns_word.specs.declared.view.SeatView.{SeatView}
 use Rattle.ns_world.specs.declared.call.Start.{Start}
-use Rattle.ns_world.specs.declared.call.Start.TheVariants.{Lock as OnLock, Ask}
+use Rattle.ns_world.specs.declared.call.Start.TheVariants.{OnLock, Ask}
 use Rattle.ns_world.specs.Begins.{begun_at}
 use Rattle.ns_world.specs.Calls.{start_of, mode_of}
 use Rattle.ns_world.specs.World.{Now, Goes, LookGoes, Moves, StepOf, fresh, is_walking, is_asking, is_busy}
@@ -41,10 +41,10 @@ module _ {C : Type 0} {N : ℕ} where
   goes_keeps old new seat step goes = rw goes.others (length-set _ _ _)
 
   look_keeps : (next : EnvNext) (old new : Now C N) (seat : ℕ) (step : Step) → LookGoes next old new seat step → seats_of new ≡ seats_of old
-  look_keeps (On next) old new seat step (is, went) = ap seats_of is
-  look_keeps (Saw cause) old new seat step (goes, looked) = goes_keeps old new seat step goes
-  look_keeps (EnvIdle next) old new seat step h = absurd h
-  look_keeps (Done reply) old new seat step h = absurd h
+  look_keeps (Go next) old new seat step (is, went) = ap seats_of is
+  look_keeps (Shown cause) old new seat step (goes, looked) = goes_keeps old new seat step goes
+  look_keeps (Repeat next) old new seat step h = absurd h
+  look_keeps (Over reply) old new seat step h = absurd h
 
   moves_keep : (old new : Now C N) (seat : ℕ) (step : Step) → Moves old new seat step → seats_of new ≡ seats_of old
   moves_keep old new seat step (inl (goes, unasked)) = goes_keeps old new seat step goes

@@ -1,7 +1,7 @@
 -- What a replay answers and writes.
 use Rattle.std.specs.Prelude.{◌≡◌, ℕ, ◌+◌, ◌<◌, ◌≤◌, ◌⊎◌, ⊤, List, ◌++◌, length, nat_lt, if◌then◌else◌, Option, Result, Ok, Err}
 use Rattle.std.specs.Io.KnownBytes.{Appends, IsAtEnd, Keeps}
-use Rattle.ns_world.specs.declared.fault.Fault.TheVariants.{StepLimit as NeedsMoreTurns}
+use Rattle.ns_world.specs.declared.fault.Fault.TheVariants as TheFault
 use Rattle.ns_world.specs.declared.schedule.Line.{Line}
 use Rattle.ns_world.specs.World.{Now, fresh}
 use Rattle.ns_world.specs.Runs.{Runs, RunFault}
@@ -27,7 +27,7 @@ RunsTo limit plan world lines = Runs plan.threads plan.schedule limit (world_for
 
 -- A run of the script has made as many turns as it may, and its schedule needs one more.
 abbrev pub NeedsMore : ℕ → Plan → Type 0
-NeedsMore limit plan = (world : Now ScriptCondition 8) × RunFault plan.threads plan.schedule limit (world_for plan) world NeedsMoreTurns
+NeedsMore limit plan = (world : Now ScriptCondition 8) × RunFault plan.threads plan.schedule limit (world_for plan) world TheFault.StepLimit
 
 -- a run fails by want of memory, or by the limit
 abbrev pub IsRunFault : ℕ → Plan → Fault → Type 0

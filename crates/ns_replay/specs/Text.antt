@@ -8,7 +8,8 @@ use Rattle.ns_model.specs.declared.event.Answer.TheVariants.{Met, TimedOut, Canc
 use Rattle.ns_model.specs.declared.event.Entry.{Entry}
 use Rattle.ns_model.specs.declared.event.Entry.TheVariants.{Plain, Waited, AfterCv}
 use Rattle.ns_model.specs.declared.event.Exit.{Exit}
-use Rattle.ns_model.specs.declared.event.Exit.TheVariants.{Plain as Released, CondWait, CvWait}
+use Rattle.ns_model.specs.declared.event.Exit.TheVariants.{CondWait, CvWait}
+use Rattle.ns_model.specs.declared.event.Exit.TheVariants as TheExit
 use Rattle.ns_model.specs.declared.event.Event.{Event}
 use Rattle.ns_model.specs.declared.event.Event.TheVariants.{Section, Signal, Broadcast, Leave}
 use Rattle.ns_model.specs.declared.seats.Seats.{Seats}
@@ -16,7 +17,7 @@ use Rattle.ns_model.specs.Seats.{is_in}
 use Rattle.ns_queue.specs.declared.waiter.Shown.{Shown}
 use Rattle.ns_word.specs.declared.word.Word.{Word}
 use Rattle.ns_word.specs.declared.walk.Reply.{Reply}
-use Rattle.ns_word.specs.declared.walk.Reply.TheVariants.{Ok as Went, Busy, Noisy, Number, NotesFull, Is, Expiry, Answered, Misuse}
+use Rattle.ns_word.specs.declared.walk.Reply.TheVariants.{Succeeded, Busy, Noisy, Number, NotesFull, Is, Expiry, Answered, Misuse}
 use Rattle.ns_world.specs.declared.call.Call.{Call}
 use Rattle.ns_world.specs.declared.call.Call.TheVariants.{Unlock, RUnlock, UnlockQuiet}
 use Rattle.ns_world.specs.declared.schedule.Line.{Line}
@@ -45,7 +46,7 @@ expiry_text None = codes "never"
 expiry_text (Some moment) = decimal moment
 
 abbrev pub reply_text : Reply → List ℕ
-reply_text Went = codes "ok"
+reply_text Succeeded = codes "ok"
 reply_text Busy = codes "busy"
 reply_text Noisy = codes "noisy"
 reply_text (Number n) = decimal n
@@ -56,7 +57,7 @@ reply_text (Answered answer) = answer_text answer
 reply_text Misuse = codes "misuse"
 
 abbrev pub is_ok : Reply → Bool
-is_ok Went = true
+is_ok Succeeded = true
 is_ok reply = false
 
 abbrev pub is_unlock : Option (Call ScriptCondition) → Bool
@@ -123,7 +124,7 @@ entry_text (Waited condition answer) = codes "waited:" ++ condition_text conditi
 entry_text (AfterCv k answer) = codes "aftercv:" ++ decimal k ++ codes ":" ++ answer_text answer
 
 abbrev pub exit_text : Exit ScriptCondition → List ℕ
-exit_text Released = codes "plain"
+exit_text TheExit.Plain = codes "plain"
 exit_text (CondWait condition) = codes "cond:" ++ condition_text condition
 exit_text (CvWait k) = codes "cv:" ++ decimal k
 

@@ -54,7 +54,7 @@ fn push_reply(out: &mut String, reply: Reply) -> Result<(), AllocError>
     ensures { OnOk result (string_bytes out.new ≡ string_bytes out.old ++ reply_text reply) }
 {
     match reply {
-        Reply::Ok => out.push_str("ok"),
+        Reply::Succeeded => out.push_str("ok"),
         Reply::Busy => out.push_str("busy"),
         Reply::Noisy => out.push_str("noisy"),
         Reply::Number(number) => write!(out, "{number}"),
@@ -89,7 +89,7 @@ fn push_tests(
     ensures { OnOk result (string_bytes out.new ≡ string_bytes out.old ++ tests_text asked (map (λ v. v.items) threads.now) line.now) }
 {
     let tests = line.tests;
-    if asked && line.reply == Reply::Ok && ends_release(threads, line) {
+    if asked && line.reply == Reply::Succeeded && ends_release(threads, line) {
         write!(out, " tests {tests}")?;
     }
     Ok(())

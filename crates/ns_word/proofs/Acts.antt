@@ -6,10 +6,10 @@ use Rattle.ns_queue.specs.Waiters.{times_in}
 use Rattle.ns_queue.specs.Scans.{left_of}
 use Rattle.ns_word.specs.declared.view.SeatView.{SeatView}
 use Rattle.ns_word.specs.declared.walk.Walk.{Walk}
-use Rattle.ns_word.specs.declared.walk.Walk.TheVariants.{TryLoad, TryAcquire, AcquireLoad, Acquire, TakeToQueue, Arm, Queue, Round, QuietCells, QuietLast, ReleaseLoad, Release, TakeToScan, ScanCells, ReleaseReturning, Pay, Get, SetLoad, SetStore, Wait as Waiting}
+use Rattle.ns_word.specs.declared.walk.Walk.TheVariants.{TryLoad, TryAcquire, AcquireLoad, AcquireExchange, TakeToQueue, Arm, Queue, AwaitWake, QuietCells, QuietLast, ReleaseLoad, ReleaseExchange, TakeToScan, ScanCells, ScanAndRelease, Pay, GetLoad, SetLoad, SetStore, InWait}
 use Rattle.ns_word.specs.declared.wait.Wait.{Wait}
 use Rattle.ns_word.specs.declared.wait.WaitPlace.{WaitPlace}
-use Rattle.ns_word.specs.declared.wait.WaitPlace.TheVariants.{TestCells, TestLast, LookIn, Load, Take, Arm as ArmWaiting, Queue as QueueWaiting, Pay as PayWaiting, Round as RoundWaiting, LookOut, LeaveLoad, TakeToLeave, Leave, LeaveRound}
+use Rattle.ns_word.specs.declared.wait.WaitPlace.TheVariants.{TestCells, TestLast, LookIn, Load, Take, ArmToWait, QueueToWait, PayInWait, AwaitWakeInWait, LookOut, LeaveLoad, TakeToLeave, Leave, AwaitWakeToLeave}
 use Rattle.ns_word.specs.Lists.{has_some, times_among}
 use Rattle.ns_word.specs.Walks.{want_waiting, want_of, place_pays, awaits, pays}
 use Rattle.ns_word.specs.Views.{walk_at, AreApart}
@@ -46,43 +46,43 @@ module _ {C : Type 0} {N : ℕ} (truths : Truths C) (seats : ℕ) (few : seats �
       let one : times_among x view.owed ≡ 1 + times_among x xs = ap (times_among x) e ∙ rw (eq-eqb x x refl) refl in
       owed_below truths seats h s p front view back split x (omega (arith, one))
 
-  waiting_at : (wait : Wait C) (at_place : WaitPlace) → view.walk ≡ Some (Waiting wait at_place) → WaitFits truths wait at_place view.held → has_some view.owed ≡ place_pays at_place → ActFits truths seats view.seat (want_waiting wait at_place) (part_of s view.held view.owed)
+  waiting_at : (wait : Wait C) (at_place : WaitPlace) → view.walk ≡ Some (InWait wait at_place) → WaitFits truths wait at_place view.held → has_some view.owed ≡ place_pays at_place → ActFits truths seats view.seat (want_waiting wait at_place) (part_of s view.held view.owed)
   waiting_at wait (TestCells visit i) e place owes = omega (arith, place.1)
   waiting_at wait (TestLast visit i) e place owes = (tests_some truths wait visit view.held place.0, omega (arith, place.1))
   waiting_at wait (LookIn again) e place owes = tt
   waiting_at wait (Load again) e place owes = tt
   waiting_at wait (Take again last) e place owes = place.1
-  waiting_at wait (ArmWaiting again last) e place owes = view_fits.in_range
-  waiting_at wait (QueueWaiting again last) e place owes = (place, none_of view.owed owes, view_fits.in_range, stands_nowhere (ap awaits e))
-  waiting_at wait PayWaiting e place owes = owes_one view.owed refl owes
-  waiting_at wait RoundWaiting e place owes = view_fits.in_range
+  waiting_at wait (ArmToWait again last) e place owes = view_fits.in_range
+  waiting_at wait (QueueToWait again last) e place owes = (place, none_of view.owed owes, view_fits.in_range, stands_nowhere (ap awaits e))
+  waiting_at wait PayInWait e place owes = owes_one view.owed refl owes
+  waiting_at wait AwaitWakeInWait e place owes = view_fits.in_range
   waiting_at wait LookOut e place owes = tt
   waiting_at wait (LeaveLoad cause) e place owes = tt
   waiting_at wait (TakeToLeave cause last) e place owes = place.1
   waiting_at wait (Leave cause last) e place owes = (view_fits.in_range, tt)
-  waiting_at wait (LeaveRound cause) e place owes = view_fits.in_range
+  waiting_at wait (AwaitWakeToLeave cause) e place owes = view_fits.in_range
 
   fits_at : (walk : Walk C) → view.walk ≡ Some walk → PlaceFits truths (Some walk) view.held → has_some view.owed ≡ pays (Some walk) → ActFits truths seats view.seat (want_of walk) (part_of s view.held view.owed)
   fits_at (TryLoad mode) e place owes = tt
   fits_at (TryAcquire mode last) e place owes = (place.0, place.1, omega (arith, readers_fewer truths seats h s p front view back split place.0, few))
   fits_at (AcquireLoad aim woken) e place owes = tt
-  fits_at (Acquire aim woken last) e place owes = (place.0, place.1, omega (arith, readers_fewer truths seats h s p front view back split place.0, few))
+  fits_at (AcquireExchange aim woken last) e place owes = (place.0, place.1, omega (arith, readers_fewer truths seats h s p front view back split place.0, few))
   fits_at (TakeToQueue aim woken last) e place owes = place.1
   fits_at (Arm aim woken last) e place owes = view_fits.in_range
   fits_at (Queue aim woken last) e place owes = (view_fits.in_range, stands_nowhere (ap awaits e))
-  fits_at (Round aim) e place owes = view_fits.in_range
+  fits_at (AwaitWake aim) e place owes = view_fits.in_range
   fits_at (QuietCells i) e place owes = omega (arith, place.1)
   fits_at (QuietLast i) e place owes = (place.0, omega (arith, place.1))
-  fits_at (ReleaseLoad leaving) e place owes = tt
-  fits_at (Release leaving last) e place owes = place.0
-  fits_at (TakeToScan leaving last) e place owes = place.1
-  fits_at (ScanCells leaving last i) e place owes = place.1
-  fits_at (ReleaseReturning leaving last) e place owes = (place, none_of view.owed owes)
+  fits_at (ReleaseLoad releasing) e place owes = tt
+  fits_at (ReleaseExchange releasing last) e place owes = place.0
+  fits_at (TakeToScan releasing last) e place owes = place.1
+  fits_at (ScanCells releasing last i) e place owes = place.1
+  fits_at (ScanAndRelease releasing last) e place owes = (place, none_of view.owed owes)
   fits_at Pay e place owes = owes_one view.owed refl owes
-  fits_at (Get i) e place owes = place.1
+  fits_at (GetLoad i) e place owes = place.1
   fits_at (SetLoad i v) e place owes = place.1
   fits_at (SetStore i v) e place owes = place
-  fits_at (Waiting wait at_place) e place owes = waiting_at wait at_place e place owes
+  fits_at (InWait wait at_place) e place owes = waiting_at wait at_place e place owes
 
   -- The act that the seat's walk wants may be made.
   pub act_fits : (walk : Walk C) → view.walk ≡ Some walk → ActFits truths seats view.seat (want_of walk) (part_of s view.held view.owed)

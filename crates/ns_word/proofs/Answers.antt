@@ -1,26 +1,26 @@
 -- What a wait answers is what its section is committed with.
 use Rattle.std.proofs.Common.{◌≡◌, ℕ, Bool, true, false, cond, eqb, List, Option, None, Some, slice_set, refl, ap, sym, ◌∙◌, subst}
 use Rattle.ns_model.specs.declared.event.Answer.{Answer}
-use Rattle.ns_model.specs.declared.event.Answer.TheVariants.{Met as MetAnswer}
+use Rattle.ns_model.specs.declared.event.Answer.TheVariants.{Met}
 use Rattle.ns_model.specs.declared.event.Entry.TheVariants.{Waited}
 use Rattle.ns_model.specs.declared.event.Event.{Event}
 use Rattle.ns_model.specs.Sections.{is_met}
 use Rattle.ns_model.specs.Histories.{standing_after}
 use Rattle.ns_word.specs.declared.limits.Cause.{Cause}
-use Rattle.ns_word.specs.declared.limits.Cause.TheVariants.{Deadline, Note}
+use Rattle.ns_word.specs.declared.limits.Cause.TheVariants.{Expired, Notified}
 use Rattle.ns_word.specs.declared.wait.Wait.{Wait}
 use Rattle.ns_word.specs.declared.wait.Visit.{Visit}
-use Rattle.ns_word.specs.declared.wait.Visit.TheVariants.{Entry, Back}
+use Rattle.ns_word.specs.declared.wait.Visit.TheVariants.{OnEntry, OnReturn}
 use Rattle.ns_word.specs.declared.wait.WaitPlace.{WaitPlace}
-use Rattle.ns_word.specs.declared.wait.WaitPlace.TheVariants.{TestCells, TestLast, LookIn, Load, Take, Arm as ArmWaiting, Queue as QueueWaiting, Pay as PayWaiting, Round as RoundWaiting, LookOut, LeaveLoad, TakeToLeave, Leave, LeaveRound}
+use Rattle.ns_word.specs.declared.wait.WaitPlace.TheVariants.{TestCells, TestLast, LookIn, Load, Take, ArmToWait, QueueToWait, PayInWait, AwaitWakeInWait, LookOut, LeaveLoad, TakeToLeave, Leave, AwaitWakeToLeave}
 use Rattle.ns_word.specs.declared.view.Held.{Held}
 use Rattle.ns_word.specs.declared.view.SeatView.{SeatView}
 use Rattle.ns_word.specs.declared.walk.Walk.{Walk}
-use Rattle.ns_word.specs.declared.walk.Walk.TheVariants.{Wait as Waiting}
+use Rattle.ns_word.specs.declared.walk.Walk.TheVariants.{InWait}
 use Rattle.ns_word.specs.declared.act.Act.{Act}
 use Rattle.ns_word.specs.declared.act.Act.TheVariants.{LoadWord, Acquire, TakeQueues, ReturnQueues, Release, ReleaseReturning, WaitReturning, LoadCell, JudgeQuiet, JudgeMet, StoreCell, ArmFlag, PayWake, LoadFlag, Look}
 use Rattle.ns_word.specs.declared.act.Found.{Found}
-use Rattle.ns_word.specs.declared.act.Found.TheVariants.{Word as Saw, Made, Cell, Quiet, Met, Scanned, Paid, Left, Flag, Looked}
+use Rattle.ns_word.specs.declared.act.Found.TheVariants.{Saw, Made, Cell, Quiet, Tested, Scanned, Paid, Left, Flag, Looked}
 use Rattle.ns_word.specs.declared.walk.Reply.{Reply}
 use Rattle.ns_word.specs.declared.walk.Reply.TheVariants.{Answered}
 use Rattle.ns_word.specs.declared.walk.Next.{Next}
@@ -55,23 +55,23 @@ may_answer place = false
 
 module _ {C : Type 0} (N : ℕ) (wait : Wait C) where
   looks_on : (again : Bool) → GoesOn (look_or_queue wait again)
-  looks_on again = either_on (is_limited wait.limits) (On (Waiting wait (LookIn again))) (On (Waiting wait (Load again))) refl refl
+  looks_on again = either_on (is_limited wait.limits) (On (InWait wait (LookIn again))) (On (InWait wait (Load again))) refl refl
 
   -- at any other place the wait goes on
   others_on : (place : WaitPlace) (found : Found) → may_answer place ≡ false → GoesOn (got_waiting N wait place found)
   others_on (TestLast visit i) found e = absurd (cc)
   others_on (LookIn again) found e = absurd (cc)
   others_on (TestCells visit i) (Cell v) e = refl
-  others_on (ArmWaiting again last) Made e = refl
+  others_on (ArmToWait again last) Made e = refl
   others_on (Load again) (Saw word) e = either_on word.spin _ _ refl refl
   others_on (Take again last) (Saw word) e = either_on word.spin _ _ refl refl
-  others_on (QueueWaiting again last) (Scanned owes tests) e = either_on owes _ _ refl refl
-  others_on PayWaiting (Paid owes) e = either_on owes _ _ refl refl
-  others_on RoundWaiting (Flag v) e = either_on (eqb v 0) _ _ refl (either_on (is_limited wait.limits) _ _ refl refl)
+  others_on (QueueToWait again last) (Scanned owes tests) e = either_on owes _ _ refl refl
+  others_on PayInWait (Paid owes) e = either_on owes _ _ refl refl
+  others_on AwaitWakeInWait (Flag v) e = either_on (eqb v 0) _ _ refl (either_on (is_limited wait.limits) _ _ refl refl)
   others_on (LeaveLoad cause) (Saw word) e = either_on word.spin _ _ refl refl
   others_on (TakeToLeave cause last) (Saw word) e = either_on word.spin _ _ refl refl
   others_on (Leave cause last) (Left stood) e = either_on stood _ _ refl refl
-  others_on (LeaveRound cause) (Flag v) e = either_on (eqb v 0) _ _ refl refl
+  others_on (AwaitWakeToLeave cause) (Flag v) e = either_on (eqb v 0) _ _ refl refl
   others_on LookOut (Looked None) e = refl
   others_on LookOut (Looked (Some cause)) e = refl
   others_on _ _ e = refl
@@ -80,8 +80,8 @@ module _ {C : Type 0} (N : ℕ) (wait : Wait C) where
 
 -- a wait that was ended early wasn't met
 unmet_cause : (cause : Cause) → is_met (answer_of cause) ≡ false
-unmet_cause Deadline = refl
-unmet_cause Note = refl
+unmet_cause Expired = refl
+unmet_cause Notified = refl
 
 module _ {C : Type 0} {N : ℕ} (truths : Truths C) (wait : Wait C) where
   -- The wait answers rightly of the section that is left in hand; one that has come back says the same of itself.
@@ -92,28 +92,28 @@ module _ {C : Type 0} {N : ℕ} (truths : Truths C) (wait : Wait C) where
 
   -- how a section is said to begin that has come back by this cause, by whether the condition holds
   begins_so : (cause : Cause) (held : Held C N) (b : Bool) → ComesBack wait cause held → truths.holds wait.cond held.row ≡ b →
-      entry_of truths.holds held.before held.entry ≡ Waited wait.cond (cond b MetAnswer (answer_of cause))
+      entry_of truths.holds held.before held.entry ≡ Waited wait.cond (cond b Met (answer_of cause))
   begins_so cause held b back e =
       ap (entry_of truths.holds held.before) back.entry
-      ∙ ap (λ (z : Bool). Waited wait.cond (cond z MetAnswer (answer_of cause))) (ap (truths.holds wait.cond) (sym back.cells) ∙ e)
+      ∙ ap (λ (z : Bool). Waited wait.cond (cond z Met (answer_of cause))) (ap (truths.holds wait.cond) (sym back.cells) ∙ e)
 
   -- a test that finds the condition true
-  met_answers : (visit : Visit) (held : Held C N) → Tests wait visit (Some held) → truths.holds wait.cond held.row ≡ true → AnswersOf (comes_back visit) (Some held) MetAnswer
-  met_answers Entry held p e = (held, refl, p, sym e, λ b. absurd (cc))
-  met_answers (Back kept) held p e = (held, refl, p.0, sym e, λ _. begins_so (cause_or kept) held true p.1 e)
+  met_answers : (visit : Visit) (held : Held C N) → Tests wait visit (Some held) → truths.holds wait.cond held.row ≡ true → AnswersOf (comes_back visit) (Some held) Met
+  met_answers OnEntry held p e = (held, refl, p, sym e, λ b. absurd (cc))
+  met_answers (OnReturn kept) held p e = (held, refl, p.0, sym e, λ _. begins_so (cause_or kept) held true p.1 e)
 
   -- and one that finds it false
   unmet_answers : (visit : Visit) (held : Held C N) (answer : Answer) → Tests wait visit (Some held) → truths.holds wait.cond held.row ≡ false → unmet_by wait visit ≡ Done (Answered answer) →
       AnswersOf (comes_back visit) (Some held) answer
-  unmet_answers Entry held answer p e is = absurd (goes_on_not (look_or_queue wait false) (Answered answer) (looks_on N wait false) is)
-  unmet_answers (Back None) held answer p e is = absurd (goes_on_not (look_or_queue wait true) (Answered answer) (looks_on N wait true) is)
-  unmet_answers (Back (Some cause)) held answer p e is =
+  unmet_answers OnEntry held answer p e is = absurd (goes_on_not (look_or_queue wait false) (Answered answer) (looks_on N wait false) is)
+  unmet_answers (OnReturn None) held answer p e is = absurd (goes_on_not (look_or_queue wait true) (Answered answer) (looks_on N wait true) is)
+  unmet_answers (OnReturn (Some cause)) held answer p e is =
       let same : answer_of cause ≡ answer = cc in
       subst (AnswersOf true (Some held)) same (held, refl, p.0, unmet_cause cause ∙ sym e, λ _. begins_so cause held false p.1 e)
 
   test_answers : (visit : Visit) (held : Held C N) (b : Bool) (answer : Answer) → Tests wait visit (Some held) → truths.holds wait.cond held.row ≡ b →
-      cond b (Done (Answered MetAnswer)) (unmet_by wait visit) ≡ Done (Answered answer) → AnswersOf (comes_back visit) (Some held) answer
-  test_answers visit held true answer p e is = let same : MetAnswer ≡ answer = cc in subst (AnswersOf (comes_back visit) (Some held)) same (met_answers visit held p e)
+      cond b (Done (Answered Met)) (unmet_by wait visit) ≡ Done (Answered answer) → AnswersOf (comes_back visit) (Some held) answer
+  test_answers visit held true answer p e is = let same : Met ≡ answer = cc in subst (AnswersOf (comes_back visit) (Some held)) same (met_answers visit held p e)
   test_answers visit held false answer p e is = unmet_answers visit held answer p e is
 
   -- a look that shows something: the condition was false, and a section that has come back goes by what is shown
@@ -130,7 +130,7 @@ module _ {C : Type 0} {N : ℕ} (truths : Truths C) (wait : Wait C) where
 
   answers_at : (seat : ℕ) (place : WaitPlace) (old : Part C N) (found : Found) (new : Part C N) (commits : List (Event C N)) (answer : Answer) → WaitFits truths wait place old.held →
       Effect truths seat (want_waiting wait place) old found new commits → got_waiting N wait place found ≡ Done (Answered answer) → AnswersOf (place_has_come_back place) new.held answer
-  answers_at seat (TestLast visit i) old (Met b) new commits answer p e is =
+  answers_at seat (TestLast visit i) old (Tested b) new commits answer p e is =
       subst (λ left. AnswersOf (comes_back visit) left answer) (sym (ap (λ (part : Part C N). part.held) e.3 ∙ e.1))
       (test_answers visit e.0 b answer (subst (λ held. Tests wait visit held) e.1 p.0) (sym e.2) is)
   answers_at seat (TestLast visit i) old _ new commits answer p e is = absurd e
@@ -143,7 +143,7 @@ module _ {C : Type 0} {N : ℕ} (truths : Truths C) (wait : Wait C) where
 
 -- A wait answers what its section is committed with.
 pub answers_rightly : {C : Type 0} {N : ℕ} (truths : Truths C) (seats : ℕ) (h : List (Event C N)) (old new : State C N) (view : SeatView C N) (found : Found) (commits : List (Event C N)) (wait : Wait C) (place : WaitPlace) (answer : Answer) →
-    (step : Step truths old view found new commits) → IsLawful truths seats h old → step.walk ≡ Waiting wait place → got_of N step.walk found ≡ Done (Answered answer) → AnswersOf truths wait (has_come_back step.walk) step.held answer
+    (step : Step truths old view found new commits) → IsLawful truths seats h old → step.walk ≡ InWait wait place → got_of N step.walk found ≡ Done (Answered answer) → AnswersOf truths wait (has_come_back step.walk) step.held answer
 answers_rightly {C} {N} truths seats h old new view found commits wait place answer step lawful walks is =
     let fits = (each_parts truths seats (standing_after h) old.row step.front view step.back (subst (λ vs. EachFits truths seats (standing_after h) old.row vs) step.was lawful.one_history.each)).1 in
     let here : WaitFits truths wait place view.held = subst (λ walk. PlaceFits truths walk view.held) (step.walks ∙ ap Some walks) fits.place in
@@ -163,7 +163,7 @@ looks_at wait (LookIn again) e = e
 looks_at wait _ e = refl
 
 looks_by : {C : Type 0} (walk : Walk C) → has_come_back walk ≡ false → looks_again (want_of walk) ≡ false
-looks_by (Waiting wait place) e = looks_at wait place e
+looks_by (InWait wait place) e = looks_at wait place e
 looks_by _ e = refl
 
 module _ {C : Type 0} {N : ℕ} where
@@ -195,19 +195,19 @@ module _ {C : Type 0} {N : ℕ} where
   effect_so truths seat (Acquire aim woken last) old (Saw word) new commits was held n e p q = stays_so was held old.held new.held p q (ap (λ (x : Part C N). x.held) e.2)
   effect_so truths seat (TakeQueues taking last) old (Saw word) new commits was held n e p q = stays_so was held old.held new.held p q (ap (λ (x : Part C N). x.held) e.2)
   effect_so truths seat (ReturnQueues change last) old (Saw word) new commits was held n e p q = stays_so was held old.held new.held p q (ap (λ (x : Part C N). x.held) e.2)
-  effect_so truths seat (Release leaving last) old (Saw word) new commits was held n e p q = stays_so was held old.held new.held p q (ap (λ (x : Part C N). x.held) e.2)
-  effect_so truths seat (ReleaseReturning leaving last) old (Saw word) new commits was held n e p q = stays_so was held old.held new.held p q (ap (λ (x : Part C N). x.held) e.2)
+  effect_so truths seat (Release releasing last) old (Saw word) new commits was held n e p q = stays_so was held old.held new.held p q (ap (λ (x : Part C N). x.held) e.2)
+  effect_so truths seat (ReleaseReturning releasing last) old (Saw word) new commits was held n e p q = stays_so was held old.held new.held p q (ap (λ (x : Part C N). x.held) e.2)
   effect_so truths seat (WaitReturning wait again last) old (Saw word) new commits was held n e p q = stays_so was held old.held new.held p q (ap (λ (x : Part C N). x.held) e.2)
   effect_so truths seat (Acquire aim woken last) old Made new commits was held n e p q = none_so was held was old.held p e.2
   effect_so truths seat (TakeQueues taking last) old Made new commits was held n e p q = stays_so was held old.held new.held p q (ap (λ (x : Part C N). x.held) e.2)
   effect_so truths seat (ReturnQueues change last) old Made new commits was held n e p q = stays_so was held old.held new.held p q (ap (λ (x : Part C N). x.held) e.2)
   effect_so truths seat (ReturnQueues change last) old (Left stood) new commits was held n e p q = stays_so was held old.held new.held p q (ap (λ (x : Part C N). x.held) e.2)
-  effect_so truths seat (Release leaving last) old Made new commits was held n e p q = none_so was held held new.held q (ap (λ (x : Part C N). x.held) e.4)
-  effect_so truths seat (ReleaseReturning leaving last) old (Scanned owes tests) new commits was held n e p q = none_so was held held new.held q (ap (λ (x : Part C N). x.held) e.4)
+  effect_so truths seat (Release releasing last) old Made new commits was held n e p q = none_so was held held new.held q (ap (λ (x : Part C N). x.held) e.4)
+  effect_so truths seat (ReleaseReturning releasing last) old (Scanned owes tests) new commits was held n e p q = none_so was held held new.held q (ap (λ (x : Part C N). x.held) e.4)
   effect_so truths seat (WaitReturning wait again last) old (Scanned owes tests) new commits was held n e p q = none_so was held held new.held q (ap (λ (x : Part C N). x.held) e.4)
   effect_so truths seat (LoadCell i) old (Cell v) new commits was held n e p q = stays_so was held old.held new.held p q (ap (λ (x : Part C N). x.held) e.1)
   effect_so truths seat (JudgeQuiet i) old (Quiet is_quiet) new commits was held n e p q = stays_so was held old.held new.held p q (ap (λ (x : Part C N). x.held) e.3)
-  effect_so truths seat (JudgeMet i c) old (Met met) new commits was held n e p q = stays_so was held old.held new.held p q (ap (λ (x : Part C N). x.held) e.3)
+  effect_so truths seat (JudgeMet i c) old (Tested met) new commits was held n e p q = stays_so was held old.held new.held p q (ap (λ (x : Part C N). x.held) e.3)
   effect_so truths seat (StoreCell i v) old Made new commits was held n e p q = stored_so was held e.0 (slice_set e.0.row i v) old.held new.held p q e.1 (ap (λ (x : Part C N). x.held) e.3)
   effect_so truths seat ArmFlag old Made new commits was held n e p q = stays_so was held old.held new.held p q (ap (λ (x : Part C N). x.held) e.0)
   effect_so truths seat PayWake old (Paid owes) new commits was held n e p q = stays_so was held old.held new.held p q (ap (λ (x : Part C N). x.held) e.3)

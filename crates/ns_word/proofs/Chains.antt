@@ -5,18 +5,18 @@ use Rattle.ns_model.specs.Beginnings.{BeginsWith}
 use Rattle.ns_model.specs.Environments.{NoteStanding, IsLegalEnv, env_after, clock_of, is_due, is_over, IsNotified}
 use Rattle.ns_model.specs.Lines.{IsLeftAt}
 use Rattle.ns_model.proofs.Lines.{line_starts, line_stops, line_goes_on}
-use Rattle.ns_word.specs.declared.limits.Cause.TheVariants.{Deadline}
+use Rattle.ns_word.specs.declared.limits.Cause.TheVariants.{Expired}
 use Rattle.ns_word.specs.declared.env_act.NoteState.{NoteState}
 use Rattle.ns_word.specs.declared.env_act.EnvFound.TheVariants.{Clock, Note}
 use Rattle.ns_word.specs.declared.env_walk.Chain.{Chain}
-use Rattle.ns_word.specs.declared.env_walk.Chain.TheVariants.{Look, IsNotified as Asks, NoteWait}
+use Rattle.ns_word.specs.declared.env_walk.Chain.TheVariants.{ForLook, ForIsNotified, ForNoteWait}
 use Rattle.ns_word.specs.declared.env_walk.EnvWalk.TheVariants.{ClockLoad, NoteLoad}
 use Rattle.ns_word.specs.declared.env_walk.EnvNext.{EnvNext}
-use Rattle.ns_word.specs.declared.env_walk.EnvNext.TheVariants.{On, Idle, Done, Saw}
+use Rattle.ns_word.specs.declared.env_walk.EnvNext.TheVariants.{Go, Repeat, Over, Shown}
 use Rattle.ns_word.specs.declared.walk.Reply.TheVariants.{Is}
 use Rattle.ns_word.specs.EnvWalks.{standing_of, env_got_of, chain_note, stopped, passed, up_to}
 use Rattle.ns_word.specs.EnvSteps.{EnvState, IfMade, IsLawfulEnv}
-use Rattle.ns_word.specs.Chains.{IsWaitedFor, ChainFits}
+use Rattle.ns_word.specs.Chains.{IsUnnotified, ChainFits}
 use Rattle.ns_word.proofs.EnvLooks.{note_is}
 
 -- a deadline that has come, and one that hasn't
@@ -36,9 +36,9 @@ given_is (Some asked) P p = (asked, refl, p)
 module _ (point now : List EnvEvent) where
   -- at a note that is over, the chain's note is notified
   stopped_fits : (chain : Chain) (asked : ℕ) → chain_note chain ≡ Some asked → IsNotified now asked → ChainFits point now chain (stopped chain)
-  stopped_fits (Look limits) asked is e = subst (λ (given : Option ℕ). IsSomeAnd given (IsNotified now)) (sym is) e
-  stopped_fits (Asks note) asked is e = let same : asked ≡ note = cc in subst (IsNotified now) same e
-  stopped_fits (NoteWait note deadline) asked is e = let same : asked ≡ note = cc in subst (IsNotified now) same e
+  stopped_fits (ForLook limits) asked is e = subst (λ (given : Option ℕ). IsSomeAnd given (IsNotified now)) (sym is) e
+  stopped_fits (ForIsNotified note) asked is e = let same : asked ≡ note = cc in subst (IsNotified now) same e
+  stopped_fits (ForNoteWait note deadline) asked is e = let same : asked ≡ note = cc in subst (IsNotified now) same e
 
   -- at its end the deadline decides between two
   either_fits : (chain : Chain) (one other : EnvNext) (b : Bool) → (b ≡ true → ChainFits point now chain one) → (b ≡ false → ChainFits point now chain other) → ChainFits point now chain (cond b one other)
@@ -46,34 +46,34 @@ module _ (point now : List EnvEvent) where
   either_fits chain one other false p q = q refl
 
   -- past the root the chain's note, if it has one, wasn't notified
-  passed_fits : (chain : Chain) (clock : ℕ) → clock ≡ clock_of point → IsWaitedFor point (chain_note chain) → ChainFits point now chain (passed chain clock)
-  passed_fits (Look limits) clock is waited = either_fits (Look limits) (Saw (Some Deadline)) (Saw None) (is_due clock limits.deadline)
+  passed_fits : (chain : Chain) (clock : ℕ) → clock ≡ clock_of point → IsUnnotified point (chain_note chain) → ChainFits point now chain (passed chain clock)
+  passed_fits (ForLook limits) clock is waited = either_fits (ForLook limits) (Shown (Some Expired)) (Shown None) (is_due clock limits.deadline)
       (λ due. (waited, subst (λ (c : ℕ). IsSomeAnd limits.deadline (λ d. d ≤ c)) is (due_is clock limits.deadline due)))
       (λ due. (waited, subst (λ (c : ℕ). IfSome limits.deadline (λ d. c < d)) is (not_due_is clock limits.deadline due)))
-  passed_fits (Asks note) clock is waited = waited
-  passed_fits (NoteWait note deadline) clock is waited = either_fits (NoteWait note deadline) (Done (Is false)) (Idle (ClockLoad (NoteWait note deadline))) (is_due clock deadline)
+  passed_fits (ForIsNotified note) clock is waited = waited
+  passed_fits (ForNoteWait note deadline) clock is waited = either_fits (ForNoteWait note deadline) (Over (Is false)) (Repeat (ClockLoad (ForNoteWait note deadline))) (is_due clock deadline)
       (λ due. (waited, subst (λ (c : ℕ). IsSomeAnd deadline (λ d. d ≤ c)) is (due_is clock deadline due)))
       (λ due. (refl, waited, subst (λ (c : ℕ). IfSome deadline (λ d. c < d)) is (not_due_is clock deadline due)))
 
   -- it stands at a note, and what that tells
-  on_fits : (chain : Chain) (clock at : ℕ) → clock ≡ clock_of point → IsSomeAnd (chain_note chain) (λ asked. IsLeftAt point asked (Some at)) → ChainFits point now chain (On (NoteLoad chain clock at))
-  on_fits (Look limits) clock at is left = (refl, is, left)
-  on_fits (Asks note) clock at is left = (refl, is, left)
-  on_fits (NoteWait note deadline) clock at is left = (refl, is, left)
+  on_fits : (chain : Chain) (clock at : ℕ) → clock ≡ clock_of point → IsSomeAnd (chain_note chain) (λ asked. IsLeftAt point asked (Some at)) → ChainFits point now chain (Go (NoteLoad chain clock at))
+  on_fits (ForLook limits) clock at is left = (refl, is, left)
+  on_fits (ForIsNotified note) clock at is left = (refl, is, left)
+  on_fits (ForNoteWait note deadline) clock at is left = (refl, is, left)
 
-  fits_on : (chain : Chain) (clock at : ℕ) → ChainFits point now chain (On (NoteLoad chain clock at)) → (clock ≡ clock_of point) × IsSomeAnd (chain_note chain) (λ asked. IsLeftAt point asked (Some at))
-  fits_on (Look limits) clock at fits = (fits.1, fits.2)
-  fits_on (Asks note) clock at fits = (fits.1, fits.2)
-  fits_on (NoteWait note deadline) clock at fits = (fits.1, fits.2)
+  fits_on : (chain : Chain) (clock at : ℕ) → ChainFits point now chain (Go (NoteLoad chain clock at)) → (clock ≡ clock_of point) × IsSomeAnd (chain_note chain) (λ asked. IsLeftAt point asked (Some at))
+  fits_on (ForLook limits) clock at fits = (fits.1, fits.2)
+  fits_on (ForIsNotified note) clock at fits = (fits.1, fits.2)
+  fits_on (ForNoteWait note deadline) clock at fits = (fits.1, fits.2)
 
   -- it goes on to what is above, or passes the root
   up_fits : (chain : Chain) (clock asked : ℕ) (above : Option ℕ) → clock ≡ clock_of point → chain_note chain ≡ Some asked → IsLeftAt point asked above → ChainFits point now chain (up_to chain clock above)
-  up_fits chain clock asked None is named left = passed_fits chain clock is (subst (IsWaitedFor point) (sym named) left)
+  up_fits chain clock asked None is named left = passed_fits chain clock is (subst (IsUnnotified point) (sym named) left)
   up_fits chain clock asked (Some at) is named left = on_fits chain clock at is (subst (λ (given : Option ℕ). IsSomeAnd given (λ n. IsLeftAt point n (Some at))) (sym named) left)
 
   -- with the clock loaded, it goes to the chain's note, or has none
   begins_fits : (chain : Chain) (clock : ℕ) (given : Option ℕ) → clock ≡ clock_of point → chain_note chain ≡ given → IfMade (env_after point).notes given → ChainFits point now chain (up_to chain clock given)
-  begins_fits chain clock None is named made = passed_fits chain clock is (subst (IsWaitedFor point) (sym named) tt)
+  begins_fits chain clock None is named made = passed_fits chain clock is (subst (IsUnnotified point) (sym named) tt)
   begins_fits chain clock (Some note) is named made = up_fits chain clock note (Some note) is named (line_starts point note made)
 
   module _ (legal : IsLegalEnv now) (begins : BeginsWith now point) where
@@ -90,7 +90,7 @@ chain_begins now state seat chain lawful walks = begins_fits now now chain state
 
 -- And it answers of the events before that, or of all until now.
 pub chain_answers : (point now : List EnvEvent) (state : EnvState) (chain : Chain) (clock at : ℕ) (note : NoteState) → IsLawfulEnv now state → BeginsWith now point →
-    ChainFits point now chain (On (NoteLoad chain clock at)) → standing_of note ≡ state.plain.notes at → ChainFits point now chain (env_got_of (NoteLoad chain clock at) (Note note))
+    ChainFits point now chain (Go (NoteLoad chain clock at)) → standing_of note ≡ state.plain.notes at → ChainFits point now chain (env_got_of (NoteLoad chain clock at) (Note note))
 chain_answers point now state chain clock at note lawful begins fits is =
     let on = fits_on point now chain clock at fits in
     let asked = given_is (chain_note chain) (λ asked. IsLeftAt point asked (Some at)) on.1 in

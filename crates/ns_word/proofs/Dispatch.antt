@@ -4,31 +4,31 @@ use Rattle.std.proofs.lemmas.Bool.{eqb-true, ltb-true, ltb-false, both_ways}
 use Rattle.std.proofs.lemmas.List.{append-nil}
 use Rattle.ns_model.specs.declared.event.Mode.{Mode}
 use Rattle.ns_model.specs.declared.event.Mode.TheVariants.{Write, Read}
-use Rattle.ns_model.specs.declared.event.Exit.TheVariants.{Plain as Released, CondWait}
+use Rattle.ns_model.specs.declared.event.Exit.TheVariants.{Plain, CondWait}
 use Rattle.ns_model.specs.declared.event.Event.{Event}
 use Rattle.ns_model.specs.Histories.{standing_after}
 use Rattle.ns_queue.specs.Waiters.{seats_of, times_in, without_in}
 use Rattle.ns_queue.specs.Scans.{woken_of, left_of}
 use Rattle.ns_word.specs.declared.word.Word.{Word}
-use Rattle.ns_word.specs.declared.word.Leaving.{Leaving}
-use Rattle.ns_word.specs.declared.word.Leaving.TheVariants.{QuietWriter}
+use Rattle.ns_word.specs.declared.word.Releasing.{Releasing}
+use Rattle.ns_word.specs.declared.word.Releasing.TheVariants.{QuietWriter}
 use Rattle.ns_word.specs.declared.word.Taking.{Taking}
 use Rattle.ns_word.specs.declared.word.Taking.TheVariants.{ToChange, ToQueue}
 use Rattle.ns_word.specs.declared.limits.Cause.{Cause}
 use Rattle.ns_word.specs.declared.wait.Wait.{Wait}
 use Rattle.ns_word.specs.declared.wait.Aim.{Aim}
-use Rattle.ns_word.specs.declared.wait.Aim.TheVariants.{Lock, Back}
+use Rattle.ns_word.specs.declared.wait.Aim.TheVariants.{ForLock, ForWait}
 use Rattle.ns_word.specs.declared.wait.WaitPlace.{WaitPlace}
-use Rattle.ns_word.specs.declared.wait.WaitPlace.TheVariants.{TestCells, TestLast, LookIn, Load, Take, Arm as ArmWaiting, Queue as QueueWaiting, Pay as PayWaiting, Round as RoundWaiting, LookOut, LeaveLoad, TakeToLeave, Leave, LeaveRound}
+use Rattle.ns_word.specs.declared.wait.WaitPlace.TheVariants.{TestCells, TestLast, LookIn, Load, Take, ArmToWait, QueueToWait, PayInWait, AwaitWakeInWait, LookOut, LeaveLoad, TakeToLeave, Leave, AwaitWakeToLeave}
 use Rattle.ns_word.specs.declared.view.Held.{Held}
 use Rattle.ns_word.specs.declared.view.SeatView.{SeatView}
 use Rattle.ns_word.specs.declared.walk.Walk.{Walk}
-use Rattle.ns_word.specs.declared.walk.Walk.TheVariants.{TryLoad, TryAcquire, AcquireLoad, Acquire, TakeToQueue, Arm, Queue, Round, QuietCells, QuietLast, ReleaseLoad, Release, TakeToScan, ScanCells, ReleaseReturning, Pay, Get, SetLoad, SetStore, Wait as Waiting}
+use Rattle.ns_word.specs.declared.walk.Walk.TheVariants.{TryLoad, TryAcquire, AcquireLoad, AcquireExchange, TakeToQueue, Arm, Queue, AwaitWake, QuietCells, QuietLast, ReleaseLoad, ReleaseExchange, TakeToScan, ScanCells, ScanAndRelease, Pay, GetLoad, SetLoad, SetStore, InWait}
 use Rattle.ns_word.specs.declared.act.Found.{Found}
-use Rattle.ns_word.specs.declared.act.Found.TheVariants.{Word as Saw, Made, Cell, Quiet, Met, Scanned, Paid, Left, Flag, Looked}
+use Rattle.ns_word.specs.declared.act.Found.TheVariants.{Saw, Made, Cell, Quiet, Tested, Scanned, Paid, Left, Flag, Looked}
 use Rattle.ns_word.specs.declared.walk.Next.{Next}
 use Rattle.ns_word.specs.declared.walk.Next.TheVariants.{On, Idle}
-use Rattle.ns_word.specs.Words.{mode_left, leaving_of, may_acquire, needs_scan, word_acquired, word_released, word_taken, word_returned, word_released_returning}
+use Rattle.ns_word.specs.Words.{mode_released, releasing_of, may_acquire, needs_scan, word_acquired, word_released, word_taken, word_returned, word_released_returning}
 use Rattle.ns_word.specs.Lists.{has_some, bits_of, queued}
 use Rattle.ns_word.specs.Waits.{mode_for, phase_for}
 use Rattle.ns_word.specs.Walks.{want_waiting, want_of, got_waiting, got_of, walk_after, acquired_for, pay_waiting, rest_or_look, place_has_queues, place_has_armed, place_awaits, place_pays, has_queues, is_queuing, has_armed, waits_in, pays, is_on_way, phase_by}
@@ -50,10 +50,10 @@ stood_in (Left stood) = stood
 stood_in _ = false
 
 phase_opened : {C : Type 0} (aim : Aim C) → phase_for aim ≡ phase_before (mode_for aim) (opening_for aim)
-phase_opened (Lock mode) = refl
-phase_opened (Back wait kept) = refl
+phase_opened (ForLock mode) = refl
+phase_opened (ForWait wait kept) = refl
 
-left_mode : (mode : Mode) → mode_left (leaving_of mode) ≡ mode
+left_mode : (mode : Mode) → mode_released (releasing_of mode) ≡ mode
 left_mode Write = refl
 left_mode Read = refl
 
@@ -117,119 +117,119 @@ module _ {C : Type 0} {N : ℕ} (truths : Truths C) (seats : ℕ) (h : List (Eve
   checks walk aim other v false part next commits z same e f none pay s q phase leads p = finds walk (walk_after other) part next commits e f leads p
 
   -- the section in hand, in the mode that it is left in
-  leaves : (walk : Walk C) (leaving : Leaving) (part : Part C N) (held : Held C N) → part.held ≡ Some held → held.mode ≡ mode_left leaving → CanLeave truths leaving part.held →
+  leaves : (walk : Walk C) (releasing : Releasing) (part : Part C N) (held : Held C N) → part.held ≡ Some held → held.mode ≡ mode_released releasing → CanLeave truths releasing part.held →
       Groups truths seats h (at part (Some walk)) →
-      Groups truths seats h (at (record part { held = Some (section (mode_left leaving) held.entry held.before held.row) }) (Some walk)) × IsLeft {N = N} truths leaving (section held.mode held.entry held.before held.row)
-  leaves walk leaving part held e m can p = (
-    with_held walk part (Some (section (mode_left leaving) held.entry held.before held.row)) (e ∙ ap (λ x. Some (section x held.entry held.before held.row)) m) p,
-    (subst (λ x. CanLeave truths leaving x) e can).1,
+      Groups truths seats h (at (record part { held = Some (section (mode_released releasing) held.entry held.before held.row) }) (Some walk)) × IsLeft {N = N} truths releasing (section held.mode held.entry held.before held.row)
+  leaves walk releasing part held e m can p = (
+    with_held walk part (Some (section (mode_released releasing) held.entry held.before held.row)) (e ∙ ap (λ x. Some (section x held.entry held.before held.row)) m) p,
+    (subst (λ x. CanLeave truths releasing x) e can).1,
   )
 
   -- a wait with the queues takes itself from the list
   withdrawn : (wait : Wait C) (cause : Cause) (last : Word) (stood : Bool) (part next : Part C N) (commits : List (Event C N)) → ltb 0 (times_in who part.lock) ≡ stood → last ≡ part.word →
       let lock = without_in who part.lock in
       next ≡ record part { word = word_returned (bits_of lock) last; lock = lock } → commits ≡ [] → part.held ≡ None →
-      Groups truths seats h (at part (Some (Waiting wait (Leave cause last)))) → Kept commits next (walk_after (got_waiting N wait (Leave cause last) (Left stood)))
+      Groups truths seats h (at part (Some (InWait wait (Leave cause last)))) → Kept commits next (walk_after (got_waiting N wait (Leave cause last) (Left stood)))
   withdrawn wait cause last true part next commits stands same e f none p =
       let lock = without_in who part.lock in
       let some = ltb-true 0 (times_in who part.lock) stands in
-      moved (Some (AcquireLoad (Back wait (Some cause)) false)) (record part { word = word_returned (bits_of lock) part.word; lock = lock }) next [] commits (e ∙ ap (λ word. record part { word = word_returned (bits_of lock) word; lock = lock }) same) f
-      (none_more _ (withdraws truths seats h front who (Some (Waiting wait (Leave cause last))) (Some (AcquireLoad (Back wait (Some cause)) false)) back part.word part.row part.lock part.flags part.held part.owed none refl refl refl refl refl refl (λ n. refl)
+      moved (Some (AcquireLoad (ForWait wait (Some cause)) false)) (record part { word = word_returned (bits_of lock) part.word; lock = lock }) next [] commits (e ∙ ap (λ word. record part { word = word_returned (bits_of lock) word; lock = lock }) same) f
+      (none_more _ (withdraws truths seats h front who (Some (InWait wait (Leave cause last))) (Some (AcquireLoad (ForWait wait (Some cause)) false)) back part.word part.row part.lock part.flags part.held part.owed none refl refl refl refl refl refl (λ n. refl)
       (λ once. refl) (λ z. absurd (omega (arith, some, z))) (λ g. let z = eqb-true (times_in who part.lock) 0 g in absurd (omega (arith, some, z))) p))
   withdrawn wait cause last false part next commits stands same e f none p =
       let lock = without_in who part.lock in
       let few = ltb-false 0 (times_in who part.lock) stands in
-      moved (Some (Waiting wait (LeaveRound cause))) (record part { word = word_returned (bits_of lock) part.word; lock = lock }) next [] commits (e ∙ ap (λ word. record part { word = word_returned (bits_of lock) word; lock = lock }) same) f
-      (none_more _ (withdraws truths seats h front who (Some (Waiting wait (Leave cause last))) (Some (Waiting wait (LeaveRound cause))) back part.word part.row part.lock part.flags part.held part.owed none refl refl refl refl refl refl (λ n. refl)
+      moved (Some (InWait wait (AwaitWakeToLeave cause))) (record part { word = word_returned (bits_of lock) part.word; lock = lock }) next [] commits (e ∙ ap (λ word. record part { word = word_returned (bits_of lock) word; lock = lock }) same) f
+      (none_more _ (withdraws truths seats h front who (Some (InWait wait (Leave cause last))) (Some (InWait wait (AwaitWakeToLeave cause))) back part.word part.row part.lock part.flags part.held part.owed none refl refl refl refl refl refl (λ n. refl)
       (λ once. absurd (omega (arith, few, once))) (λ z. refl) (λ g. refl) p))
 
   -- a wait takes the queues
   wait_took : (wait : Wait C) (from to : WaitPlace) (last : Word) (part next : Part C N) (commits : List (Event C N)) →
       last ≡ part.word → last.spin ≡ false → next ≡ record part { word = word_taken ToChange last } → commits ≡ [] → WaitFits truths wait to part.held →
       place_pays to ≡ place_pays from → place_has_queues from ≡ false → place_has_queues to ≡ true → place_awaits to ≡ place_awaits from → place_has_armed to ≡ false →
-      Groups truths seats h (at part (Some (Waiting wait from))) → Kept commits next (Some (Waiting wait to))
+      Groups truths seats h (at part (Some (InWait wait from))) → Kept commits next (Some (InWait wait to))
   wait_took wait from to last part next commits same none e f fits pay s s' a set p =
       let waits = ap (λ b. cond b (Some (record { mode = wait.mode; cond = Some wait.cond })) None) a in
-      took (Waiting wait from) (Waiting wait to) ToChange last part next commits same none e f fits pay s s' waits set (λ n. refl)
-      (λ apart homed known. known_rests truths.holds front who (Some (Waiting wait from)) part.held part.owed (Some (Waiting wait to)) part.held part.owed back part.word (word_taken ToChange part.word) (standing_after h).row part.lock apart refl refl refl refl refl refl
+      took (InWait wait from) (InWait wait to) ToChange last part next commits same none e f fits pay s s' waits set (λ n. refl)
+      (λ apart homed known. known_rests truths.holds front who (Some (InWait wait from)) part.held part.owed (Some (InWait wait to)) part.held part.owed back part.word (word_taken ToChange part.word) (standing_after h).row part.lock apart refl refl refl refl refl refl
       (λ n g. ap (λ w. cond (is_some w) (eqb n 0) false) waits ∙ g) known) p
 
   by_wait : (wait : Wait C) (at_place : WaitPlace) (found : Found) (part next : Part C N) (commits : List (Event C N)) → seats ≤ 64 → 0 < N →
-      Effect truths who (want_waiting wait at_place) part found next commits → Groups truths seats h (at part (Some (Waiting wait at_place))) → Kept commits next (walk_after (got_waiting N wait at_place found))
+      Effect truths who (want_waiting wait at_place) part found next commits → Groups truths seats h (at part (Some (InWait wait at_place))) → Kept commits next (walk_after (got_waiting N wait at_place found))
   -- it tests its condition
-  by_wait wait (TestCells visit i) (Cell v) part next commits few some e p = finds (Waiting wait (TestCells visit i)) _ part next commits e.1 e.2 (test_leads truths wait visit part.held (i + 1) some (place (Waiting wait (TestCells visit i)) part p).0) p
-  by_wait wait (TestLast visit i) (Met is_met) part next commits few some e p =
-      finds (Waiting wait (TestLast visit i)) _ part next commits e.3 e.4 (met_leads truths wait visit part.held is_met (place (Waiting wait (TestLast visit i)) part p).0 (ap (λ x. truths.holds wait.cond (row_in x)) e.1 ∙ sym e.2)) p
+  by_wait wait (TestCells visit i) (Cell v) part next commits few some e p = finds (InWait wait (TestCells visit i)) _ part next commits e.1 e.2 (test_leads truths wait visit part.held (i + 1) some (place (InWait wait (TestCells visit i)) part p).0) p
+  by_wait wait (TestLast visit i) (Tested is_met) part next commits few some e p =
+      finds (InWait wait (TestLast visit i)) _ part next commits e.3 e.4 (met_leads truths wait visit part.held is_met (place (InWait wait (TestLast visit i)) part p).0 (ap (λ x. truths.holds wait.cond (row_in x)) e.1 ∙ sym e.2)) p
   -- it looks
-  by_wait wait (LookIn again) (Looked None) part next commits few some e p = finds (Waiting wait (LookIn again)) _ part next commits e.1 e.2 (place (Waiting wait (LookIn again)) part p, (refl, refl, refl, refl), refl, λ n f. f, λ none. refl) p
+  by_wait wait (LookIn again) (Looked None) part next commits few some e p = finds (InWait wait (LookIn again)) _ part next commits e.1 e.2 (place (InWait wait (LookIn again)) part p, (refl, refl, refl, refl), refl, λ n f. f, λ none. refl) p
   by_wait wait (LookIn again) (Looked (Some cause)) part next commits few some e p =
       moved None (record part { held = held_after again (Some cause) part.held }) next [] commits e.1 e.2
-      (none_more _ (rests truths seats h front who (Some (Waiting wait (LookIn again))) None back part.word part.row part.lock part.flags part.held (held_after again (Some cause) part.held) part.owed tt (refl, refl, refl, refl) refl (λ n f. f)
-      (shown_section truths wait again cause part.held (place (Waiting wait (LookIn again)) part p)) p))
-  by_wait wait LookOut (Looked None) part next commits few some e p = finds (Waiting wait LookOut) _ part next commits e.1 e.2 (place (Waiting wait LookOut) part p, (refl, refl, refl, refl), refl, λ n f. f, λ none. refl) p
-  by_wait wait LookOut (Looked (Some cause)) part next commits few some e p = finds (Waiting wait LookOut) _ part next commits e.1 e.2 (place (Waiting wait LookOut) part p, (refl, refl, refl, refl), refl, λ n f. f, λ none. refl) p
+      (none_more _ (rests truths seats h front who (Some (InWait wait (LookIn again))) None back part.word part.row part.lock part.flags part.held (held_after again (Some cause) part.held) part.owed tt (refl, refl, refl, refl) refl (λ n f. f)
+      (shown_section truths wait again cause part.held (place (InWait wait (LookIn again)) part p)) p))
+  by_wait wait LookOut (Looked None) part next commits few some e p = finds (InWait wait LookOut) _ part next commits e.1 e.2 (place (InWait wait LookOut) part p, (refl, refl, refl, refl), refl, λ n f. f, λ none. refl) p
+  by_wait wait LookOut (Looked (Some cause)) part next commits few some e p = finds (InWait wait LookOut) _ part next commits e.1 e.2 (place (InWait wait LookOut) part p, (refl, refl, refl, refl), refl, λ n f. f, λ none. refl) p
   -- it sees the word
-  by_wait wait (Load again) (Saw word) part next commits few some e p = finds (Waiting wait (Load again)) _ part next commits e.1 e.2 (queue_leads truths wait again word part.held (place (Waiting wait (Load again)) part p)) p
-  by_wait wait (Take again last) (Saw word) part next commits few some e p = finds (Waiting wait (Take again last)) _ part next commits e.2 e.3 (queue_leads truths wait again word part.held (place (Waiting wait (Take again last)) part p).0) p
-  by_wait wait (QueueWaiting again last) (Saw word) part next commits few some e p = finds (Waiting wait (QueueWaiting again last)) _ part next commits e.2 e.3 (place (Waiting wait (QueueWaiting again last)) part p, (refl, refl, refl, refl), refl, λ n f. f, λ none. refl) p
-  by_wait wait (LeaveLoad cause) (Saw word) part next commits few some e p = finds (Waiting wait (LeaveLoad cause)) _ part next commits e.1 e.2 (leave_leads truths wait cause word part.held (place (Waiting wait (LeaveLoad cause)) part p)) p
-  by_wait wait (TakeToLeave cause last) (Saw word) part next commits few some e p = finds (Waiting wait (TakeToLeave cause last)) _ part next commits e.2 e.3 (leave_leads truths wait cause word part.held (place (Waiting wait (TakeToLeave cause last)) part p).0) p
-  by_wait wait (Leave cause last) (Saw word) part next commits few some e p = finds (Waiting wait (Leave cause last)) _ part next commits e.2 e.3 (place (Waiting wait (Leave cause last)) part p, (refl, refl, refl, refl), refl, λ n f. f, λ none. refl) p
+  by_wait wait (Load again) (Saw word) part next commits few some e p = finds (InWait wait (Load again)) _ part next commits e.1 e.2 (queue_leads truths wait again word part.held (place (InWait wait (Load again)) part p)) p
+  by_wait wait (Take again last) (Saw word) part next commits few some e p = finds (InWait wait (Take again last)) _ part next commits e.2 e.3 (queue_leads truths wait again word part.held (place (InWait wait (Take again last)) part p).0) p
+  by_wait wait (QueueToWait again last) (Saw word) part next commits few some e p = finds (InWait wait (QueueToWait again last)) _ part next commits e.2 e.3 (place (InWait wait (QueueToWait again last)) part p, (refl, refl, refl, refl), refl, λ n f. f, λ none. refl) p
+  by_wait wait (LeaveLoad cause) (Saw word) part next commits few some e p = finds (InWait wait (LeaveLoad cause)) _ part next commits e.1 e.2 (leave_leads truths wait cause word part.held (place (InWait wait (LeaveLoad cause)) part p)) p
+  by_wait wait (TakeToLeave cause last) (Saw word) part next commits few some e p = finds (InWait wait (TakeToLeave cause last)) _ part next commits e.2 e.3 (leave_leads truths wait cause word part.held (place (InWait wait (TakeToLeave cause last)) part p).0) p
+  by_wait wait (Leave cause last) (Saw word) part next commits few some e p = finds (InWait wait (Leave cause last)) _ part next commits e.2 e.3 (place (InWait wait (Leave cause last)) part p, (refl, refl, refl, refl), refl, λ n f. f, λ none. refl) p
   -- it takes the queues, and sets its flag
-  by_wait wait (Take again last) Made part next commits few some e p = wait_took wait (Take again last) (ArmWaiting again (word_taken ToChange last)) last part next commits e.0 e.1 e.2 e.3 (place (Waiting wait (Take again last)) part p).0 refl refl refl refl refl p
-  by_wait wait (TakeToLeave cause last) Made part next commits few some e p = wait_took wait (TakeToLeave cause last) (Leave cause (word_taken ToChange last)) last part next commits e.0 e.1 e.2 e.3 (place (Waiting wait (TakeToLeave cause last)) part p).0 refl refl refl refl refl p
-  by_wait wait (ArmWaiting again last) Made part next commits few some e p =
-      moved (Some (Waiting wait (QueueWaiting again last))) (record part { flags = flags_with part.flags who 1 }) next [] commits e.0 e.1
-      (none_more _ (arms truths seats h front who (Some (Waiting wait (ArmWaiting again last))) (Some (Waiting wait (QueueWaiting again last))) back part.word part.row part.lock part.flags part.held part.owed (place (Waiting wait (ArmWaiting again last)) part p) refl refl refl refl refl (λ n f. f) (λ none. refl) p))
+  by_wait wait (Take again last) Made part next commits few some e p = wait_took wait (Take again last) (ArmToWait again (word_taken ToChange last)) last part next commits e.0 e.1 e.2 e.3 (place (InWait wait (Take again last)) part p).0 refl refl refl refl refl p
+  by_wait wait (TakeToLeave cause last) Made part next commits few some e p = wait_took wait (TakeToLeave cause last) (Leave cause (word_taken ToChange last)) last part next commits e.0 e.1 e.2 e.3 (place (InWait wait (TakeToLeave cause last)) part p).0 refl refl refl refl refl p
+  by_wait wait (ArmToWait again last) Made part next commits few some e p =
+      moved (Some (InWait wait (QueueToWait again last))) (record part { flags = flags_with part.flags who 1 }) next [] commits e.0 e.1
+      (none_more _ (arms truths seats h front who (Some (InWait wait (ArmToWait again last))) (Some (InWait wait (QueueToWait again last))) back part.word part.row part.lock part.flags part.held part.owed (place (InWait wait (ArmToWait again last)) part p) refl refl refl refl refl (λ n f. f) (λ none. refl) p))
   -- it queues, and leaves its section
-  by_wait wait (QueueWaiting false last) (Scanned owes tests) part next commits few some e p =
+  by_wait wait (QueueToWait false last) (Scanned owes tests) part next commits few some e p =
       let held = e.0 in
-      let leaving = leaving_of wait.mode in
+      let releasing = releasing_of wait.mode in
       let took = has_some (woken_of (meets_at truths part.row) part.lock) in
       let owed = seats_of (woken_of (meets_at truths part.row) part.lock) in
       let lock = waited_in truths who wait false part.row part.lock in
-      let walk = Waiting wait (QueueWaiting false last) in
+      let walk = InWait wait (QueueToWait false last) in
       let to = pay_waiting_leads {C = C} {N = N} truths wait None owes in
       let may : MayWait truths wait false held = subst (λ x. CanWait truths wait false x) e.1 (place walk part p) in
-      moved (walk_after (pay_waiting wait owes)) (record part { word = word_released_returning leaving took (bits_of lock) part.word; lock = lock; held = None; owed = owed }) next
+      moved (walk_after (pay_waiting wait owes)) (record part { word = word_released_returning releasing took (bits_of lock) part.word; lock = lock; held = None; owed = owed }) next
       (section_of truths.holds who (section wait.mode held.entry held.before held.row) (CondWait wait.cond) ∷ []) commits
-      (e.4 ∙ ap (λ word. record part { word = word_released_returning leaving took (bits_of lock) word; lock = lock; held = None; owed = owed }) e.3)
+      (e.4 ∙ ap (λ word. record part { word = word_released_returning releasing took (bits_of lock) word; lock = lock; held = None; owed = owed }) e.3)
       (e.7 ∙ ap (λ m. section_of truths.holds who (section m held.entry held.before held.row) (CondWait wait.cond) ∷ []) e.2)
-      (waits truths seats h front who (Some walk) (walk_after (pay_waiting wait owes)) back leaving wait.mode wait.cond false part.word part.row part.lock part.flags held.entry held.before held.row part.owed few
+      (waits truths seats h front who (Some walk) (walk_after (pay_waiting wait owes)) back releasing wait.mode wait.cond false part.word part.row part.lock part.flags held.entry held.before held.row part.owed few
       may.unmet (left_mode wait.mode) (sym to.7) (to.0 refl) refl (to.1 ∙ e.5) refl to.2 refl to.3 refl to.4 to.5 (λ n. refl)
       (with_held walk part (Some (section wait.mode held.entry held.before held.row)) (e.1 ∙ ap (λ m. Some (section m held.entry held.before held.row)) e.2) p))
-  by_wait wait (QueueWaiting true last) (Scanned owes tests) part next commits few some e p =
+  by_wait wait (QueueToWait true last) (Scanned owes tests) part next commits few some e p =
       let held = e.0 in
-      let leaving = leaving_of wait.mode in
+      let releasing = releasing_of wait.mode in
       let took = has_some (woken_of (meets_at truths part.row) part.lock) in
       let owed = seats_of (woken_of (meets_at truths part.row) part.lock) in
       let lock = waited_in truths who wait true part.row part.lock in
-      let walk = Waiting wait (QueueWaiting true last) in
+      let walk = InWait wait (QueueToWait true last) in
       let to = pay_waiting_leads {C = C} {N = N} truths wait None owes in
       let may : MayWait truths wait true held = subst (λ x. CanWait truths wait true x) e.1 (place walk part p) in
       let back_from = may.back refl in
-      moved (walk_after (pay_waiting wait owes)) (record part { word = word_released_returning leaving took (bits_of lock) part.word; lock = lock; held = None; owed = owed }) next [] commits
-      (e.4 ∙ ap (λ word. record part { word = word_released_returning leaving took (bits_of lock) word; lock = lock; held = None; owed = owed }) e.3) e.7
-      (none_more _ (waits_on truths seats h front who (Some walk) (walk_after (pay_waiting wait owes)) back leaving wait.mode wait.cond true part.word part.row part.lock part.flags held.entry held.before held.row part.owed
+      moved (walk_after (pay_waiting wait owes)) (record part { word = word_released_returning releasing took (bits_of lock) part.word; lock = lock; held = None; owed = owed }) next [] commits
+      (e.4 ∙ ap (λ word. record part { word = word_released_returning releasing took (bits_of lock) word; lock = lock; held = None; owed = owed }) e.3) e.7
+      (none_more _ (waits_on truths seats h front who (Some walk) (walk_after (pay_waiting wait owes)) back releasing wait.mode wait.cond true part.word part.row part.lock part.flags held.entry held.before held.row part.owed
       may.unmet (left_mode wait.mode) back_from.cells (ap (λ entry. phase_before wait.mode entry) back_from.entry ∙ sym to.7) (to.0 refl) refl (to.1 ∙ e.5) refl to.2 refl to.3 refl to.4 to.5 (λ n. refl)
       (with_held walk part (Some (section wait.mode held.entry held.before held.row)) (e.1 ∙ ap (λ m. Some (section m held.entry held.before held.row)) e.2) p)))
   -- it pays a wake
-  by_wait wait PayWaiting (Paid owes) part next commits few some e p =
+  by_wait wait PayInWait (Paid owes) part next commits few some e p =
       let to = pay_waiting_leads truths wait part.held owes in
-      let none : part.held ≡ None = place (Waiting wait PayWaiting) part p in
+      let none : part.held ≡ None = place (InWait wait PayInWait) part p in
       moved (walk_after (pay_waiting wait owes)) (record part { flags = flags_with part.flags e.0 0; owed = e.1 }) next [] commits e.3 e.5
-      (none_more _ (wakes truths seats h front who (Some (Waiting wait PayWaiting)) (walk_after (pay_waiting wait owes)) back part.word part.row part.lock part.flags part.held e.0 e.1
+      (none_more _ (wakes truths seats h front who (Some (InWait wait PayInWait)) (walk_after (pay_waiting wait owes)) back part.word part.row part.lock part.flags part.held e.0 e.1
       (to.0 none) (to.1 ∙ e.4) to.2 to.3 to.4 to.5 to.6 (λ n. to.7)
-      (subst (λ owed. Groups truths seats h (at (record part { owed = owed }) (Some (Waiting wait PayWaiting)))) e.2 p)))
+      (subst (λ owed. Groups truths seats h (at (record part { owed = owed }) (Some (InWait wait PayInWait)))) e.2 p)))
   -- it looks at its flag
-  by_wait wait RoundWaiting (Flag v) part next commits few some e p =
-      let none : part.held ≡ None = place (Waiting wait RoundWaiting) part p in
-      checks (Waiting wait RoundWaiting) (Back wait None) (rest_or_look wait) v (eqb v 0) part next commits refl e.0 e.1 e.2 none refl refl refl refl (rest_leads truths wait part.held none) p
-  by_wait wait (LeaveRound cause) (Flag v) part next commits few some e p =
-      let none : part.held ≡ None = place (Waiting wait (LeaveRound cause)) part p in
-      checks (Waiting wait (LeaveRound cause)) (Back wait (Some cause)) (Idle (Waiting wait (LeaveRound cause))) v (eqb v 0) part next commits refl e.0 e.1 e.2 none refl refl refl refl (none, (refl, refl, refl, refl), refl, λ n f. f, λ none. refl) p
+  by_wait wait AwaitWakeInWait (Flag v) part next commits few some e p =
+      let none : part.held ≡ None = place (InWait wait AwaitWakeInWait) part p in
+      checks (InWait wait AwaitWakeInWait) (ForWait wait None) (rest_or_look wait) v (eqb v 0) part next commits refl e.0 e.1 e.2 none refl refl refl refl (rest_leads truths wait part.held none) p
+  by_wait wait (AwaitWakeToLeave cause) (Flag v) part next commits few some e p =
+      let none : part.held ≡ None = place (InWait wait (AwaitWakeToLeave cause)) part p in
+      checks (InWait wait (AwaitWakeToLeave cause)) (ForWait wait (Some cause)) (Idle (InWait wait (AwaitWakeToLeave cause))) v (eqb v 0) part next commits refl e.0 e.1 e.2 none refl refl refl refl (none, (refl, refl, refl, refl), refl, λ n f. f, λ none. refl) p
   -- it leaves
-  by_wait wait (Leave cause last) (Left stood) part next commits few some e p = withdrawn wait cause last stood part next commits (ap stood_in e.0) e.1 e.2 e.3 (place (Waiting wait (Leave cause last)) part p) p
+  by_wait wait (Leave cause last) (Left stood) part next commits few some e p = withdrawn wait cause last stood part next commits (ap stood_in e.0) e.1 e.2 e.3 (place (InWait wait (Leave cause last)) part p) p
   by_wait wait (Leave cause last) Made part next commits few some e p = let never : Left (ltb 0 (times_in who part.lock)) ≡ Made = e.0 in absurd (cc)
   by_wait wait _ _ part next commits few some e p = absurd e
 
@@ -239,16 +239,16 @@ module _ {C : Type 0} {N : ℕ} (truths : Truths C) (seats : ℕ) (h : List (Eve
   by_walk (TryLoad mode) (Saw word) part next commits few some quiet e p = finds (TryLoad mode) _ part next commits e.1 e.2 (try_leads truths mode word part.held (may_acquire mode false word) refl (place (TryLoad mode) part p)) p
   by_walk (TryAcquire mode last) (Saw word) part next commits few some quiet e p = finds (TryAcquire mode last) _ part next commits e.2 e.3 (tt, (refl, refl, refl, refl), refl, λ n f. f, λ none. refl) p
   by_walk (AcquireLoad aim woken) (Saw word) part next commits few some quiet e p = finds (AcquireLoad aim woken) _ part next commits e.1 e.2 (acquire_leads truths aim woken word part.held (place (AcquireLoad aim woken) part p)) p
-  by_walk (Acquire aim woken last) (Saw word) part next commits few some quiet e p = finds (Acquire aim woken last) _ part next commits e.2 e.3 (acquire_leads truths aim woken word part.held (place (Acquire aim woken last) part p).0) p
+  by_walk (AcquireExchange aim woken last) (Saw word) part next commits few some quiet e p = finds (AcquireExchange aim woken last) _ part next commits e.2 e.3 (acquire_leads truths aim woken word part.held (place (AcquireExchange aim woken last) part p).0) p
   by_walk (TakeToQueue aim woken last) (Saw word) part next commits few some quiet e p = finds (TakeToQueue aim woken last) _ part next commits e.2 e.3 (acquire_leads truths aim woken word part.held (place (TakeToQueue aim woken last) part p).0) p
   by_walk (Queue aim woken last) (Saw word) part next commits few some quiet e p = finds (Queue aim woken last) _ part next commits e.2 e.3 (place (Queue aim woken last) part p, (refl, refl, refl, refl), refl, λ n f. f, λ none. refl) p
-  by_walk (ReleaseLoad leaving) (Saw word) part next commits few some quiet e p = finds (ReleaseLoad leaving) _ part next commits e.1 e.2 (release_leads truths leaving word part.held (place (ReleaseLoad leaving) part p)) p
-  by_walk (Release leaving last) (Saw word) part next commits few some quiet e p = finds (Release leaving last) _ part next commits e.2 e.3 (release_leads truths leaving word part.held (place (Release leaving last) part p).0) p
-  by_walk (TakeToScan leaving last) (Saw word) part next commits few some quiet e p = finds (TakeToScan leaving last) _ part next commits e.2 e.3 (release_leads truths leaving word part.held (place (TakeToScan leaving last) part p).0) p
-  by_walk (ReleaseReturning leaving last) (Saw word) part next commits few some quiet e p = finds (ReleaseReturning leaving last) _ part next commits e.2 e.3 (place (ReleaseReturning leaving last) part p, (refl, refl, refl, refl), refl, λ n f. f, λ none. refl) p
-  by_walk (Get i) (Cell v) part next commits few some quiet e p = finds (Get i) _ part next commits e.1 e.2 (tt, (refl, refl, refl, refl), refl, λ n f. f, λ none. refl) p
+  by_walk (ReleaseLoad releasing) (Saw word) part next commits few some quiet e p = finds (ReleaseLoad releasing) _ part next commits e.1 e.2 (release_leads truths releasing word part.held (place (ReleaseLoad releasing) part p)) p
+  by_walk (ReleaseExchange releasing last) (Saw word) part next commits few some quiet e p = finds (ReleaseExchange releasing last) _ part next commits e.2 e.3 (release_leads truths releasing word part.held (place (ReleaseExchange releasing last) part p).0) p
+  by_walk (TakeToScan releasing last) (Saw word) part next commits few some quiet e p = finds (TakeToScan releasing last) _ part next commits e.2 e.3 (release_leads truths releasing word part.held (place (TakeToScan releasing last) part p).0) p
+  by_walk (ScanAndRelease releasing last) (Saw word) part next commits few some quiet e p = finds (ScanAndRelease releasing last) _ part next commits e.2 e.3 (place (ScanAndRelease releasing last) part p, (refl, refl, refl, refl), refl, λ n f. f, λ none. refl) p
+  by_walk (GetLoad i) (Cell v) part next commits few some quiet e p = finds (GetLoad i) _ part next commits e.1 e.2 (tt, (refl, refl, refl, refl), refl, λ n f. f, λ none. refl) p
   by_walk (SetLoad i v) (Cell w) part next commits few some quiet e p = finds (SetLoad i v) _ part next commits e.1 e.2 (place (SetLoad i v) part p, (refl, refl, refl, refl), refl, λ n f. f, λ none. refl) p
-  by_walk (ScanCells leaving last i) (Cell v) part next commits few some quiet e p = finds (ScanCells leaving last i) _ part next commits e.1 e.2 (scan_leads truths leaving last part.held (i + 1) (place (ScanCells leaving last i) part p).0) p
+  by_walk (ScanCells releasing last i) (Cell v) part next commits few some quiet e p = finds (ScanCells releasing last i) _ part next commits e.1 e.2 (scan_leads truths releasing last part.held (i + 1) (place (ScanCells releasing last i) part p).0) p
   by_walk (QuietCells i) (Cell v) part next commits few some quiet e p =
       let at_cell = place (QuietCells i) part p in
       finds (QuietCells i) _ part next commits e.1 e.2 (quiet_leads truths part.held (i + 1) (omega (arith, at_cell.1)) at_cell.0) p
@@ -256,10 +256,10 @@ module _ {C : Type 0} {N : ℕ} (truths : Truths C) (seats : ℕ) (h : List (Eve
       let writes : HasMode Write (Some e.0) = subst (λ x. HasMode Write x) e.1 (place (QuietLast i) part p).0 in
       finds (QuietLast i) _ part next commits e.3 e.4 (judged_leads truths part.held is_quiet (λ f. subst (λ x. CanLeave truths QuietWriter x) (sym e.1) (writes, sym e.2 ∙ f))) p
   -- acquires
-  by_walk (TryAcquire mode last) Made part next commits few some quiet e p = acquired (TryAcquire mode last) None (Lock mode) false last part next commits e.0 e.1 e.2 e.3 e.4 refl tt (refl, refl, refl, refl) refl (λ n w f. f) p
-  by_walk (Acquire aim woken last) Made part next commits few some quiet e p =
+  by_walk (TryAcquire mode last) Made part next commits few some quiet e p = acquired (TryAcquire mode last) None (ForLock mode) false last part next commits e.0 e.1 e.2 e.3 e.4 refl tt (refl, refl, refl, refl) refl (λ n w f. f) p
+  by_walk (AcquireExchange aim woken last) Made part next commits few some quiet e p =
       let to = acquired_leads truths aim part.row some in
-      acquired (Acquire aim woken last) (walk_after (acquired_for N aim)) aim woken last part next commits e.0 e.1 e.2 e.3 e.4 refl to.0 to.1 to.2 (λ n w f. absurd (both_ways woken w f)) p
+      acquired (AcquireExchange aim woken last) (walk_after (acquired_for N aim)) aim woken last part next commits e.0 e.1 e.2 e.3 e.4 refl to.0 to.1 to.2 (λ n w f. absurd (both_ways woken w f)) p
   -- a store
   by_walk (SetStore i v) Made part next commits few some quiet e p =
       let held = e.0 in
@@ -268,51 +268,51 @@ module _ {C : Type 0} {N : ℕ} (truths : Truths C) (seats : ℕ) (h : List (Eve
       (e.3 ∙ ap (λ m. record part { row = slice_set part.row i v; held = Some (section m held.entry held.before (slice_set held.row i v)) }) e.2) e.4
       (none_more _ (stores truths seats h front who (Some (SetStore i v)) None back part.word part.row part.lock part.flags held.entry held.before held.row part.owed i v tt (refl, refl, refl, refl) refl (λ n f. f) as_writer))
   -- a release without a scan
-  by_walk (Release leaving last) Made part next commits few some quiet e p =
+  by_walk (ReleaseExchange releasing last) Made part next commits few some quiet e p =
       let held = e.0 in
-      let fits = place (Release leaving last) part p in
-      let start = leaves (Release leaving last) leaving part held e.1 e.2 fits.0 p in
-      moved None (record part { word = word_released leaving part.word; held = None }) next (section_of truths.holds who (section (mode_left leaving) held.entry held.before held.row) Released ∷ []) commits
-      (e.4 ∙ ap (λ word. record part { word = word_released leaving word; held = None }) e.3)
-      (e.5 ∙ ap (λ m. section_of truths.holds who (section m held.entry held.before held.row) Released ∷ []) e.2)
-      (releases truths seats h front who (Some (Release leaving last)) None back leaving Released part.word part.row part.lock part.flags held.entry held.before held.row part.owed few tt refl tt (refl, refl, refl, refl)
-      (subst (λ word. needs_scan leaving word ≡ false) e.3 fits.1) refl (λ n f. f)
-      (calm_release truths quiet leaving held.mode held.entry held.before held.row start.1) start.0)
+      let fits = place (ReleaseExchange releasing last) part p in
+      let start = leaves (ReleaseExchange releasing last) releasing part held e.1 e.2 fits.0 p in
+      moved None (record part { word = word_released releasing part.word; held = None }) next (section_of truths.holds who (section (mode_released releasing) held.entry held.before held.row) Plain ∷ []) commits
+      (e.4 ∙ ap (λ word. record part { word = word_released releasing word; held = None }) e.3)
+      (e.5 ∙ ap (λ m. section_of truths.holds who (section m held.entry held.before held.row) Plain ∷ []) e.2)
+      (releases truths seats h front who (Some (ReleaseExchange releasing last)) None back releasing Plain part.word part.row part.lock part.flags held.entry held.before held.row part.owed few tt refl tt (refl, refl, refl, refl)
+      (subst (λ word. needs_scan releasing word ≡ false) e.3 fits.1) refl (λ n f. f)
+      (calm_release truths quiet releasing held.mode held.entry held.before held.row start.1) start.0)
   -- the queues are taken
   by_walk (TakeToQueue aim woken last) Made part next commits few some quiet e p =
       took (TakeToQueue aim woken last) _ (ToQueue (mode_for aim) woken) last part next commits e.0 e.1 e.2 e.3 (place (TakeToQueue aim woken last) part p).0 refl refl refl refl refl (λ none. refl)
       (λ apart homed known. known_takes truths.holds front who (Some (TakeToQueue aim woken last)) part.held part.owed (Some (Arm aim woken (word_taken (ToQueue (mode_for aim) woken) last))) part.held part.owed back (mode_for aim) woken part.word (standing_after h).row part.lock apart
       (subst (λ word. may_acquire (mode_for aim) woken word ≡ false) e.0 (place (TakeToQueue aim woken last) part p).2) (ap (λ word. word.spin) (sym e.0) ∙ e.1) homed (λ n w f. absurd (both_ways woken w f)) known) p
-  by_walk (TakeToScan leaving last) Made part next commits few some quiet e p =
-      let fits = taken_leads truths leaving (word_taken ToChange last) part.held last.cond (place (TakeToScan leaving last) part p).0 in
-      took (TakeToScan leaving last) _ ToChange last part next commits e.0 e.1 e.2 e.3 fits.0 fits.1.0 refl fits.1.1 fits.1.2 fits.1.3 fits.4
-      (λ apart homed known. known_rests truths.holds front who (Some (TakeToScan leaving last)) part.held part.owed (walk_after (got_of N (TakeToScan leaving last) Made)) part.held part.owed back part.word (word_taken ToChange part.word) (standing_after h).row part.lock apart refl refl refl refl refl fits.2 fits.3 known) p
+  by_walk (TakeToScan releasing last) Made part next commits few some quiet e p =
+      let fits = taken_leads truths releasing (word_taken ToChange last) part.held last.cond (place (TakeToScan releasing last) part p).0 in
+      took (TakeToScan releasing last) _ ToChange last part next commits e.0 e.1 e.2 e.3 fits.0 fits.1.0 refl fits.1.1 fits.1.2 fits.1.3 fits.4
+      (λ apart homed known. known_rests truths.holds front who (Some (TakeToScan releasing last)) part.held part.owed (walk_after (got_of N (TakeToScan releasing last) Made)) part.held part.owed back part.word (word_taken ToChange part.word) (standing_after h).row part.lock apart refl refl refl refl refl fits.2 fits.3 known) p
   -- a flag is set, a seat queues
   by_walk (Arm aim woken last) Made part next commits few some quiet e p =
       moved (Some (Queue aim woken last)) (record part { flags = flags_with part.flags who 1 }) next [] commits e.0 e.1
       (none_more _ (arms truths seats h front who (Some (Arm aim woken last)) (Some (Queue aim woken last)) back part.word part.row part.lock part.flags part.held part.owed (place (Arm aim woken last) part p) refl refl refl refl refl (λ n f. f) (λ none. refl) p))
   by_walk (Queue aim woken last) Made part next commits few some quiet e p =
       let lock = queued who (mode_for aim) None woken part.lock in
-      moved (Some (Round aim)) (record part { word = word_returned (bits_of lock) part.word; lock = lock }) next [] commits (e.2 ∙ ap (λ word. record part { word = word_returned (bits_of lock) word; lock = lock }) e.1) e.3
-      (none_more _ (enqueues truths seats h front who (Some (Queue aim woken last)) (Some (Round aim)) back (mode_for aim) None woken part.word part.row part.lock part.flags part.held part.owed (place (Queue aim woken last) part p) refl refl refl refl refl refl refl refl (λ n. refl) (λ none. refl) p))
+      moved (Some (AwaitWake aim)) (record part { word = word_returned (bits_of lock) part.word; lock = lock }) next [] commits (e.2 ∙ ap (λ word. record part { word = word_returned (bits_of lock) word; lock = lock }) e.1) e.3
+      (none_more _ (enqueues truths seats h front who (Some (Queue aim woken last)) (Some (AwaitWake aim)) back (mode_for aim) None woken part.word part.row part.lock part.flags part.held part.owed (place (Queue aim woken last) part p) refl refl refl refl refl refl refl refl (λ n. refl) (λ none. refl) p))
   by_walk (Queue aim woken last) (Left stood) part next commits few some quiet e p = let never : Made ≡ Left stood = e.0 in absurd (cc)
-  by_walk (Round aim) (Flag v) part next commits few some quiet e p =
-      let none : part.held ≡ None = place (Round aim) part p in
-      checks (Round aim) aim (Idle (Round aim)) v (eqb v 0) part next commits refl e.0 e.1 e.2 none refl refl refl refl (none, (refl, refl, refl, refl), refl, λ n f. f, λ none. refl) p
+  by_walk (AwaitWake aim) (Flag v) part next commits few some quiet e p =
+      let none : part.held ≡ None = place (AwaitWake aim) part p in
+      checks (AwaitWake aim) aim (Idle (AwaitWake aim)) v (eqb v 0) part next commits refl e.0 e.1 e.2 none refl refl refl refl (none, (refl, refl, refl, refl), refl, λ n f. f, λ none. refl) p
   -- a release with a scan
-  by_walk (ReleaseReturning leaving last) (Scanned owes tests) part next commits few some quiet e p =
+  by_walk (ScanAndRelease releasing last) (Scanned owes tests) part next commits few some quiet e p =
       let held = e.0 in
       let meets : C → Bool = meets_at truths part.row in
       let some = has_some (woken_of meets part.lock) in
       let stay = left_of meets part.lock in
       let owed = seats_of (woken_of meets part.lock) in
       let to = pay_leads {C = C} {N = N} truths None owes in
-      let start = leaves (ReleaseReturning leaving last) leaving part held e.1 e.2 (place (ReleaseReturning leaving last) part p) p in
-      moved (walk_after (got_of N (ReleaseReturning leaving last) (Scanned owes tests))) (record part { word = word_released_returning leaving some (bits_of stay) part.word; lock = stay; held = None; owed = owed }) next
-      (section_of truths.holds who (section (mode_left leaving) held.entry held.before held.row) Released ∷ []) commits
-      (e.4 ∙ ap (λ word. record part { word = word_released_returning leaving some (bits_of stay) word; lock = stay; held = None; owed = owed }) e.3)
-      (e.7 ∙ ap (λ m. section_of truths.holds who (section m held.entry held.before held.row) Released ∷ []) e.2)
-      (scans truths seats h front who (Some (ReleaseReturning leaving last)) (walk_after (got_of N (ReleaseReturning leaving last) (Scanned owes tests))) back leaving Released part.word part.row part.lock part.flags held.entry held.before held.row part.owed few tt (sym to.7)
+      let start = leaves (ScanAndRelease releasing last) releasing part held e.1 e.2 (place (ScanAndRelease releasing last) part p) p in
+      moved (walk_after (got_of N (ScanAndRelease releasing last) (Scanned owes tests))) (record part { word = word_released_returning releasing some (bits_of stay) part.word; lock = stay; held = None; owed = owed }) next
+      (section_of truths.holds who (section (mode_released releasing) held.entry held.before held.row) Plain ∷ []) commits
+      (e.4 ∙ ap (λ word. record part { word = word_released_returning releasing some (bits_of stay) word; lock = stay; held = None; owed = owed }) e.3)
+      (e.7 ∙ ap (λ m. section_of truths.holds who (section m held.entry held.before held.row) Plain ∷ []) e.2)
+      (scans truths seats h front who (Some (ScanAndRelease releasing last)) (walk_after (got_of N (ScanAndRelease releasing last) (Scanned owes tests))) back releasing Plain part.word part.row part.lock part.flags held.entry held.before held.row part.owed few tt (sym to.7)
       (to.0 refl) refl (to.1 ∙ e.5) refl to.2 refl (ap is_some to.3) to.4 to.5 (λ n. refl) start.0)
   -- a wake
   by_walk Pay (Paid owes) part next commits few some quiet e p =
@@ -322,7 +322,7 @@ module _ {C : Type 0} {N : ℕ} (truths : Truths C) (seats : ℕ) (h : List (Eve
       (none_more _ (wakes truths seats h front who (Some Pay) (walk_after (got_of N Pay (Paid owes))) back part.word part.row part.lock part.flags part.held e.0 e.1
       (to.0 none) (to.1 ∙ e.4) to.2 to.3 to.4 to.5 to.6 (λ n. to.7)
       (subst (λ owed. Groups truths seats h (at (record part { owed = owed }) (Some Pay))) e.2 p)))
-  by_walk (Waiting wait at_place) found part next commits few some quiet e p = by_wait wait at_place found part next commits few some e p
+  by_walk (InWait wait at_place) found part next commits few some quiet e p = by_wait wait at_place found part next commits few some e p
   by_walk _ _ part next commits few some quiet e p = absurd e
 
 pub keeps : {C : Type 0} {N : ℕ} (truths : Truths C) → 0 < N → QuietKeeps N truths → (seats : ℕ) (h : List (Event C N)) (old : State C N) (view : SeatView C N) (found : Found) (new : State C N) (commits : List (Event C N)) → seats ≤ 64 →

@@ -6,7 +6,7 @@ use Rattle.std.proofs.lemmas.Option.{slice_get_within}
 use Rattle.ns_model.specs.declared.environment.EnvEvent.{EnvEvent}
 use Rattle.ns_model.specs.Environments.{NoteStanding, EnvStanding, env_after, IsEnvBySeats}
 use Rattle.ns_word.specs.declared.env_walk.EnvWalk.{EnvWalk}
-use Rattle.ns_word.specs.declared.env_walk.EnvWalk.TheVariants.{NextLoad, TakeNumber, MakeNote, Notify, Advance, ClockLoad, NoteLoad, ExpiryLoad}
+use Rattle.ns_word.specs.declared.env_walk.EnvWalk.TheVariants.{NextLoad, TakeNumber, MakeNote, Notifying, Advancing, ClockLoad, NoteLoad, ExpiryLoad}
 use Rattle.ns_word.specs.EnvSteps.{EnvState, EnvBegins, AskFits, IsFirstAsk, adders, IsLawfulEnv, fresh_asks}
 use Rattle.ns_word.proofs.EnvKeeps.{set_here, set_there, adds, adders_set}
 
@@ -36,8 +36,8 @@ first_adds : (notes : ℕ → NoteStanding) (walk : EnvWalk) → IsFirstAsk note
 first_adds notes (NextLoad parent deadline) p = refl
 first_adds notes (TakeNumber parent deadline) p = absurd p
 first_adds notes (MakeNote note parent deadline) p = refl
-first_adds notes (Notify note) p = refl
-first_adds notes (Advance moment) p = refl
+first_adds notes (Notifying note) p = refl
+first_adds notes (Advancing moment) p = refl
 first_adds notes (ClockLoad chain) p = refl
 first_adds notes (NoteLoad chain clock note) p = refl
 first_adds notes (ExpiryLoad asked note least) p = refl
@@ -46,8 +46,8 @@ first_fits : (now : EnvStanding) (seat : ℕ) (walk : EnvWalk) → IsFirstAsk no
 first_fits now seat (NextLoad parent deadline) p = p
 first_fits now seat (TakeNumber parent deadline) p = absurd p
 first_fits now seat (MakeNote note parent deadline) p = absurd p
-first_fits now seat (Notify note) p = p
-first_fits now seat (Advance moment) p = tt
+first_fits now seat (Notifying note) p = p
+first_fits now seat (Advancing moment) p = tt
 first_fits now seat (ClockLoad chain) p = p
 first_fits now seat (NoteLoad chain clock note) p = absurd p
 first_fits now seat (ExpiryLoad asked note least) p =

@@ -6,20 +6,20 @@ use Rattle.std.proofs.lemmas.Bool.Decides.{nat_tests}
 use Rattle.std.proofs.lemmas.List.{append-nil, length-set}
 use Rattle.std.proofs.lemmas.Option.{slice_get_within}
 use Rattle.ns_model.specs.declared.environment.EnvEvent.{EnvEvent}
-use Rattle.ns_model.specs.declared.environment.EnvEvent.TheVariants.{Take, New, Notify as Notified, Advance as Advanced}
+use Rattle.ns_model.specs.declared.environment.EnvEvent.TheVariants.{Take, New, Notify, Advance}
 use Rattle.ns_model.specs.Environments.{NoteStanding, EnvStanding, first_env, env_who, ParentFits, IsLegalEnvEvent, but_at, notified_note, made_note, env_next, IsLegalEnvFrom, IsLegalEnv, env_after, takes_in, is_over, expiry_in, earlier, IsEnvBySeats}
 use Rattle.ns_model.proofs.Environments.{env_from-append, legal_env_append, legal_env_parts, by_seats_append, but_cases, but-here, but-there, IsSound, sound_after, IsGrown, grown_from, expiry_grown, expiry_in-up, expiry_in-root, earlier-none, earlier_assoc}
-use Rattle.ns_word.specs.declared.limits.Cause.TheVariants.{Deadline}
+use Rattle.ns_word.specs.declared.limits.Cause.TheVariants.{Expired}
 use Rattle.ns_word.specs.declared.env_act.EnvAct.{EnvAct}
-use Rattle.ns_word.specs.declared.env_act.EnvAct.TheVariants.{LoadNext, TakeNumber as TakeNext, MakeNote as StoreNote, Notify as NotifyNote, Advance as MoveClock, LoadClock, LoadNote}
+use Rattle.ns_word.specs.declared.env_act.EnvAct.TheVariants.{LoadNext, TakeNext, StoreNote, NotifyNote, MoveClock, LoadClock, LoadNote}
 use Rattle.ns_word.specs.declared.env_act.EnvFound.{EnvFound}
-use Rattle.ns_word.specs.declared.env_act.EnvFound.TheVariants.{Next, Taken, Made, Clock, Note}
+use Rattle.ns_word.specs.declared.env_act.EnvFound.TheVariants.{NextNumber, Taken, Stored, Clock, Note}
 use Rattle.ns_word.specs.declared.env_walk.Chain.{Chain}
-use Rattle.ns_word.specs.declared.env_walk.Chain.TheVariants.{Look, IsNotified, NoteWait}
+use Rattle.ns_word.specs.declared.env_walk.Chain.TheVariants.{ForLook, ForIsNotified, ForNoteWait}
 use Rattle.ns_word.specs.declared.env_walk.EnvWalk.{EnvWalk}
-use Rattle.ns_word.specs.declared.env_walk.EnvWalk.TheVariants.{NextLoad, TakeNumber, MakeNote, Notify, Advance, ClockLoad, NoteLoad, ExpiryLoad}
+use Rattle.ns_word.specs.declared.env_walk.EnvWalk.TheVariants.{NextLoad, TakeNumber, MakeNote, Notifying, Advancing, ClockLoad, NoteLoad, ExpiryLoad}
 use Rattle.ns_word.specs.declared.env_walk.EnvNext.{EnvNext}
-use Rattle.ns_word.specs.declared.env_walk.EnvNext.TheVariants.{On, Idle, Done, Saw}
+use Rattle.ns_word.specs.declared.env_walk.EnvNext.TheVariants.{Go, Repeat, Over, Shown}
 use Rattle.ns_word.specs.declared.walk.Reply.TheVariants.{NotesFull, Is}
 use Rattle.ns_word.specs.EnvWalks.{standing_of, env_want_of, env_got_of, env_walk_after, chain_note, stopped, passed, up_to, lowered_to}
 use Rattle.ns_word.specs.EnvSteps.{EnvPlain, EnvState, EnvEffect, EnvStep, Meets, IfMade, AskFits, is_adding, adders, IsLawfulEnv}
@@ -100,8 +100,8 @@ act_fits : (now : EnvStanding) (seat : ℕ) (walk : EnvWalk) → AskFits now sea
 act_fits now seat (NextLoad parent deadline) p = tt
 act_fits now seat (TakeNumber parent deadline) p = tt
 act_fits now seat (MakeNote note parent deadline) p = p
-act_fits now seat (Notify note) p = p
-act_fits now seat (Advance moment) p = tt
+act_fits now seat (Notifying note) p = p
+act_fits now seat (Advancing moment) p = tt
 act_fits now seat (ClockLoad chain) p = tt
 act_fits now seat (NoteLoad chain clock note) p = tt
 act_fits now seat (ExpiryLoad asked note least) p = tt
@@ -127,42 +127,42 @@ taken_by h events seat number old new false lt is becomes e m =
     })
 
 meets_after : (h events : List EnvEvent) (seat : ℕ) (act : EnvAct) (old new : EnvPlain) (found : EnvFound) → ActFits (env_after h) seat act → EnvEffect seat act old found new events → Meets h old → Meets (h ++ events) new
-meets_after h events seat LoadNext old new (Next n) f p m = meets_none h events old new p.2 p.1 m
+meets_after h events seat LoadNext old new (NextNumber n) f p m = meets_none h events old new p.2 p.1 m
 meets_after h events seat LoadNext old new (Taken n) f p m = absurd p
-meets_after h events seat LoadNext old new Made f p m = absurd p
+meets_after h events seat LoadNext old new Stored f p m = absurd p
 meets_after h events seat LoadNext old new (Clock t) f p m = absurd p
 meets_after h events seat LoadNext old new (Note x) f p m = absurd p
-meets_after h events seat TakeNext old new (Next n) f p m = absurd p
+meets_after h events seat TakeNext old new (NextNumber n) f p m = absurd p
 meets_after h events seat TakeNext old new (Taken n) f p m = taken_by h events seat n old new (nat_lt n 64) refl p.0 p.1 p.2 m
-meets_after h events seat TakeNext old new Made f p m = absurd p
+meets_after h events seat TakeNext old new Stored f p m = absurd p
 meets_after h events seat TakeNext old new (Clock t) f p m = absurd p
 meets_after h events seat TakeNext old new (Note x) f p m = absurd p
-meets_after h events seat (StoreNote note parent deadline) old new (Next n) f p m = absurd p
+meets_after h events seat (StoreNote note parent deadline) old new (NextNumber n) f p m = absurd p
 meets_after h events seat (StoreNote note parent deadline) old new (Taken n) f p m = absurd p
-meets_after h events seat (StoreNote note parent deadline) old new Made f p m = subst (λ (es : List EnvEvent). Meets (h ++ es) new) (sym p.1) (meets_one h (New seat note parent deadline) new m.legal f
+meets_after h events seat (StoreNote note parent deadline) old new Stored f p m = subst (λ (es : List EnvEvent). Meets (h ++ es) new) (sym p.1) (meets_one h (New seat note parent deadline) new m.legal f
     (ap (λ (q : EnvPlain). q.clock) p.0 ∙ m.clock) (m.takes ∙ ap (λ (q : EnvPlain). min q.next 64) (sym p.0)) (ap (λ (q : EnvPlain). q.notes) p.0 ∙ ap (but_at note (made_note parent deadline)) m.notes))
 meets_after h events seat (StoreNote note parent deadline) old new (Clock t) f p m = absurd p
 meets_after h events seat (StoreNote note parent deadline) old new (Note x) f p m = absurd p
-meets_after h events seat (NotifyNote note) old new (Next n) f p m = absurd p
+meets_after h events seat (NotifyNote note) old new (NextNumber n) f p m = absurd p
 meets_after h events seat (NotifyNote note) old new (Taken n) f p m = absurd p
-meets_after h events seat (NotifyNote note) old new Made f p m = subst (λ (es : List EnvEvent). Meets (h ++ es) new) (sym p.1) (meets_one h (Notified seat note) new m.legal f
+meets_after h events seat (NotifyNote note) old new Stored f p m = subst (λ (es : List EnvEvent). Meets (h ++ es) new) (sym p.1) (meets_one h (Notify seat note) new m.legal f
     (ap (λ (q : EnvPlain). q.clock) p.0 ∙ m.clock) (m.takes ∙ ap (λ (q : EnvPlain). min q.next 64) (sym p.0)) (ap (λ (q : EnvPlain). q.notes) p.0 ∙ ap (λ (notes : ℕ → NoteStanding). but_at note (notified_note (notes note)) notes) m.notes))
 meets_after h events seat (NotifyNote note) old new (Clock t) f p m = absurd p
 meets_after h events seat (NotifyNote note) old new (Note x) f p m = absurd p
-meets_after h events seat (MoveClock moment) old new (Next n) f p m = absurd p
+meets_after h events seat (MoveClock moment) old new (NextNumber n) f p m = absurd p
 meets_after h events seat (MoveClock moment) old new (Taken n) f p m = absurd p
-meets_after h events seat (MoveClock moment) old new Made f p m = subst (λ (es : List EnvEvent). Meets (h ++ es) new) (sym p.1) (meets_one h (Advanced seat moment) new m.legal tt
+meets_after h events seat (MoveClock moment) old new Stored f p m = subst (λ (es : List EnvEvent). Meets (h ++ es) new) (sym p.1) (meets_one h (Advance seat moment) new m.legal tt
     (ap (λ (q : EnvPlain). q.clock) p.0 ∙ ap (λ (c : ℕ). max c moment) m.clock) (m.takes ∙ ap (λ (q : EnvPlain). min q.next 64) (sym p.0)) (ap (λ (q : EnvPlain). q.notes) p.0 ∙ m.notes))
 meets_after h events seat (MoveClock moment) old new (Clock t) f p m = absurd p
 meets_after h events seat (MoveClock moment) old new (Note x) f p m = absurd p
-meets_after h events seat LoadClock old new (Next n) f p m = absurd p
+meets_after h events seat LoadClock old new (NextNumber n) f p m = absurd p
 meets_after h events seat LoadClock old new (Taken n) f p m = absurd p
-meets_after h events seat LoadClock old new Made f p m = absurd p
+meets_after h events seat LoadClock old new Stored f p m = absurd p
 meets_after h events seat LoadClock old new (Clock t) f p m = meets_none h events old new p.2 p.1 m
 meets_after h events seat LoadClock old new (Note x) f p m = absurd p
-meets_after h events seat (LoadNote at) old new (Next n) f p m = absurd p
+meets_after h events seat (LoadNote at) old new (NextNumber n) f p m = absurd p
 meets_after h events seat (LoadNote at) old new (Taken n) f p m = absurd p
-meets_after h events seat (LoadNote at) old new Made f p m = absurd p
+meets_after h events seat (LoadNote at) old new Stored f p m = absurd p
 meets_after h events seat (LoadNote at) old new (Clock t) f p m = absurd p
 meets_after h events seat (LoadNote at) old new (Note x) f p m = meets_none h events old new p.2 p.1 m
 
@@ -194,8 +194,8 @@ module _ (h events : List EnvEvent) (legal : IsLegalEnv h) (legal' : IsLegalEnv 
   others_stay seat (NextLoad parent deadline) mine p = given_stays parent p
   others_stay seat (TakeNumber parent deadline) mine p = given_stays parent p
   others_stay seat (MakeNote note parent deadline) mine p = let q = mine note p.0 p.1 in (q.0, q.1, parent_stays note parent p.2)
-  others_stay seat (Notify note) mine p = made_stays note p
-  others_stay seat (Advance moment) mine p = tt
+  others_stay seat (Notifying note) mine p = made_stays note p
+  others_stay seat (Advancing moment) mine p = tt
   others_stay seat (ClockLoad chain) mine p = given_stays (chain_note chain) p
   others_stay seat (NoteLoad chain clock note) mine p = (let on = grown.clock in let was = p.0 in omega (arith, on, was), made_stays note p.1, given_stays (chain_note chain) p.2)
   others_stay seat (ExpiryLoad asked note least) mine p = (
@@ -214,38 +214,38 @@ mine_stays now (New who n parent deadline) seat note s l ne taker made =
     (taker, ap (λ (x : NoteStanding). x.made) (but-there n note (made_note parent deadline) now.notes (λ e. other e)) ∙ made) where
       other : note ≡ n → ⊥
       other e = let same : Some who ≡ Some seat = sym l.0 ∙ ap now.takers (sym e) ∙ taker in ne cc
-mine_stays now (Notified who n) seat note s l ne taker made =
+mine_stays now (Notify who n) seat note s l ne taker made =
     (taker, but_cases (λ (x : NoteStanding). x.made ≡ false) n note (notified_note (now.notes n)) now.notes (λ e. ap (λ (k : ℕ). (now.notes k).made) (sym e) ∙ made) (λ _. made))
-mine_stays now (Advanced who to) seat note s l ne taker made = (taker, made)
+mine_stays now (Advance who to) seat note s l ne taker made = (taker, made)
 
 -- ---- where the seat's own walk leads
 
 -- what the place after tells, if there is one
 abbrev NextFits : EnvStanding → ℕ → EnvNext → Type 0
-NextFits now seat (On walk) = AskFits now seat walk
-NextFits now seat (Idle walk) = AskFits now seat walk
-NextFits now seat (Done reply) = Unit {0}
-NextFits now seat (Saw cause) = Unit {0}
+NextFits now seat (Go walk) = AskFits now seat walk
+NextFits now seat (Repeat walk) = AskFits now seat walk
+NextFits now seat (Over reply) = Unit {0}
+NextFits now seat (Shown cause) = Unit {0}
 
 next_fits : (now : EnvStanding) (seat : ℕ) (next : EnvNext) (walk : EnvWalk) → env_walk_after next ≡ Some walk → NextFits now seat next → AskFits now seat walk
-next_fits now seat (On w) walk e p = let is : w ≡ walk = cc in subst (AskFits now seat) is p
-next_fits now seat (Idle w) walk e p = let is : w ≡ walk = cc in subst (AskFits now seat) is p
-next_fits now seat (Done reply) walk e p = absurd (cc)
-next_fits now seat (Saw cause) walk e p = absurd (cc)
+next_fits now seat (Go w) walk e p = let is : w ≡ walk = cc in subst (AskFits now seat) is p
+next_fits now seat (Repeat w) walk e p = let is : w ≡ walk = cc in subst (AskFits now seat) is p
+next_fits now seat (Over reply) walk e p = absurd (cc)
+next_fits now seat (Shown cause) walk e p = absurd (cc)
 
 stopped_fits : (now : EnvStanding) (seat : ℕ) (chain : Chain) → NextFits now seat (stopped chain)
-stopped_fits now seat (Look limits) = tt
-stopped_fits now seat (IsNotified note) = tt
-stopped_fits now seat (NoteWait note deadline) = tt
+stopped_fits now seat (ForLook limits) = tt
+stopped_fits now seat (ForIsNotified note) = tt
+stopped_fits now seat (ForNoteWait note deadline) = tt
 
 due_or_not : (now : EnvStanding) (seat : ℕ) (b : Bool) (one other : EnvNext) → NextFits now seat one → NextFits now seat other → NextFits now seat (cond b one other)
 due_or_not now seat true one other p q = p
 due_or_not now seat false one other p q = q
 
 passed_fits : (now : EnvStanding) (seat : ℕ) (chain : Chain) (clock : ℕ) → IfMade now.notes (chain_note chain) → NextFits now seat (passed chain clock)
-passed_fits now seat (Look limits) clock p = due_or_not now seat _ (Saw (Some Deadline)) (Saw None) tt tt
-passed_fits now seat (IsNotified note) clock p = tt
-passed_fits now seat (NoteWait note deadline) clock p = due_or_not now seat _ (Done (Is false)) (Idle (ClockLoad (NoteWait note deadline))) tt p
+passed_fits now seat (ForLook limits) clock p = due_or_not now seat _ (Shown (Some Expired)) (Shown None) tt tt
+passed_fits now seat (ForIsNotified note) clock p = tt
+passed_fits now seat (ForNoteWait note deadline) clock p = due_or_not now seat _ (Over (Is false)) (Repeat (ClockLoad (ForNoteWait note deadline))) tt p
 
 up_fits : (now : EnvStanding) (seat : ℕ) (chain : Chain) (clock : ℕ) (note : Option ℕ) → clock ≤ now.clock → IfMade now.notes (chain_note chain) → IfMade now.notes note → NextFits now seat (up_to chain clock note)
 up_fits now seat chain clock None past p q = passed_fits now seat chain clock p
@@ -281,7 +281,7 @@ parent_below : (now : EnvStanding) (note : ℕ) (parent : Option ℕ) → IsSoun
 parent_below now note None s e p = tt
 parent_below now note (Some parent) s e p = let low = s.made parent p in (omega (arith, low, e), p)
 
-left_fits : (now : EnvStanding) (seat : ℕ) (b : Bool) (parent deadline : Option ℕ) → IfMade now.notes parent → NextFits now seat (cond b (On (TakeNumber parent deadline)) (Done NotesFull))
+left_fits : (now : EnvStanding) (seat : ℕ) (b : Bool) (parent deadline : Option ℕ) → IfMade now.notes parent → NextFits now seat (cond b (Go (TakeNumber parent deadline)) (Over NotesFull))
 left_fits now seat true parent deadline p = p
 left_fits now seat false parent deadline p = tt
 
@@ -291,7 +291,7 @@ over_fits now seat false chain next p = p
 
 -- the number that was just taken
 taken_fits : (h events : List EnvEvent) (seat number : ℕ) (parent deadline : Option ℕ) (old : EnvPlain) (b : Bool) → nat_lt number 64 ≡ b → number ≡ old.next → events ≡ cond b (Take seat number ∷ []) [] → Meets h old →
-    IfMade (env_after h).notes parent → NextFits (env_after (h ++ events)) seat (cond b (On (MakeNote number parent deadline)) (Done NotesFull))
+    IfMade (env_after h).notes parent → NextFits (env_after (h ++ events)) seat (cond b (Go (MakeNote number parent deadline)) (Over NotesFull))
 taken_fits h events seat number parent deadline old false lt is e m p = tt
 taken_fits h events seat number parent deadline old true lt is e m p =
     let s = sound_after h m.legal in
@@ -307,46 +307,46 @@ same_after h events seat next e p = subst (λ (k : List EnvEvent). NextFits (env
 
 own_fits : (h events : List EnvEvent) (seat : ℕ) (walk : EnvWalk) (old new : EnvPlain) (found : EnvFound) → AskFits (env_after h) seat walk → EnvEffect seat (env_want_of walk) old found new events → Meets h old →
     NextFits (env_after (h ++ events)) seat (env_got_of walk found)
-own_fits h events seat (NextLoad parent deadline) old new (Next n) f p m = same_after h events seat _ p.2 (left_fits (env_after h) seat (nat_lt n 64) parent deadline f)
+own_fits h events seat (NextLoad parent deadline) old new (NextNumber n) f p m = same_after h events seat _ p.2 (left_fits (env_after h) seat (nat_lt n 64) parent deadline f)
 own_fits h events seat (NextLoad parent deadline) old new (Taken n) f p m = absurd p
-own_fits h events seat (NextLoad parent deadline) old new Made f p m = absurd p
+own_fits h events seat (NextLoad parent deadline) old new Stored f p m = absurd p
 own_fits h events seat (NextLoad parent deadline) old new (Clock t) f p m = absurd p
 own_fits h events seat (NextLoad parent deadline) old new (Note x) f p m = absurd p
-own_fits h events seat (TakeNumber parent deadline) old new (Next n) f p m = absurd p
+own_fits h events seat (TakeNumber parent deadline) old new (NextNumber n) f p m = absurd p
 own_fits h events seat (TakeNumber parent deadline) old new (Taken n) f p m = taken_fits h events seat n parent deadline old (nat_lt n 64) refl p.0 p.2 m f
-own_fits h events seat (TakeNumber parent deadline) old new Made f p m = absurd p
+own_fits h events seat (TakeNumber parent deadline) old new Stored f p m = absurd p
 own_fits h events seat (TakeNumber parent deadline) old new (Clock t) f p m = absurd p
 own_fits h events seat (TakeNumber parent deadline) old new (Note x) f p m = absurd p
-own_fits h events seat (MakeNote note parent deadline) old new (Next n) f p m = absurd p
+own_fits h events seat (MakeNote note parent deadline) old new (NextNumber n) f p m = absurd p
 own_fits h events seat (MakeNote note parent deadline) old new (Taken n) f p m = absurd p
-own_fits h events seat (MakeNote note parent deadline) old new Made f p m = tt
+own_fits h events seat (MakeNote note parent deadline) old new Stored f p m = tt
 own_fits h events seat (MakeNote note parent deadline) old new (Clock t) f p m = absurd p
 own_fits h events seat (MakeNote note parent deadline) old new (Note x) f p m = absurd p
-own_fits h events seat (Notify note) old new (Next n) f p m = absurd p
-own_fits h events seat (Notify note) old new (Taken n) f p m = absurd p
-own_fits h events seat (Notify note) old new Made f p m = tt
-own_fits h events seat (Notify note) old new (Clock t) f p m = absurd p
-own_fits h events seat (Notify note) old new (Note x) f p m = absurd p
-own_fits h events seat (Advance moment) old new (Next n) f p m = absurd p
-own_fits h events seat (Advance moment) old new (Taken n) f p m = absurd p
-own_fits h events seat (Advance moment) old new Made f p m = tt
-own_fits h events seat (Advance moment) old new (Clock t) f p m = absurd p
-own_fits h events seat (Advance moment) old new (Note x) f p m = absurd p
-own_fits h events seat (ClockLoad chain) old new (Next n) f p m = absurd p
+own_fits h events seat (Notifying note) old new (NextNumber n) f p m = absurd p
+own_fits h events seat (Notifying note) old new (Taken n) f p m = absurd p
+own_fits h events seat (Notifying note) old new Stored f p m = tt
+own_fits h events seat (Notifying note) old new (Clock t) f p m = absurd p
+own_fits h events seat (Notifying note) old new (Note x) f p m = absurd p
+own_fits h events seat (Advancing moment) old new (NextNumber n) f p m = absurd p
+own_fits h events seat (Advancing moment) old new (Taken n) f p m = absurd p
+own_fits h events seat (Advancing moment) old new Stored f p m = tt
+own_fits h events seat (Advancing moment) old new (Clock t) f p m = absurd p
+own_fits h events seat (Advancing moment) old new (Note x) f p m = absurd p
+own_fits h events seat (ClockLoad chain) old new (NextNumber n) f p m = absurd p
 own_fits h events seat (ClockLoad chain) old new (Taken n) f p m = absurd p
-own_fits h events seat (ClockLoad chain) old new Made f p m = absurd p
+own_fits h events seat (ClockLoad chain) old new Stored f p m = absurd p
 own_fits h events seat (ClockLoad chain) old new (Clock t) f p m = same_after h events seat _ p.2 (up_fits (env_after h) seat chain t (chain_note chain) (let is : t ≡ old.clock = p.0 in let so : old.clock ≡ (env_after h).clock = m.clock in omega (arith, is, so)) f f)
 own_fits h events seat (ClockLoad chain) old new (Note x) f p m = absurd p
-own_fits h events seat (NoteLoad chain clock at) old new (Next n) f p m = absurd p
+own_fits h events seat (NoteLoad chain clock at) old new (NextNumber n) f p m = absurd p
 own_fits h events seat (NoteLoad chain clock at) old new (Taken n) f p m = absurd p
-own_fits h events seat (NoteLoad chain clock at) old new Made f p m = absurd p
+own_fits h events seat (NoteLoad chain clock at) old new Stored f p m = absurd p
 own_fits h events seat (NoteLoad chain clock at) old new (Clock t) f p m = absurd p
 own_fits h events seat (NoteLoad chain clock at) old new (Note x) f p m = let is : standing_of x ≡ (env_after h).notes at = p.0 ∙ ap (λ (notes : ℕ → NoteStanding). notes at) m.notes in
     same_after h events seat _ p.2 (over_fits (env_after h) seat (is_over clock (standing_of x)) chain (up_to chain clock x.parent)
     (up_fits (env_after h) seat chain clock x.parent f.0 f.2 (parent_made (env_after h) at x.parent (sound_after h m.legal) (ap (λ (s : NoteStanding). s.parent) (sym is)))))
-own_fits h events seat (ExpiryLoad asked at least) old new (Next n) f p m = absurd p
+own_fits h events seat (ExpiryLoad asked at least) old new (NextNumber n) f p m = absurd p
 own_fits h events seat (ExpiryLoad asked at least) old new (Taken n) f p m = absurd p
-own_fits h events seat (ExpiryLoad asked at least) old new Made f p m = absurd p
+own_fits h events seat (ExpiryLoad asked at least) old new Stored f p m = absurd p
 own_fits h events seat (ExpiryLoad asked at least) old new (Clock t) f p m = absurd p
 own_fits h events seat (ExpiryLoad asked at least) old new (Note x) f p m = let is : standing_of x ≡ (env_after h).notes at = p.0 ∙ ap (λ (notes : ℕ → NoteStanding). notes at) m.notes in
     same_after h events seat _ p.2 (lowered_fits (env_after h) seat asked at least x.parent x.deadline (sound_after h m.legal) (ap (λ (s : NoteStanding). s.parent) (sym is)) (ap (λ (s : NoteStanding). s.deadline) (sym is)) f.0 f.2)
@@ -362,14 +362,14 @@ one_of true x y p q = p
 one_of false x y p q = q
 
 stopped_none : (chain : Chain) → adds_not (env_walk_after (stopped chain))
-stopped_none (Look limits) = refl
-stopped_none (IsNotified note) = refl
-stopped_none (NoteWait note deadline) = refl
+stopped_none (ForLook limits) = refl
+stopped_none (ForIsNotified note) = refl
+stopped_none (ForNoteWait note deadline) = refl
 
 passed_none : (chain : Chain) (clock : ℕ) → adds_not (env_walk_after (passed chain clock))
-passed_none (Look limits) clock = one_of _ (Saw (Some Deadline)) (Saw None) refl refl
-passed_none (IsNotified note) clock = refl
-passed_none (NoteWait note deadline) clock = one_of _ (Done (Is false)) (Idle (ClockLoad (NoteWait note deadline))) refl refl
+passed_none (ForLook limits) clock = one_of _ (Shown (Some Expired)) (Shown None) refl refl
+passed_none (ForIsNotified note) clock = refl
+passed_none (ForNoteWait note deadline) clock = one_of _ (Over (Is false)) (Repeat (ClockLoad (ForNoteWait note deadline))) refl refl
 
 up_none : (chain : Chain) (clock : ℕ) (note : Option ℕ) → adds_not (env_walk_after (up_to chain clock note))
 up_none chain clock None = passed_none chain clock
@@ -382,55 +382,55 @@ lowered_none : (asked : ℕ) (note least : Option ℕ) → adds_not (env_walk_af
 lowered_none asked None least = refl
 lowered_none asked (Some note) least = refl
 
-none_taken : (number : ℕ) (b : Bool) (parent deadline : Option ℕ) → adds_not (env_walk_after (cond b (On (MakeNote number parent deadline)) (Done NotesFull)))
-none_taken number b parent deadline = one_of b (On (MakeNote number parent deadline)) (Done NotesFull) refl refl
+none_taken : (number : ℕ) (b : Bool) (parent deadline : Option ℕ) → adds_not (env_walk_after (cond b (Go (MakeNote number parent deadline)) (Over NotesFull)))
+none_taken number b parent deadline = one_of b (Go (MakeNote number parent deadline)) (Over NotesFull) refl refl
 
 left_room : (number count seats after : ℕ) (old new : EnvPlain) (parent deadline : Option ℕ) (b : Bool) → nat_lt number 64 ≡ b → number ≡ old.next → new.next ≡ old.next → count + 1 ≤ seats → old.next + count ≤ 63 + seats →
-    after + 0 ≡ count + adds (env_walk_after (cond b (On (TakeNumber parent deadline)) (Done NotesFull))) → new.next + after ≤ 63 + seats
+    after + 0 ≡ count + adds (env_walk_after (cond b (Go (TakeNumber parent deadline)) (Over NotesFull))) → new.next + after ≤ 63 + seats
 left_room number count seats after old new parent deadline true lt is same few room set = let low : number < 64 = grind (arith, nat_tests) in let now : after + 0 ≡ count + 1 = set in omega (arith, low, is, same, few, room, now)
 left_room number count seats after old new parent deadline false lt is same few room set = let now : after + 0 ≡ count + 0 = set in omega (arith, is, same, few, room, now)
 
 -- whether the step takes a number, and whether the seat is to take one after it
 room_after : (h events : List EnvEvent) (seat count seats : ℕ) (walk : EnvWalk) (old new : EnvPlain) (found : EnvFound) → EnvEffect seat (env_want_of walk) old found new events →
     (is_adding (Some walk) ≡ false → count + 1 ≤ seats) → old.next + count ≤ 63 + seats → (after : ℕ) → after + adds (Some walk) ≡ count + adds (env_walk_after (env_got_of walk found)) → new.next + after ≤ 63 + seats
-room_after h events seat count seats (NextLoad parent deadline) old new (Next n) p few room after set = left_room n count seats after old new parent deadline (nat_lt n 64) refl p.0 (ap (λ (q : EnvPlain). q.next) p.1) (few refl) room set
+room_after h events seat count seats (NextLoad parent deadline) old new (NextNumber n) p few room after set = left_room n count seats after old new parent deadline (nat_lt n 64) refl p.0 (ap (λ (q : EnvPlain). q.next) p.1) (few refl) room set
 room_after h events seat count seats (NextLoad parent deadline) old new (Taken n) p few room after set = absurd p
-room_after h events seat count seats (NextLoad parent deadline) old new Made p few room after set = absurd p
+room_after h events seat count seats (NextLoad parent deadline) old new Stored p few room after set = absurd p
 room_after h events seat count seats (NextLoad parent deadline) old new (Clock t) p few room after set = absurd p
 room_after h events seat count seats (NextLoad parent deadline) old new (Note x) p few room after set = absurd p
-room_after h events seat count seats (TakeNumber parent deadline) old new (Next n) p few room after set = absurd p
+room_after h events seat count seats (TakeNumber parent deadline) old new (NextNumber n) p few room after set = absurd p
 room_after h events seat count seats (TakeNumber parent deadline) old new (Taken n) p few room after set = let next : new.next ≡ old.next + 1 = ap (λ (q : EnvPlain). q.next) p.1 in let none = none_taken n (nat_lt n 64) parent deadline in omega (arith, next, none, room, set)
-room_after h events seat count seats (TakeNumber parent deadline) old new Made p few room after set = absurd p
+room_after h events seat count seats (TakeNumber parent deadline) old new Stored p few room after set = absurd p
 room_after h events seat count seats (TakeNumber parent deadline) old new (Clock t) p few room after set = absurd p
 room_after h events seat count seats (TakeNumber parent deadline) old new (Note x) p few room after set = absurd p
-room_after h events seat count seats (MakeNote note parent deadline) old new (Next n) p few room after set = absurd p
+room_after h events seat count seats (MakeNote note parent deadline) old new (NextNumber n) p few room after set = absurd p
 room_after h events seat count seats (MakeNote note parent deadline) old new (Taken n) p few room after set = absurd p
-room_after h events seat count seats (MakeNote note parent deadline) old new Made p few room after set = let next = ap (λ (q : EnvPlain). q.next) p.0 in omega (arith, next, room, set)
+room_after h events seat count seats (MakeNote note parent deadline) old new Stored p few room after set = let next = ap (λ (q : EnvPlain). q.next) p.0 in omega (arith, next, room, set)
 room_after h events seat count seats (MakeNote note parent deadline) old new (Clock t) p few room after set = absurd p
 room_after h events seat count seats (MakeNote note parent deadline) old new (Note x) p few room after set = absurd p
-room_after h events seat count seats (Notify note) old new (Next n) p few room after set = absurd p
-room_after h events seat count seats (Notify note) old new (Taken n) p few room after set = absurd p
-room_after h events seat count seats (Notify note) old new Made p few room after set = let next = ap (λ (q : EnvPlain). q.next) p.0 in omega (arith, next, room, set)
-room_after h events seat count seats (Notify note) old new (Clock t) p few room after set = absurd p
-room_after h events seat count seats (Notify note) old new (Note x) p few room after set = absurd p
-room_after h events seat count seats (Advance moment) old new (Next n) p few room after set = absurd p
-room_after h events seat count seats (Advance moment) old new (Taken n) p few room after set = absurd p
-room_after h events seat count seats (Advance moment) old new Made p few room after set = let next = ap (λ (q : EnvPlain). q.next) p.0 in omega (arith, next, room, set)
-room_after h events seat count seats (Advance moment) old new (Clock t) p few room after set = absurd p
-room_after h events seat count seats (Advance moment) old new (Note x) p few room after set = absurd p
-room_after h events seat count seats (ClockLoad chain) old new (Next n) p few room after set = absurd p
+room_after h events seat count seats (Notifying note) old new (NextNumber n) p few room after set = absurd p
+room_after h events seat count seats (Notifying note) old new (Taken n) p few room after set = absurd p
+room_after h events seat count seats (Notifying note) old new Stored p few room after set = let next = ap (λ (q : EnvPlain). q.next) p.0 in omega (arith, next, room, set)
+room_after h events seat count seats (Notifying note) old new (Clock t) p few room after set = absurd p
+room_after h events seat count seats (Notifying note) old new (Note x) p few room after set = absurd p
+room_after h events seat count seats (Advancing moment) old new (NextNumber n) p few room after set = absurd p
+room_after h events seat count seats (Advancing moment) old new (Taken n) p few room after set = absurd p
+room_after h events seat count seats (Advancing moment) old new Stored p few room after set = let next = ap (λ (q : EnvPlain). q.next) p.0 in omega (arith, next, room, set)
+room_after h events seat count seats (Advancing moment) old new (Clock t) p few room after set = absurd p
+room_after h events seat count seats (Advancing moment) old new (Note x) p few room after set = absurd p
+room_after h events seat count seats (ClockLoad chain) old new (NextNumber n) p few room after set = absurd p
 room_after h events seat count seats (ClockLoad chain) old new (Taken n) p few room after set = absurd p
-room_after h events seat count seats (ClockLoad chain) old new Made p few room after set = absurd p
+room_after h events seat count seats (ClockLoad chain) old new Stored p few room after set = absurd p
 room_after h events seat count seats (ClockLoad chain) old new (Clock t) p few room after set = let next = ap (λ (q : EnvPlain). q.next) p.1 in let none = up_none chain t (chain_note chain) in omega (arith, next, none, room, set)
 room_after h events seat count seats (ClockLoad chain) old new (Note x) p few room after set = absurd p
-room_after h events seat count seats (NoteLoad chain clock at) old new (Next n) p few room after set = absurd p
+room_after h events seat count seats (NoteLoad chain clock at) old new (NextNumber n) p few room after set = absurd p
 room_after h events seat count seats (NoteLoad chain clock at) old new (Taken n) p few room after set = absurd p
-room_after h events seat count seats (NoteLoad chain clock at) old new Made p few room after set = absurd p
+room_after h events seat count seats (NoteLoad chain clock at) old new Stored p few room after set = absurd p
 room_after h events seat count seats (NoteLoad chain clock at) old new (Clock t) p few room after set = absurd p
 room_after h events seat count seats (NoteLoad chain clock at) old new (Note x) p few room after set = let next = ap (λ (q : EnvPlain). q.next) p.1 in let none = over_none (is_over clock (standing_of x)) chain clock x.parent in omega (arith, next, none, room, set)
-room_after h events seat count seats (ExpiryLoad asked at least) old new (Next n) p few room after set = absurd p
+room_after h events seat count seats (ExpiryLoad asked at least) old new (NextNumber n) p few room after set = absurd p
 room_after h events seat count seats (ExpiryLoad asked at least) old new (Taken n) p few room after set = absurd p
-room_after h events seat count seats (ExpiryLoad asked at least) old new Made p few room after set = absurd p
+room_after h events seat count seats (ExpiryLoad asked at least) old new Stored p few room after set = absurd p
 room_after h events seat count seats (ExpiryLoad asked at least) old new (Clock t) p few room after set = absurd p
 room_after h events seat count seats (ExpiryLoad asked at least) old new (Note x) p few room after set = let next = ap (λ (q : EnvPlain). q.next) p.1 in let none = lowered_none asked x.parent (earlier least x.deadline) in omega (arith, next, none, room, set)
 
@@ -445,39 +445,39 @@ one_taken seat number true events e = inr (Take seat number, e, refl)
 one_taken seat number false events e = inl e
 
 one_by : (seat : ℕ) (act : EnvAct) (old new : EnvPlain) (found : EnvFound) (events : List EnvEvent) → EnvEffect seat act old found new events → IsOneBy seat events
-one_by seat LoadNext old new (Next n) events p = inl p.2
+one_by seat LoadNext old new (NextNumber n) events p = inl p.2
 one_by seat LoadNext old new (Taken n) events p = absurd p
-one_by seat LoadNext old new Made events p = absurd p
+one_by seat LoadNext old new Stored events p = absurd p
 one_by seat LoadNext old new (Clock t) events p = absurd p
 one_by seat LoadNext old new (Note x) events p = absurd p
-one_by seat TakeNext old new (Next n) events p = absurd p
+one_by seat TakeNext old new (NextNumber n) events p = absurd p
 one_by seat TakeNext old new (Taken n) events p = one_taken seat n (nat_lt n 64) events p.2
-one_by seat TakeNext old new Made events p = absurd p
+one_by seat TakeNext old new Stored events p = absurd p
 one_by seat TakeNext old new (Clock t) events p = absurd p
 one_by seat TakeNext old new (Note x) events p = absurd p
-one_by seat (StoreNote note parent deadline) old new (Next n) events p = absurd p
+one_by seat (StoreNote note parent deadline) old new (NextNumber n) events p = absurd p
 one_by seat (StoreNote note parent deadline) old new (Taken n) events p = absurd p
-one_by seat (StoreNote note parent deadline) old new Made events p = inr (New seat note parent deadline, p.1, refl)
+one_by seat (StoreNote note parent deadline) old new Stored events p = inr (New seat note parent deadline, p.1, refl)
 one_by seat (StoreNote note parent deadline) old new (Clock t) events p = absurd p
 one_by seat (StoreNote note parent deadline) old new (Note x) events p = absurd p
-one_by seat (NotifyNote note) old new (Next n) events p = absurd p
+one_by seat (NotifyNote note) old new (NextNumber n) events p = absurd p
 one_by seat (NotifyNote note) old new (Taken n) events p = absurd p
-one_by seat (NotifyNote note) old new Made events p = inr (Notified seat note, p.1, refl)
+one_by seat (NotifyNote note) old new Stored events p = inr (Notify seat note, p.1, refl)
 one_by seat (NotifyNote note) old new (Clock t) events p = absurd p
 one_by seat (NotifyNote note) old new (Note x) events p = absurd p
-one_by seat (MoveClock moment) old new (Next n) events p = absurd p
+one_by seat (MoveClock moment) old new (NextNumber n) events p = absurd p
 one_by seat (MoveClock moment) old new (Taken n) events p = absurd p
-one_by seat (MoveClock moment) old new Made events p = inr (Advanced seat moment, p.1, refl)
+one_by seat (MoveClock moment) old new Stored events p = inr (Advance seat moment, p.1, refl)
 one_by seat (MoveClock moment) old new (Clock t) events p = absurd p
 one_by seat (MoveClock moment) old new (Note x) events p = absurd p
-one_by seat LoadClock old new (Next n) events p = absurd p
+one_by seat LoadClock old new (NextNumber n) events p = absurd p
 one_by seat LoadClock old new (Taken n) events p = absurd p
-one_by seat LoadClock old new Made events p = absurd p
+one_by seat LoadClock old new Stored events p = absurd p
 one_by seat LoadClock old new (Clock t) events p = inl p.2
 one_by seat LoadClock old new (Note x) events p = absurd p
-one_by seat (LoadNote at) old new (Next n) events p = absurd p
+one_by seat (LoadNote at) old new (NextNumber n) events p = absurd p
 one_by seat (LoadNote at) old new (Taken n) events p = absurd p
-one_by seat (LoadNote at) old new Made events p = absurd p
+one_by seat (LoadNote at) old new Stored events p = absurd p
 one_by seat (LoadNote at) old new (Clock t) events p = absurd p
 one_by seat (LoadNote at) old new (Note x) events p = inl p.2
 

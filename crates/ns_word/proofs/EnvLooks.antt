@@ -3,14 +3,14 @@ use Rattle.std.proofs.Common.{◌≡◌, ℕ, zero, suc, ◌<◌, Bool, true, fa
 use Rattle.ns_model.specs.declared.environment.EnvEvent.{EnvEvent}
 use Rattle.ns_model.specs.Environments.{NoteStanding, env_after, is_over, is_due, notified_in, is_notified, expiry_of, earlier, IsMade}
 use Rattle.ns_model.proofs.Environments.{sound_after, notified_in-up, notified_in-root}
-use Rattle.ns_word.specs.declared.limits.Cause.TheVariants.{Deadline}
+use Rattle.ns_word.specs.declared.limits.Cause.TheVariants.{Expired}
 use Rattle.ns_word.specs.declared.env_act.NoteState.{NoteState}
 use Rattle.ns_word.specs.declared.env_act.EnvFound.TheVariants.{Note}
 use Rattle.ns_word.specs.declared.env_walk.Chain.{Chain}
-use Rattle.ns_word.specs.declared.env_walk.Chain.TheVariants.{Look, IsNotified, NoteWait}
+use Rattle.ns_word.specs.declared.env_walk.Chain.TheVariants.{ForLook, ForIsNotified, ForNoteWait}
 use Rattle.ns_word.specs.declared.env_walk.EnvWalk.TheVariants.{ClockLoad, NoteLoad, ExpiryLoad}
 use Rattle.ns_word.specs.declared.env_walk.EnvNext.{EnvNext}
-use Rattle.ns_word.specs.declared.env_walk.EnvNext.TheVariants.{On, Idle, Done, Saw}
+use Rattle.ns_word.specs.declared.env_walk.EnvNext.TheVariants.{Go, Repeat, Over, Shown}
 use Rattle.ns_word.specs.declared.walk.Reply.TheVariants.{Is, Expiry}
 use Rattle.ns_word.specs.EnvWalks.{standing_of, env_got_of, stopped, passed, up_to, lowered_to}
 use Rattle.ns_word.specs.EnvSteps.{EnvPlain, EnvState, Meets, IsLawfulEnv, up_by, looked}
@@ -19,18 +19,18 @@ use Rattle.ns_word.proofs.EnvKeeps.{lowered_all}
 -- ---- in one go
 
 by_stopped : (follow : ℕ → EnvNext) (chain : Chain) → up_by follow (stopped chain) ≡ stopped chain
-by_stopped follow (Look limits) = refl
-by_stopped follow (IsNotified note) = refl
-by_stopped follow (NoteWait note deadline) = refl
+by_stopped follow (ForLook limits) = refl
+by_stopped follow (ForIsNotified note) = refl
+by_stopped follow (ForNoteWait note deadline) = refl
 
 by_cond : (follow : ℕ → EnvNext) (b : Bool) (one other : EnvNext) → up_by follow one ≡ one → up_by follow other ≡ other → up_by follow (cond b one other) ≡ cond b one other
 by_cond follow true one other p q = p
 by_cond follow false one other p q = q
 
 by_passed : (follow : ℕ → EnvNext) (chain : Chain) (clock : ℕ) → up_by follow (passed chain clock) ≡ passed chain clock
-by_passed follow (Look limits) clock = by_cond follow (is_due clock limits.deadline) (Saw (Some Deadline)) (Saw None) refl refl
-by_passed follow (IsNotified note) clock = refl
-by_passed follow (NoteWait note deadline) clock = by_cond follow (is_due clock deadline) (Done (Is false)) (Idle (ClockLoad (NoteWait note deadline))) refl refl
+by_passed follow (ForLook limits) clock = by_cond follow (is_due clock limits.deadline) (Shown (Some Expired)) (Shown None) refl refl
+by_passed follow (ForIsNotified note) clock = refl
+by_passed follow (ForNoteWait note deadline) clock = by_cond follow (is_due clock deadline) (Over (Is false)) (Repeat (ClockLoad (ForNoteWait note deadline))) refl refl
 
 -- one note of a chain: it stops here, or it is as the rest of it finds
 one_note : (follow : ℕ → EnvNext) (chain : Chain) (clock : ℕ) (b up all : Bool) (parent : Option ℕ) → all ≡ (b || up) →
@@ -69,38 +69,38 @@ module _ (h : List EnvEvent) (plain : EnvPlain) (m : Meets h plain) where
 
 -- ---- the next note of a chain
 
-stopped_not : (chain chain' : Chain) (clock next : ℕ) → stopped chain ≡ On (NoteLoad chain' clock next) → ⊥
-stopped_not (Look limits) chain' clock next e = absurd (cc)
-stopped_not (IsNotified note) chain' clock next e = absurd (cc)
-stopped_not (NoteWait note deadline) chain' clock next e = absurd (cc)
+stopped_not : (chain chain' : Chain) (clock next : ℕ) → stopped chain ≡ Go (NoteLoad chain' clock next) → ⊥
+stopped_not (ForLook limits) chain' clock next e = absurd (cc)
+stopped_not (ForIsNotified note) chain' clock next e = absurd (cc)
+stopped_not (ForNoteWait note deadline) chain' clock next e = absurd (cc)
 
 either_not : (b : Bool) (one other next : EnvNext) → (one ≡ next → ⊥) → (other ≡ next → ⊥) → cond b one other ≡ next → ⊥
 either_not true one other next p q e = p e
 either_not false one other next p q e = q e
 
-passed_not : (chain chain' : Chain) (at clock next : ℕ) → passed chain at ≡ On (NoteLoad chain' clock next) → ⊥
-passed_not (Look limits) chain' at clock next e = either_not (is_due at limits.deadline) (Saw (Some Deadline)) (Saw None) (On (NoteLoad chain' clock next)) (λ e. absurd (cc)) (λ e. absurd (cc)) e
-passed_not (IsNotified note) chain' at clock next e = absurd (cc)
-passed_not (NoteWait note deadline) chain' at clock next e = either_not (is_due at deadline) (Done (Is false)) (Idle (ClockLoad (NoteWait note deadline))) (On (NoteLoad chain' clock next)) (λ e. absurd (cc)) (λ e. absurd (cc)) e
+passed_not : (chain chain' : Chain) (at clock next : ℕ) → passed chain at ≡ Go (NoteLoad chain' clock next) → ⊥
+passed_not (ForLook limits) chain' at clock next e = either_not (is_due at limits.deadline) (Shown (Some Expired)) (Shown None) (Go (NoteLoad chain' clock next)) (λ e. absurd (cc)) (λ e. absurd (cc)) e
+passed_not (ForIsNotified note) chain' at clock next e = absurd (cc)
+passed_not (ForNoteWait note deadline) chain' at clock next e = either_not (is_due at deadline) (Over (Is false)) (Repeat (ClockLoad (ForNoteWait note deadline))) (Go (NoteLoad chain' clock next)) (λ e. absurd (cc)) (λ e. absurd (cc)) e
 
-goes_up : (chain chain' : Chain) (clock clock' next : ℕ) (b : Bool) (parent : Option ℕ) → cond b (stopped chain) (up_to chain clock parent) ≡ On (NoteLoad chain' clock' next) → parent ≡ Some next
+goes_up : (chain chain' : Chain) (clock clock' next : ℕ) (b : Bool) (parent : Option ℕ) → cond b (stopped chain) (up_to chain clock parent) ≡ Go (NoteLoad chain' clock' next) → parent ≡ Some next
 goes_up chain chain' clock clock' next true parent e = absurd (stopped_not chain chain' clock' next e)
 goes_up chain chain' clock clock' next false None e = absurd (passed_not chain chain' clock clock' next e)
 goes_up chain chain' clock clock' next false (Some p) e = cc
 
 pub chain_up : (h : List EnvEvent) (plain : EnvPlain) (chain chain' : Chain) (clock clock' at next : ℕ) (note : NoteState) → Meets h plain → standing_of note ≡ plain.notes at →
-    env_got_of (NoteLoad chain clock at) (Note note) ≡ On (NoteLoad chain' clock' next) → (next < at) × IsMade h next
+    env_got_of (NoteLoad chain clock at) (Note note) ≡ Go (NoteLoad chain' clock' next) → (next < at) × IsMade h next
 chain_up h plain chain chain' clock clock' at next note m is e =
     (sound_after h m.legal).above at next (ap (λ (s : NoteStanding). s.parent) (sym (is ∙ note_is h plain m at)) ∙ goes_up chain chain' clock clock' next (is_over clock (standing_of note)) note.parent e)
 
 -- ---- an expiry
 
-lowered_is : (asked : ℕ) (parent least answer : Option ℕ) → lowered_to asked parent least ≡ Done (Expiry answer) → (parent ≡ None) × (least ≡ answer)
+lowered_is : (asked : ℕ) (parent least answer : Option ℕ) → lowered_to asked parent least ≡ Over (Expiry answer) → (parent ≡ None) × (least ≡ answer)
 lowered_is asked None least answer e = (refl, cc)
 lowered_is asked (Some p) least answer e = absurd (cc)
 
 pub expiry_is : (h : List EnvEvent) (state : EnvState) (seat asked at : ℕ) (least answer : Option ℕ) (note : NoteState) → IsLawfulEnv h state → slice_get state.askings seat ≡ Some (Some (ExpiryLoad asked at least)) →
-    standing_of note ≡ state.plain.notes at → env_got_of (ExpiryLoad asked at least) (Note note) ≡ Done (Expiry answer) → answer ≡ expiry_of h asked
+    standing_of note ≡ state.plain.notes at → env_got_of (ExpiryLoad asked at least) (Note note) ≡ Over (Expiry answer) → answer ≡ expiry_of h asked
 unfolding expiry_of
 expiry_is h state seat asked at least answer note lawful walks is e =
     let p = lowered_is asked note.parent (earlier least note.deadline) answer e in

@@ -13,22 +13,22 @@ use Rattle.ns_queue.specs.declared.waiter.Waiter.{Waiter}
 use Rattle.ns_queue.specs.Waiters.{seats_of, times_in, without_in}
 use Rattle.ns_queue.specs.Scans.{woken_of, left_of}
 use Rattle.ns_word.specs.declared.word.Word.{Word}
-use Rattle.ns_word.specs.declared.word.Leaving.{Leaving}
-use Rattle.ns_word.specs.declared.word.Leaving.TheVariants.{Writer, QuietWriter, Reader}
+use Rattle.ns_word.specs.declared.word.Releasing.{Releasing}
+use Rattle.ns_word.specs.declared.word.Releasing.TheVariants.{Writer, QuietWriter, Reader}
 use Rattle.ns_word.specs.declared.word.Taking.{Taking}
 use Rattle.ns_word.specs.declared.word.Taking.TheVariants.{ToChange, ToQueue}
 use Rattle.ns_word.specs.declared.view.Opening.{Opening}
 use Rattle.ns_word.specs.declared.view.Held.{Held}
 use Rattle.ns_word.specs.declared.view.SeatView.{SeatView}
 use Rattle.ns_word.specs.declared.walk.Walk.{Walk}
-use Rattle.ns_word.specs.Words.{mode_left, may_acquire, needs_scan, word_acquired, word_released, word_taken, word_returned, word_released_returning}
+use Rattle.ns_word.specs.Words.{mode_released, may_acquire, needs_scan, word_acquired, word_released, word_taken, word_returned, word_released_returning}
 use Rattle.ns_word.specs.Lists.{has_some, has_eligible, bits_of, queued}
 use Rattle.ns_word.specs.Walks.{has_queues, is_queuing, has_armed, waits_in, awaits, pays, is_on_way, phase_by}
 use Rattle.ns_word.specs.Views.{NoneIs}
 use Rattle.ns_model.specs.Truths.{Truths}
 use Rattle.ns_word.specs.Steps.{State, section_of, flags_with, meets_at}
 use Rattle.ns_word.specs.Places.{PlaceFits}
-use Rattle.ns_word.specs.Lawful.{is_set, is_due, ViewFits, bits_in, phase_before}
+use Rattle.ns_word.specs.Lawful.{is_armed, is_unwoken, ViewFits, bits_in, phase_before}
 use Rattle.ns_word.proofs.Groups.{Safe, Homed, Known, Groups}
 use Rattle.ns_word.proofs.Knows.{is_loud, rests as known_rests, acquires as known_acquires, puts, withdraws as known_withdraws, releases as known_releases, scans as known_scans}
 use Rattle.ns_word.proofs.Views.{one_if, view_of, apart_parts, each_parts}
@@ -68,27 +68,27 @@ taken_spin : (taking : Taking) (word : Word) → (word_taken taking word).spin �
 taken_spin ToChange word = refl
 taken_spin (ToQueue mode woken) word = refl
 
-released_queues : (leaving : Leaving) (word : Word) → ((word_released leaving word).spin ≡ word.spin) × (bits_in (word_released leaving word) ≡ bits_in word)
+released_queues : (releasing : Releasing) (word : Word) → ((word_released releasing word).spin ≡ word.spin) × (bits_in (word_released releasing word) ≡ bits_in word)
 released_queues Writer word = (refl, refl)
 released_queues QuietWriter word = (refl, refl)
 released_queues Reader word = (refl, refl)
 
-released_write : (leaving : Leaving) (word : Word) → mode_left leaving ≡ Write → (word_released leaving word).write ≡ false
+released_write : (releasing : Releasing) (word : Word) → mode_released releasing ≡ Write → (word_released releasing word).write ≡ false
 released_write Writer word e = refl
 released_write QuietWriter word e = refl
 released_write Reader word e = absurd (cc)
 
-kept_write : (leaving : Leaving) (word : Word) → mode_left leaving ≡ Read → (word_released leaving word).write ≡ word.write
+kept_write : (releasing : Releasing) (word : Word) → mode_released releasing ≡ Read → (word_released releasing word).write ≡ word.write
 kept_write Writer word e = absurd (cc)
 kept_write QuietWriter word e = absurd (cc)
 kept_write Reader word e = refl
 
-kept_readers : (leaving : Leaving) (word : Word) → mode_left leaving ≡ Write → (word_released leaving word).readers ≡ word.readers
+kept_readers : (releasing : Releasing) (word : Word) → mode_released releasing ≡ Write → (word_released releasing word).readers ≡ word.readers
 kept_readers Writer word e = refl
 kept_readers QuietWriter word e = refl
 kept_readers Reader word e = absurd (cc)
 
-released_readers : (leaving : Leaving) (word : Word) → mode_left leaving ≡ Read → (word_released leaving word).readers ≡ word.readers - 1
+released_readers : (releasing : Releasing) (word : Word) → mode_released releasing ≡ Read → (word_released releasing word).readers ≡ word.readers - 1
 released_readers Writer word e = absurd (cc)
 released_readers QuietWriter word e = absurd (cc)
 released_readers Reader word e = refl
@@ -108,8 +108,8 @@ module _ {C : Type 0} {N : ℕ} (truths : Truths C) (seats : ℕ) (h : List (Eve
   others : (word : Word) (row : List ℕ) (held : Option (Held C N)) (owed : List ℕ) → Safe truths seats h word row (front ++ view_of who walk held owed ∷ back) → NoneIs who front
   others word row held owed p = (apart_parts front (view_of who walk held owed) back p.apart).0
 
-  due : waits_in walk' ≡ waits_in walk → (flag : ℕ) → one_if (awaits walk' && is_set flag) ≡ one_if (awaits walk && is_set flag)
-  due e flag = ap (λ w. one_if (is_some w && is_set flag)) e
+  due : waits_in walk' ≡ waits_in walk → (flag : ℕ) → one_if (awaits walk' && is_armed flag) ≡ one_if (awaits walk && is_armed flag)
+  due e flag = ap (λ w. one_if (is_some w && is_armed flag)) e
 
   -- the place in the call changes, and no more of the section in hand than how it is said to have begun
   pub rests : (word : Word) (row : List ℕ) (lock : List (Waiter C)) (flags : ℕ → ℕ) (held held' : Option (Held C N)) (owed : List ℕ) → PlaceFits truths walk' held' → Same walk walk' → is_queuing walk' ≡ is_queuing walk → Way walk walk' → SameSection walk held walk' held' →
@@ -173,28 +173,28 @@ module _ {C : Type 0} {N : ℕ} (truths : Truths C) (seats : ℕ) (h : List (Eve
       }
 
   -- a release without a scan
-  pub releases : (leaving : Leaving) (exit : Exit C) (word : Word) (row : List ℕ) (lock : List (Waiter C)) (flags : ℕ → ℕ) (entry : Opening C) (before cells : List ℕ) (owed : List ℕ) → seats ≤ 64 → ExitFits truths.holds cells exit → phase_after (mode_left leaving) exit ≡ phase_by walk' →
-      PlaceFits {C = C} {N = N} truths walk' None → Same walk walk' → needs_scan leaving word ≡ false → is_queuing walk' ≡ is_queuing walk → Way walk walk' →
+  pub releases : (releasing : Releasing) (exit : Exit C) (word : Word) (row : List ℕ) (lock : List (Waiter C)) (flags : ℕ → ℕ) (entry : Opening C) (before cells : List ℕ) (owed : List ℕ) → seats ≤ 64 → ExitFits truths.holds cells exit → phase_after (mode_released releasing) exit ≡ phase_by walk' →
+      PlaceFits {C = C} {N = N} truths walk' None → Same walk walk' → needs_scan releasing word ≡ false → is_queuing walk' ≡ is_queuing walk → Way walk walk' →
       -- no condition becomes true where the release is a reader's or quiet
-      (length before ≡ N → length cells ≡ N → (mode_left leaving ≡ Read → cells ≡ before) → is_loud leaving ≡ false → (ws : List (Waiter C)) →
+      (length before ≡ N → length cells ≡ N → (mode_released releasing ≡ Read → cells ≡ before) → is_loud releasing ≡ false → (ws : List (Waiter C)) →
       has_eligible (meets_at truths before) ws ≡ false → has_eligible (meets_at truths cells) ws ≡ false) →
-      Groups truths seats h (st walk word row lock flags (Some (section (mode_left leaving) entry before cells)) owed) →
-      Groups truths seats (h ++ section_of truths.holds who (section (mode_left leaving) entry before cells) exit ∷ []) (st walk' (word_released leaving word) row lock flags None owed)
-  releases leaving exit word row lock flags entry before cells owed few ends phase place same calm q o quiet p =
-      let mode = mode_left leaving in
+      Groups truths seats h (st walk word row lock flags (Some (section (mode_released releasing) entry before cells)) owed) →
+      Groups truths seats (h ++ section_of truths.holds who (section (mode_released releasing) entry before cells) exit ∷ []) (st walk' (word_released releasing word) row lock flags None owed)
+  releases releasing exit word row lock flags entry before cells owed few ends phase place same calm q o quiet p =
+      let mode = mode_released releasing in
       let held = Some (section {C = C} {N = N} mode entry before cells) in
       let fit = fits word row held owed p.safe in
       let apart = others word row held owed p.safe in
-      let queues = released_queues leaving word in
+      let queues = released_queues releasing word in
       let starts : before ≡ (standing_after h).row = fit.section.starts in
       let left : (standing_after (h ++ section_of truths.holds who (section mode entry before cells) exit ∷ [])).row ≡ cells = ap (λ s. s.row) (left_by truths seats h who (section mode entry before cells) exit) in
       record {
-        safe = released truths seats h front who walk owed walk' owed back mode exit word (word_released leaving word) row entry before cells few ends phase
-            (released_write leaving word) (kept_write leaving word) (kept_readers leaving word) (released_readers leaving word) place (fit.owes ∙ sym same.0) p.safe;
-        homed = at_home front who walk held owed walk' None owed back word (word_released leaving word) lock queues.0 queues.1 same.1 p.homed;
+        safe = released truths seats h front who walk owed walk' owed back mode exit word (word_released releasing word) row entry before cells few ends phase
+            (released_write releasing word) (kept_write releasing word) (kept_readers releasing word) (released_readers releasing word) place (fit.owes ∙ sym same.0) p.safe;
+        homed = at_home front who walk held owed walk' None owed back word (word_released releasing word) lock queues.0 queues.1 same.1 p.homed;
         placed = rested front who walk held owed walk' None owed back lock flags apart refl (due same.2 (flags who)) (λ f. sym same.3 ∙ f) p.placed;
         own = own_same front who walk held owed walk' None owed back lock apart same.2 p.own;
-        known = known_releases truths.holds front who walk held owed walk' None owed back leaving word (standing_after h).row (standing_after (h ++ section_of truths.holds who (section mode entry before cells) exit ∷ [])).row lock apart calm
+        known = known_releases truths.holds front who walk held owed walk' None owed back releasing word (standing_after h).row (standing_after (h ++ section_of truths.holds who (section mode entry before cells) exit ∷ [])).row lock apart calm
             (λ soft e. subst (λ r. has_eligible (meets_at truths r) lock ≡ false) (sym left)
             (quiet (ap length starts ∙ p.safe.one_history.cells_after) (ap length fit.section.cells ∙ p.safe.one_history.cells) fit.section.reads soft lock
             (subst (λ r. has_eligible (meets_at truths r) lock ≡ false) (sym starts) e))) q o p.known;
@@ -266,93 +266,93 @@ module _ {C : Type 0} {N : ℕ} (truths : Truths C) (seats : ℕ) (h : List (Eve
       }
 
   -- a seat puts the queues back as a scan leaves them, and releases its section
-  pub scans : (leaving : Leaving) (exit : Exit C) (word : Word) (row : List ℕ) (lock : List (Waiter C)) (flags : ℕ → ℕ) (entry : Opening C) (before cells : List ℕ) (owed : List ℕ) → seats ≤ 64 → let meets : C → Bool = meets_at truths row in
-      ExitFits truths.holds cells exit → phase_after (mode_left leaving) exit ≡ phase_by walk' →
+  pub scans : (releasing : Releasing) (exit : Exit C) (word : Word) (row : List ℕ) (lock : List (Waiter C)) (flags : ℕ → ℕ) (entry : Opening C) (before cells : List ℕ) (owed : List ℕ) → seats ≤ 64 → let meets : C → Bool = meets_at truths row in
+      ExitFits truths.holds cells exit → phase_after (mode_released releasing) exit ≡ phase_by walk' →
       PlaceFits {C = C} {N = N} truths walk' None → pays walk ≡ false → pays walk' ≡ has_some (seats_of (woken_of meets lock)) → has_queues walk ≡ true → has_queues walk' ≡ false → awaits walk ≡ false → awaits walk' ≡ false → has_armed walk' ≡ false → is_queuing walk' ≡ false → ((n : ℕ) → is_on_way walk n ≡ false) →
-      Groups truths seats h (st walk word row lock flags (Some (section (mode_left leaving) entry before cells)) owed) →
-      Groups truths seats (h ++ section_of truths.holds who (section (mode_left leaving) entry before cells) exit ∷ [])
-      (st walk' (word_released_returning leaving (has_some (woken_of meets lock)) (bits_of (left_of meets lock)) word) row (left_of meets lock) flags None (seats_of (woken_of meets lock)))
-  scans leaving exit word row lock flags entry before cells owed few ends phase place pay pay' s s' a a' set' q' o p =
+      Groups truths seats h (st walk word row lock flags (Some (section (mode_released releasing) entry before cells)) owed) →
+      Groups truths seats (h ++ section_of truths.holds who (section (mode_released releasing) entry before cells) exit ∷ [])
+      (st walk' (word_released_returning releasing (has_some (woken_of meets lock)) (bits_of (left_of meets lock)) word) row (left_of meets lock) flags None (seats_of (woken_of meets lock)))
+  scans releasing exit word row lock flags entry before cells owed few ends phase place pay pay' s s' a a' set' q' o p =
       let meets : C → Bool = meets_at truths row in
-      let held = Some (section {C = C} {N = N} (mode_left leaving) entry before cells) in
+      let held = Some (section {C = C} {N = N} (mode_released releasing) entry before cells) in
       let fit = fits word row held owed p.safe in
       let apart = others word row held owed p.safe in
       let took = seats_of (woken_of meets lock) in
       let stay = left_of meets lock in
-      let word' = word_released_returning leaving (has_some (woken_of meets lock)) (bits_of stay) word in
+      let word' = word_released_returning releasing (has_some (woken_of meets lock)) (bits_of stay) word in
       record {
-        safe = released truths seats h front who walk owed walk' took back (mode_left leaving) exit word word' row entry before cells few ends phase
-            (released_write leaving word) (kept_write leaving word) (kept_readers leaving word) (released_readers leaving word) place (sym pay') p.safe;
+        safe = released truths seats h front who walk owed walk' took back (mode_released releasing) exit word word' row entry before cells few ends phase
+            (released_write releasing word) (kept_write releasing word) (kept_readers releasing word) (released_readers releasing word) place (sym pay') p.safe;
         homed = back_home front who walk held owed walk' None took back word word' lock stay refl refl s s' p.homed;
         placed = scanned front who walk held owed walk' None took back meets lock flags apart (none_of owed (fit.owes ∙ pay)) refl a a' set' p.placed;
         own = own_scanned front who walk held owed walk' None took back meets lock (nowhere front who walk held owed walk' None took back lock flags apart (not_due walk (flags who) a) p.placed) p.own;
-        known = subst (λ r. Known truths.holds word' r stay (front ++ view_of who walk' None took ∷ back)) (sym fit.section.cells ∙ sym (ap (λ s. s.row) (left_by truths seats h who (section (mode_left leaving) entry before cells) exit)))
-            (known_scans truths.holds front who walk held owed walk' None took back leaving word (standing_after h).row row lock stay flags apart s q' a o (λ e. e) (λ seat ne. refl) p.homed p.placed p.known);
+        known = subst (λ r. Known truths.holds word' r stay (front ++ view_of who walk' None took ∷ back)) (sym fit.section.cells ∙ sym (ap (λ s. s.row) (left_by truths seats h who (section (mode_released releasing) entry before cells) exit)))
+            (known_scans truths.holds front who walk held owed walk' None took back releasing word (standing_after h).row row lock stay flags apart s q' a o (λ e. e) (λ seat ne. refl) p.homed p.placed p.known);
       }
 
   -- The same with itself in the list, for a condition that is false. What it leaves of the sections is told, and the history after that.
-  pub queues_scanned : (leaving : Leaving) (mode : Mode) (c : C) (again : Bool) (h' : List (Event C N)) (word : Word) (row : List ℕ) (lock : List (Waiter C)) (flags : ℕ → ℕ) (held : Option (Held C N)) (owed : List ℕ) →
-      let meets : C → Bool = meets_at truths row in let took = seats_of (woken_of meets lock) in let lock' = queued who mode (Some c) again (left_of meets lock) in let word' = word_released_returning leaving (has_some (woken_of meets lock)) (bits_of lock') word in
+  pub queues_scanned : (releasing : Releasing) (mode : Mode) (c : C) (again : Bool) (h' : List (Event C N)) (word : Word) (row : List ℕ) (lock : List (Waiter C)) (flags : ℕ → ℕ) (held : Option (Held C N)) (owed : List ℕ) →
+      let meets : C → Bool = meets_at truths row in let took = seats_of (woken_of meets lock) in let lock' = queued who mode (Some c) again (left_of meets lock) in let word' = word_released_returning releasing (has_some (woken_of meets lock)) (bits_of lock') word in
       truths.holds c row ≡ false → row ≡ (standing_after h').row → Safe truths seats h' word' row (front ++ view_of who walk' None took ∷ back) →
       pays walk ≡ false → has_queues walk ≡ true → has_queues walk' ≡ false → awaits walk ≡ false → waits_in walk' ≡ Some (record { mode = mode; cond = Some c }) → has_armed walk ≡ true → has_armed walk' ≡ false → is_queuing walk' ≡ false → ((n : ℕ) → is_on_way walk n ≡ false) →
       Groups truths seats h (st walk word row lock flags held owed) → Groups truths seats h' (st walk' word' row lock' flags None took)
-  queues_scanned leaving mode c again h' word row lock flags held owed unmet now safe pay s s' a a' set set' q' o p =
+  queues_scanned releasing mode c again h' word row lock flags held owed unmet now safe pay s s' a a' set set' q' o p =
       let meets : C → Bool = meets_at truths row in
       let fit = fits word row held owed p.safe in
       let apart = others word row held owed p.safe in
       let took = seats_of (woken_of meets lock) in
       let lock' = queued who mode (Some c) again (left_of meets lock) in
-      let word' = word_released_returning leaving (has_some (woken_of meets lock)) (bits_of lock') word in
+      let word' = word_released_returning releasing (has_some (woken_of meets lock)) (bits_of lock') word in
       record {
         safe = safe;
         homed = back_home front who walk held owed walk' None took back word word' lock lock' refl refl s s' p.homed;
         placed = waited front who walk held owed walk' None took back meets mode (Some c) again lock flags apart (none_of owed (fit.owes ∙ pay)) refl set a (ap is_some a') set' p.placed;
         own = own_waited front who walk held owed walk' None took back meets mode (Some c) again lock apart (nowhere front who walk held owed walk' None took back lock flags apart (not_due walk (flags who) a) p.placed) a' p.own;
         known = subst (λ r. Known truths.holds word' r lock' (front ++ view_of who walk' None took ∷ back)) now
-            (known_scans truths.holds front who walk held owed walk' None took back leaving word (standing_after h).row row lock lock' flags apart s q' a o
+            (known_scans truths.holds front who walk held owed walk' None took back releasing word (standing_after h).row row lock lock' flags apart s q' a o
             (λ e. queued_eligible meets who mode c again (left_of meets lock) unmet e)
             (λ seat ne. times_queued seat who mode (Some c) again (left_of meets lock) ∙ rw (ne_eqb who seat ne) (omega arith)) p.homed p.placed p.known);
       }
 
   -- a wait leaves its section, and commits it
-  pub waits : (leaving : Leaving) (mode : Mode) (c : C) (again : Bool) (word : Word) (row : List ℕ) (lock : List (Waiter C)) (flags : ℕ → ℕ) (entry : Opening C) (before cells : List ℕ) (owed : List ℕ) → seats ≤ 64 →
+  pub waits : (releasing : Releasing) (mode : Mode) (c : C) (again : Bool) (word : Word) (row : List ℕ) (lock : List (Waiter C)) (flags : ℕ → ℕ) (entry : Opening C) (before cells : List ℕ) (owed : List ℕ) → seats ≤ 64 →
       let meets : C → Bool = meets_at truths row in let lock' = queued who mode (Some c) again (left_of meets lock) in
-      truths.holds c cells ≡ false → mode_left leaving ≡ mode → Cond c mode ≡ phase_by walk' →
+      truths.holds c cells ≡ false → mode_released releasing ≡ mode → Cond c mode ≡ phase_by walk' →
       PlaceFits {C = C} {N = N} truths walk' None → pays walk ≡ false → pays walk' ≡ has_some (seats_of (woken_of meets lock)) → has_queues walk ≡ true → has_queues walk' ≡ false → awaits walk ≡ false → waits_in walk' ≡ Some (record { mode = mode; cond = Some c }) → has_armed walk ≡ true → has_armed walk' ≡ false → is_queuing walk' ≡ false → ((n : ℕ) → is_on_way walk n ≡ false) →
       Groups truths seats h (st walk word row lock flags (Some (section mode entry before cells)) owed) →
       Groups truths seats (h ++ section_of truths.holds who (section mode entry before cells) (CondWait c) ∷ [])
-      (st walk' (word_released_returning leaving (has_some (woken_of meets lock)) (bits_of lock') word) row lock' flags None (seats_of (woken_of meets lock)))
-  waits leaving mode c again word row lock flags entry before cells owed few unmet is phase place pay pay' s s' a a' set set' q' o p =
+      (st walk' (word_released_returning releasing (has_some (woken_of meets lock)) (bits_of lock') word) row lock' flags None (seats_of (woken_of meets lock)))
+  waits releasing mode c again word row lock flags entry before cells owed few unmet is phase place pay pay' s s' a a' set set' q' o p =
       let meets : C → Bool = meets_at truths row in
       let held = section {C = C} {N = N} mode entry before cells in
       let fit = fits word row (Some held) owed p.safe in
       let took = seats_of (woken_of meets lock) in
       let lock' = queued who mode (Some c) again (left_of meets lock) in
-      let word' = word_released_returning leaving (has_some (woken_of meets lock)) (bits_of lock') word in
-      queues_scanned leaving mode c again (h ++ section_of truths.holds who held (CondWait c) ∷ []) word row lock flags (Some held) owed
+      let word' = word_released_returning releasing (has_some (woken_of meets lock)) (bits_of lock') word in
+      queues_scanned releasing mode c again (h ++ section_of truths.holds who held (CondWait c) ∷ []) word row lock flags (Some held) owed
       (subst (λ r. truths.holds c r ≡ false) fit.section.cells unmet) (sym fit.section.cells ∙ sym (ap (λ s. s.row) (left_by truths seats h who held (CondWait c))))
       (released truths seats h front who walk owed walk' took back mode (CondWait c) word word' row entry before cells few unmet phase
-      (λ m. released_write leaving word (is ∙ m)) (λ m. kept_write leaving word (is ∙ m)) (λ m. kept_readers leaving word (is ∙ m)) (λ m. released_readers leaving word (is ∙ m)) place (sym pay') p.safe)
+      (λ m. released_write releasing word (is ∙ m)) (λ m. kept_write releasing word (is ∙ m)) (λ m. kept_readers releasing word (is ∙ m)) (λ m. released_readers releasing word (is ∙ m)) place (sym pay') p.safe)
       pay s s' a a' set set' q' o p
 
   -- a wait that came back gives its section up, and commits nothing
-  pub waits_on : (leaving : Leaving) (mode : Mode) (c : C) (again : Bool) (word : Word) (row : List ℕ) (lock : List (Waiter C)) (flags : ℕ → ℕ) (entry : Opening C) (before cells : List ℕ) (owed : List ℕ) →
+  pub waits_on : (releasing : Releasing) (mode : Mode) (c : C) (again : Bool) (word : Word) (row : List ℕ) (lock : List (Waiter C)) (flags : ℕ → ℕ) (entry : Opening C) (before cells : List ℕ) (owed : List ℕ) →
       let meets : C → Bool = meets_at truths row in let lock' = queued who mode (Some c) again (left_of meets lock) in
-      truths.holds c cells ≡ false → mode_left leaving ≡ mode → cells ≡ before → phase_before mode entry ≡ phase_by walk' →
+      truths.holds c cells ≡ false → mode_released releasing ≡ mode → cells ≡ before → phase_before mode entry ≡ phase_by walk' →
       PlaceFits {C = C} {N = N} truths walk' None → pays walk ≡ false → pays walk' ≡ has_some (seats_of (woken_of meets lock)) → has_queues walk ≡ true → has_queues walk' ≡ false → awaits walk ≡ false → waits_in walk' ≡ Some (record { mode = mode; cond = Some c }) → has_armed walk ≡ true → has_armed walk' ≡ false → is_queuing walk' ≡ false → ((n : ℕ) → is_on_way walk n ≡ false) →
       Groups truths seats h (st walk word row lock flags (Some (section mode entry before cells)) owed) →
-      Groups truths seats h (st walk' (word_released_returning leaving (has_some (woken_of meets lock)) (bits_of lock') word) row lock' flags None (seats_of (woken_of meets lock)))
-  waits_on leaving mode c again word row lock flags entry before cells owed unmet is same phase place pay pay' s s' a a' set set' q' o p =
+      Groups truths seats h (st walk' (word_released_returning releasing (has_some (woken_of meets lock)) (bits_of lock') word) row lock' flags None (seats_of (woken_of meets lock)))
+  waits_on releasing mode c again word row lock flags entry before cells owed unmet is same phase place pay pay' s s' a a' set set' q' o p =
       let meets : C → Bool = meets_at truths row in
       let held = section {C = C} {N = N} mode entry before cells in
       let fit = fits word row (Some held) owed p.safe in
       let took = seats_of (woken_of meets lock) in
       let lock' = queued who mode (Some c) again (left_of meets lock) in
-      let word' = word_released_returning leaving (has_some (woken_of meets lock)) (bits_of lock') word in
-      queues_scanned leaving mode c again h word row lock flags (Some held) owed
+      let word' = word_released_returning releasing (has_some (woken_of meets lock)) (bits_of lock') word in
+      queues_scanned releasing mode c again h word row lock flags (Some held) owed
       (subst (λ r. truths.holds c r ≡ false) fit.section.cells unmet) (sym fit.section.cells ∙ same ∙ fit.section.starts)
       (dropped truths seats h front who walk owed walk' took back mode word word' row entry before cells same phase
-      (λ m. released_write leaving word (is ∙ m)) (λ m. kept_write leaving word (is ∙ m)) (λ m. kept_readers leaving word (is ∙ m)) (λ m. released_readers leaving word (is ∙ m)) place (sym pay') p.safe)
+      (λ m. released_write releasing word (is ∙ m)) (λ m. kept_write releasing word (is ∙ m)) (λ m. kept_readers releasing word (is ∙ m)) (λ m. released_readers releasing word (is ∙ m)) place (sym pay') p.safe)
       pay s s' a a' set set' q' o p
 
   -- a seat clears the flag of one that it owes a wake
@@ -380,6 +380,6 @@ module _ {C : Type 0} {N : ℕ} (truths : Truths C) (seats : ℕ) (h : List (Eve
         safe = unchanged truths seats h front who walk owed walk' owed back word word row held held refl refl place (fit.owes ∙ sym pay) (same_section walk walk' held stays) p.safe;
         homed = at_home front who walk held owed walk' held owed back word word lock refl refl spin p.homed;
         placed = seen front who walk held owed walk' held owed back lock flags apart refl zero a' set' p.placed;
-        own = own_stays front who walk held owed walk' held owed back lock (nowhere front who walk held owed walk' held owed back lock flags apart (subst (λ flag. is_due walk flag ≡ false) (sym zero) (cleared walk)) p.placed) p.own;
+        own = own_stays front who walk held owed walk' held owed back lock (nowhere front who walk held owed walk' held owed back lock flags apart (subst (λ flag. is_unwoken walk flag ≡ false) (sym zero) (cleared walk)) p.placed) p.own;
         known = known_rests truths.holds front who walk held owed walk' held owed back word word (standing_after h).row lock apart refl refl refl refl refl q o p.known;
       }

@@ -1,25 +1,25 @@
 -- What ends a wait early, from the look that shows it to the answer; and that a section in hand whose wait was answered meets no wait that comes back.
 use Rattle.std.proofs.Common.{◌≡◌, ℕ, ◌+◌, ◌-◌, Bool, true, false, not, cond, eqb, ltb, ◌⊎◌, inl, inr, List, Option, None, Some, refl, ap, sym, ◌∙◌, subst}
 use Rattle.ns_model.specs.declared.event.Answer.{Answer}
-use Rattle.ns_model.specs.declared.event.Answer.TheVariants.{Met as MetAnswer, TimedOut, Canceled}
+use Rattle.ns_model.specs.declared.event.Answer.TheVariants.{Met, TimedOut, Canceled}
 use Rattle.ns_model.specs.declared.event.Event.{Event}
 use Rattle.ns_word.specs.declared.limits.Cause.{Cause}
-use Rattle.ns_word.specs.declared.limits.Cause.TheVariants.{Deadline, Note}
+use Rattle.ns_word.specs.declared.limits.Cause.TheVariants.{Expired, Notified}
 use Rattle.ns_word.specs.declared.word.Word.{Word}
-use Rattle.ns_word.specs.declared.word.Leaving.{Leaving}
+use Rattle.ns_word.specs.declared.word.Releasing.{Releasing}
 use Rattle.ns_word.specs.declared.wait.Wait.{Wait}
 use Rattle.ns_word.specs.declared.wait.Aim.{Aim}
-use Rattle.ns_word.specs.declared.wait.Aim.TheVariants.{Lock, Back as ComingBack}
+use Rattle.ns_word.specs.declared.wait.Aim.TheVariants.{ForLock, ForWait}
 use Rattle.ns_word.specs.declared.wait.Visit.{Visit}
-use Rattle.ns_word.specs.declared.wait.Visit.TheVariants.{Entry, Back}
+use Rattle.ns_word.specs.declared.wait.Visit.TheVariants.{OnEntry, OnReturn}
 use Rattle.ns_word.specs.declared.wait.WaitPlace.{WaitPlace}
-use Rattle.ns_word.specs.declared.wait.WaitPlace.TheVariants.{TestCells, TestLast, LookIn, Load, Take, Arm as ArmWaiting, Queue as QueueWaiting, Pay as PayWaiting, Round as RoundWaiting, LookOut, LeaveLoad, TakeToLeave, Leave, LeaveRound}
+use Rattle.ns_word.specs.declared.wait.WaitPlace.TheVariants.{TestCells, TestLast, LookIn, Load, Take, ArmToWait, QueueToWait, PayInWait, AwaitWakeInWait, LookOut, LeaveLoad, TakeToLeave, Leave, AwaitWakeToLeave}
 use Rattle.ns_word.specs.declared.view.Held.{Held}
 use Rattle.ns_word.specs.declared.view.SeatView.{SeatView}
 use Rattle.ns_word.specs.declared.walk.Walk.{Walk}
-use Rattle.ns_word.specs.declared.walk.Walk.TheVariants.{TryLoad, TryAcquire, AcquireLoad, Acquire, TakeToQueue, Arm, Queue, Round, QuietCells, QuietLast, ReleaseLoad, Release, TakeToScan, ScanCells, ReleaseReturning, Pay, Get, SetLoad, SetStore, Wait as Waiting}
+use Rattle.ns_word.specs.declared.walk.Walk.TheVariants.{TryLoad, TryAcquire, AcquireLoad, AcquireExchange, TakeToQueue, Arm, Queue, AwaitWake, QuietCells, QuietLast, ReleaseLoad, ReleaseExchange, TakeToScan, ScanCells, ScanAndRelease, Pay, GetLoad, SetLoad, SetStore, InWait}
 use Rattle.ns_word.specs.declared.act.Found.{Found}
-use Rattle.ns_word.specs.declared.act.Found.TheVariants.{Word as Saw, Made, Cell, Quiet, Met, Scanned, Paid, Left, Flag, Looked}
+use Rattle.ns_word.specs.declared.act.Found.TheVariants.{Saw, Made, Cell, Quiet, Tested, Scanned, Paid, Left, Flag, Looked}
 use Rattle.ns_word.specs.declared.walk.Reply.{Reply}
 use Rattle.ns_word.specs.declared.walk.Reply.TheVariants.{Answered}
 use Rattle.ns_word.specs.declared.walk.Next.{Next}
@@ -36,13 +36,13 @@ use Rattle.ns_word.specs.Answers.{comes_back, place_has_come_back, has_come_back
 
 -- what an answer says that ended the wait early
 abbrev answer_cause : Answer → Option Cause
-answer_cause MetAnswer = None
-answer_cause TimedOut = Some Deadline
-answer_cause Canceled = Some Note
+answer_cause Met = None
+answer_cause TimedOut = Some Expired
+answer_cause Canceled = Some Notified
 
 answer_back : (cause : Cause) → answer_cause (answer_of cause) ≡ Some cause
-answer_back Deadline = refl
-answer_back Note = refl
+answer_back Expired = refl
+answer_back Notified = refl
 
 abbrev reply_cause : Reply → Option Cause
 reply_cause (Answered answer) = answer_cause answer
@@ -82,42 +82,42 @@ module _ {C : Type 0} (kept : Option Cause) (found : Found) where
   either_walk_shown true one other p q = p
   either_walk_shown false one other p q = q
 
-release_shown : (C : Type 0) (found : Found) (leaving : Leaving) (word : Word) → ShownNext None found (release_by {C = C} leaving word)
-release_shown C found leaving word = either_shown None found (not (needs_scan leaving word)) _ _ (none_shown _ _) (either_shown None found word.spin _ _ (none_shown _ _) (none_shown _ _))
+release_shown : (C : Type 0) (found : Found) (releasing : Releasing) (word : Word) → ShownNext None found (release_by {C = C} releasing word)
+release_shown C found releasing word = either_shown None found (not (needs_scan releasing word)) _ _ (none_shown _ _) (either_shown None found word.spin _ _ (none_shown _ _) (none_shown _ _))
 
 quiet_shown : (C : Type 0) (N : ℕ) (found : Found) (loaded : ℕ) → Shown None found (cause_kept (quiet_place {C = C} N loaded))
 quiet_shown C N found loaded = either_walk_shown None found (ltb loaded (N - 1)) _ _ (none_shown _ _) (none_shown _ _)
 
-scan_shown : (C : Type 0) (N : ℕ) (found : Found) (leaving : Leaving) (last : Word) (loaded : ℕ) → Shown None found (cause_kept (scan_place {C = C} N leaving last loaded))
-scan_shown C N found leaving last loaded = either_walk_shown None found (ltb loaded N) _ _ (none_shown _ _) (none_shown _ _)
+scan_shown : (C : Type 0) (N : ℕ) (found : Found) (releasing : Releasing) (last : Word) (loaded : ℕ) → Shown None found (cause_kept (scan_place {C = C} N releasing last loaded))
+scan_shown C N found releasing last loaded = either_walk_shown None found (ltb loaded N) _ _ (none_shown _ _) (none_shown _ _)
 
 module _ {C : Type 0} (N : ℕ) where
   -- the tests keep the cause that they were begun with
   test_shown : (found : Found) (wait : Wait C) (visit : Visit) (loaded : ℕ) → Shown (cause_by visit) found (cause_kept (test_place N wait visit loaded))
   test_shown found wait visit loaded =
-      either_walk_shown (cause_by visit) found (ltb loaded (N - 1)) (Waiting wait (TestCells visit loaded)) (Waiting wait (TestLast visit (N - 1))) (stays_shown (cause_by visit) found) (stays_shown (cause_by visit) found)
+      either_walk_shown (cause_by visit) found (ltb loaded (N - 1)) (InWait wait (TestCells visit loaded)) (InWait wait (TestLast visit (N - 1))) (stays_shown (cause_by visit) found) (stays_shown (cause_by visit) found)
 
   looks_shown : (kept : Option Cause) (found : Found) (wait : Wait C) (again : Bool) → ShownNext kept found (look_or_queue wait again)
-  looks_shown kept found wait again = either_shown kept found (is_limited wait.limits) (On (Waiting wait (LookIn again))) (On (Waiting wait (Load again))) (none_shown kept found) (none_shown kept found)
+  looks_shown kept found wait again = either_shown kept found (is_limited wait.limits) (On (InWait wait (LookIn again))) (On (InWait wait (Load again))) (none_shown kept found) (none_shown kept found)
 
   unmet_shown : (found : Found) (wait : Wait C) (visit : Visit) → ShownNext (cause_by visit) found (unmet_by wait visit)
-  unmet_shown found wait Entry = looks_shown None found wait false
-  unmet_shown found wait (Back None) = looks_shown None found wait true
-  unmet_shown found wait (Back (Some cause)) = answer_shown (Some cause) found cause (stays_shown (Some cause) found)
+  unmet_shown found wait OnEntry = looks_shown None found wait false
+  unmet_shown found wait (OnReturn None) = looks_shown None found wait true
+  unmet_shown found wait (OnReturn (Some cause)) = answer_shown (Some cause) found cause (stays_shown (Some cause) found)
 
   waiting_shown : (wait : Wait C) (place : WaitPlace) (found : Found) → ShownNext (place_cause_kept place) found (got_waiting N wait place found)
   waiting_shown wait (TestCells visit i) (Cell v) = test_shown (Cell v) wait visit (i + 1)
-  waiting_shown wait (TestLast visit i) (Met met) = either_shown _ _ met _ _ (none_shown _ _) (unmet_shown (Met met) wait visit)
+  waiting_shown wait (TestLast visit i) (Tested met) = either_shown _ _ met _ _ (none_shown _ _) (unmet_shown (Tested met) wait visit)
   waiting_shown wait (LookIn again) (Looked None) = none_shown _ _
   waiting_shown wait (LookIn again) (Looked (Some cause)) = answer_shown None _ cause (now_shown None cause)
   waiting_shown wait (Load again) (Saw word) = either_shown _ _ word.spin _ _ (none_shown _ _) (none_shown _ _)
   waiting_shown wait (Take again last) (Saw word) = either_shown _ _ word.spin _ _ (none_shown _ _) (none_shown _ _)
   waiting_shown wait (Take again last) Made = none_shown _ _
-  waiting_shown wait (ArmWaiting again last) Made = none_shown _ _
-  waiting_shown wait (QueueWaiting again last) (Saw word) = none_shown _ _
-  waiting_shown wait (QueueWaiting again last) (Scanned owes tests) = either_shown _ _ owes _ _ (none_shown _ _) (none_shown _ _)
-  waiting_shown wait PayWaiting (Paid owes) = either_shown _ _ owes _ _ (none_shown _ _) (none_shown _ _)
-  waiting_shown wait RoundWaiting (Flag v) = either_shown _ _ (eqb v 0) _ _ (none_shown _ _) (either_shown _ _ (is_limited wait.limits) _ _ (none_shown _ _) (none_shown _ _))
+  waiting_shown wait (ArmToWait again last) Made = none_shown _ _
+  waiting_shown wait (QueueToWait again last) (Saw word) = none_shown _ _
+  waiting_shown wait (QueueToWait again last) (Scanned owes tests) = either_shown _ _ owes _ _ (none_shown _ _) (none_shown _ _)
+  waiting_shown wait PayInWait (Paid owes) = either_shown _ _ owes _ _ (none_shown _ _) (none_shown _ _)
+  waiting_shown wait AwaitWakeInWait (Flag v) = either_shown _ _ (eqb v 0) _ _ (none_shown _ _) (either_shown _ _ (is_limited wait.limits) _ _ (none_shown _ _) (none_shown _ _))
   waiting_shown wait LookOut (Looked None) = none_shown _ _
   waiting_shown wait LookOut (Looked (Some cause)) = now_shown None cause
   waiting_shown wait (LeaveLoad cause) (Saw word) = either_shown _ _ word.spin _ _ (stays_shown _ _) (stays_shown _ _)
@@ -125,7 +125,7 @@ module _ {C : Type 0} (N : ℕ) where
   waiting_shown wait (TakeToLeave cause last) Made = stays_shown _ _
   waiting_shown wait (Leave cause last) (Saw word) = stays_shown _ _
   waiting_shown wait (Leave cause last) (Left stood) = either_shown _ _ stood _ _ (stays_shown _ _) (stays_shown _ _)
-  waiting_shown wait (LeaveRound cause) (Flag v) = either_shown _ _ (eqb v 0) _ _ (stays_shown _ _) (stays_shown _ _)
+  waiting_shown wait (AwaitWakeToLeave cause) (Flag v) = either_shown _ _ (eqb v 0) _ _ (stays_shown _ _) (stays_shown _ _)
   waiting_shown wait place found = stays_shown (place_cause_kept place) found
 
   acquire_shown : (found : Found) (aim : Aim C) (woken : Bool) (word : Word) → ShownNext (cause_for aim) found (acquire_by aim woken word)
@@ -133,37 +133,37 @@ module _ {C : Type 0} (N : ℕ) where
       either_shown (cause_for aim) found (may_acquire (mode_for aim) woken word) _ _ (stays_shown _ _) (either_shown (cause_for aim) found word.spin _ _ (stays_shown _ _) (stays_shown _ _))
 
   acquired_shown : (found : Found) (aim : Aim C) → ShownNext (cause_for aim) found (acquired_for N aim)
-  acquired_shown found (Lock mode) = none_shown _ _
-  acquired_shown found (ComingBack wait kept) = test_shown found wait (Back kept) 0
+  acquired_shown found (ForLock mode) = none_shown _ _
+  acquired_shown found (ForWait wait kept) = test_shown found wait (OnReturn kept) 0
 
   shown_by : (walk : Walk C) (found : Found) → ShownNext (cause_kept walk) found (got_of N walk found)
   shown_by (TryLoad mode) (Saw word) = either_shown _ _ (may_acquire mode false word) _ _ (none_shown _ _) (none_shown _ _)
   shown_by (TryAcquire mode last) (Saw word) = none_shown _ _
   shown_by (TryAcquire mode last) Made = none_shown _ _
   shown_by (AcquireLoad aim woken) (Saw word) = acquire_shown (Saw word) aim woken word
-  shown_by (Acquire aim woken last) (Saw word) = acquire_shown (Saw word) aim woken word
-  shown_by (Acquire aim woken last) Made = acquired_shown Made aim
+  shown_by (AcquireExchange aim woken last) (Saw word) = acquire_shown (Saw word) aim woken word
+  shown_by (AcquireExchange aim woken last) Made = acquired_shown Made aim
   shown_by (TakeToQueue aim woken last) (Saw word) = acquire_shown (Saw word) aim woken word
   shown_by (TakeToQueue aim woken last) Made = stays_shown _ _
   shown_by (Arm aim woken last) Made = stays_shown _ _
   shown_by (Queue aim woken last) (Saw word) = stays_shown _ _
   shown_by (Queue aim woken last) Made = stays_shown _ _
-  shown_by (Round aim) (Flag v) = either_shown _ _ (eqb v 0) _ _ (stays_shown _ _) (stays_shown _ _)
+  shown_by (AwaitWake aim) (Flag v) = either_shown _ _ (eqb v 0) _ _ (stays_shown _ _) (stays_shown _ _)
   shown_by (QuietCells i) (Cell v) = quiet_shown C N (Cell v) (i + 1)
   shown_by (QuietLast i) (Quiet quiet) = either_shown _ _ quiet _ _ (none_shown _ _) (none_shown _ _)
-  shown_by (ReleaseLoad leaving) (Saw word) = release_shown C (Saw word) leaving word
-  shown_by (Release leaving last) (Saw word) = release_shown C (Saw word) leaving word
-  shown_by (Release leaving last) Made = none_shown _ _
-  shown_by (TakeToScan leaving last) (Saw word) = release_shown C (Saw word) leaving word
-  shown_by (TakeToScan leaving last) Made = either_walk_shown _ _ last.cond _ _ (scan_shown C N Made leaving _ 0) (none_shown _ _)
-  shown_by (ScanCells leaving last i) (Cell v) = scan_shown C N (Cell v) leaving last (i + 1)
-  shown_by (ReleaseReturning leaving last) (Saw word) = none_shown _ _
-  shown_by (ReleaseReturning leaving last) (Scanned owes tests) = either_shown _ _ owes _ _ (none_shown _ _) (none_shown _ _)
+  shown_by (ReleaseLoad releasing) (Saw word) = release_shown C (Saw word) releasing word
+  shown_by (ReleaseExchange releasing last) (Saw word) = release_shown C (Saw word) releasing word
+  shown_by (ReleaseExchange releasing last) Made = none_shown _ _
+  shown_by (TakeToScan releasing last) (Saw word) = release_shown C (Saw word) releasing word
+  shown_by (TakeToScan releasing last) Made = either_walk_shown _ _ last.cond _ _ (scan_shown C N Made releasing _ 0) (none_shown _ _)
+  shown_by (ScanCells releasing last i) (Cell v) = scan_shown C N (Cell v) releasing last (i + 1)
+  shown_by (ScanAndRelease releasing last) (Saw word) = none_shown _ _
+  shown_by (ScanAndRelease releasing last) (Scanned owes tests) = either_shown _ _ owes _ _ (none_shown _ _) (none_shown _ _)
   shown_by Pay (Paid owes) = either_shown _ _ owes _ _ (none_shown _ _) (none_shown _ _)
-  shown_by (Get i) (Cell v) = none_shown _ _
+  shown_by (GetLoad i) (Cell v) = none_shown _ _
   shown_by (SetLoad i v) (Cell w) = none_shown _ _
   shown_by (SetStore i v) Made = none_shown _ _
-  shown_by (Waiting wait place) found = waiting_shown wait place found
+  shown_by (InWait wait place) found = waiting_shown wait place found
   shown_by walk found = stays_shown (cause_kept walk) found
 
   goes_with : (next : Next C) (walk : Walk C) → walk_after next ≡ Some walk → next_cause next ≡ cause_kept walk
@@ -181,14 +181,14 @@ module _ {C : Type 0} (N : ℕ) where
 
   -- No call begins with one.
   pub first_keeps_none : (walk : Walk C) → IsFirst N walk → cause_kept walk ≡ None
-  first_keeps_none (AcquireLoad (Lock mode) woken) p = refl
-  first_keeps_none (Waiting wait (TestCells Entry i)) p = refl
-  first_keeps_none (Waiting wait (TestLast Entry i)) p = refl
+  first_keeps_none (AcquireLoad (ForLock mode) woken) p = refl
+  first_keeps_none (InWait wait (TestCells OnEntry i)) p = refl
+  first_keeps_none (InWait wait (TestLast OnEntry i)) p = refl
   first_keeps_none (TryLoad mode) p = refl
   first_keeps_none (QuietCells i) p = refl
   first_keeps_none (QuietLast i) p = refl
-  first_keeps_none (ReleaseLoad leaving) p = refl
-  first_keeps_none (Get i) p = refl
+  first_keeps_none (ReleaseLoad releasing) p = refl
+  first_keeps_none (GetLoad i) p = refl
   first_keeps_none (SetLoad i v) p = refl
   first_keeps_none _ p = absurd p
 
@@ -200,7 +200,7 @@ Out next = is_back (walk_after next) ≡ false
 
 -- the step acquires the lock
 abbrev acquires : {C : Type 0} → Walk C → Found → Bool
-acquires (Acquire aim woken last) Made = true
+acquires (AcquireExchange aim woken last) Made = true
 acquires walk found = false
 
 module _ {C : Type 0} where
@@ -212,36 +212,36 @@ module _ {C : Type 0} where
   either_walk_out true one other p q = p
   either_walk_out false one other p q = q
 
-release_out : (C : Type 0) (leaving : Leaving) (word : Word) → Out (release_by {C = C} leaving word)
-release_out C leaving word = either_out (not (needs_scan leaving word)) _ _ refl (either_out word.spin _ _ refl refl)
+release_out : (C : Type 0) (releasing : Releasing) (word : Word) → Out (release_by {C = C} releasing word)
+release_out C releasing word = either_out (not (needs_scan releasing word)) _ _ refl (either_out word.spin _ _ refl refl)
 
 quiet_out : (C : Type 0) (N : ℕ) (loaded : ℕ) → has_come_back (quiet_place {C = C} N loaded) ≡ false
 quiet_out C N loaded = either_walk_out (ltb loaded (N - 1)) _ _ refl refl
 
-scan_out : (C : Type 0) (N : ℕ) (leaving : Leaving) (last : Word) (loaded : ℕ) → has_come_back (scan_place {C = C} N leaving last loaded) ≡ false
-scan_out C N leaving last loaded = either_walk_out (ltb loaded N) _ _ refl refl
+scan_out : (C : Type 0) (N : ℕ) (releasing : Releasing) (last : Word) (loaded : ℕ) → has_come_back (scan_place {C = C} N releasing last loaded) ≡ false
+scan_out C N releasing last loaded = either_walk_out (ltb loaded N) _ _ refl refl
 
 module _ {C : Type 0} (N : ℕ) where
   test_out : (wait : Wait C) (visit : Visit) (loaded : ℕ) → comes_back visit ≡ false → has_come_back (test_place N wait visit loaded) ≡ false
-  test_out wait visit loaded e = either_walk_out (ltb loaded (N - 1)) (Waiting wait (TestCells visit loaded)) (Waiting wait (TestLast visit (N - 1))) e e
+  test_out wait visit loaded e = either_walk_out (ltb loaded (N - 1)) (InWait wait (TestCells visit loaded)) (InWait wait (TestLast visit (N - 1))) e e
 
   unmet_out : (wait : Wait C) (visit : Visit) → comes_back visit ≡ false → Out (unmet_by wait visit)
-  unmet_out wait Entry e = either_out (is_limited wait.limits) (On (Waiting wait (LookIn false))) (On (Waiting wait (Load false))) refl refl
-  unmet_out wait (Back kept) e = absurd (cc)
+  unmet_out wait OnEntry e = either_out (is_limited wait.limits) (On (InWait wait (LookIn false))) (On (InWait wait (Load false))) refl refl
+  unmet_out wait (OnReturn kept) e = absurd (cc)
 
   waiting_out : (wait : Wait C) (place : WaitPlace) (found : Found) → place_has_come_back place ≡ false → Out (got_waiting N wait place found)
   waiting_out wait (TestCells visit i) (Cell v) e = test_out wait visit (i + 1) e
-  waiting_out wait (TestLast visit i) (Met met) e = either_out met _ _ refl (unmet_out wait visit e)
+  waiting_out wait (TestLast visit i) (Tested met) e = either_out met _ _ refl (unmet_out wait visit e)
   waiting_out wait (LookIn again) (Looked None) e = refl
   waiting_out wait (LookIn again) (Looked (Some cause)) e = refl
   waiting_out wait (Load again) (Saw word) e = either_out word.spin _ _ refl refl
   waiting_out wait (Take again last) (Saw word) e = either_out word.spin _ _ refl refl
   waiting_out wait (Take again last) Made e = refl
-  waiting_out wait (ArmWaiting again last) Made e = refl
-  waiting_out wait (QueueWaiting again last) (Saw word) e = refl
-  waiting_out wait (QueueWaiting again last) (Scanned owes tests) e = either_out owes _ _ refl refl
-  waiting_out wait PayWaiting (Paid owes) e = either_out owes _ _ refl refl
-  waiting_out wait RoundWaiting (Flag v) e = either_out (eqb v 0) _ _ refl (either_out (is_limited wait.limits) _ _ refl refl)
+  waiting_out wait (ArmToWait again last) Made e = refl
+  waiting_out wait (QueueToWait again last) (Saw word) e = refl
+  waiting_out wait (QueueToWait again last) (Scanned owes tests) e = either_out owes _ _ refl refl
+  waiting_out wait PayInWait (Paid owes) e = either_out owes _ _ refl refl
+  waiting_out wait AwaitWakeInWait (Flag v) e = either_out (eqb v 0) _ _ refl (either_out (is_limited wait.limits) _ _ refl refl)
   waiting_out wait LookOut (Looked None) e = refl
   waiting_out wait LookOut (Looked (Some cause)) e = refl
   waiting_out wait (LeaveLoad cause) (Saw word) e = either_out word.spin _ _ refl refl
@@ -249,7 +249,7 @@ module _ {C : Type 0} (N : ℕ) where
   waiting_out wait (TakeToLeave cause last) Made e = refl
   waiting_out wait (Leave cause last) (Saw word) e = refl
   waiting_out wait (Leave cause last) (Left stood) e = either_out stood _ _ refl refl
-  waiting_out wait (LeaveRound cause) (Flag v) e = either_out (eqb v 0) _ _ refl refl
+  waiting_out wait (AwaitWakeToLeave cause) (Flag v) e = either_out (eqb v 0) _ _ refl refl
   waiting_out wait place found e = e
 
   acquire_out : (aim : Aim C) (woken : Bool) (word : Word) → Out (acquire_by aim woken word)
@@ -260,48 +260,48 @@ module _ {C : Type 0} (N : ℕ) where
   out_by (TryAcquire mode last) (Saw word) e a = refl
   out_by (TryAcquire mode last) Made e a = refl
   out_by (AcquireLoad aim woken) (Saw word) e a = acquire_out aim woken word
-  out_by (Acquire aim woken last) (Saw word) e a = acquire_out aim woken word
-  out_by (Acquire aim woken last) Made e a = absurd (cc)
+  out_by (AcquireExchange aim woken last) (Saw word) e a = acquire_out aim woken word
+  out_by (AcquireExchange aim woken last) Made e a = absurd (cc)
   out_by (TakeToQueue aim woken last) (Saw word) e a = acquire_out aim woken word
   out_by (TakeToQueue aim woken last) Made e a = refl
   out_by (Arm aim woken last) Made e a = refl
   out_by (Queue aim woken last) (Saw word) e a = refl
   out_by (Queue aim woken last) Made e a = refl
-  out_by (Round aim) (Flag v) e a = either_out (eqb v 0) _ _ refl refl
+  out_by (AwaitWake aim) (Flag v) e a = either_out (eqb v 0) _ _ refl refl
   out_by (QuietCells i) (Cell v) e a = quiet_out C N (i + 1)
   out_by (QuietLast i) (Quiet quiet) e a = either_out quiet _ _ refl refl
-  out_by (ReleaseLoad leaving) (Saw word) e a = release_out C leaving word
-  out_by (Release leaving last) (Saw word) e a = release_out C leaving word
-  out_by (Release leaving last) Made e a = refl
-  out_by (TakeToScan leaving last) (Saw word) e a = release_out C leaving word
-  out_by (TakeToScan leaving last) Made e a = either_walk_out last.cond _ _ (scan_out C N leaving _ 0) refl
-  out_by (ScanCells leaving last i) (Cell v) e a = scan_out C N leaving last (i + 1)
-  out_by (ReleaseReturning leaving last) (Saw word) e a = refl
-  out_by (ReleaseReturning leaving last) (Scanned owes tests) e a = either_out owes _ _ refl refl
+  out_by (ReleaseLoad releasing) (Saw word) e a = release_out C releasing word
+  out_by (ReleaseExchange releasing last) (Saw word) e a = release_out C releasing word
+  out_by (ReleaseExchange releasing last) Made e a = refl
+  out_by (TakeToScan releasing last) (Saw word) e a = release_out C releasing word
+  out_by (TakeToScan releasing last) Made e a = either_walk_out last.cond _ _ (scan_out C N releasing _ 0) refl
+  out_by (ScanCells releasing last i) (Cell v) e a = scan_out C N releasing last (i + 1)
+  out_by (ScanAndRelease releasing last) (Saw word) e a = refl
+  out_by (ScanAndRelease releasing last) (Scanned owes tests) e a = either_out owes _ _ refl refl
   out_by Pay (Paid owes) e a = either_out owes _ _ refl refl
-  out_by (Get i) (Cell v) e a = refl
+  out_by (GetLoad i) (Cell v) e a = refl
   out_by (SetLoad i v) (Cell w) e a = refl
   out_by (SetStore i v) Made e a = refl
-  out_by (Waiting wait place) found e a = waiting_out wait place found e
+  out_by (InWait wait place) found e a = waiting_out wait place found e
   out_by walk found e a = e
 
   -- Nor does a call begin as such a wait.
   pub first_is_out : (walk : Walk C) → IsFirst N walk → has_come_back walk ≡ false
-  first_is_out (AcquireLoad (Lock mode) woken) p = refl
-  first_is_out (Waiting wait (TestCells Entry i)) p = refl
-  first_is_out (Waiting wait (TestLast Entry i)) p = refl
+  first_is_out (AcquireLoad (ForLock mode) woken) p = refl
+  first_is_out (InWait wait (TestCells OnEntry i)) p = refl
+  first_is_out (InWait wait (TestLast OnEntry i)) p = refl
   first_is_out (TryLoad mode) p = refl
   first_is_out (QuietCells i) p = refl
   first_is_out (QuietLast i) p = refl
-  first_is_out (ReleaseLoad leaving) p = refl
-  first_is_out (Get i) p = refl
+  first_is_out (ReleaseLoad releasing) p = refl
+  first_is_out (GetLoad i) p = refl
   first_is_out (SetLoad i v) p = refl
   first_is_out _ p = absurd p
 
 module _ {C : Type 0} {N : ℕ} (truths : Truths C) where
   -- with a section in hand, nothing is acquired
   holder_acquires_not : (seat : ℕ) (walk : Walk C) (found : Found) (old new : Part C N) (commits : List (Event C N)) (was : Held C N) → Effect truths seat (want_of walk) old found new commits → old.held ≡ Some was → acquires walk found ≡ false
-  holder_acquires_not seat (Acquire aim woken last) Made old new commits was e p = let clash : None ≡ Some was = sym e.2 ∙ p in absurd (cc)
+  holder_acquires_not seat (AcquireExchange aim woken last) Made old new commits was e p = let clash : None ≡ Some was = sym e.2 ∙ p in absurd (cc)
   holder_acquires_not seat _ _ old new commits was e p = refl
 
   -- With a section in hand, a call that isn't such a wait doesn't become one.

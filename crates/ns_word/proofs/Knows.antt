@@ -8,8 +8,8 @@ use Rattle.ns_queue.specs.declared.waiter.Waiter.{Waiter}
 use Rattle.ns_queue.specs.Waiters.{times_in, is_of, without_in, writes, has_condition}
 use Rattle.ns_queue.specs.Scans.{woken_of, left_of}
 use Rattle.ns_word.specs.declared.word.Word.{Word}
-use Rattle.ns_word.specs.declared.word.Leaving.{Leaving}
-use Rattle.ns_word.specs.declared.word.Leaving.TheVariants.{Writer, QuietWriter, Reader}
+use Rattle.ns_word.specs.declared.word.Releasing.{Releasing}
+use Rattle.ns_word.specs.declared.word.Releasing.TheVariants.{Writer, QuietWriter, Reader}
 use Rattle.ns_word.specs.declared.word.Taking.TheVariants.{ToQueue}
 use Rattle.ns_word.specs.declared.view.Held.{Held}
 use Rattle.ns_word.specs.declared.view.SeatView.{SeatView}
@@ -19,7 +19,7 @@ use Rattle.ns_word.specs.Words.{may_acquire, needs_scan, word_acquired, word_rel
 use Rattle.ns_word.specs.Lists.{has_some, has_eligible, bits_of, queued}
 use Rattle.ns_word.specs.Walks.{awaits, has_queues, is_queuing, is_woken, is_on_way}
 use Rattle.ns_word.specs.Views.{takers, queuers, walk_at, NoneIs}
-use Rattle.ns_word.specs.Lawful.{WaitersPlaced, IsIdle, is_set, is_due}
+use Rattle.ns_word.specs.Lawful.{WaitersPlaced, NobodyCouldGoOn, is_armed, is_unwoken}
 use Rattle.ns_word.proofs.Groups.{Homed, Known}
 use Rattle.ns_word.proofs.Scans.{times_scan, times_queued, times_without, times_others, some_queued, filter_eligible, writer_eligible, none_eligible, woken_none, woken_some}
 use Rattle.ns_word.proofs.Views.{one_if, one_most, view_of, takers_at, queuers_at, walk_here, walk_there}
@@ -34,9 +34,9 @@ on_way_fewer walk n m f e = go (awaits walk) e where
 awaits_on_way : {C : Type 0} (walk : Option (Walk C)) (n : ℕ) → awaits walk ≡ true → n ≡ 0 → is_on_way walk n ≡ true
 awaits_on_way walk n a e = rw a (eq-eqb n 0 e)
 
-pub due_awaits : {C : Type 0} (walk : Option (Walk C)) (flag : ℕ) → 1 ≤ one_if (is_due walk flag) → awaits walk ≡ true
+pub due_awaits : {C : Type 0} (walk : Option (Walk C)) (flag : ℕ) → 1 ≤ one_if (is_unwoken walk flag) → awaits walk ≡ true
 due_awaits walk flag e = go (awaits walk) e where
-  go : (b : Bool) → 1 ≤ one_if (b && is_set flag) → b ≡ true
+  go : (b : Bool) → 1 ≤ one_if (b && is_armed flag) → b ≡ true
   go true f = refl
   go false f = absurd (omega (arith, f))
 
@@ -53,7 +53,7 @@ no_scan true false true e f = inr refl
 no_scan true false false e f = absurd (cc)
 
 -- the release may have made conditions true
-abbrev pub is_loud : Leaving → Bool
+abbrev pub is_loud : Releasing → Bool
 is_loud Writer = true
 is_loud QuietWriter = false
 is_loud Reader = false
@@ -174,7 +174,7 @@ module _ {C : Type 0} {N : ℕ} (holds : C → List ℕ → Bool) (front : List 
       Known holds word now lock olds → Known holds (word_returned (bits_of (without_in who lock)) word) now (without_in who lock) news
   withdraws word now lock apart spin q q' o homed p =
       let same = same_queuers (q' ∙ sym q) in
-      let keep : IsIdle holds now lock olds → IsIdle holds now (without_in who lock) news = λ was. (filter_eligible (λ c. holds c now) (λ w. not (is_of who w)) lock was.0, same ∙ was.1) in
+      let keep : NobodyCouldGoOn holds now lock olds → NobodyCouldGoOn holds now (without_in who lock) news = λ was. (filter_eligible (λ c. holds c now) (λ w. not (is_of who w)) lock was.0, same ∙ was.1) in
       record {
         on_way = λ e. way lock (without_in who lock) apart (λ f. subst (λ n. is_on_way walk' n ≡ true) (sym (times_without who lock)) (o f)) (λ seat ne z. times_others seat who lock ne ∙ z) (p.on_way e);
         idle = λ e. keep (p.idle (and_parts word.all_false _ e).0);
@@ -183,10 +183,10 @@ module _ {C : Type 0} {N : ℕ} (holds : C → List ℕ → Bool) (front : List 
       }
 
   -- a release without a scan
-  pub releases : (leaving : Leaving) (word : Word) (now now' : List ℕ) (lock : List (Waiter C)) → NoneIs who front → needs_scan leaving word ≡ false →
-      (is_loud leaving ≡ false → has_eligible (λ c. holds c now) lock ≡ false → has_eligible (λ c. holds c now') lock ≡ false) →
+  pub releases : (releasing : Releasing) (word : Word) (now now' : List ℕ) (lock : List (Waiter C)) → NoneIs who front → needs_scan releasing word ≡ false →
+      (is_loud releasing ≡ false → has_eligible (λ c. holds c now) lock ≡ false → has_eligible (λ c. holds c now') lock ≡ false) →
       is_queuing walk' ≡ is_queuing walk → ((n : ℕ) → is_on_way walk n ≡ true → is_on_way walk' n ≡ true) →
-      Known holds word now lock olds → Known holds (word_released leaving word) now' lock news
+      Known holds word now lock olds → Known holds (word_released releasing word) now' lock news
   releases Writer word now now' lock apart calm row q o p =
       let same = same_queuers q in
       record {
@@ -200,7 +200,7 @@ module _ {C : Type 0} {N : ℕ} (holds : C → List ℕ → Bool) (front : List 
       }
   releases QuietWriter word now now' lock apart calm row q o p =
       let same = same_queuers q in
-      let keep : IsIdle holds now lock olds → IsIdle holds now' lock news = λ was. (row refl was.0, same ∙ was.1) in
+      let keep : NobodyCouldGoOn holds now lock olds → NobodyCouldGoOn holds now' lock news = λ was. (row refl was.0, same ∙ was.1) in
       record {
         on_way = λ e. way lock lock apart (o (times_in who lock)) (λ seat ne z. z) (p.on_way e);
         idle = λ e. keep (p.idle e);
@@ -212,7 +212,7 @@ module _ {C : Type 0} {N : ℕ} (holds : C → List ℕ → Bool) (front : List 
       }
   releases Reader word now now' lock apart calm row q o p =
       let same = same_queuers q in
-      let keep : IsIdle holds now lock olds → IsIdle holds now' lock news = λ was. (row refl was.0, same ∙ was.1) in
+      let keep : NobodyCouldGoOn holds now lock olds → NobodyCouldGoOn holds now' lock news = λ was. (row refl was.0, same ∙ was.1) in
       record {
         on_way = λ e. way lock lock apart (o (times_in who lock)) (λ seat ne z. z) (p.on_way e);
         idle = λ e. keep (p.idle e);
@@ -227,25 +227,25 @@ module _ {C : Type 0} {N : ℕ} (holds : C → List ℕ → Bool) (front : List 
       }
 
   -- A scan, with the release of a section that leaves the row now'. What is put back has nobody who can go on where the scan leaves nobody, and of the other seats just those whom it leaves.
-  pub scans : (leaving : Leaving) (word : Word) (now now' : List ℕ) (lock lock' : List (Waiter C)) (flags : ℕ → ℕ) → NoneIs who front → has_queues walk ≡ true → is_queuing walk' ≡ false → awaits walk ≡ false → ((n : ℕ) → is_on_way walk n ≡ false) →
+  pub scans : (releasing : Releasing) (word : Word) (now now' : List ℕ) (lock lock' : List (Waiter C)) (flags : ℕ → ℕ) → NoneIs who front → has_queues walk ≡ true → is_queuing walk' ≡ false → awaits walk ≡ false → ((n : ℕ) → is_on_way walk n ≡ false) →
       let meets : C → Bool = λ c. holds c now' in
       (has_eligible meets (left_of meets lock) ≡ false → has_eligible meets lock' ≡ false) → ((seat : ℕ) → who ≢ seat → times_in seat lock' ≡ times_in seat (left_of meets lock)) →
       Homed word lock olds → WaitersPlaced lock flags olds →
-      Known holds word now lock olds → Known holds (word_released_returning leaving (has_some (woken_of meets lock)) (bits_of lock') word) now' lock' news
-  scans leaving word now now' lock lock' flags apart spin q' a o calm others homed placed p =
+      Known holds word now lock olds → Known holds (word_released_returning releasing (has_some (woken_of meets lock)) (bits_of lock') word) now' lock' news
+  scans releasing word now now' lock lock' flags apart spin q' a o calm others homed placed p =
       let meets : C → Bool = λ c. holds c now' in
       let took = has_some (woken_of meets lock) in
       let stay = left_of meets lock in
       let parts : (seat : ℕ) → times_in seat (woken_of meets lock) + times_in seat stay ≡ times_in seat lock = λ seat. times_scan seat meets lock in
       let nobody : queuers news ≡ 0 = alone word lock spin q' homed in
-      let idle : took ≡ false → IsIdle holds now' lock' news = λ e. let none = woken_none meets lock e in (calm (subst (λ ws. has_eligible meets ws ≡ false) (sym none.1) none.0), nobody) in
+      let idle : took ≡ false → NobodyCouldGoOn holds now' lock' news = λ e. let none = woken_none meets lock e in (calm (subst (λ ws. has_eligible meets ws ≡ false) (sym none.1) none.0), nobody) in
       record {
         on_way = λ e. elim (or_cases took word.desig e) [
           | inl t ↦
               let one = woken_some meets lock t in
               let seat = one.0 in
-              let sum : times_in seat lock + _ ≡ one_if (is_due (walk_at seat olds) (flags seat)) = placed.placed seat in
-              let most = one_most (is_due (walk_at seat olds) (flags seat)) in
+              let sum : times_in seat lock + _ ≡ one_if (is_unwoken (walk_at seat olds) (flags seat)) = placed.placed seat in
+              let most = one_most (is_unwoken (walk_at seat olds) (flags seat)) in
               let part = parts seat in
               let waits : awaits (walk_at seat olds) ≡ true = due_awaits (walk_at seat olds) (flags seat) (omega (arith, sum, part, one.1)) in
               let other : who ≢ seat = λ f. both_ways (awaits walk) a (subst (λ w. awaits w ≡ true) (walk_here front (view_of who walk held owed) back apart) (subst (λ s. awaits (walk_at s olds) ≡ true) (sym f) waits)) in

@@ -1,45 +1,45 @@
 -- A release with a scan was made, by what each of its parts is.
 use Rattle.std.specs.Prelude.{if◌then◌else◌}
 use Rattle.std.proofs.Common.{◌≡◌, ℕ, Bool, List, [], ◌∷◌, None, Some, refl, ap, ◌∙◌}
-use Rattle.ns_model.specs.declared.event.Exit.TheVariants.{Plain as Released, CondWait}
+use Rattle.ns_model.specs.declared.event.Exit.TheVariants.{Plain, CondWait}
 use Rattle.ns_model.specs.declared.event.Event.{Event}
 use Rattle.ns_queue.specs.declared.waiter.Waiter.{Waiter}
 use Rattle.ns_queue.specs.Waiters.{seats_of}
 use Rattle.ns_queue.specs.Scans.{woken_of, left_of, tests_of}
 use Rattle.ns_word.specs.declared.word.Word.{Word}
-use Rattle.ns_word.specs.declared.word.Leaving.{Leaving}
+use Rattle.ns_word.specs.declared.word.Releasing.{Releasing}
 use Rattle.ns_word.specs.declared.wait.Wait.{Wait}
 use Rattle.ns_word.specs.declared.view.Held.{Held}
 use Rattle.ns_word.specs.declared.act.Act.TheVariants.{ReleaseReturning, WaitReturning}
 use Rattle.ns_word.specs.declared.act.Found.TheVariants.{Scanned}
-use Rattle.ns_word.specs.Words.{mode_left, leaving_of, word_released_returning}
+use Rattle.ns_word.specs.Words.{mode_released, releasing_of, word_released_returning}
 use Rattle.ns_word.specs.Lists.{has_some, bits_of}
 use Rattle.ns_model.specs.Truths.{Truths}
 use Rattle.ns_word.specs.Steps.{Part, Effect, section_of, meets_at, waited_in}
 use Rattle.ns_word.proofs.Scans.{some_seats}
 
-pub returning_made : {C : Type 0} {N : ℕ} (truths : Truths C) (seat : ℕ) (leaving : Leaving) (last : Word) (old : Part C N) (held : Held C N) (word : Word) (lock : List (Waiter C)) (owed : List ℕ) (owes : Bool) (tests : ℕ) →
-    old.held ≡ Some held → held.mode ≡ mode_left leaving → last ≡ old.word →
+pub returning_made : {C : Type 0} {N : ℕ} (truths : Truths C) (seat : ℕ) (releasing : Releasing) (last : Word) (old : Part C N) (held : Held C N) (word : Word) (lock : List (Waiter C)) (owed : List ℕ) (owes : Bool) (tests : ℕ) →
+    old.held ≡ Some held → held.mode ≡ mode_released releasing → last ≡ old.word →
     owed ≡ seats_of (woken_of (meets_at truths old.row) old.lock) → lock ≡ left_of (meets_at truths old.row) old.lock → tests ≡ tests_of truths.same (meets_at truths old.row) old.lock →
-    owes ≡ has_some owed → word ≡ word_released_returning leaving owes (bits_of lock) last →
-    Effect truths seat (ReleaseReturning leaving last) old (Scanned owes tests) (record { word = word; row = old.row; lock = lock; flags = old.flags; held = None; owed = owed }) (section_of truths.holds seat held Released ∷ [])
-returning_made {C} {N} truths seat leaving last old held word lock owed owes tests is mode same took stay counts some makes =
+    owes ≡ has_some owed → word ≡ word_released_returning releasing owes (bits_of lock) last →
+    Effect truths seat (ReleaseReturning releasing last) old (Scanned owes tests) (record { word = word; row = old.row; lock = lock; flags = old.flags; held = None; owed = owed }) (section_of truths.holds seat held Plain ∷ [])
+returning_made {C} {N} truths seat releasing last old held word lock owed owes tests is mode same took stay counts some makes =
     let woken = woken_of (meets_at truths old.row) old.lock in
     let owing : owes ≡ has_some (seats_of woken) = some ∙ ap has_some took in
-    let becomes : word ≡ word_released_returning leaving (has_some woken) (bits_of (left_of (meets_at truths old.row) old.lock)) last =
-    makes ∙ ap (λ b. word_released_returning leaving b (bits_of lock) last) (owing ∙ some_seats woken) ∙ ap (λ ws. word_released_returning leaving (has_some woken) (bits_of ws) last) stay in
+    let becomes : word ≡ word_released_returning releasing (has_some woken) (bits_of (left_of (meets_at truths old.row) old.lock)) last =
+    makes ∙ ap (λ b. word_released_returning releasing b (bits_of lock) last) (owing ∙ some_seats woken) ∙ ap (λ ws. word_released_returning releasing (has_some woken) (bits_of ws) last) stay in
     (held, is, mode, same, λ i. record { word = becomes i; row = old.row; lock = stay i; flags = old.flags; held = None; owed = took i }, owing, counts, refl)
 
 -- and the same by a wait
 pub waiting_made : {C : Type 0} {N : ℕ} (truths : Truths C) (seat : ℕ) (wait : Wait C) (again : Bool) (last : Word) (old : Part C N) (held : Held C N) (word : Word) (lock : List (Waiter C)) (owed : List ℕ) (owes : Bool) (tests : ℕ) (commits : List (Event C N)) →
     old.held ≡ Some held → held.mode ≡ wait.mode → last ≡ old.word →
     owed ≡ seats_of (woken_of (meets_at truths old.row) old.lock) → lock ≡ waited_in truths seat wait again old.row old.lock → tests ≡ tests_of truths.same (meets_at truths old.row) old.lock →
-    owes ≡ has_some owed → word ≡ word_released_returning (leaving_of wait.mode) owes (bits_of lock) last → commits ≡ (if again then [] else section_of truths.holds seat held (CondWait wait.cond) ∷ []) →
+    owes ≡ has_some owed → word ≡ word_released_returning (releasing_of wait.mode) owes (bits_of lock) last → commits ≡ (if again then [] else section_of truths.holds seat held (CondWait wait.cond) ∷ []) →
     Effect truths seat (WaitReturning wait again last) old (Scanned owes tests) (record { word = word; row = old.row; lock = lock; flags = old.flags; held = None; owed = owed }) commits
 waiting_made {C} {N} truths seat wait again last old held word lock owed owes tests commits is mode same took stay counts some makes committed =
     let woken = woken_of (meets_at truths old.row) old.lock in
-    let leaving = leaving_of wait.mode in
+    let releasing = releasing_of wait.mode in
     let owing : owes ≡ has_some (seats_of woken) = some ∙ ap has_some took in
-    let becomes : word ≡ word_released_returning leaving (has_some woken) (bits_of (waited_in truths seat wait again old.row old.lock)) last =
-    makes ∙ ap (λ b. word_released_returning leaving b (bits_of lock) last) (owing ∙ some_seats woken) ∙ ap (λ ws. word_released_returning leaving (has_some woken) (bits_of ws) last) stay in
+    let becomes : word ≡ word_released_returning releasing (has_some woken) (bits_of (waited_in truths seat wait again old.row old.lock)) last =
+    makes ∙ ap (λ b. word_released_returning releasing b (bits_of lock) last) (owing ∙ some_seats woken) ∙ ap (λ ws. word_released_returning releasing (has_some woken) (bits_of ws) last) stay in
     (held, is, mode, same, λ i. record { word = becomes i; row = old.row; lock = stay i; flags = old.flags; held = None; owed = took i }, owing, counts, committed)

@@ -13,7 +13,7 @@ use Rattle.ns_word.specs.declared.walk.Walk.{Walk}
 use Rattle.ns_word.specs.Lists.{queued}
 use Rattle.ns_word.specs.Walks.{waits_in}
 use Rattle.ns_word.specs.Views.{owed_to, walk_at, NoneIs}
-use Rattle.ns_word.specs.Lawful.{is_due, stance_of, WaitersPlaced, WaiterFits, WaitersOwn}
+use Rattle.ns_word.specs.Lawful.{is_unwoken, stance_of, WaitersPlaced, WaiterFits, WaitersOwn}
 use Rattle.ns_word.proofs.Views.{one_if, view_of, walk_here, walk_there}
 use Rattle.ns_word.proofs.Scans.{times_scan, times_without}
 
@@ -66,9 +66,9 @@ module _ {C : Type 0} {N : ℕ} (front : List (SeatView C N)) (who : ℕ) (walk 
   )
 
   -- one that isn't due stands nowhere
-  pub nowhere : (lock : List (Waiter C)) (flags : ℕ → ℕ) → NoneIs who front → is_due walk (flags who) ≡ false → WaitersPlaced lock flags olds → times_in who lock ≡ 0
+  pub nowhere : (lock : List (Waiter C)) (flags : ℕ → ℕ) → NoneIs who front → is_unwoken walk (flags who) ≡ false → WaitersPlaced lock flags olds → times_in who lock ≡ 0
   nowhere lock flags apart undue p =
-      let sum : times_in who lock + owed_to who olds ≡ 0 = p.placed who ∙ ap (λ w. one_if (is_due w (flags who))) (walk_here front (view_of who walk held owed) back apart) ∙ ap one_if undue in
+      let sum : times_in who lock + owed_to who olds ≡ 0 = p.placed who ∙ ap (λ w. one_if (is_unwoken w (flags who))) (walk_here front (view_of who walk held owed) back apart) ∙ ap one_if undue in
       omega (arith, sum)
 
   -- a seat puts itself in

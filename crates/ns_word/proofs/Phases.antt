@@ -10,11 +10,11 @@ use Rattle.ns_model.specs.Histories.{Standing, standing_after, phase_of}
 use Rattle.ns_queue.specs.declared.waiter.Waiter.{Waiter}
 use Rattle.ns_word.specs.declared.wait.Wait.{Wait}
 use Rattle.ns_word.specs.declared.wait.WaitPlace.{WaitPlace}
-use Rattle.ns_word.specs.declared.wait.WaitPlace.TheVariants.{Pay, Round as RoundWaiting, LookOut, LeaveLoad, TakeToLeave, Leave, LeaveRound}
+use Rattle.ns_word.specs.declared.wait.WaitPlace.TheVariants.{PayInWait, AwaitWakeInWait, LookOut, LeaveLoad, TakeToLeave, Leave, AwaitWakeToLeave}
 use Rattle.ns_word.specs.declared.view.Held.{Held}
 use Rattle.ns_word.specs.declared.view.SeatView.{SeatView}
 use Rattle.ns_word.specs.declared.walk.Walk.{Walk}
-use Rattle.ns_word.specs.declared.walk.Walk.TheVariants.{Round, Wait as Waiting}
+use Rattle.ns_word.specs.declared.walk.Walk.TheVariants.{AwaitWake, InWait}
 use Rattle.ns_word.specs.Walks.{Stance, place_awaits, waits_in}
 use Rattle.ns_word.specs.Views.{walk_at}
 use Rattle.ns_model.specs.Truths.{Truths}
@@ -42,21 +42,21 @@ cond_in (Some stance) = stance.cond
 module _ {C : Type 0} {N : ℕ} (truths : Truths C) where
   -- one that waits has no section in hand
   waits_free : (wait : Wait C) (place : WaitPlace) (held : Option (Held C N)) → place_awaits place ≡ true → WaitFits truths wait place held → held ≡ None
-  waits_free wait Pay held a p = p
-  waits_free wait RoundWaiting held a p = p
+  waits_free wait PayInWait held a p = p
+  waits_free wait AwaitWakeInWait held a p = p
   waits_free wait LookOut held a p = p
   waits_free wait (LeaveLoad cause) held a p = p
   waits_free wait (TakeToLeave cause last) held a p = p.0
   waits_free wait (Leave cause last) held a p = p
-  waits_free wait (LeaveRound cause) held a p = p
+  waits_free wait (AwaitWakeToLeave cause) held a p = p
   waits_free wait _ held a p = absurd (cc)
 
   module _ (now : Standing C) (row : List ℕ) where
     phase_by_place : (seat : ℕ) (walk : Option (Walk C)) (held : Option (Held C N)) (mode : Mode) (c : C) → waits_in walk ≡ waiting_for mode c → PlaceFits truths walk held → SectionFits now row seat walk held → now.phases seat ≡ Cond c mode
-    phase_by_place seat (Some (Round aim)) held mode c e place section = let never : ◌≡◌ {A = Option C} None (Some c) = ap cond_in e in absurd (cc)
-    phase_by_place seat (Some (Waiting wait at_place)) held mode c e place section = go (place_awaits at_place) refl e where
+    phase_by_place seat (Some (AwaitWake aim)) held mode c e place section = let never : ◌≡◌ {A = Option C} None (Some c) = ap cond_in e in absurd (cc)
+    phase_by_place seat (Some (InWait wait at_place)) held mode c e place section = go (place_awaits at_place) refl e where
       go : (b : Bool) → place_awaits at_place ≡ b → cond b (Some (record { mode = wait.mode; cond = Some wait.cond })) None ≡ waiting_for mode c → now.phases seat ≡ Cond c mode
-      go true a f = subst (λ x. SectionFits now row seat (Some (Waiting wait at_place)) x) (waits_free wait at_place held a place) section ∙ ap phase_in f
+      go true a f = subst (λ x. SectionFits now row seat (Some (InWait wait at_place)) x) (waits_free wait at_place held a place) section ∙ ap phase_in f
       go false a f = absurd (cc)
     phase_by_place seat _ held mode c e place section = absurd (cc)
 

@@ -14,7 +14,7 @@ use Rattle.ns_word.specs.Walks.{awaits}
 use Rattle.ns_word.specs.Views.{is_reading, readers, owed_to, walk_at, NoneIs, AreApart}
 use Rattle.ns_model.specs.Truths.{Truths}
 use Rattle.ns_word.specs.Steps.{State, flags_with}
-use Rattle.ns_word.specs.Lawful.{EachFits, WaitersPlaced, IsLawful, is_due}
+use Rattle.ns_word.specs.Lawful.{EachFits, WaitersPlaced, IsLawful, is_unwoken}
 use Rattle.ns_word.proofs.Views.{one_if, one_most, owed_at, none_parts, each_parts}
 use Rattle.ns_word.proofs.Knows.{due_awaits}
 
@@ -35,14 +35,14 @@ module _ {C : Type 0} {N : ℕ} (lock : List (Waiter C)) (flags : ℕ → ℕ) (
       ⊎ ((times_in seat lock ≡ 0) × (owed_to seat views ≡ 1) × (flags seat ≡ 1))
       ⊎ ((times_in seat lock ≡ 0) × (owed_to seat views ≡ 0) × (flags seat ≡ 0))
   waits_so seat p a =
-      let sum : times_in seat lock + owed_to seat views ≡ one_if (is_due (walk_at seat views) (flags seat)) = p.placed seat in
+      let sum : times_in seat lock + owed_to seat views ≡ one_if (is_unwoken (walk_at seat views) (flags seat)) = p.placed seat in
       elim (cases_eq (flags seat) 1) [
-        | inl e ↦ let one : one_if (is_due (walk_at seat views) (flags seat)) ≡ 1 = rw a (rw e refl) in
+        | inl e ↦ let one : one_if (is_unwoken (walk_at seat views) (flags seat)) ≡ 1 = rw a (rw e refl) in
             elim (cases_eq (times_in seat lock) 0) [
               | inl none ↦ inr (inl (none, omega (arith, sum, one, none), e))
               | inr some ↦ inl (omega (arith, sum, one, some), omega (arith, sum, one, some), e)
             ]
-        | inr ne ↦ let zero : one_if (is_due (walk_at seat views) (flags seat)) ≡ 0 = rw a (rw (ne_eqb (flags seat) 1 ne) refl) in
+        | inr ne ↦ let zero : one_if (is_unwoken (walk_at seat views) (flags seat)) ≡ 0 = rw a (rw (ne_eqb (flags seat) 1 ne) refl) in
             inr (inr (omega (arith, sum, zero), omega (arith, sum, zero), omega (arith, p.flag seat, ne)))
       ]
 
@@ -54,15 +54,15 @@ module _ {C : Type 0} {N : ℕ} (lock : List (Waiter C)) (flags : ℕ → ℕ) (
   -- so one that stands somewhere or is owed a wake waits
   pub placed_awaits : (seat : ℕ) → WaitersPlaced lock flags views → 1 ≤ times_in seat lock + owed_to seat views → awaits (walk_at seat views) ≡ true
   placed_awaits seat p some =
-      let sum : times_in seat lock + owed_to seat views ≡ one_if (is_due (walk_at seat views) (flags seat)) = p.placed seat in
+      let sum : times_in seat lock + owed_to seat views ≡ one_if (is_unwoken (walk_at seat views) (flags seat)) = p.placed seat in
       due_awaits (walk_at seat views) (flags seat) (omega (arith, sum, some))
 
 module _ {C : Type 0} {N : ℕ} (truths : Truths C) (seats : ℕ) (h : List (Event C N)) (s : State C N) (p : IsLawful truths seats h s) where
   -- no seat stands in the lock list twice
   pub stands_once : (seat : ℕ) → times_in seat s.lock ≤ 1
   stands_once seat =
-      let sum : times_in seat s.lock + owed_to seat s.views ≡ one_if (is_due (walk_at seat s.views) (s.flags seat)) = p.waiters_placed.placed seat in
-      let most = one_most (is_due (walk_at seat s.views) (s.flags seat)) in
+      let sum : times_in seat s.lock + owed_to seat s.views ≡ one_if (is_unwoken (walk_at seat s.views) (s.flags seat)) = p.waiters_placed.placed seat in
+      let most = one_most (is_unwoken (walk_at seat s.views) (s.flags seat)) in
       omega (arith, sum, most)
 
   pub placed_below : (seat : ℕ) → 1 ≤ times_in seat s.lock + owed_to seat s.views → seat < seats

@@ -12,9 +12,9 @@ use Rattle.ns_model.specs.Histories.{Standing, first_standing, standing_after, s
 use Rattle.ns_model.proofs.Histories.{legal_append, standing_from-append}
 use Rattle.ns_word.specs.declared.word.Word.{Word}
 use Rattle.ns_word.specs.declared.limits.Cause.{Cause}
-use Rattle.ns_word.specs.declared.limits.Cause.TheVariants.{Deadline, Note}
+use Rattle.ns_word.specs.declared.limits.Cause.TheVariants.{Expired, Notified}
 use Rattle.ns_word.specs.declared.view.Opening.{Opening}
-use Rattle.ns_word.specs.declared.view.Opening.TheVariants.{Plain, Waited}
+use Rattle.ns_word.specs.declared.view.Opening.TheVariants.{Locked, CameBack}
 use Rattle.ns_word.specs.declared.view.Held.{Held}
 use Rattle.ns_word.specs.declared.view.SeatView.{SeatView}
 use Rattle.ns_word.specs.declared.walk.Walk.{Walk}
@@ -52,13 +52,13 @@ same_section walk walk' (Some held) phase = record { writing = refl; reading = r
 
 met_of : (b : Bool) (cause : Cause) → b ≡ is_met (cond b Met (answer_of cause))
 met_of true cause = refl
-met_of false Deadline = refl
-met_of false Note = refl
+met_of false Expired = refl
+met_of false Notified = refl
 
 -- the entry of a section is settled so that it fits the phase that it comes from
 pub entry_fits : {C : Type 0} (holds : C → List ℕ → Bool) (before : List ℕ) (mode : Mode) (entry : Opening C) → EntryFits holds before mode (entry_of holds before entry) (phase_before mode entry)
-entry_fits holds before mode Plain = tt
-entry_fits holds before mode (Waited c cause) = (refl, met_of (holds c before) cause, met_of (holds c before) cause)
+entry_fits holds before mode Locked = tt
+entry_fits holds before mode (CameBack c cause) = (refl, met_of (holds c before) cause, met_of (holds c before) cause)
 
 module _ {C : Type 0} {N : ℕ} (truths : Truths C) (seats : ℕ) (h : List (Event C N)) where
   module _ (front : List (SeatView C N)) (who : ℕ) (walk : Option (Walk C)) (owed : List ℕ) (walk' : Option (Walk C)) (owed' : List ℕ) (back : List (SeatView C N)) where

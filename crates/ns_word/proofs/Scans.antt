@@ -5,7 +5,7 @@ use Rattle.std.proofs.lemmas.Bool.{ne_eqb, or_parts, both_ways, cases_eq, false_
 use Rattle.ns_model.specs.declared.event.Mode.{Mode}
 use Rattle.ns_queue.specs.declared.waiter.Waiter.{Waiter}
 use Rattle.ns_queue.specs.Waiters.{seats_of, times_in, without_in, reads, writes, has_condition}
-use Rattle.ns_queue.specs.Scans.{is_met, is_eligible, woken_of, left_of}
+use Rattle.ns_queue.specs.Scans.{is_satisfied, is_eligible, woken_of, left_of}
 use Rattle.ns_queue.proofs.Seats.{one_if, times_in-cons, times_in-append}
 use Rattle.ns_word.specs.Lists.{has_some, has_eligible, bits_of, times_among, queued}
 
@@ -96,7 +96,7 @@ module _ {C : Type 0} where
   pub writer_eligible : (meets : C → Bool) (ws : List (Waiter C)) → has_eligible meets ws ≡ false → list_any (λ w. writes w && not (has_condition w)) ws ≡ false
   writer_eligible meets [] e = refl
   writer_eligible meets (w ∷ ws) e = go (writer_eligible meets ws) w.cond e where
-    go : (has_eligible meets ws ≡ false → list_any (λ w. writes w && not (has_condition w)) ws ≡ false) → (c : Option C) → (is_met meets c || has_eligible meets ws) ≡ false →
+    go : (has_eligible meets ws ≡ false → list_any (λ w. writes w && not (has_condition w)) ws ≡ false) → (c : Option C) → (is_satisfied meets c || has_eligible meets ws) ≡ false →
         ((writes w && not (has_condition (record w { cond = c }))) || list_any (λ w. writes w && not (has_condition w)) ws) ≡ false
     go rest None f = absurd (cc)
     go rest (Some c) f = elim (writes w) as (λ b. ((b && false) || list_any (λ w. writes w && not (has_condition w)) ws) ≡ false) [ true ↦ rest (or_parts _ _ f).1 | false ↦ rest (or_parts _ _ f).1 ]
@@ -145,6 +145,6 @@ module _ {C : Type 0} where
       let parts = or_parts (is_eligible (λ c. holds c before) w) (has_eligible (λ c. holds c before) ws) e in
       let here : is_eligible (λ c. holds c after) w ≡ false = one w.cond parts.0 in
       rw here (quiet_eligible holds before after quiet ws parts.1) where
-        one : (c : Option C) → is_met (λ c. holds c before) c ≡ false → is_met (λ c. holds c after) c ≡ false
+        one : (c : Option C) → is_satisfied (λ c. holds c before) c ≡ false → is_satisfied (λ c. holds c after) c ≡ false
         one None f = f
         one (Some c) f = false_from_ne_true (holds c after) (λ t. both_ways (holds c before) f (quiet c t))

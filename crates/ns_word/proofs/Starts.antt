@@ -6,10 +6,10 @@ use Rattle.ns_model.specs.declared.event.Event.{Event}
 use Rattle.ns_model.specs.Histories.{first_standing, first_row}
 use Rattle.ns_word.specs.declared.view.SeatView.{SeatView}
 use Rattle.ns_word.specs.declared.walk.Walk.{Walk}
-use Rattle.ns_word.specs.declared.walk.Walk.TheVariants.{TryLoad, AcquireLoad, QuietCells, QuietLast, ReleaseLoad, Get, SetLoad, Wait as Waiting}
+use Rattle.ns_word.specs.declared.walk.Walk.TheVariants.{TryLoad, AcquireLoad, QuietCells, QuietLast, ReleaseLoad, GetLoad, SetLoad, InWait}
 use Rattle.ns_word.specs.declared.wait.Wait.{Wait}
-use Rattle.ns_word.specs.declared.wait.Aim.TheVariants.{Lock}
-use Rattle.ns_word.specs.declared.wait.Visit.TheVariants.{Entry}
+use Rattle.ns_word.specs.declared.wait.Aim.TheVariants.{ForLock}
+use Rattle.ns_word.specs.declared.wait.Visit.TheVariants.{OnEntry}
 use Rattle.ns_word.specs.declared.wait.WaitPlace.TheVariants.{TestCells, TestLast}
 use Rattle.ns_word.specs.declared.view.Held.{Held}
 use Rattle.ns_word.specs.Walks.{has_armed, quiet_place, test_place}
@@ -100,25 +100,25 @@ pub quiet_first : (C : Type 0) (N : ℕ) → IsFirst {C = C} N (quiet_place N 0)
 quiet_first C N = quiet_first_at C N (ltb 0 (N - 1)) refl
 
 -- and so does the test of a wait
-test_first_at : {C : Type 0} (N : ℕ) (wait : Wait C) (b : Bool) → ltb 0 (N - 1) ≡ b → IsFirst N (cond b (Waiting wait (TestCells Entry 0)) (Waiting wait (TestLast Entry (N - 1))))
+test_first_at : {C : Type 0} (N : ℕ) (wait : Wait C) (b : Bool) → ltb 0 (N - 1) ≡ b → IsFirst N (cond b (InWait wait (TestCells OnEntry 0)) (InWait wait (TestLast OnEntry (N - 1))))
 test_first_at N wait true e = refl
 test_first_at N wait false e = let most = ltb-false 0 (N - 1) e in omega (arith, most)
 
-pub test_first : {C : Type 0} (N : ℕ) (wait : Wait C) → IsFirst N (test_place N wait Entry 0)
+pub test_first : {C : Type 0} (N : ℕ) (wait : Wait C) → IsFirst N (test_place N wait OnEntry 0)
 test_first N wait = test_first_at N wait (ltb 0 (N - 1)) refl
 
 module _ {C : Type 0} {N : ℕ} (truths : Truths C) (seats : ℕ) (h : List (Event C N)) where
   -- A first place tells nothing that no place doesn't, but that a wait begins with its section in hand.
   first_place : (walk : Walk C) (held : Option (Held C N)) → IsFirst N walk → PlaceFits truths (Some walk) held → Leads truths None (Some walk) held
   first_place (TryLoad mode) held e p = (p, (refl, refl, refl, refl), refl, λ n f. absurd (cc), λ none. refl)
-  first_place (AcquireLoad (Lock mode) woken) held e p = (p, (refl, refl, refl, refl), refl, λ n f. absurd (cc), λ none. refl)
+  first_place (AcquireLoad (ForLock mode) woken) held e p = (p, (refl, refl, refl, refl), refl, λ n f. absurd (cc), λ none. refl)
   first_place (QuietCells i) held e p = (p, (refl, refl, refl, refl), refl, λ n f. absurd (cc), λ none. refl)
   first_place (QuietLast i) held e p = (p, (refl, refl, refl, refl), refl, λ n f. absurd (cc), λ none. refl)
-  first_place (ReleaseLoad leaving) held e p = (p, (refl, refl, refl, refl), refl, λ n f. absurd (cc), λ none. refl)
-  first_place (Get i) held e p = (p, (refl, refl, refl, refl), refl, λ n f. absurd (cc), λ none. refl)
+  first_place (ReleaseLoad releasing) held e p = (p, (refl, refl, refl, refl), refl, λ n f. absurd (cc), λ none. refl)
+  first_place (GetLoad i) held e p = (p, (refl, refl, refl, refl), refl, λ n f. absurd (cc), λ none. refl)
   first_place (SetLoad i v) held e p = (p, (refl, refl, refl, refl), refl, λ n f. absurd (cc), λ none. refl)
-  first_place (Waiting wait (TestCells Entry i)) held e p = (p, (refl, refl, refl, refl), refl, λ n f. absurd (cc), λ none. absurd (subst (λ x. Tests wait Entry x) none p.0))
-  first_place (Waiting wait (TestLast Entry i)) held e p = (p, (refl, refl, refl, refl), refl, λ n f. absurd (cc), λ none. absurd (subst (λ x. Tests wait Entry x) none p.0))
+  first_place (InWait wait (TestCells OnEntry i)) held e p = (p, (refl, refl, refl, refl), refl, λ n f. absurd (cc), λ none. absurd (subst (λ x. Tests wait OnEntry x) none p.0))
+  first_place (InWait wait (TestLast OnEntry i)) held e p = (p, (refl, refl, refl, refl), refl, λ n f. absurd (cc), λ none. absurd (subst (λ x. Tests wait OnEntry x) none p.0))
   first_place _ held e p = absurd e
 
   pub begins : (old : State C N) (view : SeatView C N) (walk : Walk C) (new : State C N) → Begins truths old view walk new → IsLawful truths seats h old → IsLawful truths seats h new

@@ -11,7 +11,7 @@ use Rattle.ns_word.specs.declared.walk.Walk.{Walk}
 use Rattle.ns_word.specs.declared.act.Act.{Act}
 use Rattle.ns_word.specs.declared.act.Act.TheVariants.{LoadWord, Acquire, TakeQueues, ReturnQueues, Release, ReleaseReturning, WaitReturning, LoadCell, JudgeQuiet, JudgeMet, StoreCell, ArmFlag, PayWake, LoadFlag, Look}
 use Rattle.ns_word.specs.declared.act.Found.{Found}
-use Rattle.ns_word.specs.declared.act.Found.TheVariants.{Word as Saw, Made, Cell, Quiet, Met, Scanned, Paid, Left, Flag, Looked}
+use Rattle.ns_word.specs.declared.act.Found.TheVariants.{Saw, Made, Cell, Quiet, Tested, Scanned, Paid, Left, Flag, Looked}
 use Rattle.ns_word.specs.Walks.{want_of, got_of, walk_after}
 use Rattle.ns_model.specs.Truths.{Truths, QuietKeeps}
 use Rattle.ns_word.specs.Steps.{State, Part, Effect, Step}
@@ -50,20 +50,20 @@ module _ {C : Type 0} {N : ℕ} where
   effect_by truths seat (Acquire aim woken last) old (Saw word) new commits e = none_by seat commits e.3
   effect_by truths seat (TakeQueues taking last) old (Saw word) new commits e = none_by seat commits e.3
   effect_by truths seat (ReturnQueues change last) old (Saw word) new commits e = none_by seat commits e.3
-  effect_by truths seat (Release leaving last) old (Saw word) new commits e = none_by seat commits e.3
-  effect_by truths seat (ReleaseReturning leaving last) old (Saw word) new commits e = none_by seat commits e.3
+  effect_by truths seat (Release releasing last) old (Saw word) new commits e = none_by seat commits e.3
+  effect_by truths seat (ReleaseReturning releasing last) old (Saw word) new commits e = none_by seat commits e.3
   effect_by truths seat (WaitReturning wait again last) old (Saw word) new commits e = none_by seat commits e.3
   effect_by truths seat (Acquire aim woken last) old Made new commits e = none_by seat commits e.4
   effect_by truths seat (TakeQueues taking last) old Made new commits e = none_by seat commits e.3
   effect_by truths seat (ReturnQueues change last) old Made new commits e = none_by seat commits e.3
   effect_by truths seat (ReturnQueues change last) old (Left stood) new commits e = none_by seat commits e.3
-  effect_by truths seat (Release leaving last) old Made new commits e = one_by seat _ commits refl e.5
-  effect_by truths seat (ReleaseReturning leaving last) old (Scanned owes tests) new commits e = one_by seat _ commits refl e.7
+  effect_by truths seat (Release releasing last) old Made new commits e = one_by seat _ commits refl e.5
+  effect_by truths seat (ReleaseReturning releasing last) old (Scanned owes tests) new commits e = one_by seat _ commits refl e.7
   effect_by truths seat (WaitReturning wait false last) old (Scanned owes tests) new commits e = one_by seat _ commits refl e.7
   effect_by truths seat (WaitReturning wait true last) old (Scanned owes tests) new commits e = none_by seat commits e.7
   effect_by truths seat (LoadCell i) old (Cell v) new commits e = none_by seat commits e.2
   effect_by truths seat (JudgeQuiet i) old (Quiet is_quiet) new commits e = none_by seat commits e.4
-  effect_by truths seat (JudgeMet i c) old (Met is_met) new commits e = none_by seat commits e.4
+  effect_by truths seat (JudgeMet i c) old (Tested is_met) new commits e = none_by seat commits e.4
   effect_by truths seat (StoreCell i v) old Made new commits e = none_by seat commits e.4
   effect_by truths seat ArmFlag old Made new commits e = none_by seat commits e.1
   effect_by truths seat PayWake old (Paid owes) new commits e = none_by seat commits e.5

@@ -8,32 +8,32 @@ use Rattle.ns_queue.specs.Scans.{woken_of, left_of}
 use Rattle.ns_word.specs.declared.view.Held.{Held}
 use Rattle.ns_word.specs.declared.view.SeatView.{SeatView}
 use Rattle.ns_word.specs.declared.walk.Walk.{Walk}
-use Rattle.ns_word.specs.declared.walk.Walk.TheVariants.{Queue, Wait as Waiting}
+use Rattle.ns_word.specs.declared.walk.Walk.TheVariants.{Queue, InWait}
 use Rattle.ns_word.specs.declared.wait.WaitPlace.{WaitPlace}
-use Rattle.ns_word.specs.declared.wait.WaitPlace.TheVariants.{Queue as QueueWaiting}
+use Rattle.ns_word.specs.declared.wait.WaitPlace.TheVariants.{QueueToWait}
 use Rattle.ns_word.specs.Lists.{times_among, queued}
 use Rattle.ns_word.specs.Walks.{awaits, has_armed, place_awaits, place_has_armed}
 use Rattle.ns_word.specs.Views.{owed_to, walk_at, NoneIs}
 use Rattle.ns_word.specs.Steps.{flags_with}
-use Rattle.ns_word.specs.Lawful.{is_set, is_due, WaitersPlaced}
+use Rattle.ns_word.specs.Lawful.{is_armed, is_unwoken, WaitersPlaced}
 use Rattle.ns_word.proofs.Scans.{times_scan, times_queued, times_without, times_others, times_seats}
 use Rattle.ns_word.proofs.Views.{one_if, one_most, view_of, owed_at, walk_here, walk_there}
 
-pub not_due : {C : Type 0} (walk : Option (Walk C)) (flag : ℕ) → awaits walk ≡ false → is_due walk flag ≡ false
+pub not_due : {C : Type 0} (walk : Option (Walk C)) (flag : ℕ) → awaits walk ≡ false → is_unwoken walk flag ≡ false
 not_due walk flag e = rw e refl
 
 armed_place : (place : WaitPlace) → place_has_armed place ≡ true → place_awaits place ≡ false
-armed_place (QueueWaiting again last) e = refl
+armed_place (QueueToWait again last) e = refl
 armed_place _ e = absurd (cc)
 
 -- who is about to queue doesn't wait
 pub unqueued : {C : Type 0} (walk : Option (Walk C)) → has_armed walk ≡ true → awaits walk ≡ false
 unqueued (Some (Queue aim woken last)) e = refl
-unqueued (Some (Waiting wait place)) e = rw (armed_place place e) refl
+unqueued (Some (InWait wait place)) e = rw (armed_place place e) refl
 unqueued _ e = absurd (cc)
 
-pub cleared : {C : Type 0} (walk : Option (Walk C)) → is_due walk 0 ≡ false
-cleared walk = elim (awaits walk) as (λ b. (b && is_set 0) ≡ false) [ true ↦ refl | false ↦ refl ]
+pub cleared : {C : Type 0} (walk : Option (Walk C)) → is_unwoken walk 0 ≡ false
+cleared walk = elim (awaits walk) as (λ b. (b && is_armed 0) ≡ false) [ true ↦ refl | false ↦ refl ]
 
 module _ {C : Type 0} {N : ℕ} where
   -- One seat's view changes, and so may the list and the flags: it is enough to look at each seat's own balance.
@@ -55,11 +55,11 @@ module _ {C : Type 0} {N : ℕ} where
 
     pub balanced : (lock lock' : List (Waiter C)) (flags flags' : ℕ → ℕ) → NoneIs who front →
         -- the seat of the view
-        times_in who lock' + times_among who owed' + one_if (is_due walk (flags who)) ≡ times_in who lock + times_among who owed + one_if (is_due walk' (flags' who)) →
+        times_in who lock' + times_among who owed' + one_if (is_unwoken walk (flags who)) ≡ times_in who lock + times_among who owed + one_if (is_unwoken walk' (flags' who)) →
         (has_armed walk' ≡ true → flags' who ≡ 1) →
         -- every other
         ((seat : ℕ) → who ≢ seat →
-        times_in seat lock' + times_among seat owed' + one_if (is_due (walk_at seat olds) (flags seat)) ≡ times_in seat lock + times_among seat owed + one_if (is_due (walk_at seat olds) (flags' seat))) →
+        times_in seat lock' + times_among seat owed' + one_if (is_unwoken (walk_at seat olds) (flags seat)) ≡ times_in seat lock + times_among seat owed + one_if (is_unwoken (walk_at seat olds) (flags' seat))) →
         ((seat : ℕ) → who ≢ seat → has_armed (walk_at seat olds) ≡ true → flags' seat ≡ 1) →
         ((seat : ℕ) → flags' seat ≤ 1) →
         WaitersPlaced lock flags olds → WaitersPlaced lock' flags' news
@@ -69,10 +69,10 @@ module _ {C : Type 0} {N : ℕ} where
         let stays : (seat : ℕ) → who ≢ seat → walk_at seat news ≡ walk_at seat olds = λ seat ne. walk_there seat front (view_of who walk held owed) (view_of who walk' held' owed') back ne refl in
         record {
           placed = λ seat. elim (cases_eq who seat) [
-            | inl e ↦ subst (λ s. times_in s lock' + owed_to s news ≡ one_if (is_due (walk_at s news) (flags' s))) e
-                (rw is (balance who lock lock' (is_due walk (flags who)) (is_due walk' (flags' who)) here
-                (subst (λ w. times_in who lock + owed_to who olds ≡ one_if (is_due w (flags who))) was (p.placed who))))
-            | inr ne ↦ rw (stays seat ne) (balance seat lock lock' (is_due (walk_at seat olds) (flags seat)) (is_due (walk_at seat olds) (flags' seat)) (there seat ne) (p.placed seat))
+            | inl e ↦ subst (λ s. times_in s lock' + owed_to s news ≡ one_if (is_unwoken (walk_at s news) (flags' s))) e
+                (rw is (balance who lock lock' (is_unwoken walk (flags who)) (is_unwoken walk' (flags' who)) here
+                (subst (λ w. times_in who lock + owed_to who olds ≡ one_if (is_unwoken w (flags who))) was (p.placed who))))
+            | inr ne ↦ rw (stays seat ne) (balance seat lock lock' (is_unwoken (walk_at seat olds) (flags seat)) (is_unwoken (walk_at seat olds) (flags' seat)) (there seat ne) (p.placed seat))
           ];
           armed = λ seat f. elim (cases_eq who seat) [
             | inl e ↦ subst (λ s. flags' s ≡ 1) e (set (subst (λ w. has_armed w ≡ true) is (subst (λ s. has_armed (walk_at s news) ≡ true) (sym e) f)))
@@ -85,7 +85,7 @@ module _ {C : Type 0} {N : ℕ} where
 
     -- list, flags and owed wakes stay
     pub rested : (lock : List (Waiter C)) (flags : ℕ → ℕ) → NoneIs who front → owed' ≡ owed →
-        one_if (is_due walk' (flags who)) ≡ one_if (is_due walk (flags who)) → (has_armed walk' ≡ true → has_armed walk ≡ true) →
+        one_if (is_unwoken walk' (flags who)) ≡ one_if (is_unwoken walk (flags who)) → (has_armed walk' ≡ true → has_armed walk ≡ true) →
         WaitersPlaced lock flags olds → WaitersPlaced lock flags news
     rested lock flags apart owes due set p =
         let was : walk_at who olds ≡ walk = walk_here front (view_of who walk held owed) back apart in
@@ -127,12 +127,12 @@ module _ {C : Type 0} {N : ℕ} where
         let was : walk_at who olds ≡ walk = walk_here front (view_of who walk held owed) back apart in
         let gone : times_in who (without_in who lock) ≡ 0 = times_without who lock in
         let same : times_among who owed' ≡ times_among who owed = ap (times_among who) owes in
-        let sum : times_in who lock + owed_to who olds ≡ one_if (is_due walk (flags who)) = p.placed who ∙ ap (λ w. one_if (is_due w (flags who))) was in
-        let most = one_most (is_due walk (flags who)) in
+        let sum : times_in who lock + owed_to who olds ≡ one_if (is_unwoken walk (flags who)) = p.placed who ∙ ap (λ w. one_if (is_unwoken w (flags who))) was in
+        let most = one_most (is_unwoken walk (flags who)) in
         balanced lock (without_in who lock) flags flags apart
         (elim (cases_eq (times_in who lock) 0) [
-          | inl none ↦ let due : one_if (is_due walk' (flags who)) ≡ one_if (is_due walk (flags who)) = ap (λ b. one_if (b && is_set (flags who))) (stays none) in omega (arith, gone, same, none, due)
-          | inr some ↦ let due : one_if (is_due walk' (flags who)) ≡ 0 = ap one_if (not_due walk' (flags who) (goes (omega (arith, some)))) in omega (arith, gone, same, sum, most, some, due)
+          | inl none ↦ let due : one_if (is_unwoken walk' (flags who)) ≡ one_if (is_unwoken walk (flags who)) = ap (λ b. one_if (b && is_armed (flags who))) (stays none) in omega (arith, gone, same, none, due)
+          | inr some ↦ let due : one_if (is_unwoken walk' (flags who)) ≡ 0 = ap one_if (not_due walk' (flags who) (goes (omega (arith, some)))) in omega (arith, gone, same, sum, most, some, due)
         ])
         (λ f. absurd (cc))
         (λ seat ne. rw owes (rw (times_others seat who lock ne) refl))
@@ -149,7 +149,7 @@ module _ {C : Type 0} {N : ℕ} where
         balanced lock (left_of meets lock) flags flags apart
         (rw (not_due walk (flags who) a) (rw (not_due walk' (flags who) a') (ap (λ n. n + 0) (all who))))
         (λ f. absurd (cc))
-        (λ seat ne. ap (λ n. n + one_if (is_due (walk_at seat olds) (flags seat))) (all seat))
+        (λ seat ne. ap (λ n. n + one_if (is_unwoken (walk_at seat olds) (flags seat))) (all seat))
         (λ seat ne f. p.armed seat f)
         p.flag p
 
@@ -165,8 +165,8 @@ module _ {C : Type 0} {N : ℕ} where
         λ seat. let parts = times_scan seat meets lock in let count = times_seats seat (woken_of meets lock) in let more = times_queued seat who mode c again (left_of meets lock) in
         let old : times_among seat owed ≡ 0 = rw none refl in let new : times_among seat owed' ≡ times_among seat (seats_of (woken_of meets lock)) = ap (times_among seat) owes in omega (arith, parts, count, more, old, new) in
         balanced lock lock' flags flags apart
-        (let before : one_if (is_due walk (flags who)) ≡ 0 = ap one_if (not_due walk (flags who) a) in
-        let after_all : one_if (is_due walk' (flags who)) ≡ 1 = rw a' (rw one refl) in
+        (let before : one_if (is_unwoken walk (flags who)) ≡ 0 = ap one_if (not_due walk (flags who) a) in
+        let after_all : one_if (is_unwoken walk' (flags who)) ≡ 1 = rw a' (rw one refl) in
         let self : one_if (eqb who who) ≡ 1 = ap one_if (eq-eqb who who refl) in
         let sum = all who in
         omega (arith, sum, before, after_all, self))
@@ -184,25 +184,25 @@ module _ {C : Type 0} {N : ℕ} where
     woke target lock flags apart owes a set' p =
         let was : walk_at who olds ≡ walk = walk_here front (view_of who walk held owed) back apart in
         let count : (seat : ℕ) → times_among seat owed ≡ one_if (eqb target seat) + times_among seat owed' = λ seat. ap (times_among seat) owes in
-        let due : (seat : ℕ) → target ≡ seat → one_if (is_due (walk_at seat olds) (flags seat)) ≡ 1 = λ seat e.
+        let due : (seat : ℕ) → target ≡ seat → one_if (is_unwoken (walk_at seat olds) (flags seat)) ≡ 1 = λ seat e.
         let here : times_among seat owed ≤ owed_to seat olds = owed_here seat in
         let one : times_among seat owed ≡ 1 + times_among seat owed' = count seat ∙ rw (eq-eqb target seat e) refl in
-        let most = one_most (is_due (walk_at seat olds) (flags seat)) in
-        let sum : times_in seat lock + owed_to seat olds ≡ one_if (is_due (walk_at seat olds) (flags seat)) = p.placed seat in
+        let most = one_most (is_unwoken (walk_at seat olds) (flags seat)) in
+        let sum : times_in seat lock + owed_to seat olds ≡ one_if (is_unwoken (walk_at seat olds) (flags seat)) = p.placed seat in
         omega (arith, here, one, most, sum) in
-        let each : (seat : ℕ) → times_in seat lock + times_among seat owed' + one_if (is_due (walk_at seat olds) (flags seat)) ≡ times_in seat lock + times_among seat owed + one_if (is_due (walk_at seat olds) (flags_with flags target 0 seat)) =
+        let each : (seat : ℕ) → times_in seat lock + times_among seat owed' + one_if (is_unwoken (walk_at seat olds) (flags seat)) ≡ times_in seat lock + times_among seat owed + one_if (is_unwoken (walk_at seat olds) (flags_with flags target 0 seat)) =
         λ seat. elim (cases_eq target seat) [
           | inl e ↦ let one : times_among seat owed ≡ 1 + times_among seat owed' = count seat ∙ rw (eq-eqb target seat e) refl in
-              let none : one_if (is_due (walk_at seat olds) (flags_with flags target 0 seat)) ≡ 0 = rw (eq-eqb target seat e) (rw (cleared (walk_at seat olds)) refl) in
+              let none : one_if (is_unwoken (walk_at seat olds) (flags_with flags target 0 seat)) ≡ 0 = rw (eq-eqb target seat e) (rw (cleared (walk_at seat olds)) refl) in
               omega (arith, one, none, due seat e)
           | inr ne ↦ rw (ne_eqb target seat ne) (let same : times_among seat owed ≡ times_among seat owed' = count seat ∙ rw (ne_eqb target seat ne) (omega arith) in omega (arith, same))
         ] in
         balanced lock lock flags (flags_with flags target 0) apart
-        (rw a (subst (λ w. times_in who lock + times_among who owed' + one_if (is_due w (flags who)) ≡ times_in who lock + times_among who owed + one_if (is_due w (flags_with flags target 0 who))) was (each who)))
+        (rw a (subst (λ w. times_in who lock + times_among who owed' + one_if (is_unwoken w (flags who)) ≡ times_in who lock + times_among who owed + one_if (is_unwoken w (flags_with flags target 0 who))) was (each who)))
         (λ f. absurd (cc))
         (λ seat ne. each seat)
         (λ seat ne f. elim (cases_eq target seat) [
-          | inl e ↦ let none : one_if (is_due (walk_at seat olds) (flags seat)) ≡ 0 = rw (not_due (walk_at seat olds) (flags seat) (unqueued (walk_at seat olds) f)) refl in absurd (omega (arith, none, due seat e))
+          | inl e ↦ let none : one_if (is_unwoken (walk_at seat olds) (flags seat)) ≡ 0 = rw (not_due (walk_at seat olds) (flags seat) (unqueued (walk_at seat olds) f)) refl in absurd (omega (arith, none, due seat e))
           | inr other ↦ rw (ne_eqb target seat other) (p.armed seat f)
         ])
         (λ seat. elim (eqb target seat) as (λ b. cond b 0 (flags seat) ≤ 1) [ true ↦ omega arith | false ↦ p.flag seat ]) p

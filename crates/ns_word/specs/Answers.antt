@@ -2,18 +2,18 @@
 use Rattle.std.specs.Prelude.{Bool, true, false, Option, None, Some}
 use Rattle.ns_word.specs.declared.limits.Cause.{Cause}
 use Rattle.ns_word.specs.declared.wait.Aim.{Aim}
-use Rattle.ns_word.specs.declared.wait.Aim.TheVariants.{Lock, Back as ComingBack}
+use Rattle.ns_word.specs.declared.wait.Aim.TheVariants.{ForLock, ForWait}
 use Rattle.ns_word.specs.declared.wait.Visit.{Visit}
-use Rattle.ns_word.specs.declared.wait.Visit.TheVariants.{Entry, Back}
+use Rattle.ns_word.specs.declared.wait.Visit.TheVariants.{OnEntry, OnReturn}
 use Rattle.ns_word.specs.declared.wait.WaitPlace.{WaitPlace}
-use Rattle.ns_word.specs.declared.wait.WaitPlace.TheVariants.{TestCells, TestLast, LookIn, LeaveLoad, TakeToLeave, Leave, LeaveRound}
+use Rattle.ns_word.specs.declared.wait.WaitPlace.TheVariants.{TestCells, TestLast, LookIn, LeaveLoad, TakeToLeave, Leave, AwaitWakeToLeave}
 use Rattle.ns_word.specs.declared.walk.Walk.{Walk}
-use Rattle.ns_word.specs.declared.walk.Walk.TheVariants.{AcquireLoad, Acquire, TakeToQueue, Arm, Queue, Round, Wait as Waiting}
+use Rattle.ns_word.specs.declared.walk.Walk.TheVariants.{AcquireLoad, AcquireExchange, TakeToQueue, Arm, Queue, AwaitWake, InWait}
 
 -- the condition is tested after the lock was acquired again
 abbrev pub comes_back : Visit → Bool
-comes_back Entry = false
-comes_back (Back kept) = true
+comes_back OnEntry = false
+comes_back (OnReturn kept) = true
 
 -- the place is one of a wait that has come back with the lock, and hasn't settled whether it is to answer or to queue again
 abbrev pub place_has_come_back : WaitPlace → Bool
@@ -24,7 +24,7 @@ place_has_come_back place = false
 
 -- the call is a wait that has come back with the lock, and hasn't settled whether it is to answer or to queue again
 abbrev pub has_come_back : {C : Type 0} → Walk C → Bool
-has_come_back (Waiting wait place) = place_has_come_back place
+has_come_back (InWait wait place) = place_has_come_back place
 has_come_back walk = false
 
 -- the same of a seat's place, if it is in a call
@@ -34,13 +34,13 @@ is_back (Some walk) = has_come_back walk
 
 -- what ended the wait early that this acquire is for, if it is for one and anything did
 abbrev pub cause_for : {C : Type 0} → Aim C → Option Cause
-cause_for (Lock mode) = None
-cause_for (ComingBack wait kept) = kept
+cause_for (ForLock mode) = None
+cause_for (ForWait wait kept) = kept
 
 -- what ended the wait early before the condition is tested, if anything did
 abbrev pub cause_by : Visit → Option Cause
-cause_by Entry = None
-cause_by (Back kept) = kept
+cause_by OnEntry = None
+cause_by (OnReturn kept) = kept
 
 -- what ends the wait early, by its place
 abbrev pub place_cause_kept : WaitPlace → Option Cause
@@ -49,16 +49,16 @@ place_cause_kept (TestLast visit i) = cause_by visit
 place_cause_kept (LeaveLoad cause) = Some cause
 place_cause_kept (TakeToLeave cause last) = Some cause
 place_cause_kept (Leave cause last) = Some cause
-place_cause_kept (LeaveRound cause) = Some cause
+place_cause_kept (AwaitWakeToLeave cause) = Some cause
 place_cause_kept place = None
 
 -- what ends the wait early that the call is, by its place: kept while the wait leaves the lock list, acquires the lock again and tests its condition
 abbrev pub cause_kept : {C : Type 0} → Walk C → Option Cause
 cause_kept (AcquireLoad aim woken) = cause_for aim
-cause_kept (Acquire aim woken last) = cause_for aim
+cause_kept (AcquireExchange aim woken last) = cause_for aim
 cause_kept (TakeToQueue aim woken last) = cause_for aim
 cause_kept (Arm aim woken last) = cause_for aim
 cause_kept (Queue aim woken last) = cause_for aim
-cause_kept (Round aim) = cause_for aim
-cause_kept (Waiting wait place) = place_cause_kept place
+cause_kept (AwaitWake aim) = cause_for aim
+cause_kept (InWait wait place) = place_cause_kept place
 cause_kept walk = None

@@ -5,9 +5,9 @@ use Rattle.ns_model.specs.Histories.{first_row}
 use Rattle.ns_word.specs.declared.word.Word.{Word}
 use Rattle.ns_word.specs.declared.view.SeatView.{SeatView}
 use Rattle.ns_word.specs.declared.walk.Walk.{Walk}
-use Rattle.ns_word.specs.declared.walk.Walk.TheVariants.{TryLoad, AcquireLoad, QuietCells, QuietLast, ReleaseLoad, Get, SetLoad, Wait as Waiting}
-use Rattle.ns_word.specs.declared.wait.Aim.TheVariants.{Lock}
-use Rattle.ns_word.specs.declared.wait.Visit.TheVariants.{Entry}
+use Rattle.ns_word.specs.declared.walk.Walk.TheVariants.{TryLoad, AcquireLoad, QuietCells, QuietLast, ReleaseLoad, GetLoad, SetLoad, InWait}
+use Rattle.ns_word.specs.declared.wait.Aim.TheVariants.{ForLock}
+use Rattle.ns_word.specs.declared.wait.Visit.TheVariants.{OnEntry}
 use Rattle.ns_word.specs.declared.wait.WaitPlace.TheVariants.{TestCells, TestLast}
 use Rattle.ns_word.specs.declared.act.Found.{Found}
 use Rattle.ns_model.specs.Truths.{Truths}
@@ -30,14 +30,14 @@ fresh_state {C} {N} seats = record { word = free_word; row = first_row N; lock =
 -- the first place of a call, over a row of N cells
 abbrev pub IsFirst : {C : Type 0} → ℕ → Walk C → Type 0
 IsFirst N (TryLoad mode) = Unit {0}
-IsFirst N (AcquireLoad (Lock mode) woken) = woken ≡ false
+IsFirst N (AcquireLoad (ForLock mode) woken) = woken ≡ false
 IsFirst N (QuietCells i) = i ≡ 0
 IsFirst N (QuietLast i) = i ≡ 0
-IsFirst N (ReleaseLoad leaving) = Unit {0}
-IsFirst N (Get i) = Unit {0}
+IsFirst N (ReleaseLoad releasing) = Unit {0}
+IsFirst N (GetLoad i) = Unit {0}
 IsFirst N (SetLoad i v) = Unit {0}
-IsFirst N (Waiting wait (TestCells Entry i)) = i ≡ 0
-IsFirst N (Waiting wait (TestLast Entry i)) = i ≡ 0
+IsFirst N (InWait wait (TestCells OnEntry i)) = i ≡ 0
+IsFirst N (InWait wait (TestLast OnEntry i)) = i ≡ 0
 IsFirst N walk = ⊥
 
 -- A seat whose last call is over begins one whose need is met: its place in a call changes, and nothing else.

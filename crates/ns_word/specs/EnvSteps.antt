@@ -1,17 +1,17 @@
 -- One atomic step of one seat on the clock and the notes, and what holds between any two.
 use Rattle.std.specs.Prelude.{◌≡◌, ℕ, zero, suc, ◌+◌, ◌<◌, ◌≤◌, max, min, nat_lt, Bool, true, false, if◌then◌else◌, List, [], ◌∷◌, length, replicate, Option, None, Some, IfSome, slice_get, slice_set}
 use Rattle.ns_model.specs.declared.environment.EnvEvent.{EnvEvent}
-use Rattle.ns_model.specs.declared.environment.EnvEvent.TheVariants.{Take, New, Notify as Notified, Advance as Advanced}
+use Rattle.ns_model.specs.declared.environment.EnvEvent.TheVariants.{Take, New, Notify, Advance}
 use Rattle.ns_model.specs.Environments.{NoteStanding, EnvStanding, no_note, ParentFits, but_at, notified_note, made_note, IsLegalEnv, env_after, clock_of, takes_in, expiry_in, earlier, IsEnvBySeats}
 use Rattle.ns_word.specs.declared.env_act.EnvAct.{EnvAct}
-use Rattle.ns_word.specs.declared.env_act.EnvAct.TheVariants.{LoadNext, TakeNumber as TakeNext, MakeNote as StoreNote, Notify as NotifyNote, Advance as MoveClock, LoadClock, LoadNote}
+use Rattle.ns_word.specs.declared.env_act.EnvAct.TheVariants.{LoadNext, TakeNext, StoreNote, NotifyNote, MoveClock, LoadClock, LoadNote}
 use Rattle.ns_word.specs.declared.env_act.EnvFound.{EnvFound}
-use Rattle.ns_word.specs.declared.env_act.EnvFound.TheVariants.{Next, Taken, Made, Clock, Note}
+use Rattle.ns_word.specs.declared.env_act.EnvFound.TheVariants.{NextNumber, Taken, Stored, Clock, Note}
 use Rattle.ns_word.specs.declared.env_walk.Chain.{Chain}
 use Rattle.ns_word.specs.declared.env_walk.EnvWalk.{EnvWalk}
-use Rattle.ns_word.specs.declared.env_walk.EnvWalk.TheVariants.{NextLoad, TakeNumber, MakeNote, Notify, Advance, ClockLoad, NoteLoad, ExpiryLoad}
+use Rattle.ns_word.specs.declared.env_walk.EnvWalk.TheVariants.{NextLoad, TakeNumber, MakeNote, Notifying, Advancing, ClockLoad, NoteLoad, ExpiryLoad}
 use Rattle.ns_word.specs.declared.env_walk.EnvNext.{EnvNext}
-use Rattle.ns_word.specs.declared.env_walk.EnvNext.TheVariants.{On}
+use Rattle.ns_word.specs.declared.env_walk.EnvNext.TheVariants.{Go}
 use Rattle.ns_word.specs.EnvWalks.{standing_of, state_of, env_want_of, env_got_of, env_walk_after, chain_note}
 
 -- the clock, the next note's number, and the notes
@@ -27,14 +27,14 @@ pub record EnvState : Type 0 where
 
 -- The act of the seat takes the clock and the notes from old to new, finds this, and is these events. A number past the last is no note's, so to take it is no event.
 abbrev pub EnvEffect : ℕ → EnvAct → EnvPlain → EnvFound → EnvPlain → List EnvEvent → Type 0
-EnvEffect seat LoadNext old (Next next) new events = (next ≡ old.next) × (new ≡ old) × (events ≡ [])
+EnvEffect seat LoadNext old (NextNumber next) new events = (next ≡ old.next) × (new ≡ old) × (events ≡ [])
 EnvEffect seat TakeNext old (Taken number) new events =
     (number ≡ old.next) × (new ≡ record old { next = old.next + 1 }) × (events ≡ (if nat_lt number 64 then Take seat number ∷ [] else []))
-EnvEffect seat (StoreNote note parent deadline) old Made new events =
+EnvEffect seat (StoreNote note parent deadline) old Stored new events =
     (new ≡ record old { notes = but_at note (made_note parent deadline) old.notes }) × (events ≡ New seat note parent deadline ∷ [])
-EnvEffect seat (NotifyNote note) old Made new events =
-    (new ≡ record old { notes = but_at note (notified_note (old.notes note)) old.notes }) × (events ≡ Notified seat note ∷ [])
-EnvEffect seat (MoveClock moment) old Made new events = (new ≡ record old { clock = max old.clock moment }) × (events ≡ Advanced seat moment ∷ [])
+EnvEffect seat (NotifyNote note) old Stored new events =
+    (new ≡ record old { notes = but_at note (notified_note (old.notes note)) old.notes }) × (events ≡ Notify seat note ∷ [])
+EnvEffect seat (MoveClock moment) old Stored new events = (new ≡ record old { clock = max old.clock moment }) × (events ≡ Advance seat moment ∷ [])
 EnvEffect seat LoadClock old (Clock clock) new events = (clock ≡ old.clock) × (new ≡ old) × (events ≡ [])
 EnvEffect seat (LoadNote at) old (Note note) new events = (standing_of note ≡ old.notes at) × (new ≡ old) × (events ≡ [])
 EnvEffect seat act old found new events = ⊥
@@ -42,9 +42,9 @@ EnvEffect seat act old found new events = ⊥
 -- the events that the act of the seat is, where it finds this
 abbrev pub events_of : ℕ → EnvAct → EnvFound → List EnvEvent
 events_of seat TakeNext (Taken number) = if nat_lt number 64 then Take seat number ∷ [] else []
-events_of seat (StoreNote note parent deadline) Made = New seat note parent deadline ∷ []
-events_of seat (NotifyNote note) Made = Notified seat note ∷ []
-events_of seat (MoveClock moment) Made = Advanced seat moment ∷ []
+events_of seat (StoreNote note parent deadline) Stored = New seat note parent deadline ∷ []
+events_of seat (NotifyNote note) Stored = Notify seat note ∷ []
+events_of seat (MoveClock moment) Stored = Advance seat moment ∷ []
 events_of seat act found = []
 
 -- What an act needs, that it may be made where this is the next number: its note is one of 64, and the number has room for one more.
@@ -82,8 +82,8 @@ abbrev pub AskFits : EnvStanding → ℕ → EnvWalk → Type 0
 AskFits now seat (NextLoad parent deadline) = IfMade now.notes parent
 AskFits now seat (TakeNumber parent deadline) = IfMade now.notes parent
 AskFits now seat (MakeNote note parent deadline) = (now.takers note ≡ Some seat) × ((now.notes note).made ≡ false) × ParentFits now note parent
-AskFits now seat (Notify note) = (now.notes note).made ≡ true
-AskFits now seat (Advance moment) = Unit {0}
+AskFits now seat (Notifying note) = (now.notes note).made ≡ true
+AskFits now seat (Advancing moment) = Unit {0}
 AskFits now seat (ClockLoad chain) = IfMade now.notes (chain_note chain)
 AskFits now seat (NoteLoad chain clock note) = (clock ≤ now.clock) × ((now.notes note).made ≡ true) × IfMade now.notes (chain_note chain)
 AskFits now seat (ExpiryLoad asked note least) =
@@ -120,8 +120,8 @@ abbrev pub IsFirstAsk : (ℕ → NoteStanding) → EnvWalk → Type 0
 IsFirstAsk notes (NextLoad parent deadline) = IfMade notes parent
 IsFirstAsk notes (TakeNumber parent deadline) = ⊥
 IsFirstAsk notes (MakeNote note parent deadline) = ⊥
-IsFirstAsk notes (Notify note) = (notes note).made ≡ true
-IsFirstAsk notes (Advance moment) = Unit {0}
+IsFirstAsk notes (Notifying note) = (notes note).made ≡ true
+IsFirstAsk notes (Advancing moment) = Unit {0}
 IsFirstAsk notes (ClockLoad chain) = IfMade notes (chain_note chain)
 IsFirstAsk notes (NoteLoad chain clock note) = ⊥
 IsFirstAsk notes (ExpiryLoad asked note least) = (note ≡ asked) × (least ≡ None) × ((notes asked).made ≡ true)
@@ -136,10 +136,10 @@ pub record EnvBegins (old : EnvState) (seat : ℕ) (walk : EnvWalk) (new : EnvSt
 
 -- a chain's place is followed to the next note; else the walk is where it is
 abbrev pub up_by : (ℕ → EnvNext) → EnvNext → EnvNext
-up_by follow (On (NoteLoad chain clock note)) = follow note
+up_by follow (Go (NoteLoad chain clock note)) = follow note
 up_by follow next = next
 
 -- where a chain leads from a note on, at the clock, over at most so many notes, where nothing happens meanwhile
 abbrev pub looked : ℕ → EnvPlain → Chain → ℕ → EnvNext
-looked zero plain chain note = On (NoteLoad chain plain.clock note)
+looked zero plain chain note = Go (NoteLoad chain plain.clock note)
 looked (suc most) plain chain note = up_by (looked most plain chain) (env_got_of (NoteLoad chain plain.clock note) (Note (state_of (plain.notes note))))

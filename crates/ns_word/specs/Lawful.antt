@@ -11,7 +11,7 @@ use Rattle.ns_queue.specs.Waiters.{times_in}
 use Rattle.ns_word.specs.declared.word.Word.{Word}
 use Rattle.ns_word.specs.declared.word.Bits.{Bits}
 use Rattle.ns_word.specs.declared.view.Opening.{Opening}
-use Rattle.ns_word.specs.declared.view.Opening.TheVariants.{Plain, Waited}
+use Rattle.ns_word.specs.declared.view.Opening.TheVariants.{Locked, CameBack}
 use Rattle.ns_word.specs.declared.view.Held.{Held}
 use Rattle.ns_word.specs.declared.view.SeatView.{SeatView}
 use Rattle.ns_word.specs.declared.walk.Walk.{Walk}
@@ -35,8 +35,8 @@ ReadersCounted word views = word.readers ≡ readers views
 
 -- the phase that a section comes from
 abbrev pub phase_before : {C : Type 0} → Mode → Opening C → Phase C
-phase_before mode Plain = Idle
-phase_before mode (Waited c cause) = Cond c mode
+phase_before mode Locked = Idle
+phase_before mode (CameBack c cause) = Cond c mode
 
 -- a section in hand begins where the history has left the row and its seat, its row is the row's cells, and a reader changes nothing
 pub record HeldFits {C : Type 0} {N : ℕ} (now : Standing C) (row : List ℕ) (seat : ℕ) (held : Held C N) : Type 0 where
@@ -87,16 +87,16 @@ pub record BitsTell {C : Type 0} {N : ℕ} (word : Word) (lock : List (Waiter C)
 
 -- ---- the waiters
 
-abbrev pub is_set : ℕ → Bool
-is_set flag = flag == 1
+abbrev pub is_armed : ℕ → Bool
+is_armed flag = flag == 1
 
 -- a seat waits, and its flag isn't cleared
-abbrev pub is_due : {C : Type 0} → Option (Walk C) → ℕ → Bool
-is_due walk flag = awaits walk && is_set flag
+abbrev pub is_unwoken : {C : Type 0} → Option (Walk C) → ℕ → Bool
+is_unwoken walk flag = awaits walk && is_armed flag
 
 -- Each seat that waits stands in the lock list once, or is owed one wake by one seat, or has its flag cleared and neither; every other seat stands nowhere and is owed nothing. Before it queues, a seat has set its flag.
 pub record WaitersPlaced {C : Type 0} {N : ℕ} (lock : List (Waiter C)) (flags : ℕ → ℕ) (views : List (SeatView C N)) : Type 0 where
-  pub placed : (seat : ℕ) → times_in seat lock + owed_to seat views ≡ (if is_due (walk_at seat views) (flags seat) then 1 else 0)
+  pub placed : (seat : ℕ) → times_in seat lock + owed_to seat views ≡ (if is_unwoken (walk_at seat views) (flags seat) then 1 else 0)
   pub armed : (seat : ℕ) → has_armed (walk_at seat views) ≡ true → flags seat ≡ 1
   pub flag : (seat : ℕ) → flags seat ≤ 1
 
@@ -120,16 +120,16 @@ abbrev pub DesigOnItsWay : {C : Type 0} {N : ℕ} → Word → List (Waiter C) �
 DesigOnItsWay word lock views = word.desig ≡ true → (seat : ℕ) × (is_on_way (walk_at seat views) (times_in seat lock) ≡ true)
 
 -- nobody who stands in the lock list could go on at this row, and nobody is about to stand there without a condition
-abbrev pub IsIdle : {C : Type 0} {N : ℕ} → (C → List ℕ → Bool) → List ℕ → List (Waiter C) → List (SeatView C N) → Type 0
-IsIdle holds row lock views = (has_eligible (λ c. holds c row) lock ≡ false) × (queuers views ≡ 0)
+abbrev pub NobodyCouldGoOn : {C : Type 0} {N : ℕ} → (C → List ℕ → Bool) → List ℕ → List (Waiter C) → List (SeatView C N) → Type 0
+NobodyCouldGoOn holds row lock views = (has_eligible (λ c. holds c row) lock ≡ false) × (queuers views ≡ 0)
 
 -- With no holder and nobody on its way, the waiters are idle: no seat waits that could go on.
 abbrev pub IdleWaitersFalse : {C : Type 0} {N : ℕ} → (C → List ℕ → Bool) → List ℕ → Word → List (Waiter C) → List (SeatView C N) → Type 0
-IdleWaitersFalse holds row word lock views = word.write ≡ false → word.readers ≡ 0 → word.desig ≡ false → IsIdle holds row lock views
+IdleWaitersFalse holds row word lock views = word.write ≡ false → word.readers ≡ 0 → word.desig ≡ false → NobodyCouldGoOn holds row lock views
 
 -- Where the word says that all conditions are false, they are, of the row that the history left.
 abbrev pub AllfalseTrue : {C : Type 0} {N : ℕ} → (C → List ℕ → Bool) → List ℕ → Word → List (Waiter C) → List (SeatView C N) → Type 0
-AllfalseTrue holds row word lock views = word.all_false ≡ true → IsIdle holds row lock views
+AllfalseTrue holds row word lock views = word.all_false ≡ true → NobodyCouldGoOn holds row lock views
 
 -- The law, of a lock with so many seats, with this history of all that was committed.
 pub record IsLawful {C : Type 0} {N : ℕ} (truths : Truths C) (seats : ℕ) (history : List (Event C N)) (s : State C N) : Type 0 where

@@ -1,11 +1,12 @@
 -- One atomic step of one seat.
 use Rattle.std.specs.Prelude.{◌≡◌, ◌≢◌, ℕ, Bool, true, false, nat_lt, ◌==◌, if◌then◌else◌, List, [], ◌∷◌, ◌++◌, length, Option, None, Some, IsSome, slice_index, slice_set}
 use Rattle.ns_model.specs.declared.event.Mode.TheVariants.{Write}
-use Rattle.ns_model.specs.declared.event.Answer.TheVariants.{Met as MetAnswer}
+use Rattle.ns_model.specs.declared.event.Answer.TheVariants.{Met}
 use Rattle.ns_model.specs.declared.event.Entry.{Entry}
 use Rattle.ns_model.specs.declared.event.Entry.TheVariants.{Plain, Waited}
 use Rattle.ns_model.specs.declared.event.Exit.{Exit}
-use Rattle.ns_model.specs.declared.event.Exit.TheVariants.{Plain as Released, CondWait}
+use Rattle.ns_model.specs.declared.event.Exit.TheVariants.{CondWait}
+use Rattle.ns_model.specs.declared.event.Exit.TheVariants as TheExit
 use Rattle.ns_model.specs.declared.event.Event.{Event}
 use Rattle.ns_model.specs.declared.event.Event.TheVariants.{Section}
 use Rattle.ns_model.specs.Truths.{Truths}
@@ -15,24 +16,24 @@ use Rattle.ns_queue.specs.Scans.{woken_of, left_of, tests_of}
 use Rattle.ns_word.specs.declared.word.Word.{Word}
 use Rattle.ns_word.specs.declared.limits.Limits.{Limits}
 use Rattle.ns_word.specs.declared.limits.Cause.{Cause}
-use Rattle.ns_word.specs.declared.limits.Cause.TheVariants.{Deadline, Note}
+use Rattle.ns_word.specs.declared.limits.Cause.TheVariants.{Expired, Notified}
 use Rattle.ns_word.specs.declared.wait.Wait.{Wait}
 use Rattle.ns_word.specs.declared.wait.Aim.{Aim}
-use Rattle.ns_word.specs.declared.wait.Aim.TheVariants.{Lock, Back}
-use Rattle.ns_word.specs.declared.wait.WaitPlace.TheVariants.{Queue as QueueWaiting, Leave as LeaveWaiting}
+use Rattle.ns_word.specs.declared.wait.Aim.TheVariants.{ForLock, ForWait}
+use Rattle.ns_word.specs.declared.wait.WaitPlace.TheVariants.{QueueToWait, Leave}
 use Rattle.ns_word.specs.declared.view.Opening.{Opening}
-use Rattle.ns_word.specs.declared.view.Opening.TheVariants.{Plain as Locked, Waited as CameBack}
+use Rattle.ns_word.specs.declared.view.Opening.TheVariants.{Locked, CameBack}
 use Rattle.ns_word.specs.declared.view.Held.{Held}
 use Rattle.ns_word.specs.declared.view.SeatView.{SeatView}
 use Rattle.ns_word.specs.declared.walk.Walk.{Walk}
-use Rattle.ns_word.specs.declared.walk.Walk.TheVariants.{Queue, ReleaseReturning as Returning, Wait as Waiting}
+use Rattle.ns_word.specs.declared.walk.Walk.TheVariants.{Queue, ScanAndRelease, InWait}
 use Rattle.ns_word.specs.declared.act.Change.{Change}
-use Rattle.ns_word.specs.declared.act.Change.TheVariants.{Queue as QueueSelf, Leave as LeaveSelf}
+use Rattle.ns_word.specs.declared.act.Change.TheVariants.{QueueSelf, LeaveSelf}
 use Rattle.ns_word.specs.declared.act.Act.{Act}
 use Rattle.ns_word.specs.declared.act.Act.TheVariants.{LoadWord, Acquire, TakeQueues, ReturnQueues, Release, ReleaseReturning, WaitReturning, LoadCell, JudgeQuiet, JudgeMet, StoreCell, ArmFlag, PayWake, LoadFlag, Look}
 use Rattle.ns_word.specs.declared.act.Found.{Found}
-use Rattle.ns_word.specs.declared.act.Found.TheVariants.{Word as Saw, Made, Cell, Quiet, Met, Scanned, Paid, Left, Flag, Looked}
-use Rattle.ns_word.specs.Words.{mode_left, leaving_of, may_acquire, word_acquired, word_taken, word_returned, word_released, word_released_returning}
+use Rattle.ns_word.specs.declared.act.Found.TheVariants.{Saw, Made, Cell, Quiet, Tested, Scanned, Paid, Left, Flag, Looked}
+use Rattle.ns_word.specs.Words.{mode_released, releasing_of, may_acquire, word_acquired, word_taken, word_returned, word_released, word_released_returning}
 use Rattle.ns_word.specs.Waits.{answer_of, cause_or, mode_for}
 use Rattle.ns_word.specs.Lists.{has_some, bits_of, queued}
 use Rattle.ns_word.specs.Walks.{want_of, got_of, walk_after}
@@ -57,7 +58,7 @@ pub record Part (C : Type 0) (N : ℕ) : Type 0 where
 -- How a section is said to begin in the history. The answer of a wait that came back is settled only here: met where its condition is true of the row that the section began at, else by its cause.
 abbrev pub entry_of : {C : Type 0} → (C → List ℕ → Bool) → List ℕ → Opening C → Entry C
 entry_of holds before Locked = Plain
-entry_of holds before (CameBack c cause) = Waited c (if holds c before then MetAnswer else answer_of cause)
+entry_of holds before (CameBack c cause) = Waited c (if holds c before then Met else answer_of cause)
 
 -- the event that a section is, where it ends so
 abbrev pub section_of : {C : Type 0} {N : ℕ} → (C → List ℕ → Bool) → ℕ → Held C N → Exit C → Event C N
@@ -65,8 +66,8 @@ section_of holds seat held exit = Section seat held.mode (entry_of holds held.be
 
 -- how a section begins that is acquired for this
 abbrev pub opening_for : {C : Type 0} → Aim C → Opening C
-opening_for (Lock mode) = Locked
-opening_for (Back wait kept) = CameBack wait.cond (cause_or kept)
+opening_for (ForLock mode) = Locked
+opening_for (ForWait wait kept) = CameBack wait.cond (cause_or kept)
 
 -- a section as it begins at a row
 abbrev pub newly_held : {C : Type 0} {N : ℕ} → Aim C → List ℕ → Held C N
@@ -89,8 +90,8 @@ held_after again (Some cause) held = if again then held_by cause held else held
 -- a look may show this: the deadline or the note, if it is given
 abbrev pub MayShow : Limits → Option Cause → Type 0
 MayShow limits None = Unit {0}
-MayShow limits (Some Deadline) = IsSome limits.deadline
-MayShow limits (Some Note) = IsSome limits.note
+MayShow limits (Some Expired) = IsSome limits.deadline
+MayShow limits (Some Notified) = IsSome limits.note
 
 -- the flags with one set to a value
 abbrev pub flags_with : (ℕ → ℕ) → ℕ → ℕ → ℕ → ℕ
@@ -117,9 +118,9 @@ waited_in truths seat wait again row lock = queued seat wait.mode (Some wait.con
 -- The lock list as the seat that has the queues has it in hand: what its walk does to it is done as soon as the step before is answered.
 abbrev pub in_hand : {C : Type 0} → Truths C → ℕ → Walk C → List ℕ → List (Waiter C) → List (Waiter C)
 in_hand truths seat (Queue aim woken last) row lock = queued seat (mode_for aim) None woken lock
-in_hand truths seat (Returning leaving last) row lock = left_of (meets_at truths row) lock
-in_hand truths seat (Waiting wait (QueueWaiting again last)) row lock = waited_in truths seat wait again row lock
-in_hand truths seat (Waiting wait (LeaveWaiting cause last)) row lock = without_in seat lock
+in_hand truths seat (ScanAndRelease releasing last) row lock = left_of (meets_at truths row) lock
+in_hand truths seat (InWait wait (QueueToWait again last)) row lock = waited_in truths seat wait again row lock
+in_hand truths seat (InWait wait (Leave cause last)) row lock = without_in seat lock
 in_hand truths seat walk row lock = lock
 
 -- The act of the seat takes the part old to the part new, finds this, and commits these events. An exchange is refused by a word that differs from the one last seen, and by no other.
@@ -129,8 +130,8 @@ Effect truths seat LoadWord old (Saw word) new commits = (word ≡ old.word) × 
 Effect truths seat (Acquire aim woken last) old (Saw word) new commits = (word ≡ old.word) × (word ≢ last) × (new ≡ old) × (commits ≡ [])
 Effect truths seat (TakeQueues taking last) old (Saw word) new commits = (word ≡ old.word) × (word ≢ last) × (new ≡ old) × (commits ≡ [])
 Effect truths seat (ReturnQueues change last) old (Saw word) new commits = (word ≡ old.word) × (word ≢ last) × (new ≡ old) × (commits ≡ [])
-Effect truths seat (Release leaving last) old (Saw word) new commits = (word ≡ old.word) × (word ≢ last) × (new ≡ old) × (commits ≡ [])
-Effect truths seat (ReleaseReturning leaving last) old (Saw word) new commits = (word ≡ old.word) × (word ≢ last) × (new ≡ old) × (commits ≡ [])
+Effect truths seat (Release releasing last) old (Saw word) new commits = (word ≡ old.word) × (word ≢ last) × (new ≡ old) × (commits ≡ [])
+Effect truths seat (ReleaseReturning releasing last) old (Saw word) new commits = (word ≡ old.word) × (word ≢ last) × (new ≡ old) × (commits ≡ [])
 Effect truths seat (WaitReturning wait again last) old (Saw word) new commits = (word ≡ old.word) × (word ≢ last) × (new ≡ old) × (commits ≡ [])
 -- an acquire
 Effect truths seat (Acquire aim woken last) old Made new commits =
@@ -147,29 +148,29 @@ Effect truths seat (ReturnQueues change last) old (Left stood) new commits =
     let lock = changed seat change old.lock in
     (change_found seat change old.lock ≡ Left stood) × (last ≡ old.word) × (new ≡ record old { word = word_returned (bits_of lock) last; lock = lock }) × (commits ≡ [])
 -- a release without a scan
-Effect {C} {N} truths seat (Release leaving last) old Made new commits =
-    (held : Held C N) × (old.held ≡ Some held) × (held.mode ≡ mode_left leaving) × (last ≡ old.word)
-    × (new ≡ record old { word = word_released leaving last; held = None })
-    × (commits ≡ section_of truths.holds seat held Released ∷ [])
+Effect {C} {N} truths seat (Release releasing last) old Made new commits =
+    (held : Held C N) × (old.held ≡ Some held) × (held.mode ≡ mode_released releasing) × (last ≡ old.word)
+    × (new ≡ record old { word = word_released releasing last; held = None })
+    × (commits ≡ section_of truths.holds seat held TheExit.Plain ∷ [])
 -- a release with the scan of the list: the woken are owed their wakes, the others are put back
-Effect {C} {N} truths seat (ReleaseReturning leaving last) old (Scanned owes tests) new commits =
+Effect {C} {N} truths seat (ReleaseReturning releasing last) old (Scanned owes tests) new commits =
     let woken = woken_of (meets_at truths old.row) old.lock in let stay = left_of (meets_at truths old.row) old.lock in
-    (held : Held C N) × (old.held ≡ Some held) × (held.mode ≡ mode_left leaving) × (last ≡ old.word)
-    × (new ≡ record old { word = word_released_returning leaving (has_some woken) (bits_of stay) last; lock = stay; held = None; owed = seats_of woken })
+    (held : Held C N) × (old.held ≡ Some held) × (held.mode ≡ mode_released releasing) × (last ≡ old.word)
+    × (new ≡ record old { word = word_released_returning releasing (has_some woken) (bits_of stay) last; lock = stay; held = None; owed = seats_of woken })
     × (owes ≡ has_some (seats_of woken)) × (tests ≡ tests_of truths.same (meets_at truths old.row) old.lock)
-    × (commits ≡ section_of truths.holds seat held Released ∷ [])
+    × (commits ≡ section_of truths.holds seat held TheExit.Plain ∷ [])
 -- the same by a wait, which puts itself into the list; one that queues again commits nothing
 Effect {C} {N} truths seat (WaitReturning wait again last) old (Scanned owes tests) new commits =
     let woken = woken_of (meets_at truths old.row) old.lock in let lock = waited_in truths seat wait again old.row old.lock in
     (held : Held C N) × (old.held ≡ Some held) × (held.mode ≡ wait.mode) × (last ≡ old.word)
-    × (new ≡ record old { word = word_released_returning (leaving_of wait.mode) (has_some woken) (bits_of lock) last; lock = lock; held = None; owed = seats_of woken })
+    × (new ≡ record old { word = word_released_returning (releasing_of wait.mode) (has_some woken) (bits_of lock) last; lock = lock; held = None; owed = seats_of woken })
     × (owes ≡ has_some (seats_of woken)) × (tests ≡ tests_of truths.same (meets_at truths old.row) old.lock)
     × (commits ≡ (if again then [] else section_of truths.holds seat held (CondWait wait.cond) ∷ []))
 -- the cells
 Effect truths seat (LoadCell i) old (Cell v) new commits = (v ≡ slice_index old.row i) × (new ≡ old) × (commits ≡ [])
 Effect {C} {N} truths seat (JudgeQuiet i) old (Quiet is_quiet) new commits =
     (held : Held C N) × (old.held ≡ Some held) × (is_quiet ≡ truths.quiet held.before held.row) × (new ≡ old) × (commits ≡ [])
-Effect {C} {N} truths seat (JudgeMet i c) old (Met is_met) new commits =
+Effect {C} {N} truths seat (JudgeMet i c) old (Tested is_met) new commits =
     (held : Held C N) × (old.held ≡ Some held) × (is_met ≡ truths.holds c held.row) × (new ≡ old) × (commits ≡ [])
 Effect {C} {N} truths seat (StoreCell i v) old Made new commits =
     (held : Held C N) × (old.held ≡ Some held) × (held.mode ≡ Write)
@@ -188,8 +189,8 @@ Effect truths seat act old found new commits = ⊥
 
 -- Whether the act may commit an event.
 abbrev pub IsRelease : {C : Type 0} → Act C → Type 0
-IsRelease (Release leaving last) = Unit {0}
-IsRelease (ReleaseReturning leaving last) = Unit {0}
+IsRelease (Release releasing last) = Unit {0}
+IsRelease (ReleaseReturning releasing last) = Unit {0}
 IsRelease (WaitReturning wait again last) = Unit {0}
 IsRelease act = ⊥
 

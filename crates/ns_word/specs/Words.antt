@@ -5,16 +5,16 @@ use Rattle.ns_model.specs.declared.event.Mode.TheVariants.{Write, Read}
 use Rattle.ns_model.specs.Phases.{is_write}
 use Rattle.ns_word.specs.declared.word.Word.{Word}
 use Rattle.ns_word.specs.declared.word.Bits.{Bits}
-use Rattle.ns_word.specs.declared.word.Leaving.{Leaving}
-use Rattle.ns_word.specs.declared.word.Leaving.TheVariants.{Writer, QuietWriter, Reader}
+use Rattle.ns_word.specs.declared.word.Releasing.{Releasing}
+use Rattle.ns_word.specs.declared.word.Releasing.TheVariants.{Writer, QuietWriter, Reader}
 use Rattle.ns_word.specs.declared.word.Taking.{Taking}
 use Rattle.ns_word.specs.declared.word.Taking.TheVariants.{ToChange, ToQueue}
 
 -- the mode of the section that is left
-abbrev pub mode_left : Leaving → Mode
-mode_left Writer = Write
-mode_left QuietWriter = Write
-mode_left Reader = Read
+abbrev pub mode_released : Releasing → Mode
+mode_released Writer = Write
+mode_released QuietWriter = Write
+mode_released Reader = Read
 
 -- A lock with this word may be acquired, fresh or woken: a fresh reader stands back where a writer waits.
 abbrev pub may_acquire : Mode → Bool → Word → Bool
@@ -22,14 +22,14 @@ may_acquire Write woken word = not word.write && (word.readers == 0)
 may_acquire Read woken word = not word.write && (woken || not word.writer_waits)
 
 -- nobody who waits could go on: other readers stay, or all conditions are known to be false
-abbrev pub is_excused : Leaving → Word → Bool
+abbrev pub is_excused : Releasing → Word → Bool
 is_excused Writer word = false
 is_excused QuietWriter word = word.all_false
 is_excused Reader word = nat_lt 1 word.readers || word.all_false
 
 -- A release has to look for waiters to wake.
-abbrev pub needs_scan : Leaving → Word → Bool
-needs_scan leaving word = word.waiting && not word.desig && not (is_excused leaving word)
+abbrev pub needs_scan : Releasing → Word → Bool
+needs_scan releasing word = word.waiting && not word.desig && not (is_excused releasing word)
 
 -- an acquire; one that was woken is on its way no more
 abbrev pub word_acquired : Mode → Bool → Word → Word
@@ -48,15 +48,15 @@ word_returned bits word =
     record word { spin = false; waiting = bits.waiting; cond = bits.conditional; writer_waits = bits.writer_waits; all_false = word.all_false && bits.waiting }
 
 -- a release without a scan; the row may have changed, but for a reader's and a quiet one
-abbrev pub word_released : Leaving → Word → Word
+abbrev pub word_released : Releasing → Word → Word
 word_released Writer word = record word { write = false; all_false = false }
 word_released QuietWriter word = record word { write = false }
 word_released Reader word = record word { readers = word.readers - 1 }
 
 -- the queues are put back and the section is released together, after a scan that took somebody or nobody
-abbrev pub word_released_returning : Leaving → Bool → Bits → Word → Word
-word_released_returning leaving took bits word =
-    record (word_released leaving word) {
+abbrev pub word_released_returning : Releasing → Bool → Bits → Word → Word
+word_released_returning releasing took bits word =
+    record (word_released releasing word) {
       spin = false;
       waiting = bits.waiting;
       cond = bits.conditional;
@@ -66,6 +66,6 @@ word_released_returning leaving took bits word =
     }
 
 -- how a section in this mode is released by a wait
-abbrev pub leaving_of : Mode → Leaving
-leaving_of Write = Writer
-leaving_of Read = Reader
+abbrev pub releasing_of : Mode → Releasing
+releasing_of Write = Writer
+releasing_of Read = Reader

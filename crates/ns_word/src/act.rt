@@ -4,7 +4,7 @@ ghost use Rattle.std.specs.Prelude.{◌≡◌, ⊤};
 
 use crate::limits::{Cause, Limits};
 use crate::wait::{Aim, Wait};
-use crate::word::{Leaving, Taking, Word};
+use crate::word::{Releasing, Taking, Word};
 use ns_model::event::Mode;
 use std::alloc::AllocError;
 
@@ -13,9 +13,9 @@ use std::alloc::AllocError;
 pub enum Change {
     /// One puts itself in, without condition, in this mode: at the back, or at the front if it was
     /// woken from the list before, so that it loses no turn.
-    Queue(Mode, bool),
+    QueueSelf(Mode, bool),
     /// One that waits takes itself out, if it still stands there.
-    Leave,
+    LeaveSelf,
 }
 
 /// One atomic step. Where it is a compare-exchange, the word is the one last seen. A look reads a
@@ -32,10 +32,10 @@ pub enum Act<C> {
     /// Changes the lock list in hand, puts the queues back and clears the spinlock bit.
     ReturnQueues(Change, Word),
     /// Releases the section without a scan, and commits it.
-    Release(Leaving, Word),
+    Release(Releasing, Word),
     /// Takes out of the lock list in hand those whom a scan wakes, puts the queues back, clears the
     /// spinlock bit, releases the section and commits it. The seat then owes the wakes.
-    ReleaseReturning(Leaving, Word),
+    ReleaseReturning(Releasing, Word),
     /// The same for a wait, which also puts itself into the list, with its condition: at the back,
     /// or at the front if it queues again. Where it queues again, nothing is committed.
     WaitReturning(Wait<C>, bool, Word),
@@ -72,7 +72,7 @@ impl<C: Copy> Clone for Act<C> {
 #[derive(Clone, Copy, PartialEq, Eq)]
 pub enum Found {
     /// The lock word, by a load or by a compare-exchange that failed.
-    Word(Word),
+    Saw(Word),
     /// The exchange or the store was made.
     Made,
     /// A cell's value.
@@ -80,7 +80,7 @@ pub enum Found {
     /// Whether the section in hand is quiet.
     Quiet(bool),
     /// Whether the condition is true.
-    Met(bool),
+    Tested(bool),
     /// The release with a scan was made.
     Scanned {
         /// Whether wakes are owed now.

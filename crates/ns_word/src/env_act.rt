@@ -19,13 +19,13 @@ pub enum EnvAct {
     /// Loads the number that the next note gets.
     LoadNext,
     /// Takes the number that the next note gets.
-    TakeNumber,
+    TakeNext,
     /// Stores the note of this number, with this parent and this deadline.
-    MakeNote(u8, Option<u8>, Option<u64>),
+    StoreNote(u8, Option<u8>, Option<u64>),
     /// Notifies the note.
-    Notify(u8),
+    NotifyNote(u8),
     /// Moves the clock on to the moment, or leaves it where it stands later.
-    Advance(u64),
+    MoveClock(u64),
     /// Loads the clock.
     LoadClock,
     /// Loads the note.
@@ -36,11 +36,11 @@ pub enum EnvAct {
 #[derive(Clone, Copy, PartialEq, Eq)]
 pub enum EnvFound {
     /// The next note's number.
-    Next(u8),
+    NextNumber(u8),
     /// The next note's number as it was before it was taken.
     Taken(u8),
     /// The step was made.
-    Made,
+    Stored,
     /// The clock.
     Clock(u64),
     /// A note.

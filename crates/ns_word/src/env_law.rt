@@ -10,7 +10,7 @@ ghost use Rattle.ns_word.specs.declared.env_act.EnvFound.TheVariants.{Clock, Not
 ghost use Rattle.ns_word.specs.declared.env_walk.Chain.{Chain};
 ghost use Rattle.ns_word.specs.declared.env_walk.EnvWalk.{EnvWalk};
 ghost use Rattle.ns_word.specs.declared.env_walk.EnvWalk.TheVariants.{ClockLoad, NoteLoad, ExpiryLoad};
-ghost use Rattle.ns_word.specs.declared.env_walk.EnvNext.TheVariants.{On, Done};
+ghost use Rattle.ns_word.specs.declared.env_walk.EnvNext.TheVariants.{Go, Over};
 ghost use Rattle.ns_word.specs.declared.walk.Reply.TheVariants.{Expiry};
 ghost use Rattle.ns_word.specs.EnvWalks.{env_got_of, standing_of, stopped, passed};
 ghost use Rattle.ns_word.specs.EnvSteps.{EnvPlain, EnvState, EnvStep, EnvBegins, IsLawfulEnv, Meets, fresh_asks, looked};
@@ -45,7 +45,7 @@ pub fn a_chain_finds_the_notified()
 pub fn a_chain_goes_up()
     ensures { (events : List EnvEvent) (plain : EnvPlain) (chain chain' : Chain) (clock clock' at next : ℕ) (note : NoteState) →
         Meets events plain → standing_of note ≡ plain.notes at →
-        env_got_of (NoteLoad chain clock at) (Note note) ≡ On (NoteLoad chain' clock' next) →
+        env_got_of (NoteLoad chain clock at) (Note note) ≡ Go (NoteLoad chain' clock' next) →
         (next < at) × IsMade events next }
 {}
 
@@ -61,7 +61,7 @@ pub fn a_chain_begins_at_its_clock()
 /// loaded, with a deadline that had or hadn't come by then.
 pub fn a_chain_answers_rightly()
     ensures { (point now : List EnvEvent) (state : EnvState) (chain : Chain) (clock at : ℕ) (note : NoteState) →
-        IsLawfulEnv now state → BeginsWith now point → ChainFits point now chain (On (NoteLoad chain clock at)) → standing_of note ≡ state.plain.notes at →
+        IsLawfulEnv now state → BeginsWith now point → ChainFits point now chain (Go (NoteLoad chain clock at)) → standing_of note ≡ state.plain.notes at →
         ChainFits point now chain (env_got_of (NoteLoad chain clock at) (Note note)) }
 {}
 
@@ -69,5 +69,5 @@ pub fn a_chain_answers_rightly()
 pub fn an_expiry_is_the_earliest()
     ensures { (events : List EnvEvent) (state : EnvState) (seat asked at : ℕ) (least answer : Option ℕ) (note : NoteState) →
         IsLawfulEnv events state → slice_get state.askings seat ≡ Some (Some (ExpiryLoad asked at least)) → standing_of note ≡ state.plain.notes at →
-        env_got_of (ExpiryLoad asked at least) (Note note) ≡ Done (Expiry answer) → answer ≡ expiry_of events asked }
+        env_got_of (ExpiryLoad asked at least) (Note note) ≡ Over (Expiry answer) → answer ≡ expiry_of events asked }
 {}

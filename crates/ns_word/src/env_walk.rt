@@ -29,11 +29,11 @@ use crate::walk::Reply;
 #[derive(Clone, Copy, PartialEq, Eq)]
 pub enum Chain {
     /// A wait looks whether it is to end early.
-    Look(Limits),
+    ForLook(Limits),
     /// A call asks whether the note is notified.
-    IsNotified(u8),
+    ForIsNotified(u8),
     /// A call waits for the note, at most until the deadline.
-    NoteWait(u8, Option<u64>),
+    ForNoteWait(u8, Option<u64>),
 }
 
 /// A place in a call on the clock and the notes. A moment is in ticks.
@@ -47,9 +47,9 @@ pub enum EnvWalk {
     /// This number was taken, and its note is to be stored.
     MakeNote(u8, Option<u8>, Option<u64>),
     /// The note is to be notified.
-    Notify(u8),
+    Notifying(u8),
     /// The clock is to be moved on.
-    Advance(u64),
+    Advancing(u64),
     /// The clock is to be loaded, then the chain's note, if it has one.
     ClockLoad(Chain),
     /// The clock was this, and this note of the chain is to be loaded.
@@ -63,13 +63,13 @@ pub enum EnvWalk {
 #[derive(Clone, Copy, PartialEq, Eq)]
 pub enum EnvNext {
     /// It goes on at this place.
-    On(EnvWalk),
+    Go(EnvWalk),
     /// It has to wait for another seat, and repeats from this place.
-    Idle(EnvWalk),
+    Repeat(EnvWalk),
     /// The call is over.
-    Done(Reply),
+    Over(Reply),
     /// The look is over, and shows what ends the wait, if anything does.
-    Saw(Option<Cause>),
+    Shown(Option<Cause>),
 }
 
 /// Whether the clock has come to the deadline. Where there is none, it never has.
@@ -106,9 +106,9 @@ impl Chain {
         ensures { result ≡ chain_note self }
     {
         match self {
-            Chain::Look(limits) => limits.note,
-            Chain::IsNotified(note) => Some(note),
-            Chain::NoteWait(note, _) => Some(note),
+            Chain::ForLook(limits) => limits.note,
+            Chain::ForIsNotified(note) => Some(note),
+            Chain::ForNoteWait(note, _) => Some(note),
         }
     }
 
@@ -117,9 +117,9 @@ impl Chain {
         ensures { result ≡ stopped self }
     {
         match self {
-            Chain::Look(_) => EnvNext::Saw(Some(Cause::Note)),
-            Chain::IsNotified(_) => EnvNext::Done(Reply::Is(true)),
-            Chain::NoteWait(_, _) => EnvNext::Done(Reply::Is(true)),
+            Chain::ForLook(_) => EnvNext::Shown(Some(Cause::Notified)),
+            Chain::ForIsNotified(_) => EnvNext::Over(Reply::Is(true)),
+            Chain::ForNoteWait(_, _) => EnvNext::Over(Reply::Is(true)),
         }
     }
 
@@ -128,19 +128,19 @@ impl Chain {
         ensures { result ≡ passed self clock }
     {
         match self {
-            Chain::Look(limits) => {
+            Chain::ForLook(limits) => {
                 if is_due(clock, limits.deadline) {
-                    EnvNext::Saw(Some(Cause::Deadline))
+                    EnvNext::Shown(Some(Cause::Expired))
                 } else {
-                    EnvNext::Saw(None)
+                    EnvNext::Shown(None)
                 }
             }
-            Chain::IsNotified(_) => EnvNext::Done(Reply::Is(false)),
-            Chain::NoteWait(note, deadline) => {
+            Chain::ForIsNotified(_) => EnvNext::Over(Reply::Is(false)),
+            Chain::ForNoteWait(note, deadline) => {
                 if is_due(clock, deadline) {
-                    EnvNext::Done(Reply::Is(false))
+                    EnvNext::Over(Reply::Is(false))
                 } else {
-                    EnvNext::Idle(EnvWalk::ClockLoad(Chain::NoteWait(note, deadline)))
+                    EnvNext::Repeat(EnvWalk::ClockLoad(Chain::ForNoteWait(note, deadline)))
                 }
             }
         }
@@ -152,7 +152,7 @@ impl Chain {
     {
         match note {
             None => self.passed(clock),
-            Some(next) => EnvNext::On(EnvWalk::NoteLoad(self, clock, next)),
+            Some(next) => EnvNext::Go(EnvWalk::NoteLoad(self, clock, next)),
         }
     }
 }
@@ -162,8 +162,8 @@ fn lowered_to(asked: u8, note: Option<u8>, least: Option<u64>) -> EnvNext
     ensures { result ≡ lowered_to asked note least }
 {
     match note {
-        None => EnvNext::Done(Reply::Expiry(least)),
-        Some(next) => EnvNext::On(EnvWalk::ExpiryLoad(asked, next, least)),
+        None => EnvNext::Over(Reply::Expiry(least)),
+        Some(next) => EnvNext::Go(EnvWalk::ExpiryLoad(asked, next, least)),
     }
 }
 
@@ -174,10 +174,10 @@ impl EnvWalk {
     {
         match *self {
             EnvWalk::NextLoad(_, _) => EnvAct::LoadNext,
-            EnvWalk::TakeNumber(_, _) => EnvAct::TakeNumber,
-            EnvWalk::MakeNote(note, parent, deadline) => EnvAct::MakeNote(note, parent, deadline),
-            EnvWalk::Notify(note) => EnvAct::Notify(note),
-            EnvWalk::Advance(moment) => EnvAct::Advance(moment),
+            EnvWalk::TakeNumber(_, _) => EnvAct::TakeNext,
+            EnvWalk::MakeNote(note, parent, deadline) => EnvAct::StoreNote(note, parent, deadline),
+            EnvWalk::Notifying(note) => EnvAct::NotifyNote(note),
+            EnvWalk::Advancing(moment) => EnvAct::MoveClock(moment),
             EnvWalk::ClockLoad(_) => EnvAct::LoadClock,
             EnvWalk::NoteLoad(_, _, note) => EnvAct::LoadNote(note),
             EnvWalk::ExpiryLoad(_, note, _) => EnvAct::LoadNote(note),
@@ -190,9 +190,9 @@ impl EnvWalk {
         ensures { result ≡ env_got_of self found }
     {
         match found {
-            EnvFound::Next(next) => self.got_next(next),
+            EnvFound::NextNumber(next) => self.got_next(next),
             EnvFound::Taken(number) => self.got_taken(number),
-            EnvFound::Made => self.got_made(),
+            EnvFound::Stored => self.got_made(),
             EnvFound::Clock(clock) => self.got_clock(clock),
             EnvFound::Note(note) => self.got_note(note),
         }
@@ -200,17 +200,17 @@ impl EnvWalk {
 
     /// Where the walk goes with the next note's number.
     fn got_next(self, next: u8) -> EnvNext
-        ensures { result ≡ env_got_of self (EnvFound.Next next) }
+        ensures { result ≡ env_got_of self (EnvFound.NextNumber next) }
     {
         match self {
             EnvWalk::NextLoad(parent, deadline) => {
                 if next < 64 {
-                    EnvNext::On(EnvWalk::TakeNumber(parent, deadline))
+                    EnvNext::Go(EnvWalk::TakeNumber(parent, deadline))
                 } else {
-                    EnvNext::Done(Reply::NotesFull)
+                    EnvNext::Over(Reply::NotesFull)
                 }
             }
-            walk => EnvNext::On(walk),
+            walk => EnvNext::Go(walk),
         }
     }
 
@@ -221,24 +221,24 @@ impl EnvWalk {
         match self {
             EnvWalk::TakeNumber(parent, deadline) => {
                 if number < 64 {
-                    EnvNext::On(EnvWalk::MakeNote(number, parent, deadline))
+                    EnvNext::Go(EnvWalk::MakeNote(number, parent, deadline))
                 } else {
-                    EnvNext::Done(Reply::NotesFull)
+                    EnvNext::Over(Reply::NotesFull)
                 }
             }
-            walk => EnvNext::On(walk),
+            walk => EnvNext::Go(walk),
         }
     }
 
     /// Where the walk goes when its step was made.
     fn got_made(self) -> EnvNext
-        ensures { result ≡ env_got_of self EnvFound.Made }
+        ensures { result ≡ env_got_of self EnvFound.Stored }
     {
         match self {
-            EnvWalk::MakeNote(note, _, _) => EnvNext::Done(Reply::Number(note as u64)),
-            EnvWalk::Notify(_) => EnvNext::Done(Reply::Ok),
-            EnvWalk::Advance(_) => EnvNext::Done(Reply::Ok),
-            walk => EnvNext::On(walk),
+            EnvWalk::MakeNote(note, _, _) => EnvNext::Over(Reply::Number(note as u64)),
+            EnvWalk::Notifying(_) => EnvNext::Over(Reply::Succeeded),
+            EnvWalk::Advancing(_) => EnvNext::Over(Reply::Succeeded),
+            walk => EnvNext::Go(walk),
         }
     }
 
@@ -248,7 +248,7 @@ impl EnvWalk {
     {
         match self {
             EnvWalk::ClockLoad(chain) => chain.up_to(clock, chain.note()),
-            walk => EnvNext::On(walk),
+            walk => EnvNext::Go(walk),
         }
     }
 
@@ -267,7 +267,7 @@ impl EnvWalk {
             EnvWalk::ExpiryLoad(asked, _, least) => {
                 lowered_to(asked, note.parent, earlier(least, note.deadline))
             }
-            walk => EnvNext::On(walk),
+            walk => EnvNext::Go(walk),
         }
     }
 }

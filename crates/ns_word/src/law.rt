@@ -14,7 +14,7 @@ ghost use Rattle.ns_word.specs.declared.wait.WaitPlace.{WaitPlace};
 ghost use Rattle.ns_word.specs.declared.view.Held.{Held};
 ghost use Rattle.ns_word.specs.declared.view.SeatView.{SeatView};
 ghost use Rattle.ns_word.specs.declared.walk.Walk.{Walk};
-ghost use Rattle.ns_word.specs.declared.walk.Walk.TheVariants.{Wait as Waiting};
+ghost use Rattle.ns_word.specs.declared.walk.Walk.TheVariants.{InWait};
 ghost use Rattle.ns_word.specs.declared.walk.Next.TheVariants.{Done};
 ghost use Rattle.ns_word.specs.declared.walk.Reply.TheVariants.{Answered};
 ghost use Rattle.ns_word.specs.declared.act.Found.{Found};
@@ -111,7 +111,7 @@ pub fn first_steps_tell_no_other<C: Condition<N>, const N: usize>()
 pub fn waits_answer_rightly<C: Condition<N>, const N: usize>()
     ensures { (seats : ℕ) (history : List (Event C N)) (old new : State C N) (view : SeatView C N) (found : Found) (commits : List (Event C N)) (wait : Wait C) (place : WaitPlace) (answer : Answer) →
         (step : Step C.means old view found new commits) →
-        IsLawful C.means seats history old → step.walk ≡ Waiting wait place → got_of N step.walk found ≡ Done (Answered answer) →
+        IsLawful C.means seats history old → step.walk ≡ InWait wait place → got_of N step.walk found ≡ Done (Answered answer) →
         (held : Held C N) × (step.held ≡ Some held) × (held.mode ≡ wait.mode) × (is_met answer ≡ C.means.holds wait.cond held.row)
         × (has_come_back step.walk ≡ true → entry_of C.means.holds held.before held.entry ≡ Waited wait.cond answer) }
 {}

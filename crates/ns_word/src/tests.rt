@@ -7,7 +7,7 @@ use crate::codec::{BadWord, decode, encode};
 use crate::limits::{Cause, Limits};
 use crate::wait::{Aim, Visit, Wait, WaitPlace};
 use crate::walk::{Next, Reply, Walk};
-use crate::word::{Bits, Leaving, Taking, Word};
+use crate::word::{Bits, Releasing, Taking, Word};
 use ns_model::event::{Answer, Mode};
 
 /// A walk from a place on, over a row of two cells: what it wants, what that finds, and where it
@@ -57,89 +57,89 @@ const CONDITIONAL_TAKEN: Word = Word {
 const WALKS: [WalkRow; 9] = [
     // a free lock is acquired
     (
-        Walk::AcquireLoad(Aim::Lock(Mode::Write), false),
+        Walk::AcquireLoad(Aim::ForLock(Mode::Write), false),
         &[
             (
                 Act::LoadWord,
-                Found::Word(Word::FREE),
-                Next::On(Walk::Acquire(Aim::Lock(Mode::Write), false, Word::FREE)),
+                Found::Saw(Word::FREE),
+                Next::On(Walk::AcquireExchange(Aim::ForLock(Mode::Write), false, Word::FREE)),
             ),
             (
-                Act::Acquire(Aim::Lock(Mode::Write), false, Word::FREE),
+                Act::Acquire(Aim::ForLock(Mode::Write), false, Word::FREE),
                 Found::Made,
-                Next::Done(Reply::Ok),
+                Next::Done(Reply::Succeeded),
             ),
         ],
     ),
     // a fresh reader stands back where a writer waits, and passes it once it was woken
     (
-        Walk::AcquireLoad(Aim::Lock(Mode::Read), false),
+        Walk::AcquireLoad(Aim::ForLock(Mode::Read), false),
         &[
             (
                 Act::LoadWord,
-                Found::Word(STOOD_BACK),
-                Next::On(Walk::TakeToQueue(Aim::Lock(Mode::Read), false, STOOD_BACK)),
+                Found::Saw(STOOD_BACK),
+                Next::On(Walk::TakeToQueue(Aim::ForLock(Mode::Read), false, STOOD_BACK)),
             ),
             (
                 Act::TakeQueues(Taking::ToQueue(Mode::Read, false), STOOD_BACK),
                 Found::Made,
-                Next::On(Walk::Arm(Aim::Lock(Mode::Read), false, STOOD_BACK_TAKEN)),
+                Next::On(Walk::Arm(Aim::ForLock(Mode::Read), false, STOOD_BACK_TAKEN)),
             ),
             (
                 Act::ArmFlag,
                 Found::Made,
-                Next::On(Walk::Queue(Aim::Lock(Mode::Read), false, STOOD_BACK_TAKEN)),
+                Next::On(Walk::Queue(Aim::ForLock(Mode::Read), false, STOOD_BACK_TAKEN)),
             ),
             (
-                Act::ReturnQueues(Change::Queue(Mode::Read, false), STOOD_BACK_TAKEN),
-                Found::Word(CONDITIONAL_TAKEN),
-                Next::On(Walk::Queue(Aim::Lock(Mode::Read), false, CONDITIONAL_TAKEN)),
+                Act::ReturnQueues(Change::QueueSelf(Mode::Read, false), STOOD_BACK_TAKEN),
+                Found::Saw(CONDITIONAL_TAKEN),
+                Next::On(Walk::Queue(Aim::ForLock(Mode::Read), false, CONDITIONAL_TAKEN)),
             ),
             (
-                Act::ReturnQueues(Change::Queue(Mode::Read, false), CONDITIONAL_TAKEN),
+                Act::ReturnQueues(Change::QueueSelf(Mode::Read, false), CONDITIONAL_TAKEN),
                 Found::Made,
-                Next::On(Walk::Round(Aim::Lock(Mode::Read))),
+                Next::On(Walk::AwaitWake(Aim::ForLock(Mode::Read))),
             ),
             (
                 Act::LoadFlag,
                 Found::Flag(1),
-                Next::Idle(Walk::Round(Aim::Lock(Mode::Read))),
+                Next::Idle(Walk::AwaitWake(Aim::ForLock(Mode::Read))),
             ),
             (
                 Act::LoadFlag,
                 Found::Flag(0),
-                Next::On(Walk::AcquireLoad(Aim::Lock(Mode::Read), true)),
+                Next::On(Walk::AcquireLoad(Aim::ForLock(Mode::Read), true)),
             ),
             (
                 Act::LoadWord,
-                Found::Word(STOOD_BACK),
-                Next::On(Walk::Acquire(Aim::Lock(Mode::Read), true, STOOD_BACK)),
+                Found::Saw(STOOD_BACK),
+                Next::On(Walk::AcquireExchange(Aim::ForLock(Mode::Read), true, STOOD_BACK)),
             ),
             (
-                Act::Acquire(Aim::Lock(Mode::Read), true, STOOD_BACK),
+                Act::Acquire(Aim::ForLock(Mode::Read), true, STOOD_BACK),
                 Found::Made,
-                Next::Done(Reply::Ok),
+                Next::Done(Reply::Succeeded),
             ),
         ],
     ),
     // one that can't queue while another has the queues is idle
     (
-        Walk::AcquireLoad(Aim::Lock(Mode::Write), true),
+        Walk::AcquireLoad(Aim::ForLock(Mode::Write), true),
         &[
             (
                 Act::LoadWord,
-                Found::Word(STOOD_BACK_TAKEN),
-                Next::Idle(Walk::AcquireLoad(Aim::Lock(Mode::Write), true)),
+                Found::Saw(STOOD_BACK_TAKEN),
+                Next::Idle(Walk::AcquireLoad(Aim::ForLock(Mode::Write), true)),
             ),
             (
                 Act::LoadWord,
-                Found::Word(STOOD_BACK),
-                Next::On(Walk::TakeToQueue(Aim::Lock(Mode::Write), true, STOOD_BACK)),
+                Found::Saw(STOOD_BACK),
+                Next::On(Walk::TakeToQueue(Aim::ForLock(Mode::Write), true, STOOD_BACK)),
             ),
             (
                 Act::TakeQueues(Taking::ToQueue(Mode::Write, true), STOOD_BACK),
-                Found::Word(Word::FREE),
-                Next::On(Walk::Acquire(Aim::Lock(Mode::Write), true, Word::FREE)),
+                Found::Saw(Word::FREE),
+                Next::On(Walk::AcquireExchange(Aim::ForLock(Mode::Write), true, Word::FREE)),
             ),
         ],
     ),
@@ -149,12 +149,12 @@ const WALKS: [WalkRow; 9] = [
         &[
             (
                 Act::LoadWord,
-                Found::Word(Word::FREE),
+                Found::Saw(Word::FREE),
                 Next::On(Walk::TryAcquire(Mode::Write, Word::FREE)),
             ),
             (
-                Act::Acquire(Aim::Lock(Mode::Write), false, Word::FREE),
-                Found::Word(WRITING),
+                Act::Acquire(Aim::ForLock(Mode::Write), false, Word::FREE),
+                Found::Saw(WRITING),
                 Next::Done(Reply::Busy),
             ),
         ],
@@ -163,41 +163,41 @@ const WALKS: [WalkRow; 9] = [
         Walk::TryLoad(Mode::Read),
         &[(
             Act::LoadWord,
-            Found::Word(STOOD_BACK),
+            Found::Saw(STOOD_BACK),
             Next::Done(Reply::Busy),
         )],
     ),
     // a release that scans, looks again where it lost the exchange, and pays two wakes
     (
-        Walk::ReleaseLoad(Leaving::Writer),
+        Walk::ReleaseLoad(Releasing::Writer),
         &[
             (
                 Act::LoadWord,
-                Found::Word(CONDITIONAL),
-                Next::On(Walk::TakeToScan(Leaving::Writer, CONDITIONAL)),
+                Found::Saw(CONDITIONAL),
+                Next::On(Walk::TakeToScan(Releasing::Writer, CONDITIONAL)),
             ),
             (
                 Act::TakeQueues(Taking::ToChange, CONDITIONAL),
                 Found::Made,
-                Next::On(Walk::ScanCells(Leaving::Writer, CONDITIONAL_TAKEN, 0)),
+                Next::On(Walk::ScanCells(Releasing::Writer, CONDITIONAL_TAKEN, 0)),
             ),
             (
                 Act::LoadCell(0),
                 Found::Cell(7),
-                Next::On(Walk::ScanCells(Leaving::Writer, CONDITIONAL_TAKEN, 1)),
+                Next::On(Walk::ScanCells(Releasing::Writer, CONDITIONAL_TAKEN, 1)),
             ),
             (
                 Act::LoadCell(1),
                 Found::Cell(0),
-                Next::On(Walk::ReleaseReturning(Leaving::Writer, CONDITIONAL_TAKEN)),
+                Next::On(Walk::ScanAndRelease(Releasing::Writer, CONDITIONAL_TAKEN)),
             ),
             (
-                Act::ReleaseReturning(Leaving::Writer, CONDITIONAL_TAKEN),
-                Found::Word(STOOD_BACK_TAKEN),
-                Next::On(Walk::ReleaseReturning(Leaving::Writer, STOOD_BACK_TAKEN)),
+                Act::ReleaseReturning(Releasing::Writer, CONDITIONAL_TAKEN),
+                Found::Saw(STOOD_BACK_TAKEN),
+                Next::On(Walk::ScanAndRelease(Releasing::Writer, STOOD_BACK_TAKEN)),
             ),
             (
-                Act::ReleaseReturning(Leaving::Writer, STOOD_BACK_TAKEN),
+                Act::ReleaseReturning(Releasing::Writer, STOOD_BACK_TAKEN),
                 Found::Scanned {
                     owes: true,
                     tests: 1,
@@ -212,26 +212,26 @@ const WALKS: [WalkRow; 9] = [
             (
                 Act::PayWake,
                 Found::Paid { owes: false },
-                Next::Done(Reply::Ok),
+                Next::Done(Reply::Succeeded),
             ),
         ],
     ),
     // a release that scans and wakes nobody, with no condition to test
     (
-        Walk::TakeToScan(Leaving::Reader, STOOD_BACK),
+        Walk::TakeToScan(Releasing::Reader, STOOD_BACK),
         &[
             (
                 Act::TakeQueues(Taking::ToChange, STOOD_BACK),
                 Found::Made,
-                Next::On(Walk::ReleaseReturning(Leaving::Reader, STOOD_BACK_TAKEN)),
+                Next::On(Walk::ScanAndRelease(Releasing::Reader, STOOD_BACK_TAKEN)),
             ),
             (
-                Act::ReleaseReturning(Leaving::Reader, STOOD_BACK_TAKEN),
+                Act::ReleaseReturning(Releasing::Reader, STOOD_BACK_TAKEN),
                 Found::Scanned {
                     owes: false,
                     tests: 0,
                 },
-                Next::Done(Reply::Ok),
+                Next::Done(Reply::Succeeded),
             ),
         ],
     ),
@@ -247,7 +247,7 @@ const WALKS: [WalkRow; 9] = [
             (
                 Act::JudgeQuiet(1),
                 Found::Quiet(true),
-                Next::On(Walk::ReleaseLoad(Leaving::QuietWriter)),
+                Next::On(Walk::ReleaseLoad(Releasing::QuietWriter)),
             ),
         ],
     ),
@@ -286,84 +286,84 @@ const PATIENT: Wait<bool> = Wait {
 const WAITS: [WalkRow; 8] = [
     // a condition that is true as the call begins is answered with nothing released
     (
-        Walk::Wait(TIMED, WaitPlace::TestCells(Visit::Entry, 0)),
+        Walk::InWait(TIMED, WaitPlace::TestCells(Visit::OnEntry, 0)),
         &[
             (
                 Act::LoadCell(0),
                 Found::Cell(4),
-                Next::On(Walk::Wait(TIMED, WaitPlace::TestLast(Visit::Entry, 1))),
+                Next::On(Walk::InWait(TIMED, WaitPlace::TestLast(Visit::OnEntry, 1))),
             ),
             (
                 Act::JudgeMet(1, true),
-                Found::Met(true),
+                Found::Tested(true),
                 Next::Done(Reply::Answered(Answer::Met)),
             ),
         ],
     ),
     // and so is what a look shows then
     (
-        Walk::Wait(TIMED, WaitPlace::TestLast(Visit::Entry, 1)),
+        Walk::InWait(TIMED, WaitPlace::TestLast(Visit::OnEntry, 1)),
         &[
             (
                 Act::JudgeMet(1, true),
-                Found::Met(false),
-                Next::On(Walk::Wait(TIMED, WaitPlace::LookIn(false))),
+                Found::Tested(false),
+                Next::On(Walk::InWait(TIMED, WaitPlace::LookIn(false))),
             ),
             (
                 Act::Look(LIMITS, false),
-                Found::Looked(Some(Cause::Note)),
+                Found::Looked(Some(Cause::Notified)),
                 Next::Done(Reply::Answered(Answer::Canceled)),
             ),
         ],
     ),
     // it queues, scans, pays a wake, and is woken
     (
-        Walk::Wait(TIMED, WaitPlace::LookIn(false)),
+        Walk::InWait(TIMED, WaitPlace::LookIn(false)),
         &[
             (
                 Act::Look(LIMITS, false),
                 Found::Looked(None),
-                Next::On(Walk::Wait(TIMED, WaitPlace::Load(false))),
+                Next::On(Walk::InWait(TIMED, WaitPlace::Load(false))),
             ),
             (
                 Act::LoadWord,
-                Found::Word(CONDITIONAL_TAKEN),
-                Next::Idle(Walk::Wait(TIMED, WaitPlace::Load(false))),
+                Found::Saw(CONDITIONAL_TAKEN),
+                Next::Idle(Walk::InWait(TIMED, WaitPlace::Load(false))),
             ),
             (
                 Act::LoadWord,
-                Found::Word(CONDITIONAL),
-                Next::On(Walk::Wait(TIMED, WaitPlace::Take(false, CONDITIONAL))),
+                Found::Saw(CONDITIONAL),
+                Next::On(Walk::InWait(TIMED, WaitPlace::Take(false, CONDITIONAL))),
             ),
             (
                 Act::TakeQueues(Taking::ToChange, CONDITIONAL),
-                Found::Word(CONTENDED),
-                Next::On(Walk::Wait(TIMED, WaitPlace::Take(false, CONTENDED))),
+                Found::Saw(CONTENDED),
+                Next::On(Walk::InWait(TIMED, WaitPlace::Take(false, CONTENDED))),
             ),
             (
                 Act::TakeQueues(Taking::ToChange, CONTENDED),
-                Found::Word(CONDITIONAL_TAKEN),
-                Next::Idle(Walk::Wait(TIMED, WaitPlace::Load(false))),
+                Found::Saw(CONDITIONAL_TAKEN),
+                Next::Idle(Walk::InWait(TIMED, WaitPlace::Load(false))),
             ),
         ],
     ),
     (
-        Walk::Wait(TIMED, WaitPlace::Take(false, CONDITIONAL)),
+        Walk::InWait(TIMED, WaitPlace::Take(false, CONDITIONAL)),
         &[
             (
                 Act::TakeQueues(Taking::ToChange, CONDITIONAL),
                 Found::Made,
-                Next::On(Walk::Wait(TIMED, WaitPlace::Arm(false, CONDITIONAL_TAKEN))),
+                Next::On(Walk::InWait(TIMED, WaitPlace::ArmToWait(false, CONDITIONAL_TAKEN))),
             ),
             (
                 Act::ArmFlag,
                 Found::Made,
-                Next::On(Walk::Wait(TIMED, WaitPlace::Queue(false, CONDITIONAL_TAKEN))),
+                Next::On(Walk::InWait(TIMED, WaitPlace::QueueToWait(false, CONDITIONAL_TAKEN))),
             ),
             (
                 Act::WaitReturning(TIMED, false, CONDITIONAL_TAKEN),
-                Found::Word(STOOD_BACK_TAKEN),
-                Next::On(Walk::Wait(TIMED, WaitPlace::Queue(false, STOOD_BACK_TAKEN))),
+                Found::Saw(STOOD_BACK_TAKEN),
+                Next::On(Walk::InWait(TIMED, WaitPlace::QueueToWait(false, STOOD_BACK_TAKEN))),
             ),
             (
                 Act::WaitReturning(TIMED, false, STOOD_BACK_TAKEN),
@@ -371,191 +371,191 @@ const WAITS: [WalkRow; 8] = [
                     owes: true,
                     tests: 1,
                 },
-                Next::On(Walk::Wait(TIMED, WaitPlace::Pay)),
+                Next::On(Walk::InWait(TIMED, WaitPlace::PayInWait)),
             ),
             (
                 Act::PayWake,
                 Found::Paid { owes: false },
-                Next::On(Walk::Wait(TIMED, WaitPlace::Round)),
+                Next::On(Walk::InWait(TIMED, WaitPlace::AwaitWakeInWait)),
             ),
             (
                 Act::LoadFlag,
                 Found::Flag(0),
-                Next::On(Walk::AcquireLoad(Aim::Back(TIMED, None), true)),
+                Next::On(Walk::AcquireLoad(Aim::ForWait(TIMED, None), true)),
             ),
             (
                 Act::LoadWord,
-                Found::Word(Word::FREE),
-                Next::On(Walk::Acquire(Aim::Back(TIMED, None), true, Word::FREE)),
+                Found::Saw(Word::FREE),
+                Next::On(Walk::AcquireExchange(Aim::ForWait(TIMED, None), true, Word::FREE)),
             ),
             (
-                Act::Acquire(Aim::Back(TIMED, None), true, Word::FREE),
+                Act::Acquire(Aim::ForWait(TIMED, None), true, Word::FREE),
                 Found::Made,
-                Next::On(Walk::Wait(TIMED, WaitPlace::TestCells(Visit::Back(None), 0))),
+                Next::On(Walk::InWait(TIMED, WaitPlace::TestCells(Visit::OnReturn(None), 0))),
             ),
         ],
     ),
     // woken in vain, it looks, and queues again
     (
-        Walk::Wait(TIMED, WaitPlace::TestLast(Visit::Back(None), 1)),
+        Walk::InWait(TIMED, WaitPlace::TestLast(Visit::OnReturn(None), 1)),
         &[
             (
                 Act::JudgeMet(1, true),
-                Found::Met(false),
-                Next::On(Walk::Wait(TIMED, WaitPlace::LookIn(true))),
+                Found::Tested(false),
+                Next::On(Walk::InWait(TIMED, WaitPlace::LookIn(true))),
             ),
             (
                 Act::Look(LIMITS, true),
                 Found::Looked(None),
-                Next::On(Walk::Wait(TIMED, WaitPlace::Load(true))),
+                Next::On(Walk::InWait(TIMED, WaitPlace::Load(true))),
             ),
             (
                 Act::LoadWord,
-                Found::Word(WRITING),
-                Next::On(Walk::Wait(TIMED, WaitPlace::Take(true, WRITING))),
+                Found::Saw(WRITING),
+                Next::On(Walk::InWait(TIMED, WaitPlace::Take(true, WRITING))),
             ),
         ],
     ),
     // its deadline passes, and it leaves the list
     (
-        Walk::Wait(TIMED, WaitPlace::Round),
+        Walk::InWait(TIMED, WaitPlace::AwaitWakeInWait),
         &[
             (
                 Act::LoadFlag,
                 Found::Flag(1),
-                Next::On(Walk::Wait(TIMED, WaitPlace::LookOut)),
+                Next::On(Walk::InWait(TIMED, WaitPlace::LookOut)),
             ),
             (
                 Act::Look(LIMITS, false),
                 Found::Looked(None),
-                Next::Idle(Walk::Wait(TIMED, WaitPlace::Round)),
+                Next::Idle(Walk::InWait(TIMED, WaitPlace::AwaitWakeInWait)),
             ),
             (
                 Act::LoadFlag,
                 Found::Flag(1),
-                Next::On(Walk::Wait(TIMED, WaitPlace::LookOut)),
+                Next::On(Walk::InWait(TIMED, WaitPlace::LookOut)),
             ),
             (
                 Act::Look(LIMITS, false),
-                Found::Looked(Some(Cause::Deadline)),
-                Next::On(Walk::Wait(TIMED, WaitPlace::LeaveLoad(Cause::Deadline))),
+                Found::Looked(Some(Cause::Expired)),
+                Next::On(Walk::InWait(TIMED, WaitPlace::LeaveLoad(Cause::Expired))),
             ),
             (
                 Act::LoadWord,
-                Found::Word(CONDITIONAL),
-                Next::On(Walk::Wait(TIMED, WaitPlace::TakeToLeave(Cause::Deadline, CONDITIONAL))),
+                Found::Saw(CONDITIONAL),
+                Next::On(Walk::InWait(TIMED, WaitPlace::TakeToLeave(Cause::Expired, CONDITIONAL))),
             ),
             (
                 Act::TakeQueues(Taking::ToChange, CONDITIONAL),
                 Found::Made,
-                Next::On(Walk::Wait(TIMED, WaitPlace::Leave(Cause::Deadline, CONDITIONAL_TAKEN))),
+                Next::On(Walk::InWait(TIMED, WaitPlace::Leave(Cause::Expired, CONDITIONAL_TAKEN))),
             ),
             (
-                Act::ReturnQueues(Change::Leave, CONDITIONAL_TAKEN),
+                Act::ReturnQueues(Change::LeaveSelf, CONDITIONAL_TAKEN),
                 Found::Left(true),
-                Next::On(Walk::AcquireLoad(Aim::Back(TIMED, Some(Cause::Deadline)), false)),
+                Next::On(Walk::AcquireLoad(Aim::ForWait(TIMED, Some(Cause::Expired)), false)),
             ),
         ],
     ),
     // or finds itself already taken, and waits for its wake
     (
-        Walk::Wait(TIMED, WaitPlace::Leave(Cause::Note, CONDITIONAL_TAKEN)),
+        Walk::InWait(TIMED, WaitPlace::Leave(Cause::Notified, CONDITIONAL_TAKEN)),
         &[
             (
-                Act::ReturnQueues(Change::Leave, CONDITIONAL_TAKEN),
-                Found::Word(STOOD_BACK_TAKEN),
-                Next::On(Walk::Wait(TIMED, WaitPlace::Leave(Cause::Note, STOOD_BACK_TAKEN))),
+                Act::ReturnQueues(Change::LeaveSelf, CONDITIONAL_TAKEN),
+                Found::Saw(STOOD_BACK_TAKEN),
+                Next::On(Walk::InWait(TIMED, WaitPlace::Leave(Cause::Notified, STOOD_BACK_TAKEN))),
             ),
             (
-                Act::ReturnQueues(Change::Leave, STOOD_BACK_TAKEN),
+                Act::ReturnQueues(Change::LeaveSelf, STOOD_BACK_TAKEN),
                 Found::Left(false),
-                Next::On(Walk::Wait(TIMED, WaitPlace::LeaveRound(Cause::Note))),
+                Next::On(Walk::InWait(TIMED, WaitPlace::AwaitWakeToLeave(Cause::Notified))),
             ),
             (
                 Act::LoadFlag,
                 Found::Flag(1),
-                Next::Idle(Walk::Wait(TIMED, WaitPlace::LeaveRound(Cause::Note))),
+                Next::Idle(Walk::InWait(TIMED, WaitPlace::AwaitWakeToLeave(Cause::Notified))),
             ),
             (
                 Act::LoadFlag,
                 Found::Flag(0),
-                Next::On(Walk::AcquireLoad(Aim::Back(TIMED, Some(Cause::Note)), true)),
+                Next::On(Walk::AcquireLoad(Aim::ForWait(TIMED, Some(Cause::Notified)), true)),
             ),
             (
                 Act::LoadWord,
-                Found::Word(Word::FREE),
-                Next::On(Walk::Acquire(Aim::Back(TIMED, Some(Cause::Note)), true, Word::FREE)),
+                Found::Saw(Word::FREE),
+                Next::On(Walk::AcquireExchange(Aim::ForWait(TIMED, Some(Cause::Notified)), true, Word::FREE)),
             ),
             (
-                Act::Acquire(Aim::Back(TIMED, Some(Cause::Note)), true, Word::FREE),
+                Act::Acquire(Aim::ForWait(TIMED, Some(Cause::Notified)), true, Word::FREE),
                 Found::Made,
-                Next::On(Walk::Wait(
+                Next::On(Walk::InWait(
                     TIMED,
-                    WaitPlace::TestCells(Visit::Back(Some(Cause::Note)), 0),
+                    WaitPlace::TestCells(Visit::OnReturn(Some(Cause::Notified)), 0),
                 )),
             ),
             (
                 Act::LoadCell(0),
                 Found::Cell(0),
-                Next::On(Walk::Wait(
+                Next::On(Walk::InWait(
                     TIMED,
-                    WaitPlace::TestLast(Visit::Back(Some(Cause::Note)), 1),
+                    WaitPlace::TestLast(Visit::OnReturn(Some(Cause::Notified)), 1),
                 )),
             ),
             (
                 Act::JudgeMet(1, true),
-                Found::Met(false),
+                Found::Tested(false),
                 Next::Done(Reply::Answered(Answer::Canceled)),
             ),
         ],
     ),
     // one that nothing ends early looks at nothing
     (
-        Walk::Wait(PATIENT, WaitPlace::TestLast(Visit::Entry, 1)),
+        Walk::InWait(PATIENT, WaitPlace::TestLast(Visit::OnEntry, 1)),
         &[
             (
                 Act::JudgeMet(1, false),
-                Found::Met(false),
-                Next::On(Walk::Wait(PATIENT, WaitPlace::Load(false))),
+                Found::Tested(false),
+                Next::On(Walk::InWait(PATIENT, WaitPlace::Load(false))),
             ),
             (
                 Act::LoadWord,
-                Found::Word(STOOD_BACK),
-                Next::On(Walk::Wait(PATIENT, WaitPlace::Take(false, STOOD_BACK))),
+                Found::Saw(STOOD_BACK),
+                Next::On(Walk::InWait(PATIENT, WaitPlace::Take(false, STOOD_BACK))),
             ),
         ],
     ),
 ];
 
 /// Where a release goes by the word that it loads.
-const RELEASES: [(Leaving, Word, Next<bool>); 11] = [
+const RELEASES: [(Releasing, Word, Next<bool>); 11] = [
     (
-        Leaving::Writer,
+        Releasing::Writer,
         WRITING,
-        Next::On(Walk::Release(Leaving::Writer, WRITING)),
+        Next::On(Walk::ReleaseExchange(Releasing::Writer, WRITING)),
     ),
     (
-        Leaving::Writer,
+        Releasing::Writer,
         CONTENDED,
-        Next::On(Walk::TakeToScan(Leaving::Writer, CONTENDED)),
+        Next::On(Walk::TakeToScan(Releasing::Writer, CONTENDED)),
     ),
     (
-        Leaving::Writer,
+        Releasing::Writer,
         Word {
             spin: true,
             ..CONTENDED
         },
-        Next::Idle(Walk::ReleaseLoad(Leaving::Writer)),
+        Next::Idle(Walk::ReleaseLoad(Releasing::Writer)),
     ),
     // one is on its way already
     (
-        Leaving::Writer,
+        Releasing::Writer,
         Word {
             desig: true,
             ..CONTENDED
         },
-        Next::On(Walk::Release(
-            Leaving::Writer,
+        Next::On(Walk::ReleaseExchange(
+            Releasing::Writer,
             Word {
                 desig: true,
                 ..CONTENDED
@@ -563,14 +563,14 @@ const RELEASES: [(Leaving, Word, Next<bool>); 11] = [
         )),
     ),
     (
-        Leaving::QuietWriter,
+        Releasing::QuietWriter,
         Word {
             desig: true,
             all_false: true,
             ..CONDITIONAL
         },
-        Next::On(Walk::Release(
-            Leaving::QuietWriter,
+        Next::On(Walk::ReleaseExchange(
+            Releasing::QuietWriter,
             Word {
                 desig: true,
                 all_false: true,
@@ -580,13 +580,13 @@ const RELEASES: [(Leaving, Word, Next<bool>); 11] = [
     ),
     // the row may have changed, so the conditions are tested again, but for a quiet section
     (
-        Leaving::Writer,
+        Releasing::Writer,
         Word {
             all_false: true,
             ..CONDITIONAL
         },
         Next::On(Walk::TakeToScan(
-            Leaving::Writer,
+            Releasing::Writer,
             Word {
                 all_false: true,
                 ..CONDITIONAL
@@ -594,13 +594,13 @@ const RELEASES: [(Leaving, Word, Next<bool>); 11] = [
         )),
     ),
     (
-        Leaving::QuietWriter,
+        Releasing::QuietWriter,
         Word {
             all_false: true,
             ..CONDITIONAL
         },
-        Next::On(Walk::Release(
-            Leaving::QuietWriter,
+        Next::On(Walk::ReleaseExchange(
+            Releasing::QuietWriter,
             Word {
                 all_false: true,
                 ..CONDITIONAL
@@ -608,24 +608,24 @@ const RELEASES: [(Leaving, Word, Next<bool>); 11] = [
         )),
     ),
     (
-        Leaving::QuietWriter,
+        Releasing::QuietWriter,
         CONDITIONAL,
-        Next::On(Walk::TakeToScan(Leaving::QuietWriter, CONDITIONAL)),
+        Next::On(Walk::TakeToScan(Releasing::QuietWriter, CONDITIONAL)),
     ),
     // the last reader scans
     (
-        Leaving::Reader,
+        Releasing::Reader,
         STOOD_BACK,
-        Next::On(Walk::TakeToScan(Leaving::Reader, STOOD_BACK)),
+        Next::On(Walk::TakeToScan(Releasing::Reader, STOOD_BACK)),
     ),
     (
-        Leaving::Reader,
+        Releasing::Reader,
         Word {
             readers: 2,
             ..STOOD_BACK
         },
-        Next::On(Walk::Release(
-            Leaving::Reader,
+        Next::On(Walk::ReleaseExchange(
+            Releasing::Reader,
             Word {
                 readers: 2,
                 ..STOOD_BACK
@@ -633,7 +633,7 @@ const RELEASES: [(Leaving, Word, Next<bool>); 11] = [
         )),
     ),
     (
-        Leaving::Reader,
+        Releasing::Reader,
         Word {
             waiting: true,
             cond: true,
@@ -641,8 +641,8 @@ const RELEASES: [(Leaving, Word, Next<bool>); 11] = [
             readers: 1,
             ..Word::FREE
         },
-        Next::On(Walk::Release(
-            Leaving::Reader,
+        Next::On(Walk::ReleaseExchange(
+            Releasing::Reader,
             Word {
                 waiting: true,
                 cond: true,
@@ -682,18 +682,18 @@ fn waits_go_step_by_step(rt: HostRuntime) {
     for (i, row) in WAITS.iter().enumerate() {
         assert!(rt; goes(row), "wait {i}");
     }
-    let idle = Next::Idle(Walk::Wait(PATIENT, WaitPlace::Round));
-    assert!(rt; Walk::Wait(PATIENT, WaitPlace::Round).got::<2>(Found::Flag(1)) == idle);
-    let last = WaitPlace::TestLast(Visit::Entry, 0);
-    assert!(rt; Walk::wait::<1>(TIMED) == Walk::Wait(TIMED, last));
-    let first = WaitPlace::TestCells(Visit::Entry, 0);
-    assert!(rt; Walk::wait::<2>(TIMED) == Walk::Wait(TIMED, first));
+    let idle = Next::Idle(Walk::InWait(PATIENT, WaitPlace::AwaitWakeInWait));
+    assert!(rt; Walk::InWait(PATIENT, WaitPlace::AwaitWakeInWait).got::<2>(Found::Flag(1)) == idle);
+    let last = WaitPlace::TestLast(Visit::OnEntry, 0);
+    assert!(rt; Walk::wait::<1>(TIMED) == Walk::InWait(TIMED, last));
+    let first = WaitPlace::TestCells(Visit::OnEntry, 0);
+    assert!(rt; Walk::wait::<2>(TIMED) == Walk::InWait(TIMED, first));
 }
 
 #[test]
 fn releases_decide_by_the_word(rt: HostRuntime) {
-    for (i, (leaving, word, next)) in RELEASES.iter().enumerate() {
-        let goes = Walk::<bool>::ReleaseLoad(*leaving).got::<2>(Found::Word(*word));
+    for (i, (releasing, word, next)) in RELEASES.iter().enumerate() {
+        let goes = Walk::<bool>::ReleaseLoad(*releasing).got::<2>(Found::Saw(*word));
         assert!(rt; goes == *next, "release {i}");
     }
 }
@@ -706,7 +706,7 @@ fn cells_are_read_and_stored(rt: HostRuntime) {
     assert!(rt; loaded == Next::On(Walk::SetStore(1, 9)));
     assert!(rt; Walk::<bool>::SetStore(1, 9).want() == Act::StoreCell(1, 9));
     let stored = Walk::<bool>::SetStore(1, 9).got::<2>(Found::Made);
-    assert!(rt; stored == Next::Done(Reply::Ok));
+    assert!(rt; stored == Next::Done(Reply::Succeeded));
     assert!(rt; Walk::<bool>::quiet_release::<1>() == Walk::QuietLast(0));
     assert!(rt; Walk::<bool>::quiet_release::<2>() == Walk::QuietCells(0));
 }
@@ -740,7 +740,7 @@ fn new_words(rt: HostRuntime) {
             all_false: true,
             ..CONDITIONAL
         }
-        .released(Leaving::Writer),
+        .released(Releasing::Writer),
         Word {
             write: false,
             ..CONDITIONAL
@@ -753,7 +753,7 @@ fn new_words(rt: HostRuntime) {
         ..CONDITIONAL
     };
     assert_eq!(rt;
-        marked.released(Leaving::Writer),
+        marked.released(Releasing::Writer),
         Word {
             write: false,
             all_false: false,
@@ -761,14 +761,14 @@ fn new_words(rt: HostRuntime) {
         }
     );
     assert_eq!(rt;
-        marked.released(Leaving::QuietWriter),
+        marked.released(Releasing::QuietWriter),
         Word {
             write: false,
             ..marked
         }
     );
     // a scan that took nobody leaves the mark that all conditions are false, one that took the last nothing
-    let left = CONDITIONAL_TAKEN.released_returning(Leaving::Writer, false, idle);
+    let left = CONDITIONAL_TAKEN.released_returning(Releasing::Writer, false, idle);
     assert_eq!(rt;
         left,
         Word {
@@ -778,7 +778,7 @@ fn new_words(rt: HostRuntime) {
             ..Word::FREE
         }
     );
-    let woken = CONDITIONAL_TAKEN.released_returning(Leaving::Writer, true, nobody);
+    let woken = CONDITIONAL_TAKEN.released_returning(Releasing::Writer, true, nobody);
     assert_eq!(rt;
         woken,
         Word {
@@ -792,7 +792,7 @@ fn new_words(rt: HostRuntime) {
         ..STOOD_BACK_TAKEN
     };
     assert_eq!(rt;
-        word.released_returning(Leaving::Reader, true, nobody),
+        word.released_returning(Releasing::Reader, true, nobody),
         Word {
             desig: true,
             readers: 1,

@@ -12,12 +12,12 @@ use std::collections::LinkedList;
 #[derive(Copy)]
 pub enum Opening<C> {
     /// A call locked.
-    Plain,
+    Locked,
     /// A wait for this condition came back. The answer is open until the section is committed:
     /// met where the condition is true of the row that the section began at, else by this cause.
     /// Until the wait is over it is what the wait has kept, a deadline where it has kept nothing;
     /// then it is what the wait has answered.
-    Waited(C, Cause),
+    CameBack(C, Cause),
 }
 
 impl<C: Copy> Clone for Opening<C> {

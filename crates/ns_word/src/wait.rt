@@ -33,9 +33,9 @@ impl<C: Copy> Clone for Wait<C> {
 #[derive(Copy, PartialEq, Eq)]
 pub enum Aim<C> {
     /// For a call that locks in this mode.
-    Lock(Mode),
+    ForLock(Mode),
     /// For a wait that comes back, with what ended it early, if anything did.
-    Back(Wait<C>, Option<Cause>),
+    ForWait(Wait<C>, Option<Cause>),
 }
 
 impl<C: Copy> Clone for Aim<C> {
@@ -52,9 +52,9 @@ impl<C: Copy> Clone for Aim<C> {
 #[derive(Clone, Copy, PartialEq, Eq)]
 pub enum Visit {
     /// As the call begins.
-    Entry,
+    OnEntry,
     /// After the lock was acquired again, with what ended the wait early, if anything did.
-    Back(Option<Cause>),
+    OnReturn(Option<Cause>),
 }
 
 /// A place in a wait. A word is the one last seen. The flag tells whether the wait queues again,
@@ -72,13 +72,13 @@ pub enum WaitPlace {
     /// It has seen this word, and is about to take the queues.
     Take(bool, Word),
     /// It has the queues, and is about to set its flag.
-    Arm(bool, Word),
+    ArmToWait(bool, Word),
     /// It is about to put the queues back as a scan leaves them, with itself in the lock list.
-    Queue(bool, Word),
+    QueueToWait(bool, Word),
     /// It stands in the lock list, and owes wakes.
-    Pay,
+    PayInWait,
     /// It waits to be woken.
-    Round,
+    AwaitWakeInWait,
     /// It looks, while it waits to be woken.
     LookOut,
     /// It ends for this cause, and is about to load the word.
@@ -89,7 +89,7 @@ pub enum WaitPlace {
     Leave(Cause, Word),
     /// It ends for this cause, was taken from the lock list before it could leave it, and waits
     /// for its wake.
-    LeaveRound(Cause),
+    AwaitWakeToLeave(Cause),
 }
 
 /// What a wait answers that was ended early.
@@ -97,8 +97,8 @@ pub fn answer_of(cause: Cause) -> Answer
     ensures { result ≡ answer_of cause }
 {
     match cause {
-        Cause::Deadline => Answer::TimedOut,
-        Cause::Note => Answer::Canceled,
+        Cause::Expired => Answer::TimedOut,
+        Cause::Notified => Answer::Canceled,
     }
 }
 
@@ -117,8 +117,8 @@ impl<C: Copy> Aim<C> {
         ensures { result ≡ mode_for self }
     {
         match self {
-            Aim::Lock(mode) => mode,
-            Aim::Back(wait, _) => wait.mode,
+            Aim::ForLock(mode) => mode,
+            Aim::ForWait(wait, _) => wait.mode,
         }
     }
 }

@@ -40,9 +40,9 @@ pub(crate) fn test_place<C: Copy, const N: usize>(
 {
     let last = N.saturating_sub(1);
     if loaded < last {
-        Walk::Wait(wait, WaitPlace::TestCells(visit, loaded as u8))
+        Walk::InWait(wait, WaitPlace::TestCells(visit, loaded as u8))
     } else {
-        Walk::Wait(wait, WaitPlace::TestLast(visit, last as u8))
+        Walk::InWait(wait, WaitPlace::TestLast(visit, last as u8))
     }
 }
 
@@ -51,9 +51,9 @@ fn look_or_queue<C: Copy>(wait: Wait<C>, again: bool) -> Next<C>
     ensures { result ≡ look_or_queue wait again }
 {
     if wait.limits.is_some() {
-        Next::On(Walk::Wait(wait, WaitPlace::LookIn(again)))
+        Next::On(Walk::InWait(wait, WaitPlace::LookIn(again)))
     } else {
-        Next::On(Walk::Wait(wait, WaitPlace::Load(again)))
+        Next::On(Walk::InWait(wait, WaitPlace::Load(again)))
     }
 }
 
@@ -62,9 +62,9 @@ fn unmet_by<C: Copy>(wait: Wait<C>, visit: Visit) -> Next<C>
     ensures { result ≡ unmet_by wait visit }
 {
     match visit {
-        Visit::Entry => look_or_queue(wait, false),
-        Visit::Back(None) => look_or_queue(wait, true),
-        Visit::Back(Some(cause)) => Next::Done(Reply::Answered(answer_of(cause))),
+        Visit::OnEntry => look_or_queue(wait, false),
+        Visit::OnReturn(None) => look_or_queue(wait, true),
+        Visit::OnReturn(Some(cause)) => Next::Done(Reply::Answered(answer_of(cause))),
     }
 }
 
@@ -73,9 +73,9 @@ fn queue_by<C: Copy>(wait: Wait<C>, again: bool, word: Word) -> Next<C>
     ensures { result ≡ queue_by wait again word }
 {
     if word.spin {
-        Next::Idle(Walk::Wait(wait, WaitPlace::Load(again)))
+        Next::Idle(Walk::InWait(wait, WaitPlace::Load(again)))
     } else {
-        Next::On(Walk::Wait(wait, WaitPlace::Take(again, word)))
+        Next::On(Walk::InWait(wait, WaitPlace::Take(again, word)))
     }
 }
 
@@ -84,9 +84,9 @@ fn pay_waiting<C: Copy>(wait: Wait<C>, owes: bool) -> Next<C>
     ensures { result ≡ pay_waiting wait owes }
 {
     if owes {
-        Next::On(Walk::Wait(wait, WaitPlace::Pay))
+        Next::On(Walk::InWait(wait, WaitPlace::PayInWait))
     } else {
-        Next::On(Walk::Wait(wait, WaitPlace::Round))
+        Next::On(Walk::InWait(wait, WaitPlace::AwaitWakeInWait))
     }
 }
 
@@ -95,9 +95,9 @@ fn rest_or_look<C: Copy>(wait: Wait<C>) -> Next<C>
     ensures { result ≡ rest_or_look wait }
 {
     if wait.limits.is_some() {
-        Next::On(Walk::Wait(wait, WaitPlace::LookOut))
+        Next::On(Walk::InWait(wait, WaitPlace::LookOut))
     } else {
-        Next::Idle(Walk::Wait(wait, WaitPlace::Round))
+        Next::Idle(Walk::InWait(wait, WaitPlace::AwaitWakeInWait))
     }
 }
 
@@ -106,9 +106,9 @@ fn leave_by<C: Copy>(wait: Wait<C>, cause: Cause, word: Word) -> Next<C>
     ensures { result ≡ leave_by wait cause word }
 {
     if word.spin {
-        Next::Idle(Walk::Wait(wait, WaitPlace::LeaveLoad(cause)))
+        Next::Idle(Walk::InWait(wait, WaitPlace::LeaveLoad(cause)))
     } else {
-        Next::On(Walk::Wait(wait, WaitPlace::TakeToLeave(cause, word)))
+        Next::On(Walk::InWait(wait, WaitPlace::TakeToLeave(cause, word)))
     }
 }
 
@@ -123,30 +123,30 @@ impl WaitPlace {
             WaitPlace::LookIn(again) => Act::Look(wait.limits, again),
             WaitPlace::Load(_) => Act::LoadWord,
             WaitPlace::Take(_, last) => Act::TakeQueues(Taking::ToChange, last),
-            WaitPlace::Arm(_, _) => Act::ArmFlag,
-            WaitPlace::Queue(again, last) => Act::WaitReturning(wait, again, last),
-            WaitPlace::Pay => Act::PayWake,
-            WaitPlace::Round => Act::LoadFlag,
+            WaitPlace::ArmToWait(_, _) => Act::ArmFlag,
+            WaitPlace::QueueToWait(again, last) => Act::WaitReturning(wait, again, last),
+            WaitPlace::PayInWait => Act::PayWake,
+            WaitPlace::AwaitWakeInWait => Act::LoadFlag,
             WaitPlace::LookOut => Act::Look(wait.limits, false),
             WaitPlace::LeaveLoad(_) => Act::LoadWord,
             WaitPlace::TakeToLeave(_, last) => Act::TakeQueues(Taking::ToChange, last),
-            WaitPlace::Leave(_, last) => Act::ReturnQueues(Change::Leave, last),
-            WaitPlace::LeaveRound(_) => Act::LoadFlag,
+            WaitPlace::Leave(_, last) => Act::ReturnQueues(Change::LeaveSelf, last),
+            WaitPlace::AwaitWakeToLeave(_) => Act::LoadFlag,
         }
     }
 
     /// Where the wait goes with this word, loaded or found by a compare-exchange that failed.
     pub(crate) fn got_word<C: Copy, const N: usize>(self, wait: Wait<C>, word: Word) -> Next<C>
-        ensures { result ≡ got_waiting N wait self (Found.Word word) }
+        ensures { result ≡ got_waiting N wait self (Found.Saw word) }
     {
         match self {
             WaitPlace::Load(again) => queue_by(wait, again, word),
             WaitPlace::Take(again, _) => queue_by(wait, again, word),
-            WaitPlace::Queue(again, _) => Next::On(Walk::Wait(wait, WaitPlace::Queue(again, word))),
+            WaitPlace::QueueToWait(again, _) => Next::On(Walk::InWait(wait, WaitPlace::QueueToWait(again, word))),
             WaitPlace::LeaveLoad(cause) => leave_by(wait, cause, word),
             WaitPlace::TakeToLeave(cause, _) => leave_by(wait, cause, word),
-            WaitPlace::Leave(cause, _) => Next::On(Walk::Wait(wait, WaitPlace::Leave(cause, word))),
-            place => Next::On(Walk::Wait(wait, place)),
+            WaitPlace::Leave(cause, _) => Next::On(Walk::InWait(wait, WaitPlace::Leave(cause, word))),
+            place => Next::On(Walk::InWait(wait, place)),
         }
     }
 
@@ -157,17 +157,17 @@ impl WaitPlace {
         match self {
             WaitPlace::Take(again, last) => {
                 let word = last.taken(Taking::ToChange);
-                Next::On(Walk::Wait(wait, WaitPlace::Arm(again, word)))
+                Next::On(Walk::InWait(wait, WaitPlace::ArmToWait(again, word)))
             }
-            WaitPlace::Arm(again, last) => Next::On(Walk::Wait(
+            WaitPlace::ArmToWait(again, last) => Next::On(Walk::InWait(
                 wait,
-                WaitPlace::Queue(again, last),
+                WaitPlace::QueueToWait(again, last),
             )),
             WaitPlace::TakeToLeave(cause, last) => {
                 let word = last.taken(Taking::ToChange);
-                Next::On(Walk::Wait(wait, WaitPlace::Leave(cause, word)))
+                Next::On(Walk::InWait(wait, WaitPlace::Leave(cause, word)))
             }
-            place => Next::On(Walk::Wait(wait, place)),
+            place => Next::On(Walk::InWait(wait, place)),
         }
     }
 
@@ -180,13 +180,13 @@ impl WaitPlace {
             WaitPlace::TestCells(visit, i) => {
                 Next::On(test_place::<C, N>(wait, visit, i as usize + 1))
             }
-            place => Next::On(Walk::Wait(wait, place)),
+            place => Next::On(Walk::InWait(wait, place)),
         }
     }
 
     /// Where the wait goes when it is told whether its condition is true.
     pub(crate) fn got_met<C: Copy, const N: usize>(self, wait: Wait<C>, is_met: bool) -> Next<C>
-        ensures { result ≡ got_waiting N wait self (Found.Met is_met) }
+        ensures { result ≡ got_waiting N wait self (Found.Tested is_met) }
     {
         match self {
             WaitPlace::TestLast(visit, _) => {
@@ -196,7 +196,7 @@ impl WaitPlace {
                     unmet_by(wait, visit)
                 }
             }
-            place => Next::On(Walk::Wait(wait, place)),
+            place => Next::On(Walk::InWait(wait, place)),
         }
     }
 
@@ -210,8 +210,8 @@ impl WaitPlace {
         ensures { result ≡ got_waiting N wait self (Found.Scanned owes tests) }
     {
         match self {
-            WaitPlace::Queue(_, _) => pay_waiting(wait, owes),
-            place => Next::On(Walk::Wait(wait, place)),
+            WaitPlace::QueueToWait(_, _) => pay_waiting(wait, owes),
+            place => Next::On(Walk::InWait(wait, place)),
         }
     }
 
@@ -220,8 +220,8 @@ impl WaitPlace {
         ensures { result ≡ got_waiting N wait self (Found.Paid owes) }
     {
         match self {
-            WaitPlace::Pay => pay_waiting(wait, owes),
-            place => Next::On(Walk::Wait(wait, place)),
+            WaitPlace::PayInWait => pay_waiting(wait, owes),
+            place => Next::On(Walk::InWait(wait, place)),
         }
     }
 
@@ -232,12 +232,12 @@ impl WaitPlace {
         match self {
             WaitPlace::Leave(cause, _) => {
                 if stood {
-                    Next::On(Walk::AcquireLoad(Aim::Back(wait, Some(cause)), false))
+                    Next::On(Walk::AcquireLoad(Aim::ForWait(wait, Some(cause)), false))
                 } else {
-                    Next::On(Walk::Wait(wait, WaitPlace::LeaveRound(cause)))
+                    Next::On(Walk::InWait(wait, WaitPlace::AwaitWakeToLeave(cause)))
                 }
             }
-            place => Next::On(Walk::Wait(wait, place)),
+            place => Next::On(Walk::InWait(wait, place)),
         }
     }
 
@@ -246,21 +246,21 @@ impl WaitPlace {
         ensures { result ≡ got_waiting N wait self (Found.Flag value) }
     {
         match self {
-            WaitPlace::Round => {
+            WaitPlace::AwaitWakeInWait => {
                 if value == 0 {
-                    Next::On(Walk::AcquireLoad(Aim::Back(wait, None), true))
+                    Next::On(Walk::AcquireLoad(Aim::ForWait(wait, None), true))
                 } else {
                     rest_or_look(wait)
                 }
             }
-            WaitPlace::LeaveRound(cause) => {
+            WaitPlace::AwaitWakeToLeave(cause) => {
                 if value == 0 {
-                    Next::On(Walk::AcquireLoad(Aim::Back(wait, Some(cause)), true))
+                    Next::On(Walk::AcquireLoad(Aim::ForWait(wait, Some(cause)), true))
                 } else {
-                    Next::Idle(Walk::Wait(wait, WaitPlace::LeaveRound(cause)))
+                    Next::Idle(Walk::InWait(wait, WaitPlace::AwaitWakeToLeave(cause)))
                 }
             }
-            place => Next::On(Walk::Wait(wait, place)),
+            place => Next::On(Walk::InWait(wait, place)),
         }
     }
 
@@ -274,14 +274,14 @@ impl WaitPlace {
     {
         match (self, cause) {
             (WaitPlace::LookIn(again), None) => {
-                Next::On(Walk::Wait(wait, WaitPlace::Load(again)))
+                Next::On(Walk::InWait(wait, WaitPlace::Load(again)))
             }
             (WaitPlace::LookIn(_), Some(cause)) => Next::Done(Reply::Answered(answer_of(cause))),
-            (WaitPlace::LookOut, None) => Next::Idle(Walk::Wait(wait, WaitPlace::Round)),
+            (WaitPlace::LookOut, None) => Next::Idle(Walk::InWait(wait, WaitPlace::AwaitWakeInWait)),
             (WaitPlace::LookOut, Some(cause)) => {
-                Next::On(Walk::Wait(wait, WaitPlace::LeaveLoad(cause)))
+                Next::On(Walk::InWait(wait, WaitPlace::LeaveLoad(cause)))
             }
-            (place, _) => Next::On(Walk::Wait(wait, place)),
+            (place, _) => Next::On(Walk::InWait(wait, place)),
         }
     }
 }

@@ -33,7 +33,7 @@ use crate::act::{Act, Change, Found};
 use crate::limits::Cause;
 use crate::wait::{Aim, Visit, Wait, WaitPlace};
 use crate::wait_walk::test_place;
-use crate::word::{Leaving, Taking, Word};
+use crate::word::{Releasing, Taking, Word};
 use ns_model::event::{Answer, Mode};
 use std::alloc::AllocError;
 
@@ -48,7 +48,7 @@ pub enum Walk<C> {
     /// An acquire that is about to load the word.
     AcquireLoad(Aim<C>, bool),
     /// An acquire that has seen this word, which may be acquired.
-    Acquire(Aim<C>, bool, Word),
+    AcquireExchange(Aim<C>, bool, Word),
     /// An acquire that has seen this word, which may not be acquired, and is about to take the
     /// queues.
     TakeToQueue(Aim<C>, bool, Word),
@@ -57,31 +57,31 @@ pub enum Walk<C> {
     /// An acquire that is about to put the queues back with itself in the lock list.
     Queue(Aim<C>, bool, Word),
     /// An acquire that waits to be woken.
-    Round(Aim<C>),
+    AwaitWake(Aim<C>),
     /// A quiet release that is about to load this cell, which isn't the last.
     QuietCells(u8),
     /// A quiet release that is about to load this cell, the last.
     QuietLast(u8),
     /// A release that is about to load the word.
-    ReleaseLoad(Leaving),
+    ReleaseLoad(Releasing),
     /// A release that has seen this word, by which it needs no scan.
-    Release(Leaving, Word),
+    ReleaseExchange(Releasing, Word),
     /// A release that has seen this word, and is about to take the queues.
-    TakeToScan(Leaving, Word),
+    TakeToScan(Releasing, Word),
     /// A release that has the queues, and is about to load this cell.
-    ScanCells(Leaving, Word, u8),
+    ScanCells(Releasing, Word, u8),
     /// A release that is about to put the queues back as a scan leaves them.
-    ReleaseReturning(Leaving, Word),
+    ScanAndRelease(Releasing, Word),
     /// A release that owes wakes.
     Pay,
     /// A read of a cell.
-    Get(u8),
+    GetLoad(u8),
     /// A write that is about to load the cell's old value.
     SetLoad(u8, u64),
     /// A write that is about to store the value.
     SetStore(u8, u64),
     /// A wait for a condition, at this place.
-    Wait(Wait<C>, WaitPlace),
+    InWait(Wait<C>, WaitPlace),
 }
 
 impl<C: Copy> Clone for Walk<C> {
@@ -98,7 +98,7 @@ impl<C: Copy> Clone for Walk<C> {
 #[derive(Clone, Copy, Debug, PartialEq, Eq)]
 pub enum Reply {
     /// Done, or acquired.
-    Ok,
+    Succeeded,
     /// Not acquired.
     Busy,
     /// Not released, since the section isn't quiet.
@@ -143,7 +143,7 @@ fn acquire_by<C: Copy>(aim: Aim<C>, woken: bool, word: Word) -> Next<C>
     ensures { result ≡ acquire_by aim woken word }
 {
     if word.may_acquire(aim.mode(), woken) {
-        Next::On(Walk::Acquire(aim, woken, word))
+        Next::On(Walk::AcquireExchange(aim, woken, word))
     } else if word.spin {
         Next::Idle(Walk::AcquireLoad(aim, woken))
     } else {
@@ -157,44 +157,44 @@ fn acquired_for<C: Copy, const N: usize>(aim: Aim<C>) -> Next<C>
     ensures { result ≡ acquired_for N aim }
 {
     match aim {
-        Aim::Lock(_) => Next::Done(Reply::Ok),
-        Aim::Back(wait, kept) => Next::On(test_place::<C, N>(wait, Visit::Back(kept), 0)),
+        Aim::ForLock(_) => Next::Done(Reply::Succeeded),
+        Aim::ForWait(wait, kept) => Next::On(test_place::<C, N>(wait, Visit::OnReturn(kept), 0)),
     }
 }
 
 /// Where a release goes by the word last seen.
-fn release_by<C: Copy>(leaving: Leaving, word: Word) -> Next<C>
-    ensures { result ≡ release_by leaving word }
+fn release_by<C: Copy>(releasing: Releasing, word: Word) -> Next<C>
+    ensures { result ≡ release_by releasing word }
 {
-    if !word.needs_scan(leaving) {
-        Next::On(Walk::Release(leaving, word))
+    if !word.needs_scan(releasing) {
+        Next::On(Walk::ReleaseExchange(releasing, word))
     } else if word.spin {
-        Next::Idle(Walk::ReleaseLoad(leaving))
+        Next::Idle(Walk::ReleaseLoad(releasing))
     } else {
-        Next::On(Walk::TakeToScan(leaving, word))
+        Next::On(Walk::TakeToScan(releasing, word))
     }
 }
 
 /// Where a release with the queues goes that has loaded so many cells.
-fn scan_place<C: Copy, const N: usize>(leaving: Leaving, last: Word, loaded: usize) -> Walk<C>
+fn scan_place<C: Copy, const N: usize>(releasing: Releasing, last: Word, loaded: usize) -> Walk<C>
     requires { N ≤ 16 }
-    ensures { result ≡ scan_place N leaving last loaded }
+    ensures { result ≡ scan_place N releasing last loaded }
 {
     if loaded < N {
-        Walk::ScanCells(leaving, last, loaded as u8)
+        Walk::ScanCells(releasing, last, loaded as u8)
     } else {
-        Walk::ReleaseReturning(leaving, last)
+        Walk::ScanAndRelease(releasing, last)
     }
 }
 
 /// Where a release goes that owes wakes, or none.
 fn pay<C: Copy>(owes: bool) -> Next<C>
-    ensures { result ≡ (if owes then Next.On Walk.Pay else Next.Done Reply.Ok) }
+    ensures { result ≡ (if owes then Next.On Walk.Pay else Next.Done Reply.Succeeded) }
 {
     if owes {
         Next::On(Walk::Pay)
     } else {
-        Next::Done(Reply::Ok)
+        Next::Done(Reply::Succeeded)
     }
 }
 
@@ -227,9 +227,9 @@ impl<C: Copy> Walk<C> {
     /// Needs a row of at most 16 cells.
     pub fn wait<const N: usize>(wait: Wait<C>) -> Walk<C>
         requires { N ≤ 16 }
-        ensures { result ≡ test_place N wait Visit.Entry 0 }
+        ensures { result ≡ test_place N wait Visit.OnEntry 0 }
     {
-        test_place::<C, N>(wait, Visit::Entry, 0)
+        test_place::<C, N>(wait, Visit::OnEntry, 0)
     }
 
     /// The step that the walk wants next.
@@ -238,29 +238,29 @@ impl<C: Copy> Walk<C> {
     {
         match *self {
             Walk::TryLoad(_) => Act::LoadWord,
-            Walk::TryAcquire(mode, last) => Act::Acquire(Aim::Lock(mode), false, last),
+            Walk::TryAcquire(mode, last) => Act::Acquire(Aim::ForLock(mode), false, last),
             Walk::AcquireLoad(_, _) => Act::LoadWord,
-            Walk::Acquire(aim, woken, last) => Act::Acquire(aim, woken, last),
+            Walk::AcquireExchange(aim, woken, last) => Act::Acquire(aim, woken, last),
             Walk::TakeToQueue(aim, woken, last) => {
                 Act::TakeQueues(Taking::ToQueue(aim.mode(), woken), last)
             }
             Walk::Arm(_, _, _) => Act::ArmFlag,
             Walk::Queue(aim, woken, last) => {
-                Act::ReturnQueues(Change::Queue(aim.mode(), woken), last)
+                Act::ReturnQueues(Change::QueueSelf(aim.mode(), woken), last)
             }
-            Walk::Round(_) => Act::LoadFlag,
+            Walk::AwaitWake(_) => Act::LoadFlag,
             Walk::QuietCells(i) => Act::LoadCell(i),
             Walk::QuietLast(i) => Act::JudgeQuiet(i),
             Walk::ReleaseLoad(_) => Act::LoadWord,
-            Walk::Release(leaving, last) => Act::Release(leaving, last),
+            Walk::ReleaseExchange(releasing, last) => Act::Release(releasing, last),
             Walk::TakeToScan(_, last) => Act::TakeQueues(Taking::ToChange, last),
             Walk::ScanCells(_, _, i) => Act::LoadCell(i),
-            Walk::ReleaseReturning(leaving, last) => Act::ReleaseReturning(leaving, last),
+            Walk::ScanAndRelease(releasing, last) => Act::ReleaseReturning(releasing, last),
             Walk::Pay => Act::PayWake,
-            Walk::Get(i) => Act::LoadCell(i),
+            Walk::GetLoad(i) => Act::LoadCell(i),
             Walk::SetLoad(i, _) => Act::LoadCell(i),
             Walk::SetStore(i, value) => Act::StoreCell(i, value),
-            Walk::Wait(wait, place) => place.want(wait),
+            Walk::InWait(wait, place) => place.want(wait),
         }
     }
 
@@ -273,11 +273,11 @@ impl<C: Copy> Walk<C> {
         ensures { result ≡ got_of N self found }
     {
         match found {
-            Found::Word(word) => self.got_word::<N>(word),
+            Found::Saw(word) => self.got_word::<N>(word),
             Found::Made => self.got_made::<N>(),
             Found::Cell(value) => self.got_cell::<N>(value),
             Found::Quiet(is_quiet) => self.got_quiet::<N>(is_quiet),
-            Found::Met(is_met) => self.got_met::<N>(is_met),
+            Found::Tested(is_met) => self.got_met::<N>(is_met),
             Found::Scanned { owes, tests } => self.got_scanned::<N>(owes, tests),
             Found::Paid { owes } => self.got_paid::<N>(owes),
             Found::Left(stood) => self.got_left::<N>(stood),
@@ -288,7 +288,7 @@ impl<C: Copy> Walk<C> {
 
     /// Where the walk goes with this word, loaded or found by a compare-exchange that failed.
     fn got_word<const N: usize>(self, word: Word) -> Next<C>
-        ensures { result ≡ got_of N self (Found.Word word) }
+        ensures { result ≡ got_of N self (Found.Saw word) }
     {
         match self {
             Walk::TryLoad(mode) => {
@@ -300,14 +300,14 @@ impl<C: Copy> Walk<C> {
             }
             Walk::TryAcquire(_, _) => Next::Done(Reply::Busy),
             Walk::AcquireLoad(aim, woken) => acquire_by(aim, woken, word),
-            Walk::Acquire(aim, woken, _) => acquire_by(aim, woken, word),
+            Walk::AcquireExchange(aim, woken, _) => acquire_by(aim, woken, word),
             Walk::TakeToQueue(aim, woken, _) => acquire_by(aim, woken, word),
             Walk::Queue(aim, woken, _) => Next::On(Walk::Queue(aim, woken, word)),
-            Walk::ReleaseLoad(leaving) => release_by(leaving, word),
-            Walk::Release(leaving, _) => release_by(leaving, word),
-            Walk::TakeToScan(leaving, _) => release_by(leaving, word),
-            Walk::ReleaseReturning(leaving, _) => Next::On(Walk::ReleaseReturning(leaving, word)),
-            Walk::Wait(wait, place) => place.got_word::<C, N>(wait, word),
+            Walk::ReleaseLoad(releasing) => release_by(releasing, word),
+            Walk::ReleaseExchange(releasing, _) => release_by(releasing, word),
+            Walk::TakeToScan(releasing, _) => release_by(releasing, word),
+            Walk::ScanAndRelease(releasing, _) => Next::On(Walk::ScanAndRelease(releasing, word)),
+            Walk::InWait(wait, place) => place.got_word::<C, N>(wait, word),
             walk => Next::On(walk),
         }
     }
@@ -318,25 +318,25 @@ impl<C: Copy> Walk<C> {
         ensures { result ≡ got_of N self Found.Made }
     {
         match self {
-            Walk::TryAcquire(_, _) => Next::Done(Reply::Ok),
-            Walk::Acquire(aim, _, _) => acquired_for::<C, N>(aim),
+            Walk::TryAcquire(_, _) => Next::Done(Reply::Succeeded),
+            Walk::AcquireExchange(aim, _, _) => acquired_for::<C, N>(aim),
             Walk::TakeToQueue(aim, woken, last) => {
                 let word = last.taken(Taking::ToQueue(aim.mode(), woken));
                 Next::On(Walk::Arm(aim, woken, word))
             }
             Walk::Arm(aim, woken, last) => Next::On(Walk::Queue(aim, woken, last)),
-            Walk::Queue(aim, _, _) => Next::On(Walk::Round(aim)),
-            Walk::Release(_, _) => Next::Done(Reply::Ok),
-            Walk::TakeToScan(leaving, last) => {
+            Walk::Queue(aim, _, _) => Next::On(Walk::AwaitWake(aim)),
+            Walk::ReleaseExchange(_, _) => Next::Done(Reply::Succeeded),
+            Walk::TakeToScan(releasing, last) => {
                 let word = last.taken(Taking::ToChange);
                 if last.cond {
-                    Next::On(scan_place::<C, N>(leaving, word, 0))
+                    Next::On(scan_place::<C, N>(releasing, word, 0))
                 } else {
-                    Next::On(Walk::ReleaseReturning(leaving, word))
+                    Next::On(Walk::ScanAndRelease(releasing, word))
                 }
             }
-            Walk::SetStore(_, _) => Next::Done(Reply::Ok),
-            Walk::Wait(wait, place) => place.got_made::<C, N>(wait),
+            Walk::SetStore(_, _) => Next::Done(Reply::Succeeded),
+            Walk::InWait(wait, place) => place.got_made::<C, N>(wait),
             walk => Next::On(walk),
         }
     }
@@ -348,12 +348,12 @@ impl<C: Copy> Walk<C> {
     {
         match self {
             Walk::QuietCells(i) => Next::On(quiet_place::<C, N>(i as usize + 1)),
-            Walk::ScanCells(leaving, last, i) => {
-                Next::On(scan_place::<C, N>(leaving, last, i as usize + 1))
+            Walk::ScanCells(releasing, last, i) => {
+                Next::On(scan_place::<C, N>(releasing, last, i as usize + 1))
             }
-            Walk::Get(_) => Next::Done(Reply::Number(value)),
+            Walk::GetLoad(_) => Next::Done(Reply::Number(value)),
             Walk::SetLoad(i, value) => Next::On(Walk::SetStore(i, value)),
-            Walk::Wait(wait, place) => place.got_cell::<C, N>(wait, value),
+            Walk::InWait(wait, place) => place.got_cell::<C, N>(wait, value),
             walk => Next::On(walk),
         }
     }
@@ -365,7 +365,7 @@ impl<C: Copy> Walk<C> {
         match self {
             Walk::QuietLast(_) => {
                 if is_quiet {
-                    Next::On(Walk::ReleaseLoad(Leaving::QuietWriter))
+                    Next::On(Walk::ReleaseLoad(Releasing::QuietWriter))
                 } else {
                     Next::Done(Reply::Noisy)
                 }
@@ -376,10 +376,10 @@ impl<C: Copy> Walk<C> {
 
     /// Where the walk goes when it is told whether its condition is true.
     fn got_met<const N: usize>(self, is_met: bool) -> Next<C>
-        ensures { result ≡ got_of N self (Found.Met is_met) }
+        ensures { result ≡ got_of N self (Found.Tested is_met) }
     {
         match self {
-            Walk::Wait(wait, place) => place.got_met::<C, N>(wait, is_met),
+            Walk::InWait(wait, place) => place.got_met::<C, N>(wait, is_met),
             walk => Next::On(walk),
         }
     }
@@ -389,8 +389,8 @@ impl<C: Copy> Walk<C> {
         ensures { result ≡ got_of N self (Found.Scanned owes tests) }
     {
         match self {
-            Walk::ReleaseReturning(_, _) => pay(owes),
-            Walk::Wait(wait, place) => place.got_scanned::<C, N>(wait, owes, tests),
+            Walk::ScanAndRelease(_, _) => pay(owes),
+            Walk::InWait(wait, place) => place.got_scanned::<C, N>(wait, owes, tests),
             walk => Next::On(walk),
         }
     }
@@ -401,7 +401,7 @@ impl<C: Copy> Walk<C> {
     {
         match self {
             Walk::Pay => pay(owes),
-            Walk::Wait(wait, place) => place.got_paid::<C, N>(wait, owes),
+            Walk::InWait(wait, place) => place.got_paid::<C, N>(wait, owes),
             walk => Next::On(walk),
         }
     }
@@ -411,7 +411,7 @@ impl<C: Copy> Walk<C> {
         ensures { result ≡ got_of N self (Found.Left stood) }
     {
         match self {
-            Walk::Wait(wait, place) => place.got_left::<C, N>(wait, stood),
+            Walk::InWait(wait, place) => place.got_left::<C, N>(wait, stood),
             walk => Next::On(walk),
         }
     }
@@ -421,14 +421,14 @@ impl<C: Copy> Walk<C> {
         ensures { result ≡ got_of N self (Found.Flag value) }
     {
         match self {
-            Walk::Round(aim) => {
+            Walk::AwaitWake(aim) => {
                 if value == 0 {
                     Next::On(Walk::AcquireLoad(aim, true))
                 } else {
-                    Next::Idle(Walk::Round(aim))
+                    Next::Idle(Walk::AwaitWake(aim))
                 }
             }
-            Walk::Wait(wait, place) => place.got_flag::<C, N>(wait, value),
+            Walk::InWait(wait, place) => place.got_flag::<C, N>(wait, value),
             walk => Next::On(walk),
         }
     }
@@ -438,7 +438,7 @@ impl<C: Copy> Walk<C> {
         ensures { result ≡ got_of N self (Found.Looked cause) }
     {
         match self {
-            Walk::Wait(wait, place) => place.got_looked::<C, N>(wait, cause),
+            Walk::InWait(wait, place) => place.got_looked::<C, N>(wait, cause),
             walk => Next::On(walk),
         }
     }

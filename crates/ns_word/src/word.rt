@@ -53,7 +53,7 @@ pub struct Bits {
 
 /// How a section is released.
 #[derive(Clone, Copy, Debug, PartialEq, Eq)]
-pub enum Leaving {
+pub enum Releasing {
     /// A write section.
     Writer,
     /// A write section that changed the row quietly.
@@ -99,13 +99,13 @@ impl Word {
     /// Whether a release of a lock with this word has to look for waiters to wake. It need not
     /// where nobody waits or one is on its way already; a reader also not where it isn't the last
     /// or all conditions are known to be false, and a quiet writer not where they are.
-    pub fn needs_scan(self, leaving: Leaving) -> bool
-        ensures { result ≡ needs_scan leaving self }
+    pub fn needs_scan(self, releasing: Releasing) -> bool
+        ensures { result ≡ needs_scan releasing self }
     {
-        let excused = match leaving {
-            Leaving::Writer => false,
-            Leaving::QuietWriter => self.all_false,
-            Leaving::Reader => self.readers > 1 || self.all_false,
+        let excused = match releasing {
+            Releasing::Writer => false,
+            Releasing::QuietWriter => self.all_false,
+            Releasing::Reader => self.readers > 1 || self.all_false,
         };
         self.waiting && !self.desig && !excused
     }
@@ -172,20 +172,20 @@ impl Word {
     }
 
     /// The word after a release without a scan.
-    pub fn released(self, leaving: Leaving) -> Word
-        ensures { result ≡ word_released leaving self }
+    pub fn released(self, releasing: Releasing) -> Word
+        ensures { result ≡ word_released releasing self }
     {
-        match leaving {
-            Leaving::Writer => Word {
+        match releasing {
+            Releasing::Writer => Word {
                 write: false,
                 all_false: false,
                 ..self
             },
-            Leaving::QuietWriter => Word {
+            Releasing::QuietWriter => Word {
                 write: false,
                 ..self
             },
-            Leaving::Reader => Word {
+            Releasing::Reader => Word {
                 readers: self.readers.saturating_sub(1),
                 ..self
             },
@@ -195,8 +195,8 @@ impl Word {
     /// The word after a release that puts the queues back, with a lock list that these bits tell
     /// of. `took` says whether the scan took somebody: then one is on its way, else nobody who
     /// stands in the list can go on.
-    pub fn released_returning(self, leaving: Leaving, took: bool, bits: Bits) -> Word
-        ensures { result ≡ word_released_returning leaving took bits self }
+    pub fn released_returning(self, releasing: Releasing, took: bool, bits: Bits) -> Word
+        ensures { result ≡ word_released_returning releasing took bits self }
     {
         Word {
             spin: false,
@@ -205,7 +205,7 @@ impl Word {
             cond: bits.conditional,
             writer_waits: bits.writer_waits,
             all_false: bits.waiting && !took,
-            ..self.released(leaving)
+            ..self.released(releasing)
         }
     }
 }

@@ -7,9 +7,10 @@ use Rattle.std.proofs.lemmas.List.Elements.{All-head, All-tail, All-nil}
 use Rattle.std.proofs.lemmas.Option.{slice_get_within}
 use Rattle.ns_word.specs.declared.walk.Reply.{Reply}
 use Rattle.ns_word.specs.declared.walk.Next.{Next}
-use Rattle.ns_word.specs.declared.walk.Next.TheVariants.{On, Idle as Idles, Done}
+use Rattle.ns_word.specs.declared.walk.Next.TheVariants.{On, Done}
+use Rattle.ns_word.specs.declared.walk.Next.TheVariants as TheNext
 use Rattle.ns_word.specs.declared.env_walk.EnvNext.{EnvNext}
-use Rattle.ns_word.specs.declared.env_walk.EnvNext.TheVariants.{On as EnvOn, Idle as EnvIdles, Done as EnvDone, Saw}
+use Rattle.ns_word.specs.declared.env_walk.EnvNext.TheVariants.{Go, Repeat, Over, Shown}
 use Rattle.ns_word.specs.EnvWalks.{env_got_of, env_walk_after}
 use Rattle.ns_word.specs.Walks.{got_of, walk_after}
 use Rattle.ns_world.specs.Asks.{env_step_of}
@@ -48,14 +49,14 @@ bit_most false = omega arith
 -- a call that is over leaves its seat idle
 over_idle : {C : Type 0} (next : Next C) (reply : Reply) → Finished reply ≡ step_of next → walk_after next ≡ None
 over_idle (On walk) reply e = absurd (cc)
-over_idle (Idles walk) reply e = absurd (cc)
+over_idle (TheNext.Idle walk) reply e = absurd (cc)
 over_idle (Done answer) reply e = refl
 
 over_unasked : (next : EnvNext) (reply : Reply) → Finished reply ≡ env_step_of next → is_some (env_walk_after next) ≡ false
-over_unasked (EnvOn walk) reply e = absurd (cc)
-over_unasked (EnvIdles walk) reply e = absurd (cc)
-over_unasked (EnvDone answer) reply e = refl
-over_unasked (Saw cause) reply e = refl
+over_unasked (Go walk) reply e = absurd (cc)
+over_unasked (Repeat walk) reply e = absurd (cc)
+over_unasked (Over answer) reply e = refl
+over_unasked (Shown cause) reply e = refl
 
 set_others : (over : List ℕ) (seat n other : ℕ) → other ≢ seat → slice_index (slice_set over seat n) other ≡ slice_index over other
 set_others over seat n other ne = get_or-set_other over seat other n 0 ne
@@ -84,12 +85,12 @@ module _ {C : Type 0} {N : ℕ} where
       (ap (λ views. is_walking views other) goes.others ∙ walking_set_other old.state.views seat _ other ne) (ap (λ askings. is_asking askings other) goes.asking ∙ asking_set_other old.asking seat _ other ne)
 
   look_others : (old new : Now C N) (seat : ℕ) (step : Step) (next : EnvNext) → LookGoes next old new seat step → (other : ℕ) → other ≢ seat → is_busy new.state.views new.asking other ≡ is_busy old.state.views old.asking other
-  look_others old new seat step (EnvOn walk) p other ne =
+  look_others old new seat step (Go walk) p other ne =
       both new.state.views new.asking other (is_walking old.state.views other) (is_asking old.asking other)
       (ap (λ (world : Now C N). is_walking world.state.views other) p.0) (ap (λ (world : Now C N). is_asking world.asking other) p.0 ∙ asking_set_other old.asking seat (Some walk) other ne)
-  look_others old new seat step (Saw cause) p other ne = goes_others old new seat step p.0 other ne
-  look_others old new seat step (EnvIdles walk) p other ne = absurd p
-  look_others old new seat step (EnvDone reply) p other ne = absurd p
+  look_others old new seat step (Shown cause) p other ne = goes_others old new seat step p.0 other ne
+  look_others old new seat step (Repeat walk) p other ne = absurd p
+  look_others old new seat step (Over reply) p other ne = absurd p
 
   moves_others : (old new : Now C N) (seat : ℕ) (step : Step) → Moves old new seat step → (other : ℕ) → other ≢ seat → is_busy new.state.views new.asking other ≡ is_busy old.state.views old.asking other
   moves_others old new seat step (inl goes) other ne = goes_others old new seat step goes.0 other ne
@@ -107,10 +108,10 @@ module _ {C : Type 0} {N : ℕ} where
       (ap (λ askings. is_asking askings seat) (goes.asking ∙ ap (λ w. slice_set old.asking seat (look_of w)) over) ∙ asking_set_none old.asking seat)
 
   look_over : (old new : Now C N) (seat : ℕ) (reply : Reply) (next : EnvNext) → LookGoes next old new seat (Finished reply) → is_busy new.state.views new.asking seat ≡ false
-  look_over old new seat reply (EnvOn walk) p = let e = p.1 in absurd (cc)
-  look_over old new seat reply (Saw cause) p = goes_over old new seat reply p.0
-  look_over old new seat reply (EnvIdles walk) p = absurd p
-  look_over old new seat reply (EnvDone answer) p = absurd p
+  look_over old new seat reply (Go walk) p = let e = p.1 in absurd (cc)
+  look_over old new seat reply (Shown cause) p = goes_over old new seat reply p.0
+  look_over old new seat reply (Repeat walk) p = absurd p
+  look_over old new seat reply (Over answer) p = absurd p
 
   moves_over : (old new : Now C N) (seat : ℕ) (reply : Reply) → Moves old new seat (Finished reply) → is_busy new.state.views new.asking seat ≡ false
   moves_over old new seat reply (inl goes) = goes_over old new seat reply goes.0

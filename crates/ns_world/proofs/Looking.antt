@@ -6,33 +6,33 @@ use Rattle.ns_model.specs.declared.environment.EnvEvent.{EnvEvent}
 use Rattle.ns_model.specs.Environments.{NoteStanding, is_due, is_over, but_at, made_note, notified_note}
 use Rattle.ns_word.specs.declared.limits.Limits.{Limits}
 use Rattle.ns_word.specs.declared.limits.Cause.{Cause}
-use Rattle.ns_word.specs.declared.limits.Cause.TheVariants.{Deadline}
+use Rattle.ns_word.specs.declared.limits.Cause.TheVariants.{Expired}
 use Rattle.ns_word.specs.declared.word.Word.{Word}
-use Rattle.ns_word.specs.declared.word.Leaving.{Leaving}
+use Rattle.ns_word.specs.declared.word.Releasing.{Releasing}
 use Rattle.ns_word.specs.declared.wait.Wait.{Wait}
 use Rattle.ns_word.specs.declared.wait.Aim.{Aim}
-use Rattle.ns_word.specs.declared.wait.Aim.TheVariants.{Lock, Back}
+use Rattle.ns_word.specs.declared.wait.Aim.TheVariants.{ForLock, ForWait}
 use Rattle.ns_word.specs.declared.wait.Visit.{Visit}
-use Rattle.ns_word.specs.declared.wait.Visit.TheVariants.{Entry, Back as CameBack}
+use Rattle.ns_word.specs.declared.wait.Visit.TheVariants.{OnEntry, OnReturn}
 use Rattle.ns_word.specs.declared.wait.WaitPlace.{WaitPlace}
-use Rattle.ns_word.specs.declared.wait.WaitPlace.TheVariants.{TestCells, TestLast, LookIn, Load, Take, Arm as ArmWaiting, Queue as QueueWaiting, Pay as PayWaiting, Round as RoundWaiting, LookOut, LeaveLoad, TakeToLeave, Leave, LeaveRound}
+use Rattle.ns_word.specs.declared.wait.WaitPlace.TheVariants.{TestCells, TestLast, LookIn, Load, Take, ArmToWait, QueueToWait, PayInWait, AwaitWakeInWait, LookOut, LeaveLoad, TakeToLeave, Leave, AwaitWakeToLeave}
 use Rattle.ns_word.specs.declared.walk.Walk.{Walk}
-use Rattle.ns_word.specs.declared.walk.Walk.TheVariants.{TryLoad, TryAcquire, AcquireLoad, Acquire, TakeToQueue, Arm, Queue, Round, QuietCells, QuietLast, ReleaseLoad, Release, TakeToScan, ScanCells, ReleaseReturning, Pay, Get, SetLoad, SetStore, Wait as Waiting}
+use Rattle.ns_word.specs.declared.walk.Walk.TheVariants.{TryLoad, TryAcquire, AcquireLoad, AcquireExchange, TakeToQueue, Arm, Queue, AwaitWake, QuietCells, QuietLast, ReleaseLoad, ReleaseExchange, TakeToScan, ScanCells, ScanAndRelease, Pay, GetLoad, SetLoad, SetStore, InWait}
 use Rattle.ns_word.specs.declared.walk.Next.{Next}
 use Rattle.ns_word.specs.declared.walk.Next.TheVariants.{On}
 use Rattle.ns_word.specs.declared.act.Act.{Act}
 use Rattle.ns_word.specs.declared.act.Act.TheVariants.{Look}
 use Rattle.ns_word.specs.declared.act.Found.{Found}
-use Rattle.ns_word.specs.declared.act.Found.TheVariants.{Word as Saw, Made, Cell, Quiet, Met, Scanned, Paid, Left, Flag, Looked}
+use Rattle.ns_word.specs.declared.act.Found.TheVariants.{Saw, Made, Cell, Quiet, Tested, Scanned, Paid, Left, Flag, Looked}
 use Rattle.ns_word.specs.declared.env_act.EnvAct.{EnvAct}
-use Rattle.ns_word.specs.declared.env_act.EnvAct.TheVariants.{LoadNext, TakeNumber as TakeNext, MakeNote as StoreNote, Notify as NotifyNote, Advance as MoveClock, LoadClock, LoadNote}
+use Rattle.ns_word.specs.declared.env_act.EnvAct.TheVariants.{LoadNext, TakeNext, StoreNote, NotifyNote, MoveClock, LoadClock, LoadNote}
 use Rattle.ns_word.specs.declared.env_act.EnvFound.{EnvFound}
-use Rattle.ns_word.specs.declared.env_act.EnvFound.TheVariants.{Next as NextNumber, Taken, Made as Stored, Clock, Note}
-use Rattle.ns_word.specs.declared.env_walk.Chain.TheVariants.{Look as LookChain}
+use Rattle.ns_word.specs.declared.env_act.EnvFound.TheVariants.{NextNumber, Taken, Stored, Clock, Note}
+use Rattle.ns_word.specs.declared.env_walk.Chain.TheVariants.{ForLook}
 use Rattle.ns_word.specs.declared.env_walk.EnvWalk.{EnvWalk}
 use Rattle.ns_word.specs.declared.env_walk.EnvWalk.TheVariants.{ClockLoad, NoteLoad}
 use Rattle.ns_word.specs.declared.env_walk.EnvNext.{EnvNext}
-use Rattle.ns_word.specs.declared.env_walk.EnvNext.TheVariants.{On as EnvOn, Saw as Shows}
+use Rattle.ns_word.specs.declared.env_walk.EnvNext.TheVariants.{Go, Shown}
 use Rattle.ns_word.specs.EnvWalks.{standing_of, env_want_of, env_got_of, passed, up_to, stopped}
 use Rattle.ns_word.specs.EnvSteps.{EnvPlain, EnvEffect, IfMade, IsFirstAsk, events_of}
 use Rattle.ns_word.specs.Walks.{want_of, got_of, got_waiting, walk_after, acquire_by, acquired_for, release_by, test_place, unmet_by}
@@ -60,35 +60,35 @@ module _ {C : Type 0} (N : ℕ) (P : Option ℕ → Type 0) where
   acquire_noted : (aim : Aim C) (woken : Bool) (word : Word) → P (note_for aim) → Keeps P (acquire_by aim woken word)
   acquire_noted aim woken word p = by_two (may_acquire (mode_for aim) woken word) (record { note = p }) (by_two word.spin (record { note = p }) (record { note = p }))
 
-  release_noted : (leaving : Leaving) (word : Word) → P None → Keeps {C = C} P (release_by leaving word)
-  release_noted leaving word none = by_two (not (needs_scan leaving word)) (record { note = none }) (by_two word.spin (record { note = none }) (record { note = none }))
+  release_noted : (releasing : Releasing) (word : Word) → P None → Keeps {C = C} P (release_by releasing word)
+  release_noted releasing word none = by_two (not (needs_scan releasing word)) (record { note = none }) (by_two word.spin (record { note = none }) (record { note = none }))
 
   test_noted : (wait : Wait C) (visit : Visit) (loaded : ℕ) → P wait.limits.note → Keeps P (On (test_place N wait visit loaded))
   test_noted wait visit loaded p = by_walks (nat_lt loaded (N - 1)) (record { note = p }) (record { note = p })
 
   acquired_noted : (aim : Aim C) → P None → P (note_for aim) → Keeps P (acquired_for N aim)
-  acquired_noted (Lock mode) none p = record { note = none }
-  acquired_noted (Back wait kept) none p = test_noted wait (CameBack kept) 0 p
+  acquired_noted (ForLock mode) none p = record { note = none }
+  acquired_noted (ForWait wait kept) none p = test_noted wait (OnReturn kept) 0 p
 
   unmet_noted : (wait : Wait C) (visit : Visit) → P None → P wait.limits.note → Keeps P (unmet_by wait visit)
-  unmet_noted wait Entry none p = by_two (is_limited wait.limits) (record { note = p }) (record { note = p })
-  unmet_noted wait (CameBack None) none p = by_two (is_limited wait.limits) (record { note = p }) (record { note = p })
-  unmet_noted wait (CameBack (Some cause)) none p = record { note = none }
+  unmet_noted wait OnEntry none p = by_two (is_limited wait.limits) (record { note = p }) (record { note = p })
+  unmet_noted wait (OnReturn None) none p = by_two (is_limited wait.limits) (record { note = p }) (record { note = p })
+  unmet_noted wait (OnReturn (Some cause)) none p = record { note = none }
 
   wait_noted : (wait : Wait C) (place : WaitPlace) (found : Found) → P None → P wait.limits.note → Keeps P (got_waiting N wait place found)
   wait_noted wait (TestCells visit i) (Cell v) none p = test_noted wait visit (i + 1) p
-  wait_noted wait (TestLast visit i) (Met true) none p = record { note = none }
-  wait_noted wait (TestLast visit i) (Met false) none p = unmet_noted wait visit none p
+  wait_noted wait (TestLast visit i) (Tested true) none p = record { note = none }
+  wait_noted wait (TestLast visit i) (Tested false) none p = unmet_noted wait visit none p
   wait_noted wait (LookIn again) (Looked None) none p = record { note = p }
   wait_noted wait (LookIn again) (Looked (Some cause)) none p = record { note = none }
   wait_noted wait (Load again) (Saw word) none p = by_two word.spin (record { note = p }) (record { note = p })
   wait_noted wait (Take again last) (Saw word) none p = by_two word.spin (record { note = p }) (record { note = p })
   wait_noted wait (Take again last) Made none p = record { note = p }
-  wait_noted wait (ArmWaiting again last) Made none p = record { note = p }
-  wait_noted wait (QueueWaiting again last) (Saw word) none p = record { note = p }
-  wait_noted wait (QueueWaiting again last) (Scanned owes tests) none p = by_two owes (record { note = p }) (record { note = p })
-  wait_noted wait PayWaiting (Paid owes) none p = by_two owes (record { note = p }) (record { note = p })
-  wait_noted wait RoundWaiting (Flag v) none p = by_two (v == 0) (record { note = p }) (by_two (is_limited wait.limits) (record { note = p }) (record { note = p }))
+  wait_noted wait (ArmToWait again last) Made none p = record { note = p }
+  wait_noted wait (QueueToWait again last) (Saw word) none p = record { note = p }
+  wait_noted wait (QueueToWait again last) (Scanned owes tests) none p = by_two owes (record { note = p }) (record { note = p })
+  wait_noted wait PayInWait (Paid owes) none p = by_two owes (record { note = p }) (record { note = p })
+  wait_noted wait AwaitWakeInWait (Flag v) none p = by_two (v == 0) (record { note = p }) (by_two (is_limited wait.limits) (record { note = p }) (record { note = p }))
   wait_noted wait LookOut (Looked None) none p = record { note = p }
   wait_noted wait LookOut (Looked (Some cause)) none p = record { note = p }
   wait_noted wait (LeaveLoad cause) (Saw word) none p = by_two word.spin (record { note = p }) (record { note = p })
@@ -96,7 +96,7 @@ module _ {C : Type 0} (N : ℕ) (P : Option ℕ → Type 0) where
   wait_noted wait (TakeToLeave cause last) Made none p = record { note = p }
   wait_noted wait (Leave cause last) (Saw word) none p = record { note = p }
   wait_noted wait (Leave cause last) (Left stood) none p = by_two stood (record { note = p }) (record { note = p })
-  wait_noted wait (LeaveRound cause) (Flag v) none p = by_two (v == 0) (record { note = p }) (record { note = p })
+  wait_noted wait (AwaitWakeToLeave cause) (Flag v) none p = by_two (v == 0) (record { note = p }) (record { note = p })
   wait_noted wait place found none p = record { note = p }
 
   walk_noted : (walk : Walk C) (found : Found) → P None → P (note_in (Some walk)) → Keeps P (got_of N walk found)
@@ -104,29 +104,29 @@ module _ {C : Type 0} (N : ℕ) (P : Option ℕ → Type 0) where
   walk_noted (TryAcquire mode last) (Saw word) none p = record { note = none }
   walk_noted (TryAcquire mode last) Made none p = record { note = none }
   walk_noted (AcquireLoad aim woken) (Saw word) none p = acquire_noted aim woken word p
-  walk_noted (Acquire aim woken last) (Saw word) none p = acquire_noted aim woken word p
-  walk_noted (Acquire aim woken last) Made none p = acquired_noted aim none p
+  walk_noted (AcquireExchange aim woken last) (Saw word) none p = acquire_noted aim woken word p
+  walk_noted (AcquireExchange aim woken last) Made none p = acquired_noted aim none p
   walk_noted (TakeToQueue aim woken last) (Saw word) none p = acquire_noted aim woken word p
   walk_noted (TakeToQueue aim woken last) Made none p = record { note = p }
   walk_noted (Arm aim woken last) Made none p = record { note = p }
   walk_noted (Queue aim woken last) (Saw word) none p = record { note = p }
   walk_noted (Queue aim woken last) Made none p = record { note = p }
-  walk_noted (Round aim) (Flag v) none p = by_two (v == 0) (record { note = p }) (record { note = p })
+  walk_noted (AwaitWake aim) (Flag v) none p = by_two (v == 0) (record { note = p }) (record { note = p })
   walk_noted (QuietCells i) (Cell v) none p = by_walks (nat_lt (i + 1) (N - 1)) (record { note = none }) (record { note = none })
   walk_noted (QuietLast i) (Quiet is_quiet) none p = by_two is_quiet (record { note = none }) (record { note = none })
-  walk_noted (ReleaseLoad leaving) (Saw word) none p = release_noted leaving word none
-  walk_noted (Release leaving last) (Saw word) none p = release_noted leaving word none
-  walk_noted (Release leaving last) Made none p = record { note = none }
-  walk_noted (TakeToScan leaving last) (Saw word) none p = release_noted leaving word none
-  walk_noted (TakeToScan leaving last) Made none p = by_walks last.cond (by_walks (nat_lt 0 N) (record { note = none }) (record { note = none })) (record { note = none })
-  walk_noted (ScanCells leaving last i) (Cell v) none p = by_walks (nat_lt (i + 1) N) (record { note = none }) (record { note = none })
-  walk_noted (ReleaseReturning leaving last) (Saw word) none p = record { note = none }
-  walk_noted (ReleaseReturning leaving last) (Scanned owes tests) none p = by_two owes (record { note = none }) (record { note = none })
+  walk_noted (ReleaseLoad releasing) (Saw word) none p = release_noted releasing word none
+  walk_noted (ReleaseExchange releasing last) (Saw word) none p = release_noted releasing word none
+  walk_noted (ReleaseExchange releasing last) Made none p = record { note = none }
+  walk_noted (TakeToScan releasing last) (Saw word) none p = release_noted releasing word none
+  walk_noted (TakeToScan releasing last) Made none p = by_walks last.cond (by_walks (nat_lt 0 N) (record { note = none }) (record { note = none })) (record { note = none })
+  walk_noted (ScanCells releasing last i) (Cell v) none p = by_walks (nat_lt (i + 1) N) (record { note = none }) (record { note = none })
+  walk_noted (ScanAndRelease releasing last) (Saw word) none p = record { note = none }
+  walk_noted (ScanAndRelease releasing last) (Scanned owes tests) none p = by_two owes (record { note = none }) (record { note = none })
   walk_noted Pay (Paid owes) none p = by_two owes (record { note = none }) (record { note = none })
-  walk_noted (Get i) (Cell v) none p = record { note = none }
+  walk_noted (GetLoad i) (Cell v) none p = record { note = none }
   walk_noted (SetLoad i v) (Cell w) none p = record { note = none }
   walk_noted (SetStore i v) Made none p = record { note = none }
-  walk_noted (Waiting wait place) found none p = wait_noted wait place found none p
+  walk_noted (InWait wait place) found none p = wait_noted wait place found none p
   walk_noted walk found none p = record { note = p }
 
   pub noted : (walk : Walk C) (found : Found) → P None → P (note_in (Some walk)) → P (note_in (walk_after (got_of N walk found)))
@@ -165,8 +165,8 @@ FirstIf notes (Some place) = IsFirstAsk notes place
 
 module _ {C : Type 0} where
   first_look : (notes : ℕ → NoteStanding) (walk : Walk C) → IfMade notes (note_in (Some walk)) → FirstIf notes (look_place (want_of walk))
-  first_look notes (Waiting wait (LookIn again)) p = p
-  first_look notes (Waiting wait LookOut) p = p
+  first_look notes (InWait wait (LookIn again)) p = p
+  first_look notes (InWait wait LookOut) p = p
   first_look notes walk p = tt
 
   pub first_if : (notes : ℕ → NoteStanding) (walk : Option (Walk C)) → IfMade notes (note_in walk) → FirstIf notes (look_of walk)
@@ -186,50 +186,50 @@ module _ {C : Type 0} where
 -- it is a load, and no event
 pub look_effect : (limits : Limits) (place : EnvWalk) → LookFits limits place → (seat : ℕ) (old new : EnvPlain) (found : EnvFound) → EnvEffect seat (env_want_of place) old found new (events_of seat (env_want_of place) found) →
     EnvEffect seat (env_want_of place) old found new [] × (new ≡ old)
-look_effect limits (ClockLoad (LookChain by)) fits seat old new (Clock clock) e = (e, e.1)
-look_effect limits (NoteLoad (LookChain by) clock note) fits seat old new (Note state) e = (e, e.1)
-look_effect limits (ClockLoad (LookChain by)) fits seat old new found e = absurd e
-look_effect limits (NoteLoad (LookChain by) clock note) fits seat old new found e = absurd e
+look_effect limits (ClockLoad (ForLook by)) fits seat old new (Clock clock) e = (e, e.1)
+look_effect limits (NoteLoad (ForLook by) clock note) fits seat old new (Note state) e = (e, e.1)
+look_effect limits (ClockLoad (ForLook by)) fits seat old new found e = absurd e
+look_effect limits (NoteLoad (ForLook by) clock note) fits seat old new found e = absurd e
 look_effect limits place fits seat old new found e = absurd fits
 
 -- so it leaves the clock and the notes as they are
 pub look_stays : (limits : Limits) (place : EnvWalk) → LookFits limits place → (seat : ℕ) (old new : EnvPlain) (found : EnvFound) → EnvEffect seat (env_want_of place) old found new [] → new ≡ old
-look_stays limits (ClockLoad (LookChain by)) fits seat old new (Clock clock) e = e.1
-look_stays limits (NoteLoad (LookChain by) clock note) fits seat old new (Note state) e = e.1
-look_stays limits (ClockLoad (LookChain by)) fits seat old new found e = absurd e
-look_stays limits (NoteLoad (LookChain by) clock note) fits seat old new found e = absurd e
+look_stays limits (ClockLoad (ForLook by)) fits seat old new (Clock clock) e = e.1
+look_stays limits (NoteLoad (ForLook by) clock note) fits seat old new (Note state) e = e.1
+look_stays limits (ClockLoad (ForLook by)) fits seat old new found e = absurd e
+look_stays limits (NoteLoad (ForLook by) clock note) fits seat old new found e = absurd e
 look_stays limits place fits seat old new found e = absurd fits
 
 -- it goes on, or shows what its limits may show
 abbrev pub LookLeads : Limits → EnvNext → Type 0
-LookLeads limits (EnvOn next) = LookFits limits next
-LookLeads limits (Shows cause) = MayShow limits cause
+LookLeads limits (Go next) = LookFits limits next
+LookLeads limits (Shown cause) = MayShow limits cause
 LookLeads limits next = ⊥
 
 given : {A : Type 0} (o : Option A) (x : A) → o ≡ Some x → IsSome o
 given o x e = subst (λ y. IsSome y) (sym e) refl
 
-passed_at : (limits : Limits) (clock : ℕ) (deadline : Option ℕ) → limits.deadline ≡ deadline → LookLeads limits (cond (is_due clock deadline) (Shows (Some Deadline)) (Shows None))
+passed_at : (limits : Limits) (clock : ℕ) (deadline : Option ℕ) → limits.deadline ≡ deadline → LookLeads limits (cond (is_due clock deadline) (Shown (Some Expired)) (Shown None))
 passed_at limits clock None e = tt
-passed_at limits clock (Some d) e = elim (is_due clock (Some d)) as (λ b. LookLeads limits (cond b (Shows (Some Deadline)) (Shows None))) [ true ↦ given limits.deadline d e | false ↦ tt ]
+passed_at limits clock (Some d) e = elim (is_due clock (Some d)) as (λ b. LookLeads limits (cond b (Shown (Some Expired)) (Shown None))) [ true ↦ given limits.deadline d e | false ↦ tt ]
 
-passed_leads : (by limits : Limits) (clock : ℕ) → by ≡ limits → LookLeads limits (passed (LookChain by) clock)
+passed_leads : (by limits : Limits) (clock : ℕ) → by ≡ limits → LookLeads limits (passed (ForLook by) clock)
 passed_leads by limits clock e = passed_at limits clock by.deadline (ap (λ (x : Limits). x.deadline) (sym e))
 
-clock_leads : (by limits : Limits) (clock : ℕ) (note : Option ℕ) → by ≡ limits → by.note ≡ note → LookLeads limits (up_to (LookChain by) clock note)
+clock_leads : (by limits : Limits) (clock : ℕ) (note : Option ℕ) → by ≡ limits → by.note ≡ note → LookLeads limits (up_to (ForLook by) clock note)
 clock_leads by limits clock None e f = passed_leads by limits clock e
 clock_leads by limits clock (Some n) e f = (e, given limits.note n (ap (λ (x : Limits). x.note) (sym e) ∙ f))
 
-over_leads : (by limits : Limits) (clock : ℕ) (b : Bool) (next : Option ℕ) → by ≡ limits → IsSome limits.note → LookLeads limits (cond b (stopped (LookChain by)) (up_to (LookChain by) clock next))
+over_leads : (by limits : Limits) (clock : ℕ) (b : Bool) (next : Option ℕ) → by ≡ limits → IsSome limits.note → LookLeads limits (cond b (stopped (ForLook by)) (up_to (ForLook by) clock next))
 over_leads by limits clock true next e some = some
 over_leads by limits clock false None e some = passed_leads by limits clock e
 over_leads by limits clock false (Some n) e some = (e, some)
 
 pub look_leads : (limits : Limits) (place : EnvWalk) → LookFits limits place → (seat : ℕ) (old new : EnvPlain) (found : EnvFound) (events : List EnvEvent) → EnvEffect seat (env_want_of place) old found new events → LookLeads limits (env_got_of place found)
-look_leads limits (ClockLoad (LookChain by)) fits seat old new (Clock clock) events e = clock_leads by limits clock by.note fits refl
-look_leads limits (NoteLoad (LookChain by) clock note) fits seat old new (Note state) events e = over_leads by limits clock (is_over clock (standing_of state)) state.parent fits.0 fits.1
-look_leads limits (ClockLoad (LookChain by)) fits seat old new found events e = absurd e
-look_leads limits (NoteLoad (LookChain by) clock note) fits seat old new found events e = absurd e
+look_leads limits (ClockLoad (ForLook by)) fits seat old new (Clock clock) events e = clock_leads by limits clock by.note fits refl
+look_leads limits (NoteLoad (ForLook by) clock note) fits seat old new (Note state) events e = over_leads by limits clock (is_over clock (standing_of state)) state.parent fits.0 fits.1
+look_leads limits (ClockLoad (ForLook by)) fits seat old new found events e = absurd e
+look_leads limits (NoteLoad (ForLook by) clock note) fits seat old new found events e = absurd e
 look_leads limits place fits seat old new found events e = absurd fits
 
 -- what it shows is a step of the wait

@@ -8,14 +8,14 @@ use Rattle.ns_word.specs.declared.env_walk.EnvWalk.{EnvWalk}
 use Rattle.ns_model.specs.Truths.{Truths}
 use Rattle.ns_world.specs.declared.call.Call.{Call}
 use Rattle.ns_world.specs.declared.call.Start.{Start}
-use Rattle.ns_world.specs.declared.call.Start.TheVariants.{Lock as OnLock, Ask}
+use Rattle.ns_world.specs.declared.call.Start.TheVariants.{OnLock, Ask}
 use Rattle.ns_world.specs.declared.environment.Environment.{Environment}
 use Rattle.ns_world.specs.declared.seat.Seat.{Seat}
 use Rattle.ns_world.specs.Asks.{plain_of}
 use Rattle.ns_world.specs.Begins.{Starts, begun_at, placed}
 use Rattle.ns_world.specs.Calls.{CallFits, start_of, mode_of}
 use Rattle.ns_world.specs.Performs.{view_of}
-use Rattle.ns_world.specs.World.{Now, now, IsBusy}
+use Rattle.ns_world.specs.World.{Now, now_with, IsBusy}
 use Rattle.ns_world.proofs.Mapped.{got-map, map-set}
 use Rattle.std.proofs.lemmas.List.{set-get_or}
 
@@ -31,18 +31,18 @@ idle_ask (Some walk) (Some ask) e = absurd (cc)
 
 module _ {C : Type 0} {N : ℕ} (truths : Truths C) (word : Word) (row : List ℕ) (queues : Lists C) (flags : List ℕ) (env : Environment) (seats : List (Seat C N)) (history : List (Event C N)) (i : ℕ) (seat : Seat C N) (within : i < length seats) where
   -- one that is busy stands in one
-  busy_by : (walk : Option (Walk C)) (asking : Option EnvWalk) → seat.walk ≡ walk → seat.asking ≡ asking → slice_get (map view_of seats) i ≡ Some (view_of seat) → slice_get (map (λ s. s.asking) seats) i ≡ Some seat.asking → (is_some walk || is_some asking) ≡ true → IsBusy (now truths word row queues flags env seats history) i
+  busy_by : (walk : Option (Walk C)) (asking : Option EnvWalk) → seat.walk ≡ walk → seat.asking ≡ asking → slice_get (map view_of seats) i ≡ Some (view_of seat) → slice_get (map (λ s. s.asking) seats) i ≡ Some seat.asking → (is_some walk || is_some asking) ≡ true → IsBusy (now_with truths word row queues flags env seats history) i
   busy_by (Some walk) asking e f at asks busy = inl (record { view = view_of seat; at = at; walk = walk; walks = e })
   busy_by None (Some ask) e f at asks busy = inr (record { walk = ask; walks = asks ∙ ap Some f })
   busy_by None None e f at asks busy = absurd (cc)
 
-  pub busy_here : seat ≡ get_or seats i seat → (is_some seat.walk || is_some seat.asking) ≡ true → IsBusy (now truths word row queues flags env seats history) i
+  pub busy_here : seat ≡ get_or seats i seat → (is_some seat.walk || is_some seat.asking) ≡ true → IsBusy (now_with truths word row queues flags env seats history) i
   busy_here is busy = busy_by seat.walk seat.asking refl refl (got-map view_of seats i seat within ∙ ap (λ s. Some (view_of s)) (sym is)) (got-map (λ s. s.asking) seats i seat within ∙ ap (λ (s : Seat C N). Some s.asking) (sym is)) busy
 
   -- what a seat put at the first place of a call is
-  begun_here : (start : Start C) → now truths word row queues flags env (slice_set seats i (placed (get_or seats i seat) start)) history ≡ begun_at (now truths word row queues flags env seats history) i (view_of (get_or seats i seat)) start
+  begun_here : (start : Start C) → now_with truths word row queues flags env (slice_set seats i (placed (get_or seats i seat) start)) history ≡ begun_at (now_with truths word row queues flags env seats history) i (view_of (get_or seats i seat)) start
   begun_here (OnLock walk) =
-      let old : Now C N = now truths word row queues flags env seats history in
+      let old : Now C N = now_with truths word row queues flags env seats history in
       let next : Seat C N = placed (get_or seats i seat) (OnLock walk) in
       (λ k. record old {
         state = record old.state { views = map-set view_of seats i next k };
@@ -50,7 +50,7 @@ module _ {C : Type 0} {N : ℕ} (truths : Truths C) (word : Word) (row : List �
         asking = (map-set (λ s. s.asking) seats i next ∙ sym (map-set (λ s. s.asking) seats i (get_or seats i seat)) ∙ ap (map (λ s. s.asking)) (set-get_or seats i seat)) k;
       })
   begun_here (Ask walk) =
-      let old : Now C N = now truths word row queues flags env seats history in
+      let old : Now C N = now_with truths word row queues flags env seats history in
       let next : Seat C N = placed (get_or seats i seat) (Ask walk) in
       (λ k. record old {
         state = record old.state { views = (map-set view_of seats i next ∙ sym (map-set view_of seats i (get_or seats i seat)) ∙ ap (map view_of) (set-get_or seats i seat)) k };
@@ -59,12 +59,12 @@ module _ {C : Type 0} {N : ℕ} (truths : Truths C) (word : Word) (row : List �
       })
 
   pub starts_here : (call : Call C) (start : Start C) → start ≡ start_of N (mode_of (get_or seats i seat).held) call → (get_or seats i seat).walk ≡ None → (get_or seats i seat).asking ≡ None → CallFits (plain_of env).notes call (mode_of (get_or seats i seat).held) →
-      Starts (now truths word row queues flags env seats history) (now truths word row queues flags env (slice_set seats i (placed (get_or seats i seat) start)) history) i call
+      Starts (now_with truths word row queues flags env seats history) (now_with truths word row queues flags env (slice_set seats i (placed (get_or seats i seat) start)) history) i call
   starts_here call start is walk ask fits = record {
     view = view_of (get_or seats i seat);
     at = got-map view_of seats i seat within;
     idle = walk;
     unasked = got-map (λ s. s.asking) seats i seat within ∙ ap Some ask;
     fits = fits;
-    begins = begun_here start ∙ ap (begun_at (now truths word row queues flags env seats history) i (view_of (get_or seats i seat))) is;
+    begins = begun_here start ∙ ap (begun_at (now_with truths word row queues flags env seats history) i (view_of (get_or seats i seat))) is;
   }

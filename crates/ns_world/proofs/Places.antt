@@ -4,11 +4,11 @@ use Rattle.std.proofs.lemmas.Bool.Decides.{nat_tests}
 use Rattle.ns_model.specs.declared.event.Mode.{Mode}
 use Rattle.ns_model.specs.declared.event.Mode.TheVariants.{Write, Read}
 use Rattle.ns_word.specs.declared.view.Held.{Held}
-use Rattle.ns_word.specs.declared.word.Leaving.TheVariants.{Writer, Reader}
+use Rattle.ns_word.specs.declared.word.Releasing.TheVariants.{Writer, Reader}
 use Rattle.ns_word.specs.declared.wait.Wait.{Wait as WaitFor}
-use Rattle.ns_word.specs.declared.wait.Visit.TheVariants.{Entry}
+use Rattle.ns_word.specs.declared.wait.Visit.TheVariants.{OnEntry}
 use Rattle.ns_word.specs.declared.wait.WaitPlace.TheVariants.{TestCells, TestLast}
-use Rattle.ns_word.specs.declared.walk.Walk.TheVariants.{QuietCells, QuietLast, Wait as Waiting}
+use Rattle.ns_word.specs.declared.walk.Walk.TheVariants.{QuietCells, QuietLast, InWait}
 use Rattle.ns_word.specs.declared.act.Act.{Act}
 use Rattle.ns_word.specs.declared.act.Act.TheVariants.{LoadWord, Acquire, TakeQueues, ReturnQueues, Release, ReleaseReturning, WaitReturning, LoadCell, JudgeQuiet, JudgeMet, StoreCell, ArmFlag, PayWake, LoadFlag, Look}
 use Rattle.ns_model.specs.Truths.{Truths}
@@ -22,7 +22,7 @@ use Rattle.ns_word.specs.EnvSteps.{IfMade, IsFirstAsk}
 use Rattle.ns_word.specs.Walks.{want_of}
 use Rattle.ns_world.specs.Looks.{looks_at, note_in}
 use Rattle.ns_world.specs.declared.call.Start.{Start}
-use Rattle.ns_world.specs.declared.call.Start.TheVariants.{Lock as OnLock, Ask}
+use Rattle.ns_world.specs.declared.call.Start.TheVariants.{OnLock, Ask}
 use Rattle.ns_world.specs.Calls.{start_of, CallFits, CallInRange, mode_of}
 
 -- the first place of a call goes with the seat and the notes
@@ -57,7 +57,7 @@ module _ {C : Type 0} {N : ℕ} (truths : Truths C) (notes : ℕ → NoteStandin
   quiet_fits held false e some mode = (grind (arith, nat_tests), (mode, omega (arith, some)), tt, refl)
 
   wait_fits : (wait : WaitFor C) (held : Held C N) (more : Bool) → nat_lt 0 (N - 1) ≡ more → 1 ≤ N → held.mode ≡ wait.mode → IfMade notes wait.limits.note →
-      StartFits truths notes (OnLock (cond more (Waiting wait (TestCells Entry 0)) (Waiting wait (TestLast Entry (N - 1))))) (Some held)
+      StartFits truths notes (OnLock (cond more (InWait wait (TestCells OnEntry 0)) (InWait wait (TestLast OnEntry (N - 1))))) (Some held)
   wait_fits wait held true e some mode made = (refl, (mode, grind (arith, nat_tests)), made, refl)
   wait_fits wait held false e some mode made = (grind (arith, nat_tests), (mode, omega (arith, some)), made, refl)
 
@@ -89,8 +89,8 @@ module _ {C : Type 0} {N : ℕ} (truths : Truths C) where
   fits_more few many seat (Acquire aim woken last) part le p = p
   fits_more few many seat (TakeQueues taking last) part le p = p
   fits_more few many seat (ReturnQueues change last) part le p = (omega (arith, le, p.0), p.1)
-  fits_more few many seat (Release leaving last) part le p = p
-  fits_more few many seat (ReleaseReturning leaving last) part le p = p
+  fits_more few many seat (Release releasing last) part le p = p
+  fits_more few many seat (ReleaseReturning releasing last) part le p = p
   fits_more few many seat (WaitReturning wait again last) part le p = (p.0, p.1, omega (arith, le, p.2), p.3)
   fits_more few many seat (LoadCell i) part le p = p
   fits_more few many seat (JudgeQuiet i) part le p = p

@@ -4,7 +4,7 @@ use Rattle.std.specs.Prelude.{IfSome, ◌==◌}
 use Rattle.std.proofs.lemmas.List.{append-nil}
 use Rattle.std.proofs.lemmas.Bool.{ne_eqb}
 use Rattle.ns_model.specs.declared.event.Event.{Event}
-use Rattle.ns_model.specs.declared.event.Exit.TheVariants.{Plain as Released}
+use Rattle.ns_model.specs.declared.event.Exit.TheVariants.{Plain}
 use Rattle.ns_queue.specs.declared.waiter.Waiter.{Waiter}
 use Rattle.ns_queue.specs.declared.waiter.Which.TheVariants.{Lock}
 use Rattle.ns_queue.specs.Queues.{Lists, with_waiters}
@@ -12,10 +12,10 @@ use Rattle.ns_queue.specs.Waiters.{seats_of}
 use Rattle.ns_queue.specs.Scans.{woken_of, left_of, tests_of}
 use Rattle.ns_word.specs.declared.word.Word.{Word}
 use Rattle.ns_word.specs.declared.word.Bits.{Bits}
-use Rattle.ns_word.specs.declared.word.Leaving.{Leaving}
+use Rattle.ns_word.specs.declared.word.Releasing.{Releasing}
 use Rattle.ns_word.specs.declared.view.Held.{Held}
 use Rattle.ns_word.specs.declared.act.Act.TheVariants.{Release, ReleaseReturning}
-use Rattle.ns_word.specs.declared.act.Found.TheVariants.{Word as Saw, Made, Scanned}
+use Rattle.ns_word.specs.declared.act.Found.TheVariants.{Saw, Made, Scanned}
 use Rattle.ns_word.specs.Lists.{has_some, bits_of}
 use Rattle.ns_word.specs.Words.{word_released, word_released_returning}
 use Rattle.ns_model.specs.Truths.{Truths}
@@ -33,42 +33,42 @@ some_seats [] = refl
 some_seats (w ∷ ws) = refl
 
 -- a section that may be left is in hand
-pub can_some : {C : Type 0} {N : ℕ} (truths : Truths C) (leaving : Leaving) (held : Option (Held C N)) → CanLeave truths leaving held → is_some held ≡ true
-can_some truths leaving None can = absurd can
-can_some truths leaving (Some held) can = refl
+pub can_some : {C : Type 0} {N : ℕ} (truths : Truths C) (releasing : Releasing) (held : Option (Held C N)) → CanLeave truths releasing held → is_some held ≡ true
+can_some truths releasing None can = absurd can
+can_some truths releasing (Some held) can = refl
 
-module _ {C : Type 0} {N : ℕ} (truths : Truths C) (seat : ℕ) (leaving : Leaving) (last word word' : Word) (row : List ℕ) (flags : List ℕ) (h h' : List (Event C N)) where
-  pub released : (queues : Lists C) (owed : List ℕ) (held held' : Option (Held C N)) → CanLeave truths leaving held → IfSome held (λ section. h' ≡ h ++ section_of truths.holds seat section Released ∷ []) →
-      word ≡ last → word' ≡ word_released leaving last → held' ≡ None →
-      Makes truths seat (Release leaving last) (part word row queues flags held owed) h Made (part word' row queues flags held' owed) h'
+module _ {C : Type 0} {N : ℕ} (truths : Truths C) (seat : ℕ) (releasing : Releasing) (last word word' : Word) (row : List ℕ) (flags : List ℕ) (h h' : List (Event C N)) where
+  pub released : (queues : Lists C) (owed : List ℕ) (held held' : Option (Held C N)) → CanLeave truths releasing held → IfSome held (λ section. h' ≡ h ++ section_of truths.holds seat section Plain ∷ []) →
+      word ≡ last → word' ≡ word_released releasing last → held' ≡ None →
+      Makes truths seat (Release releasing last) (part word row queues flags held owed) h Made (part word' row queues flags held' owed) h'
   released queues owed None held' can grows same becomes over = absurd can
   released queues owed (Some held) held' can grows same becomes over = record {
-    commits = section_of truths.holds seat held Released ∷ [];
+    commits = section_of truths.holds seat held Plain ∷ [];
     effect = (held, refl, can.0, sym same, rw (becomes, over) refl, refl);
     grows = grows;
   }
 
-  pub scanned : (queues queues' : Lists C) (owed owed' : List ℕ) (held held' : Option (Held C N)) (owes : Bool) (tests : ℕ) (bits : Bits) → CanLeave truths leaving held → IfSome held (λ section. h' ≡ h ++ section_of truths.holds seat section Released ∷ []) →
-      word ≡ last → word' ≡ word_released_returning leaving owes bits last → held' ≡ None →
+  pub scanned : (queues queues' : Lists C) (owed owed' : List ℕ) (held held' : Option (Held C N)) (owes : Bool) (tests : ℕ) (bits : Bits) → CanLeave truths releasing held → IfSome held (λ section. h' ≡ h ++ section_of truths.holds seat section Plain ∷ []) →
+      word ≡ last → word' ≡ word_released_returning releasing owes bits last → held' ≡ None →
       queues' ≡ with_waiters queues Lock (left_of (meets_at truths row) queues.lock) → owed' ≡ seats_of (woken_of (meets_at truths row) queues.lock) →
       owes ≡ has_some owed' → bits ≡ bits_of queues'.lock → tests ≡ tests_of truths.same (meets_at truths row) queues.lock →
-      Makes truths seat (ReleaseReturning leaving last) (part word row queues flags held owed) h (Scanned owes tests) (part word' row queues' flags held' owed') h'
+      Makes truths seat (ReleaseReturning releasing last) (part word row queues flags held owed) h (Scanned owes tests) (part word' row queues' flags held' owed') h'
   scanned queues queues' owed owed' None held' owes tests bits can grows same becomes over left woken some tell count = absurd can
   scanned queues queues' owed owed' (Some held) held' owes tests bits can grows same becomes over left woken some tell count =
       let owing : owes ≡ has_some (woken_of (meets_at truths row) queues.lock) = some ∙ ap has_some woken ∙ some_seats (woken_of (meets_at truths row) queues.lock) in
       let lock : queues'.lock ≡ left_of (meets_at truths row) queues.lock = ap (λ q. q.lock) left in
       record {
-        commits = section_of truths.holds seat held Released ∷ [];
+        commits = section_of truths.holds seat held Plain ∷ [];
         effect = (held, refl, can.0, sym same, rw (becomes, over, tell, lock, woken, owing) refl, some ∙ ap has_some woken, count, refl);
         grows = grows;
       }
 
   -- one that failed
   pub missed : (queues : Lists C) (owed : List ℕ) (held : Option (Held C N)) → word ≢ last →
-      Makes truths seat (ReleaseReturning leaving last) (part word row queues flags held owed) h (Saw word) (part word row queues flags held owed) h
+      Makes truths seat (ReleaseReturning releasing last) (part word row queues flags held owed) h (Saw word) (part word row queues flags held owed) h
   missed queues owed held other = record { commits = []; effect = (refl, other, refl, refl); grows = sym (append-nil h) }
 
 -- a release without a scan that failed
-pub release_missed : {C : Type 0} {N : ℕ} (truths : Truths C) (seat : ℕ) (leaving : Leaving) (last word : Word) (row flags owed : List ℕ) (h : List (Event C N)) (queues : Lists C) (held : Option (Held C N)) → word ≢ last →
-    Makes truths seat (Release leaving last) (part word row queues flags held owed) h (Saw word) (part word row queues flags held owed) h
-release_missed truths seat leaving last word row flags owed h queues held other = record { commits = []; effect = (refl, other, refl, refl); grows = sym (append-nil h) }
+pub release_missed : {C : Type 0} {N : ℕ} (truths : Truths C) (seat : ℕ) (releasing : Releasing) (last word : Word) (row flags owed : List ℕ) (h : List (Event C N)) (queues : Lists C) (held : Option (Held C N)) → word ≢ last →
+    Makes truths seat (Release releasing last) (part word row queues flags held owed) h (Saw word) (part word row queues flags held owed) h
+release_missed truths seat releasing last word row flags owed h queues held other = record { commits = []; effect = (refl, other, refl, refl); grows = sym (append-nil h) }

@@ -6,13 +6,13 @@ use Rattle.ns_queue.specs.declared.waiter.Waiter.{Waiter}
 use Rattle.ns_word.specs.Walks.{has_queues}
 use Rattle.ns_model.specs.Truths.{Truths}
 use Rattle.ns_word.specs.Steps.{in_hand}
-use Rattle.ns_word.specs.declared.walk.Walk.TheVariants.{TryLoad, TryAcquire, AcquireLoad, Acquire, TakeToQueue, Arm, Queue, Round, QuietCells, QuietLast, ReleaseLoad, Release, TakeToScan, ScanCells, ReleaseReturning, Pay, Get, SetLoad, SetStore, Wait as Waiting}
+use Rattle.ns_word.specs.declared.walk.Walk.TheVariants.{TryLoad, TryAcquire, AcquireLoad, AcquireExchange, TakeToQueue, Arm, Queue, AwaitWake, QuietCells, QuietLast, ReleaseLoad, ReleaseExchange, TakeToScan, ScanCells, ScanAndRelease, Pay, GetLoad, SetLoad, SetStore, InWait}
 use Rattle.ns_word.specs.declared.walk.Walk.{Walk}
 use Rattle.ns_word.specs.declared.wait.WaitPlace.{WaitPlace}
-use Rattle.ns_word.specs.declared.wait.WaitPlace.TheVariants.{TestCells, TestLast, LookIn, Load, Take, Arm as ArmWaiting, Queue as QueueWaiting, Pay as PayWaiting, Round as RoundWaiting, LookOut, LeaveLoad, TakeToLeave, Leave, LeaveRound}
+use Rattle.ns_word.specs.declared.wait.WaitPlace.TheVariants.{TestCells, TestLast, LookIn, Load, Take, ArmToWait, QueueToWait, PayInWait, AwaitWakeInWait, LookOut, LeaveLoad, TakeToLeave, Leave, AwaitWakeToLeave}
 use Rattle.ns_word.specs.declared.wait.Wait.{Wait}
 use Rattle.ns_word.specs.declared.wait.Aim.{Aim}
-use Rattle.ns_word.specs.declared.word.Leaving.{Leaving}
+use Rattle.ns_word.specs.declared.word.Releasing.{Releasing}
 use Rattle.ns_word.specs.declared.word.Word.{Word}
 use Rattle.ns_word.specs.declared.limits.Cause.{Cause}
 use Rattle.ns_world.specs.declared.seat.Seat.{Seat}
@@ -56,42 +56,42 @@ pub none_left : {C : Type 0} {N : ℕ} (seats : List (Seat C N)) (i : ℕ) → l
 none_left seats i past truths row lock = rw (drop_all i seats past) refl
 
 -- what a walk does to the lock list in hand that neither queues, nor scans, nor waits: nothing
-pub in_hand_else : {C : Type 0} (truths : Truths C) (seat : ℕ) (walk : Walk C) (row : List ℕ) (lock : List (Waiter C)) → ((aim : Aim C) (woken : Bool) (last : Word) → walk ≡ Queue aim woken last → ⊥) → ((leaving : Leaving) (last : Word) → walk ≡ ReleaseReturning leaving last → ⊥) →
-    ((wait : Wait C) (place : WaitPlace) → walk ≡ Waiting wait place → ⊥) → lock ≡ in_hand truths seat walk row lock
+pub in_hand_else : {C : Type 0} (truths : Truths C) (seat : ℕ) (walk : Walk C) (row : List ℕ) (lock : List (Waiter C)) → ((aim : Aim C) (woken : Bool) (last : Word) → walk ≡ Queue aim woken last → ⊥) → ((releasing : Releasing) (last : Word) → walk ≡ ScanAndRelease releasing last → ⊥) →
+    ((wait : Wait C) (place : WaitPlace) → walk ≡ InWait wait place → ⊥) → lock ≡ in_hand truths seat walk row lock
 in_hand_else truths seat (TryLoad x) row lock queues scans waits = refl
 in_hand_else truths seat (TryAcquire x y) row lock queues scans waits = refl
 in_hand_else truths seat (AcquireLoad x y) row lock queues scans waits = refl
-in_hand_else truths seat (Acquire x y z) row lock queues scans waits = refl
+in_hand_else truths seat (AcquireExchange x y z) row lock queues scans waits = refl
 in_hand_else truths seat (TakeToQueue x y z) row lock queues scans waits = refl
 in_hand_else truths seat (Arm x y z) row lock queues scans waits = refl
 in_hand_else truths seat (Queue x y z) row lock queues scans waits = absurd (queues x y z refl)
-in_hand_else truths seat (Round x) row lock queues scans waits = refl
+in_hand_else truths seat (AwaitWake x) row lock queues scans waits = refl
 in_hand_else truths seat (QuietCells x) row lock queues scans waits = refl
 in_hand_else truths seat (QuietLast x) row lock queues scans waits = refl
 in_hand_else truths seat (ReleaseLoad x) row lock queues scans waits = refl
-in_hand_else truths seat (Release x y) row lock queues scans waits = refl
+in_hand_else truths seat (ReleaseExchange x y) row lock queues scans waits = refl
 in_hand_else truths seat (TakeToScan x y) row lock queues scans waits = refl
 in_hand_else truths seat (ScanCells x y z) row lock queues scans waits = refl
-in_hand_else truths seat (ReleaseReturning x y) row lock queues scans waits = absurd (scans x y refl)
+in_hand_else truths seat (ScanAndRelease x y) row lock queues scans waits = absurd (scans x y refl)
 in_hand_else truths seat Pay row lock queues scans waits = refl
-in_hand_else truths seat (Get x) row lock queues scans waits = refl
+in_hand_else truths seat (GetLoad x) row lock queues scans waits = refl
 in_hand_else truths seat (SetLoad x y) row lock queues scans waits = refl
 in_hand_else truths seat (SetStore x y) row lock queues scans waits = refl
-in_hand_else truths seat (Waiting x y) row lock queues scans waits = absurd (waits x y refl)
+in_hand_else truths seat (InWait x y) row lock queues scans waits = absurd (waits x y refl)
 
 -- the same of a wait that neither queues nor leaves
-pub waiting_else : {C : Type 0} (truths : Truths C) (seat : ℕ) (wait : Wait C) (place : WaitPlace) (row : List ℕ) (lock : List (Waiter C)) → ((again : Bool) (last : Word) → place ≡ QueueWaiting again last → ⊥) → ((cause : Cause) (last : Word) → place ≡ Leave cause last → ⊥) → lock ≡ in_hand truths seat (Waiting wait place) row lock
+pub waiting_else : {C : Type 0} (truths : Truths C) (seat : ℕ) (wait : Wait C) (place : WaitPlace) (row : List ℕ) (lock : List (Waiter C)) → ((again : Bool) (last : Word) → place ≡ QueueToWait again last → ⊥) → ((cause : Cause) (last : Word) → place ≡ Leave cause last → ⊥) → lock ≡ in_hand truths seat (InWait wait place) row lock
 waiting_else truths seat wait (TestCells x y) row lock queues leaves = refl
 waiting_else truths seat wait (TestLast x y) row lock queues leaves = refl
 waiting_else truths seat wait (LookIn x) row lock queues leaves = refl
 waiting_else truths seat wait (Load x) row lock queues leaves = refl
 waiting_else truths seat wait (Take x y) row lock queues leaves = refl
-waiting_else truths seat wait (ArmWaiting x y) row lock queues leaves = refl
-waiting_else truths seat wait (QueueWaiting x y) row lock queues leaves = absurd (queues x y refl)
-waiting_else truths seat wait PayWaiting row lock queues leaves = refl
-waiting_else truths seat wait RoundWaiting row lock queues leaves = refl
+waiting_else truths seat wait (ArmToWait x y) row lock queues leaves = refl
+waiting_else truths seat wait (QueueToWait x y) row lock queues leaves = absurd (queues x y refl)
+waiting_else truths seat wait PayInWait row lock queues leaves = refl
+waiting_else truths seat wait AwaitWakeInWait row lock queues leaves = refl
 waiting_else truths seat wait LookOut row lock queues leaves = refl
 waiting_else truths seat wait (LeaveLoad x) row lock queues leaves = refl
 waiting_else truths seat wait (TakeToLeave x y) row lock queues leaves = refl
 waiting_else truths seat wait (Leave x y) row lock queues leaves = absurd (leaves x y refl)
-waiting_else truths seat wait (LeaveRound x) row lock queues leaves = refl
+waiting_else truths seat wait (AwaitWakeToLeave x) row lock queues leaves = refl

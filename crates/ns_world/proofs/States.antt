@@ -16,7 +16,7 @@ use Rattle.ns_word.specs.Walks.{has_armed}
 use Rattle.ns_word.specs.Views.{owed_to, walk_at}
 use Rattle.ns_model.specs.Truths.{Truths}
 use Rattle.ns_word.specs.Steps.{State}
-use Rattle.ns_word.specs.Lawful.{IsLawful, is_due}
+use Rattle.ns_word.specs.Lawful.{IsLawful, is_unwoken}
 use Rattle.ns_word.proofs.Acts.{view_fits, stands_nowhere}
 use Rattle.ns_word.proofs.Ranges.{placed_below}
 use Rattle.ns_word.proofs.Waits.{unqueued}
@@ -24,12 +24,12 @@ use Rattle.ns_world.specs.declared.environment.Environment.{Environment}
 use Rattle.ns_world.specs.declared.seat.Seat.{Seat}
 use Rattle.ns_world.specs.Performs.{view_of}
 use Rattle.ns_world.specs.Shows.{wakes_owed}
-use Rattle.ns_world.specs.World.{now, IsLawfulWorld}
+use Rattle.ns_world.specs.World.{now_with, IsLawfulWorld}
 use Rattle.ns_world.proofs.Worlds.{split}
 
-module _ {C : Type 0} {N : ℕ} (truths : Truths C) (word : Word) (row : List ℕ) (queues : Lists C) (flags : List ℕ) (env : Environment) (seats : List (Seat C N)) (history : List (Event C N)) (lawful : IsLawfulWorld (now truths word row queues flags env seats history)) where
+module _ {C : Type 0} {N : ℕ} (truths : Truths C) (word : Word) (row : List ℕ) (queues : Lists C) (flags : List ℕ) (env : Environment) (seats : List (Seat C N)) (history : List (Event C N)) (lawful : IsLawfulWorld (now_with truths word row queues flags env seats history)) where
   abbrev state : State C N
-  state = (now truths word row queues flags env seats history).state
+  state = (now_with truths word row queues flags env seats history).state
 
   module _ (i : ℕ) (seat : Seat C N) (at : slice_get seats i ≡ Some seat) where
     within : i < length seats
@@ -104,7 +104,7 @@ module _ {C : Type 0} {N : ℕ} where
   wakes_few truths seats h s most p =
       let long = length_owing s.views in
       let some = few seats (owing s.views)
-      (λ seat. let sum : times_in seat s.lock + owed_to seat s.views ≡ cond (is_due (walk_at seat s.views) (s.flags seat)) 1 0 = p.waiters_placed.placed seat in
-      omega (arith, times_owing seat s.views, sum, one_most (is_due (walk_at seat s.views) (s.flags seat))))
+      (λ seat. let sum : times_in seat s.lock + owed_to seat s.views ≡ cond (is_unwoken (walk_at seat s.views) (s.flags seat)) 1 0 = p.waiters_placed.placed seat in
+      omega (arith, times_owing seat s.views, sum, one_most (is_unwoken (walk_at seat s.views) (s.flags seat))))
       (λ seat high. times_owing seat s.views ∙ none_owed truths seats h s p seat high) in
       omega (arith, long, some, most)

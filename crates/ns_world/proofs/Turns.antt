@@ -5,28 +5,28 @@ use Rattle.std.proofs.lemmas.List.{length-set}
 use Rattle.std.proofs.lemmas.Option.{slice_get_within}
 use Rattle.ns_word.specs.declared.view.SeatView.{SeatView}
 use Rattle.ns_word.specs.declared.word.Word.{Word}
-use Rattle.ns_word.specs.declared.walk.Reply.TheVariants.{Misuse as Misused}
-use Rattle.ns_word.specs.declared.walk.Walk.TheVariants.{QuietCells, QuietLast, Wait as Waiting}
+use Rattle.ns_word.specs.declared.walk.Reply.TheVariants as TheReply
+use Rattle.ns_word.specs.declared.walk.Walk.TheVariants.{QuietCells, QuietLast, InWait}
 use Rattle.ns_word.specs.Walks.{want_of}
 use Rattle.ns_word.specs.declared.wait.Wait.{Wait as Waits}
-use Rattle.ns_word.specs.declared.wait.Visit.TheVariants.{Entry}
+use Rattle.ns_word.specs.declared.wait.Visit.TheVariants.{OnEntry}
 use Rattle.ns_word.specs.declared.wait.WaitPlace.TheVariants.{TestCells, TestLast}
 use Rattle.ns_model.specs.declared.event.Mode.{Mode}
 use Rattle.ns_word.specs.declared.env_walk.EnvNext.{EnvNext}
-use Rattle.ns_word.specs.declared.env_walk.EnvNext.TheVariants.{On as EnvOn, Idle as EnvIdles, Done as EnvDone, Saw}
+use Rattle.ns_word.specs.declared.env_walk.EnvNext.TheVariants.{Go, Repeat, Over, Shown}
 use Rattle.ns_word.specs.EnvWalks.{env_got_of}
 use Rattle.ns_world.specs.declared.call.Call.{Call}
 use Rattle.ns_world.specs.declared.call.Start.{Start}
-use Rattle.ns_world.specs.declared.call.Start.TheVariants.{Lock as OnLock, Ask}
+use Rattle.ns_world.specs.declared.call.Start.TheVariants.{OnLock, Ask}
 use Rattle.ns_world.specs.declared.call.Call.TheVariants.{Lock, RLock, TryLock, TryRLock, Unlock, RUnlock, UnlockQuiet, Get, Set, Wait, NewNote, Notify, Advance, IsNotified, Expiry, NoteWait}
 use Rattle.ns_world.specs.declared.fault.Fault.{Fault}
 use Rattle.ns_world.specs.declared.fault.Fault.TheVariants.{OutOfMemory, NoSuchSeat, TooManySeats, StepLimit}
 use Rattle.ns_world.specs.declared.step.Begun.TheVariants.{Misuse}
 use Rattle.ns_world.specs.declared.step.Step.{Step}
 use Rattle.ns_world.specs.declared.step.Step.TheVariants.{Went, Idle, Finished, Nothing}
-use Rattle.ns_world.specs.Calls.{start_of, mode_of, mode_left}
+use Rattle.ns_world.specs.Calls.{start_of, mode_of, mode_waited}
 use Rattle.ns_world.specs.Commits.{Commits}
-use Rattle.ns_world.specs.Begins.{Begins, BeginFault, Starts, begun_at}
+use Rattle.ns_world.specs.Begins.{BeginAnswers, BeginFault, Starts, begun_at}
 use Rattle.ns_world.specs.World.{Now, LookGoes, Moves, IsWalking, IsBusy, IsIdle, StepOf, StepFault, is_walking, is_asking, is_busy}
 use Rattle.ns_world.specs.Runs.{Progress, progress, progressed, finished, Leads, TurnOf, TurnsWith, TurnFault}
 use Rattle.ns_world.proofs.Busy.{or_true, both, walking_at, walking_set_same, walking_set_other, asking_at, asking_set_same, asking_set_other}
@@ -41,7 +41,7 @@ quiet_apart : (C : Type 0) (N : ℕ) (more : Bool) (word : Word) → Commits (wa
 quiet_apart C N true word p = p
 quiet_apart C N false word p = p
 
-wait_apart : {C : Type 0} (N : ℕ) (wait : Waits C) (more : Bool) (word : Word) → Commits (want_of (cond more (Waiting wait (TestCells Entry 0)) (Waiting wait (TestLast Entry (N - 1))))) word → ⊥
+wait_apart : {C : Type 0} (N : ℕ) (wait : Waits C) (more : Bool) (word : Word) → Commits (want_of (cond more (InWait wait (TestCells OnEntry 0)) (InWait wait (TestLast OnEntry (N - 1))))) word → ⊥
 wait_apart N wait true word p = p
 wait_apart N wait false word p = p
 
@@ -56,7 +56,7 @@ starts_apart N mode RUnlock word p = p
 starts_apart {C} N mode UnlockQuiet word p = quiet_apart C N (nat_lt 0 (N - 1)) word p
 starts_apart N mode (Get i) word p = p
 starts_apart N mode (Set i v) word p = p
-starts_apart N mode (Wait c limits) word p = wait_apart N (record { mode = mode_left mode; cond = c; limits = limits }) (nat_lt 0 (N - 1)) word p
+starts_apart N mode (Wait c limits) word p = wait_apart N (record { mode = mode_waited mode; cond = c; limits = limits }) (nat_lt 0 (N - 1)) word p
 starts_apart N mode (NewNote parent deadline) word p = p
 starts_apart N mode (Notify note) word p = p
 starts_apart N mode (Advance moment) word p = p
@@ -117,9 +117,9 @@ module _ {C : Type 0} {N : ℕ} where
       inr (inr (record { idle = p.1; none = e; answer = refl; after = ap (λ world. progress world over lines) p.0 }))
 
   -- the call was refused
-  pub turns_misused : (old new : Now C N) (seat : ℕ) (call : Call C) → Begins old new seat call Misuse → TurnsWith (Some call) old seat (Finished Misused) new
+  pub turns_misused : (old new : Now C N) (seat : ℕ) (call : Call C) → BeginAnswers old new seat call Misuse → TurnsWith (Some call) old seat (Finished TheReply.Misuse) new
   turns_misused old new seat call p = λ lists over lines e.
-      inr (inl (record { call = call; next = e; refused = (refl, p.1); answer = refl; after = ap (λ world. finished (progress old over lines) seat Misused world) p.0 }))
+      inr (inl (record { call = call; next = e; refused = (refl, p.1); answer = refl; after = ap (λ world. finished (progress old over lines) seat TheReply.Misuse world) p.0 }))
 
   -- the call began, and made its first step
   pub turns_started : (old begun new : Now C N) (seat : ℕ) (call : Call C) (step : Step) → Starts old begun seat call → StepOf begun new seat step → TurnsWith (Some call) old seat step new
@@ -173,10 +173,10 @@ module _ {C : Type 0} {N : ℕ} where
   started_steps old begun seat call StepLimit s p = p
 
   look_stays : (old new : Now C N) (seat : ℕ) (step : Step) (next : EnvNext) → LookGoes next old new seat step → length new.state.views ≡ length old.state.views
-  look_stays old new seat step (EnvOn walk) p = ap (λ (world : Now C N). length world.state.views) p.0
-  look_stays old new seat step (Saw cause) p = ap length p.0.others ∙ length-set old.state.views seat _
-  look_stays old new seat step (EnvIdles walk) p = absurd p
-  look_stays old new seat step (EnvDone reply) p = absurd p
+  look_stays old new seat step (Go walk) p = ap (λ (world : Now C N). length world.state.views) p.0
+  look_stays old new seat step (Shown cause) p = ap length p.0.others ∙ length-set old.state.views seat _
+  look_stays old new seat step (Repeat walk) p = absurd p
+  look_stays old new seat step (Over reply) p = absurd p
 
   moves_stay : (old new : Now C N) (seat : ℕ) (step : Step) → Moves old new seat step → length new.state.views ≡ length old.state.views
   moves_stay old new seat step (inl goes) = ap length goes.0.others ∙ length-set old.state.views seat _

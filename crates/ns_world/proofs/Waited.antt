@@ -20,12 +20,12 @@ use Rattle.ns_word.specs.declared.word.Bits.{Bits}
 use Rattle.ns_word.specs.declared.wait.Wait.{Wait}
 use Rattle.ns_word.specs.declared.view.Held.{Held}
 use Rattle.ns_word.specs.declared.act.Change.{Change}
-use Rattle.ns_word.specs.declared.act.Change.TheVariants.{Queue, Leave}
+use Rattle.ns_word.specs.declared.act.Change.TheVariants.{QueueSelf, LeaveSelf}
 use Rattle.ns_word.specs.declared.act.Act.TheVariants.{ReturnQueues, WaitReturning}
 use Rattle.ns_word.specs.declared.act.Found.{Found}
-use Rattle.ns_word.specs.declared.act.Found.TheVariants.{Word as Saw, Scanned}
+use Rattle.ns_word.specs.declared.act.Found.TheVariants.{Saw, Scanned}
 use Rattle.ns_word.specs.Lists.{has_some, bits_of}
-use Rattle.ns_word.specs.Words.{leaving_of, word_returned, word_released_returning}
+use Rattle.ns_word.specs.Words.{releasing_of, word_returned, word_released_returning}
 use Rattle.ns_model.specs.Truths.{Truths}
 use Rattle.ns_word.specs.Steps.{Effect, meets_at, section_of, changed, change_found, waited_in}
 use Rattle.ns_word.specs.Places.{CanWait, ChangeFits}
@@ -82,8 +82,8 @@ module _ {C : Type 0} (seat : ℕ) where
 pub returned : {C : Type 0} {N : ℕ} (truths : Truths C) (seat : ℕ) (change : Change) (last word word' : Word) (row flags owed : List ℕ) (held : Option (Held C N)) (queues queues' : Lists C) (found : Found) (bits : Bits) →
     last ≡ word → found ≡ change_found seat change queues.lock → queues'.lock ≡ changed seat change queues.lock → bits ≡ bits_of queues'.lock → word' ≡ word_returned bits last →
     Effect truths seat (ReturnQueues change last) (part word row queues flags held owed) found (part word' row queues' flags held owed) []
-returned truths seat (Queue mode woken) last word word' row flags owed held queues queues' found bits same is lock tell becomes = rw is (refl, same, rw (becomes, tell, lock) refl, refl)
-returned truths seat Leave last word word' row flags owed held queues queues' found bits same is lock tell becomes = rw is (refl, same, rw (becomes, tell, lock) refl, refl)
+returned truths seat (QueueSelf mode woken) last word word' row flags owed held queues queues' found bits same is lock tell becomes = rw is (refl, same, rw (becomes, tell, lock) refl, refl)
+returned truths seat LeaveSelf last word word' row flags owed held queues queues' found bits same is lock tell becomes = rw is (refl, same, rw (becomes, tell, lock) refl, refl)
 
 -- ---- one that queues
 
@@ -107,7 +107,7 @@ module _ {C : Type 0} {N : ℕ} (truths : Truths C) (seat : ℕ) (wait : Wait C)
   commits_of held = if again then [] else section_of truths.holds seat held (CondWait wait.cond) ∷ []
 
   pub waited : (queues queues' : Lists C) (owed owed' : List ℕ) (held held' : Option (Held C N)) (owes : Bool) (tests : ℕ) (bits : Bits) → CanWait truths wait again held → IfSome held (λ section. h' ≡ h ++ commits_of section) →
-      word ≡ last → word' ≡ word_released_returning (leaving_of wait.mode) owes bits last → held' ≡ None →
+      word ≡ last → word' ≡ word_released_returning (releasing_of wait.mode) owes bits last → held' ≡ None →
       queues'.lock ≡ waited_in truths seat wait again row queues.lock → owed' ≡ seats_of (woken_of (meets_at truths row) queues.lock) →
       owes ≡ has_some owed' → bits ≡ bits_of queues'.lock → tests ≡ tests_of truths.same (meets_at truths row) queues.lock →
       Makes truths seat (WaitReturning wait again last) (part word row queues flags held owed) h (Scanned owes tests) (part word' row queues' flags held' owed') h'
@@ -128,8 +128,8 @@ module _ {C : Type 0} {N : ℕ} (truths : Truths C) (seat : ℕ) (wait : Wait C)
 -- one that puts itself in stands nowhere, where no seat waits for a variable
 pub free_change : {C : Type 0} {N : ℕ} (seat : ℕ) (change : Change) (word : Word) (row flags owed : List ℕ) (held : Option (Held C N)) (queues : Lists C) → queues.cvs ≡ replicate 4 [] → ChangeFits seat change (part word row queues flags held owed) →
     IsQueuing change → times seat queues ≡ 0
-free_change seat (Queue mode woken) word row flags owed held queues none fits is = let all : times seat queues ≡ times_in seat queues.lock + 0 = rw none refl in omega (arith, all, fits)
-free_change seat Leave word row flags owed held queues none fits is = absurd is
+free_change seat (QueueSelf mode woken) word row flags owed held queues none fits is = let all : times seat queues ≡ times_in seat queues.lock + 0 = rw none refl in omega (arith, all, fits)
+free_change seat LeaveSelf word row flags owed held queues none fits is = absurd is
 
 pub free_here : {C : Type 0} (seat : ℕ) (queues : Lists C) → queues.cvs ≡ replicate 4 [] → times_in seat queues.lock ≡ 0 → times seat queues ≡ 0
 free_here seat queues none fits = let all : times seat queues ≡ times_in seat queues.lock + 0 = rw none refl in omega (arith, all, fits)

@@ -9,14 +9,15 @@ use Rattle.ns_word.specs.declared.word.Word.{Word}
 use Rattle.ns_word.specs.declared.view.SeatView.{SeatView}
 use Rattle.ns_word.specs.declared.walk.Walk.{Walk}
 use Rattle.ns_word.specs.declared.walk.Next.{Next}
-use Rattle.ns_word.specs.declared.walk.Next.TheVariants.{On, Idle as Idles, Done}
+use Rattle.ns_word.specs.declared.walk.Next.TheVariants.{On, Done}
+use Rattle.ns_word.specs.declared.walk.Next.TheVariants as TheNext
 use Rattle.ns_word.specs.declared.act.Found.{Found}
-use Rattle.ns_word.specs.declared.act.Found.TheVariants.{Looked as Shown}
+use Rattle.ns_word.specs.declared.act.Found.TheVariants as TheFound
 use Rattle.ns_word.specs.declared.limits.Cause.{Cause}
 use Rattle.ns_model.specs.Environments.{NoteStanding}
 use Rattle.ns_word.specs.declared.env_walk.EnvWalk.{EnvWalk}
 use Rattle.ns_word.specs.declared.env_walk.EnvNext.{EnvNext}
-use Rattle.ns_word.specs.declared.env_walk.EnvNext.TheVariants.{On as EnvOn, Idle as EnvIdles, Done as EnvDone, Saw}
+use Rattle.ns_word.specs.declared.env_walk.EnvNext.TheVariants.{Go, Repeat, Over, Shown}
 use Rattle.ns_word.specs.EnvWalks.{env_want_of, env_got_of, env_walk_after}
 use Rattle.ns_word.specs.EnvSteps.{EnvPlain, EnvBegins, EnvStep, EnvActFits, EnvEffect, IfMade, IsFirstAsk, IsLawfulEnv, events_of}
 use Rattle.ns_word.specs.Walks.{want_of, got_of, walk_after}
@@ -33,7 +34,7 @@ use Rattle.ns_word.proofs.EnvBegins.{begins_env}
 use Rattle.ns_word.proofs.EnvRanges.{asks_in_range}
 use Rattle.ns_model.specs.declared.environment.EnvEvent.{EnvEvent}
 use Rattle.ns_world.specs.declared.call.Start.{Start}
-use Rattle.ns_world.specs.declared.call.Start.TheVariants.{Lock as OnLock, Ask}
+use Rattle.ns_world.specs.declared.call.Start.TheVariants.{OnLock, Ask}
 use Rattle.ns_world.specs.declared.environment.Environment.{Environment}
 use Rattle.ns_world.specs.Asks.{Asked, plain_of, env_state, env_step_of}
 use Rattle.ns_world.specs.Begins.{placed}
@@ -42,8 +43,8 @@ use Rattle.ns_world.specs.declared.step.Step.{Step}
 use Rattle.ns_world.specs.declared.step.Step.TheVariants.{Went, Idle, Finished, Nothing}
 use Rattle.ns_world.specs.Performs.{Performs, view_of, seat_part, step_of, tests_after}
 use Rattle.ns_world.specs.Looks.{AsksFor, LookFits, look_of, looks_at, note_in}
-use Rattle.ns_world.specs.Looked.{EnvMoves, Looked, MovesFrom, SeatLooks, Sees}
-use Rattle.ns_world.specs.World.{Now, now, Goes, Asks, Looks, LookGoes, Moves, StepOf, IsLawfulWorld, StandRight, NotesMade}
+use Rattle.ns_world.specs.Looked.{EnvMoves, LookStep, MovesFrom, SeatLooks, Sees}
+use Rattle.ns_world.specs.World.{Now, now_with, Goes, Asks, Looks, LookGoes, Moves, StepOf, IsLawfulWorld, StandRight, NotesMade}
 use Rattle.ns_world.proofs.Looking.{FirstIf, LookLeads, first_if, if_made_stays, look_leads, look_stays, noted, right_here, shown_effect}
 use Rattle.ns_world.proofs.Mapped.{got-map, map-set, index-map}
 use Rattle.ns_world.proofs.Numbers.{number_at, numbers_stay}
@@ -55,20 +56,20 @@ same_element xs i x y within p q = cc (slice_get-get_or xs i x within, slice_get
 
 some_step : {C : Type 0} (next : Next C) → Nothing ≡ step_of next → ⊥
 some_step (On walk) e = absurd (cc)
-some_step (Idles walk) e = absurd (cc)
+some_step (TheNext.Idle walk) e = absurd (cc)
 some_step (Done reply) e = absurd (cc)
 
 some_ask : (next : EnvNext) → Nothing ≡ env_step_of next → ⊥
-some_ask (EnvOn walk) e = absurd (cc)
-some_ask (EnvIdles walk) e = absurd (cc)
-some_ask (EnvDone reply) e = absurd (cc)
-some_ask (Saw cause) e = absurd (cc)
+some_ask (Go walk) e = absurd (cc)
+some_ask (Repeat walk) e = absurd (cc)
+some_ask (Over reply) e = absurd (cc)
+some_ask (TheFound.Looked cause) e = absurd (cc)
 
 some_look : {C : Type 0} {N : ℕ} (next : EnvNext) (old new : Now C N) (seat : ℕ) → LookGoes next old new seat Nothing → ⊥
-some_look (EnvOn walk) old new seat p = absurd (cc (p.1))
-some_look {C} {N} (Saw cause) old new seat p = some_step (got_of N p.0.makes.walk p.0.found) p.0.answers
-some_look (EnvIdles walk) old new seat p = p
-some_look (EnvDone reply) old new seat p = p
+some_look (Go walk) old new seat p = absurd (cc (p.1))
+some_look {C} {N} (TheFound.Looked cause) old new seat p = some_step (got_of N p.0.makes.walk p.0.found) p.0.answers
+some_look (Repeat walk) old new seat p = p
+some_look (Over reply) old new seat p = p
 
 -- a step that was made is one of those that a step can be
 pub told : {C : Type 0} {N : ℕ} (old new : Now C N) (seat : ℕ) (step : Step) → Moves old new seat step → StepOf old new seat step
@@ -148,9 +149,9 @@ lawful_env old env askings tests events same right noted keeps lawful = record {
 pub split : {C : Type 0} {N : ℕ} (seats : List (Seat C N)) (i : ℕ) (d : Seat C N) → i < length seats → map view_of seats ≡ map view_of (take i seats) ++ view_of (get_or seats i d) ∷ map view_of (drop (suc i) seats)
 split seats i d within = ap (map view_of) (sym (take-append-drop i seats) ∙ ap (λ rest. take i seats ++ rest) (drop-cons seats i d within)) ∙ map-append view_of (take i seats) (get_or seats i d ∷ drop (suc i) seats)
 
-module _ {C : Type 0} {N : ℕ} (truths : Truths C) (some : 0 < N) (quiet : QuietKeeps N truths) (word : Word) (row : List ℕ) (queues : Lists C) (flags : List ℕ) (env : Environment) (seats : List (Seat C N)) (history : List (Event C N)) (lawful : IsLawfulWorld (now truths word row queues flags env seats history)) (i : ℕ) (d : Seat C N) (within : i < length seats) where
+module _ {C : Type 0} {N : ℕ} (truths : Truths C) (some : 0 < N) (quiet : QuietKeeps N truths) (word : Word) (row : List ℕ) (queues : Lists C) (flags : List ℕ) (env : Environment) (seats : List (Seat C N)) (history : List (Event C N)) (lawful : IsLawfulWorld (now_with truths word row queues flags env seats history)) (i : ℕ) (d : Seat C N) (within : i < length seats) where
   abbrev old : Now C N
-  old = now truths word row queues flags env seats history
+  old = now_with truths word row queues flags env seats history
 
   abbrev seat : Seat C N
   seat = get_or seats i d
@@ -219,7 +220,7 @@ module _ {C : Type 0} {N : ℕ} (truths : Truths C) (some : 0 < N) (quiet : Quie
   pub act_here : (walk : Walk C) → (get_or seats i d).walk ≡ Some walk → ActFits truths 64 (get_or seats i d).number (want_of walk) (seat_part word row queues flags (get_or seats i d))
   act_here walk e =
       fits_more truths (length (map view_of seats)) 64 (get_or seats i d).number (want_of walk) (seat_part word row queues flags (get_or seats i d)) lawful.few
-      (act_fits truths (length (map view_of seats)) lawful.few history (now truths word row queues flags env seats history).state front (view_of (get_or seats i d)) back apart lawful.lawful walk e)
+      (act_fits truths (length (map view_of seats)) lawful.few history (now_with truths word row queues flags env seats history).state front (view_of (get_or seats i d)) back apart lawful.lawful walk e)
 
   -- the view after a step, part by part
   led : (walk : Walk C) (next : Seat C N) (found : Found) → next.number ≡ (get_or seats i d).number → next.walk ≡ walk_after (got_of N walk found) →
@@ -237,7 +238,7 @@ module _ {C : Type 0} {N : ℕ} (truths : Truths C) (some : 0 < N) (quiet : Quie
     asks_become = map-set (λ s. s.asking) seats i next ∙ ap (slice_set (map (λ s. s.asking) seats) i) p.asking
 
     -- what a step on the parts of a world is in it
-    pub goes_here : Goes (now truths word row queues flags env seats history) (now truths word' row' queues' flags' env (slice_set seats i next) history') i step
+    pub goes_here : Goes (now_with truths word row queues flags env seats history) (now_with truths word' row' queues' flags' env (slice_set seats i next) history') i step
     goes_here = record {
       view = view_of (get_or seats i d);
       at = got-map view_of seats i d within;
@@ -266,17 +267,17 @@ module _ {C : Type 0} {N : ℕ} (truths : Truths C) (some : 0 < N) (quiet : Quie
     }
 
     abbrev new : Now C N
-    new = now truths word' row' queues' flags' env (slice_set seats i next) history'
+    new = now_with truths word' row' queues' flags' env (slice_set seats i next) history'
 
     -- the note that may end its wait is the same
     noted_after : IfMade (plain_of env).notes (note_in (walk_after (got_of N walk p.found)))
     noted_after = noted N (IfMade (plain_of env).notes) walk p.found tt (subst (λ w. IfMade (plain_of env).notes (note_in w)) walks noted_here)
 
     -- The world after that step is lawful, where the seat was in no call on the clock and the notes, or its look was over.
-    pub lawful_after : (events : List EnvEvent) → IsLawfulEnv events (env_state (plain_of env) (slice_set (map (λ s. s.asking) seats) i None)) → IsLawfulWorld (now truths word' row' queues' flags' env (slice_set seats i next) history')
+    pub lawful_after : (events : List EnvEvent) → IsLawfulEnv events (env_state (plain_of env) (slice_set (map (λ s. s.asking) seats) i None)) → IsLawfulWorld (now_with truths word' row' queues' flags' env (slice_set seats i next) history')
     lawful_after events cleared =
         let goes = goes_here in
-        let kept = keeps truths some quiet (length (map view_of seats)) history (now truths word row queues flags env seats history).state goes.view goes.found new.state goes.commits lawful.few goes.makes lawful.lawful in
+        let kept = keeps truths some quiet (length (map view_of seats)) history (now_with truths word row queues flags env seats history).state goes.view goes.found new.state goes.commits lawful.few goes.makes lawful.lawful in
         let same : length (map view_of (slice_set seats i next)) ≡ length (map view_of seats) = length-map (slice_set seats i next) view_of ∙ length-set seats i next ∙ sym (length-map seats view_of) in
         let walks_on : (view_of next).walk ≡ walk_after (got_of N walk p.found) = p.goes in
         record {
@@ -302,19 +303,19 @@ module _ {C : Type 0} {N : ℕ} (truths : Truths C) (some : 0 < N) (quiet : Quie
 
   -- a call that begins at a first place that goes with the section in hand
   lawful_begun : (walk : Walk C) (next : Seat C N) → (get_or seats i d).walk ≡ None → (get_or seats i d).asking ≡ None → next.asking ≡ (get_or seats i d).asking → IsFirst N walk → PlaceFits truths (Some walk) (get_or seats i d).held →
-      view_of next ≡ record { seat = (get_or seats i d).number; walk = Some walk; held = (get_or seats i d).held; owed = (get_or seats i d).owed.items } → IfMade (plain_of env).notes (note_in (Some walk)) → looks_at (want_of walk) ≡ None → IsLawfulWorld (now truths word row queues flags env (slice_set seats i next) history)
+      view_of next ≡ record { seat = (get_or seats i d).number; walk = Some walk; held = (get_or seats i d).held; owed = (get_or seats i d).owed.items } → IfMade (plain_of env).notes (note_in (Some walk)) → looks_at (want_of walk) ≡ None → IsLawfulWorld (now_with truths word row queues flags env (slice_set seats i next) history)
   lawful_begun walk next over unasked asks first place is note inside =
-      let new : Now C N = now truths word row queues flags env (slice_set seats i next) history in
-      let begun : Begins truths (now truths word row queues flags env seats history).state (view_of (get_or seats i d)) walk new.state = record {
+      let new : Now C N = now_with truths word row queues flags env (slice_set seats i next) history in
+      let begun : Begins truths (now_with truths word row queues flags env seats history).state (view_of (get_or seats i d)) walk new.state = record {
         over = over;
         first = first;
         fits = place;
         front = front;
         back = back;
         was = apart;
-        becomes = ap (λ vs. record (now truths word row queues flags env seats history).state { views = vs }) (put next ∙ ap (λ v. front ++ v ∷ back) is);
+        becomes = ap (λ vs. record (now_with truths word row queues flags env seats history).state { views = vs }) (put next ∙ ap (λ v. front ++ v ∷ back) is);
       } in
-      let kept = begins truths (length (map view_of seats)) history (now truths word row queues flags env seats history).state (view_of (get_or seats i d)) walk new.state begun lawful.lawful in
+      let kept = begins truths (length (map view_of seats)) history (now_with truths word row queues flags env seats history).state (view_of (get_or seats i d)) walk new.state begun lawful.lawful in
       let same : length (map view_of (slice_set seats i next)) ≡ length (map view_of seats) = length-map (slice_set seats i next) view_of ∙ length-set seats i next ∙ sym (length-map seats view_of) in
       record {
         few = rw same lawful.few;
@@ -332,9 +333,9 @@ module _ {C : Type 0} {N : ℕ} (truths : Truths C) (some : 0 < N) (quiet : Quie
 
   -- a seat whose place in a call on the clock and the notes alone is another
   asks_alone : (env' : Environment) (next : Seat C N) → view_of next ≡ view_of (get_or seats i d) →
-      now truths word row queues flags env' (slice_set seats i next) history ≡ record (now truths word row queues flags env seats history) { env = plain_of env'; asking = map (λ s. s.asking) (slice_set seats i next); tests = map (λ s. s.tests) (slice_set seats i next) }
+      now_with truths word row queues flags env' (slice_set seats i next) history ≡ record (now_with truths word row queues flags env seats history) { env = plain_of env'; asking = map (λ s. s.asking) (slice_set seats i next); tests = map (λ s. s.tests) (slice_set seats i next) }
   asks_alone env' next same =
-      ap (λ (vs : List (SeatView C N)). record (now truths word row queues flags env' (slice_set seats i next) history) { state = record (now truths word row queues flags env seats history).state { views = vs } }) (views_stay next same)
+      ap (λ (vs : List (SeatView C N)). record (now_with truths word row queues flags env' (slice_set seats i next) history) { state = record (now_with truths word row queues flags env seats history).state { views = vs } }) (views_stay next same)
 
   module _ (walk : EnvWalk) (walks : (get_or seats i d).asking ≡ Some walk) (over : (get_or seats i d).walk ≡ None) (env' : Environment) (next : Seat C N) (step : Step) (p : Asked (plain_of env) (plain_of env') (get_or seats i d) walk next step) where
     same_view : view_of next ≡ view_of (get_or seats i d)
@@ -344,7 +345,7 @@ module _ {C : Type 0} {N : ℕ} (truths : Truths C) (some : 0 < N) (quiet : Quie
     tests_stay = map-set (λ s. s.tests) seats i next ∙ ap (slice_set (map (λ s. s.tests) seats) i) (ap (λ s. s.tests) p.goes) ∙ sym (map-set (λ s. s.tests) seats i (get_or seats i d)) ∙ ap (map (λ s. s.tests)) (set-get_or seats i d)
 
     -- what a step on the clock and the notes is in the world
-    pub asks_here : Asks (now truths word row queues flags env seats history) (now truths word row queues flags env' (slice_set seats i next) history) i step
+    pub asks_here : Asks (now_with truths word row queues flags env seats history) (now_with truths word row queues flags env' (slice_set seats i next) history) i step
     asks_here = record {
       view = view_of (get_or seats i d);
       at = got-map view_of seats i d within;
@@ -357,17 +358,17 @@ module _ {C : Type 0} {N : ℕ} (truths : Truths C) (some : 0 < N) (quiet : Quie
         effect = subst (λ n. EnvEffect n (env_want_of walk) (plain_of env) p.found (plain_of env') (events_of n (env_want_of walk) p.found)) number_here p.effect;
         becomes = map-set (λ s. s.asking) seats i next ∙ ap (slice_set (map (λ s. s.asking) seats) i) (ap (λ s. s.asking) p.goes);
       };
-      others = asks_alone env' next same_view ∙ ap (λ (ts : List ℕ). record (now truths word row queues flags env seats history) { env = plain_of env'; asking = map (λ s. s.asking) (slice_set seats i next); tests = ts }) tests_stay;
+      others = asks_alone env' next same_view ∙ ap (λ (ts : List ℕ). record (now_with truths word row queues flags env seats history) { env = plain_of env'; asking = map (λ s. s.asking) (slice_set seats i next); tests = ts }) tests_stay;
       answers = p.answers;
     }
 
     -- and the world after it is lawful
-    pub lawful_asked : IsLawfulWorld (now truths word row queues flags env' (slice_set seats i next) history)
+    pub lawful_asked : IsLawfulWorld (now_with truths word row queues flags env' (slice_set seats i next) history)
     unfolding asks_here
     lawful_asked =
         let becomes : map (λ s. s.asking) (slice_set seats i next) ≡ slice_set (map (λ s. s.asking) seats) i (env_walk_after (env_got_of walk p.found)) = map-set (λ s. s.asking) seats i next ∙ ap (slice_set (map (λ s. s.asking) seats) i) (ap (λ s. s.asking) p.goes) in
         subst IsLawfulWorld (sym (asks_alone env' next same_view))
-        (lawful_env (now truths word row queues flags env seats history) (plain_of env') (map (λ s. s.asking) (slice_set seats i next)) (map (λ s. s.tests) (slice_set seats i next)) (lawful.events ++ events_of i (env_want_of walk) p.found)
+        (lawful_env (now_with truths word row queues flags env seats history) (plain_of env') (map (λ s. s.asking) (slice_set seats i next)) (map (λ s. s.tests) (slice_set seats i next)) (lawful.events ++ events_of i (env_want_of walk) p.found)
         (ap length becomes ∙ length-set (map (λ s. s.asking) seats) i _)
         (subst (λ (ws : List (Option EnvWalk)). StandRight (map view_of seats) ws) (sym becomes) (right_asks (map view_of seats) (map (λ s. s.asking) seats) i (view_of (get_or seats i d)) (env_walk_after (env_got_of walk p.found)) (got-map view_of seats i d within) in_asks lawful.right
         (subst (λ w. AsksFor w (env_walk_after (env_got_of walk p.found))) (sym over) tt)))
@@ -378,7 +379,7 @@ module _ {C : Type 0} {N : ℕ} (truths : Truths C) (some : 0 < N) (quiet : Quie
   -- ---- a step of a look
 
   module _ (walk : Walk C) (walks : (get_or seats i d).walk ≡ Some walk) (place : EnvWalk) (stands : (get_or seats i d).asking ≡ Some place) (env' : Environment) (next : Seat C N) (step : Step)
-      (p : Looked (plain_of env) (plain_of env') (get_or seats i d) walk place next step) where
+      (p : LookStep (plain_of env) (plain_of env') (get_or seats i d) walk place next step) where
     looks : AsksFor (Some walk) (Some place)
     looks = subst (λ w. AsksFor w (Some place)) walks (asks_for (Some place) stands)
 
@@ -400,18 +401,18 @@ module _ {C : Type 0} {N : ℕ} (truths : Truths C) (some : 0 < N) (quiet : Quie
     kept_env = keeps_env lawful.events [] (env_state (plain_of env) (map (λ s. s.asking) seats)) (env_state (plain_of env) (slice_set (map (λ s. s.asking) seats) i (env_walk_after (env_got_of place p.found)))) i p.found steps_env lawful.env_lawful
 
     -- the look goes on
-    module _ (on : EnvWalk) (goes_on : env_got_of place p.found ≡ EnvOn on) (is : next ≡ record (get_or seats i d) { asking = Some on }) where
+    module _ (on : EnvWalk) (goes_on : env_got_of place p.found ≡ Go on) (is : next ≡ record (get_or seats i d) { asking = Some on }) where
       asks_on : map (λ s. s.asking) (slice_set seats i next) ≡ slice_set (map (λ s. s.asking) seats) i (Some on)
       asks_on = map-set (λ s. s.asking) seats i next ∙ ap (λ (s : Seat C N). slice_set (map (λ s. s.asking) seats) i s.asking) is
 
       tests_on : map (λ s. s.tests) (slice_set seats i next) ≡ map (λ s. s.tests) seats
       tests_on = map-set (λ s. s.tests) seats i next ∙ ap (slice_set (map (λ s. s.tests) seats) i) (ap (λ (s : Seat C N). s.tests) is) ∙ sym (map-set (λ s. s.tests) seats i (get_or seats i d)) ∙ ap (map (λ s. s.tests)) (set-get_or seats i d)
 
-      now_on : now truths word row queues flags env' (slice_set seats i next) history ≡ record (now truths word row queues flags env seats history) { asking = slice_set (map (λ s. s.asking) seats) i (Some on) }
+      now_on : now_with truths word row queues flags env' (slice_set seats i next) history ≡ record (now_with truths word row queues flags env seats history) { asking = slice_set (map (λ s. s.asking) seats) i (Some on) }
       now_on =
-          asks_alone env' next (ap view_of is) ∙ (λ k. record (now truths word row queues flags env seats history) { env = same_env k; asking = asks_on k; tests = tests_on k })
+          asks_alone env' next (ap view_of is) ∙ (λ k. record (now_with truths word row queues flags env seats history) { env = same_env k; asking = asks_on k; tests = tests_on k })
 
-      look_on : step ≡ Went → Looks (now truths word row queues flags env seats history) (now truths word row queues flags env' (slice_set seats i next) history) i step
+      look_on : step ≡ Went → Looks (now_with truths word row queues flags env seats history) (now_with truths word row queues flags env' (slice_set seats i next) history) i step
       look_on went = record {
         view = view_of (get_or seats i d);
         at = got-map view_of seats i d within;
@@ -421,14 +422,14 @@ module _ {C : Type 0} {N : ℕ} (truths : Truths C) (some : 0 < N) (quiet : Quie
         stands = asks_at ∙ ap Some stands;
         found = p.found;
         effect = seen_effect;
-        goes = subst (λ n. LookGoes n (now truths word row queues flags env seats history) (now truths word row queues flags env' (slice_set seats i next) history) i step) (sym goes_on) (now_on, went);
+        goes = subst (λ n. LookGoes n (now_with truths word row queues flags env seats history) (now_with truths word row queues flags env' (slice_set seats i next) history) i step) (sym goes_on) (now_on, went);
       }
 
-      lawful_on : IsLawfulWorld (now truths word row queues flags env' (slice_set seats i next) history)
+      lawful_on : IsLawfulWorld (now_with truths word row queues flags env' (slice_set seats i next) history)
       lawful_on =
           let fits : LookFits looks.0 on = subst (λ n. LookLeads looks.0 n) goes_on leads in
           subst IsLawfulWorld (sym now_on)
-          (lawful_env (now truths word row queues flags env seats history) (plain_of env) (slice_set (map (λ s. s.asking) seats) i (Some on)) (map (λ s. s.tests) seats) (lawful.events ++ [])
+          (lawful_env (now_with truths word row queues flags env seats history) (plain_of env) (slice_set (map (λ s. s.asking) seats) i (Some on)) (map (λ s. s.tests) seats) (lawful.events ++ [])
           (length-set (map (λ s. s.asking) seats) i (Some on))
           (right_asks (map view_of seats) (map (λ s. s.asking) seats) i (view_of (get_or seats i d)) (Some on) (got-map view_of seats i d within) in_asks lawful.right (subst (λ w. AsksFor w (Some on)) (sym walks) (looks.0, looks.1, fits)))
           lawful.noted
@@ -436,16 +437,16 @@ module _ {C : Type 0} {N : ℕ} (truths : Truths C) (some : 0 < N) (quiet : Quie
           lawful)
 
     -- the look is over
-    module _ (cause : Option Cause) (sees : env_got_of place p.found ≡ Saw cause) (q : Sees (get_or seats i d) walk cause next step) where
+    module _ (cause : Option Cause) (sees : env_got_of place p.found ≡ TheFound.Looked cause) (q : Sees (get_or seats i d) walk cause next step) where
       may : MayShow looks.0 cause
       may = subst (λ n. LookLeads looks.0 n) sees leads
 
       -- it is a step of the wait
       performs : Performs truths (seat_part word row queues flags (get_or seats i d)) (get_or seats i d) history walk (seat_part word row queues flags next) next history step
       performs = record {
-        found = Shown cause;
+        found = TheFound.Looked cause;
         commits = [];
-        effect = subst (λ (x : Seat C N). Effect truths (get_or seats i d).number (want_of walk) (seat_part word row queues flags (get_or seats i d)) (Shown cause) (seat_part word row queues flags x) []) (sym q.goes)
+        effect = subst (λ (x : Seat C N). Effect truths (get_or seats i d).number (want_of walk) (seat_part word row queues flags (get_or seats i d)) (TheFound.Looked cause) (seat_part word row queues flags x) []) (sym q.goes)
             (shown_effect truths (get_or seats i d).number (want_of walk) looks.0 cause (seat_part word row queues flags (get_or seats i d)) looks.1 may);
         number = ap (λ (x : Seat C N). x.number) q.goes;
         goes = ap (λ (x : Seat C N). x.walk) q.goes;
@@ -455,10 +456,10 @@ module _ {C : Type 0} {N : ℕ} (truths : Truths C) (some : 0 < N) (quiet : Quie
         answers = q.answers;
       }
 
-      same_now : now truths word row queues flags env' (slice_set seats i next) history ≡ now truths word row queues flags env (slice_set seats i next) history
-      same_now = ap (λ (e : EnvPlain). record (now truths word row queues flags env (slice_set seats i next) history) { env = e }) same_env
+      same_now : now_with truths word row queues flags env' (slice_set seats i next) history ≡ now_with truths word row queues flags env (slice_set seats i next) history
+      same_now = ap (λ (e : EnvPlain). record (now_with truths word row queues flags env (slice_set seats i next) history) { env = e }) same_env
 
-      look_over : Looks (now truths word row queues flags env seats history) (now truths word row queues flags env' (slice_set seats i next) history) i step
+      look_over : Looks (now_with truths word row queues flags env seats history) (now_with truths word row queues flags env' (slice_set seats i next) history) i step
       unfolding performs goes_here
       look_over = record {
         view = view_of (get_or seats i d);
@@ -469,38 +470,38 @@ module _ {C : Type 0} {N : ℕ} (truths : Truths C) (some : 0 < N) (quiet : Quie
         stands = asks_at ∙ ap Some stands;
         found = p.found;
         effect = seen_effect;
-        goes = subst (λ n. LookGoes n (now truths word row queues flags env seats history) (now truths word row queues flags env' (slice_set seats i next) history) i step) (sym sees)
-            (subst (λ (w : Now C N). LookGoes (Saw cause) (now truths word row queues flags env seats history) w i step) (sym same_now) (goes_here walk walks word row queues flags next history step refl performs, refl));
+        goes = subst (λ n. LookGoes n (now_with truths word row queues flags env seats history) (now_with truths word row queues flags env' (slice_set seats i next) history) i step) (sym sees)
+            (subst (λ (w : Now C N). LookGoes (TheFound.Looked cause) (now_with truths word row queues flags env seats history) w i step) (sym same_now) (goes_here walk walks word row queues flags next history step refl performs, refl));
       }
 
-      lawful_over : IsLawfulWorld (now truths word row queues flags env' (slice_set seats i next) history)
+      lawful_over : IsLawfulWorld (now_with truths word row queues flags env' (slice_set seats i next) history)
       lawful_over =
           subst IsLawfulWorld (sym same_now) (lawful_after walk walks word row queues flags next history step refl performs (lawful.events ++ [])
           (subst (λ n. IsLawfulEnv (lawful.events ++ []) (env_state (plain_of env) (slice_set (map (λ s. s.asking) seats) i (env_walk_after n)))) sees kept_env))
 
     looked_by : (n : EnvNext) → env_got_of place p.found ≡ n → SeatLooks n (get_or seats i d) walk next step →
-        Looks (now truths word row queues flags env seats history) (now truths word row queues flags env' (slice_set seats i next) history) i step × IsLawfulWorld (now truths word row queues flags env' (slice_set seats i next) history)
-    looked_by (EnvOn on) e q = (look_on on e q.0 q.1, lawful_on on e q.0)
-    looked_by (Saw cause) e q = (look_over cause e q, lawful_over cause e q)
+        Looks (now_with truths word row queues flags env seats history) (now_with truths word row queues flags env' (slice_set seats i next) history) i step × IsLawfulWorld (now_with truths word row queues flags env' (slice_set seats i next) history)
+    looked_by (Go on) e q = (look_on on e q.0 q.1, lawful_on on e q.0)
+    looked_by (TheFound.Looked cause) e q = (look_over cause e q, lawful_over cause e q)
     looked_by n e q = absurd q
 
     -- what a step of a look is in the world, which is lawful after it
-    pub looks_here : Looks (now truths word row queues flags env seats history) (now truths word row queues flags env' (slice_set seats i next) history) i step × IsLawfulWorld (now truths word row queues flags env' (slice_set seats i next) history)
+    pub looks_here : Looks (now_with truths word row queues flags env seats history) (now_with truths word row queues flags env' (slice_set seats i next) history) i step × IsLawfulWorld (now_with truths word row queues flags env' (slice_set seats i next) history)
     looks_here = looked_by (env_got_of place p.found) refl p.goes
 
   -- a step on the clock and the notes, of a call of its own or of a look
   moved_by : (walk : Option (Walk C)) → (get_or seats i d).walk ≡ walk → (place : EnvWalk) → (get_or seats i d).asking ≡ Some place → (env' : Environment) (next : Seat C N) (step : Step) → MovesFrom walk (plain_of env) (plain_of env') (get_or seats i d) place next step →
-      Moves (now truths word row queues flags env seats history) (now truths word row queues flags env' (slice_set seats i next) history) i step × IsLawfulWorld (now truths word row queues flags env' (slice_set seats i next) history)
+      Moves (now_with truths word row queues flags env seats history) (now_with truths word row queues flags env' (slice_set seats i next) history) i step × IsLawfulWorld (now_with truths word row queues flags env' (slice_set seats i next) history)
   moved_by None e place stands env' next step p = (inr (inl (asks_here place stands e env' next step p)), lawful_asked place stands e env' next step p)
   moved_by (Some walk) e place stands env' next step p = let both = looks_here walk e place stands env' next step p in (inr (inr both.0), both.1)
 
   pub moved_here : (place : EnvWalk) → (get_or seats i d).asking ≡ Some place → (env' : Environment) (next : Seat C N) (step : Step) → EnvMoves (plain_of env) (plain_of env') (get_or seats i d) place next step →
-      Moves (now truths word row queues flags env seats history) (now truths word row queues flags env' (slice_set seats i next) history) i step × IsLawfulWorld (now truths word row queues flags env' (slice_set seats i next) history)
+      Moves (now_with truths word row queues flags env seats history) (now_with truths word row queues flags env' (slice_set seats i next) history) i step × IsLawfulWorld (now_with truths word row queues flags env' (slice_set seats i next) history)
   moved_here place stands env' next step p = moved_by (get_or seats i d).walk refl place stands env' next step p
 
   -- a call on the clock and the notes that begins at a first place whose notes are made
   lawful_asking : (walk : EnvWalk) → (get_or seats i d).walk ≡ None → (get_or seats i d).asking ≡ None → IsFirstAsk (plain_of env).notes walk →
-      IsLawfulWorld (now truths word row queues flags env (slice_set seats i (record (get_or seats i d) { asking = Some walk; tests = 0 })) history)
+      IsLawfulWorld (now_with truths word row queues flags env (slice_set seats i (record (get_or seats i d) { asking = Some walk; tests = 0 })) history)
   lawful_asking walk over unasked first =
       let next : Seat C N = record (get_or seats i d) { asking = Some walk; tests = 0 } in
       let becomes : map (λ s. s.asking) (slice_set seats i next) ≡ slice_set (map (λ s. s.asking) seats) i (Some walk) = map-set (λ s. s.asking) seats i next in
@@ -510,7 +511,7 @@ module _ {C : Type 0} {N : ℕ} (truths : Truths C) (some : 0 < N) (quiet : Quie
         becomes = ap (env_state (plain_of env)) becomes;
       } in
       subst IsLawfulWorld (sym (asks_alone env next refl))
-      (lawful_env (now truths word row queues flags env seats history) (plain_of env) (map (λ s. s.asking) (slice_set seats i next)) (map (λ s. s.tests) (slice_set seats i next)) lawful.events
+      (lawful_env (now_with truths word row queues flags env seats history) (plain_of env) (map (λ s. s.asking) (slice_set seats i next)) (map (λ s. s.tests) (slice_set seats i next)) lawful.events
       (ap length becomes ∙ length-set (map (λ s. s.asking) seats) i _)
       (subst (λ (ws : List (Option EnvWalk)). StandRight (map view_of seats) ws) (sym becomes) (right_asks (map view_of seats) (map (λ s. s.asking) seats) i (view_of (get_or seats i d)) (Some walk) (got-map view_of seats i d within) in_asks lawful.right
       (subst (λ w. AsksFor w (Some walk)) (sym over) tt)))
@@ -520,7 +521,7 @@ module _ {C : Type 0} {N : ℕ} (truths : Truths C) (some : 0 < N) (quiet : Quie
 
   -- a call that begins where its need is met
   pub lawful_placed : (start : Start C) → (get_or seats i d).walk ≡ None → (get_or seats i d).asking ≡ None → StartFits truths (plain_of env).notes start (get_or seats i d).held →
-      IsLawfulWorld (now truths word row queues flags env (slice_set seats i (placed (get_or seats i d) start)) history)
+      IsLawfulWorld (now_with truths word row queues flags env (slice_set seats i (placed (get_or seats i d) start)) history)
   lawful_placed (OnLock walk) over unasked fits = lawful_begun walk (placed (get_or seats i d) (OnLock walk)) over unasked refl fits.0 fits.1 refl fits.2 fits.3
   lawful_placed (Ask walk) over unasked fits = lawful_asking walk over unasked fits
 

@@ -3,7 +3,7 @@ use Rattle.std.specs.Prelude.{◌≡◌, ℕ, ◌≤◌, Some, None, slice_get, 
 use Rattle.ns_word.specs.declared.view.SeatView.{SeatView}
 use Rattle.ns_world.specs.declared.call.Call.{Call}
 use Rattle.ns_world.specs.declared.call.Start.{Start}
-use Rattle.ns_world.specs.declared.call.Start.TheVariants.{Lock as OnLock, Ask}
+use Rattle.ns_world.specs.declared.call.Start.TheVariants.{OnLock, Ask}
 use Rattle.ns_world.specs.declared.seat.Seat.{Seat}
 use Rattle.ns_world.specs.declared.step.Begun.{Begun}
 use Rattle.ns_world.specs.declared.step.Begun.TheVariants.{Started, Misuse, Busy}
@@ -43,10 +43,10 @@ pub record Misuses {C : Type 0} {N : ℕ} (old : Now C N) (seat : ℕ) (call : C
   pub unfit : CallFits old.env.notes call (mode_of view.held) → ⊥
 
 -- what the answer says of the call
-abbrev pub Begins : {C : Type 0} {N : ℕ} → Now C N → Now C N → ℕ → Call C → Begun → Type 0
-Begins old new seat call Started = Starts old new seat call
-Begins old new seat call Misuse = (new ≡ old) × Misuses old seat call
-Begins old new seat call Busy = (new ≡ old) × IsBusy old seat
+abbrev pub BeginAnswers : {C : Type 0} {N : ℕ} → Now C N → Now C N → ℕ → Call C → Begun → Type 0
+BeginAnswers old new seat call Started = Starts old new seat call
+BeginAnswers old new seat call Misuse = (new ≡ old) × Misuses old seat call
+BeginAnswers old new seat call Busy = (new ≡ old) × IsBusy old seat
 
 -- a call is refused only where the number is no seat's
 abbrev pub BeginFault : {C : Type 0} {N : ℕ} → Now C N → ℕ → Fault → Type 0

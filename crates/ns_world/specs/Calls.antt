@@ -3,43 +3,43 @@ use Rattle.std.specs.Prelude.{◌≡◌, ℕ, ◌<◌, ◌^◌, true, false, Opt
 use Rattle.ns_model.specs.declared.event.Mode.{Mode}
 use Rattle.ns_model.specs.declared.event.Mode.TheVariants.{Write, Read}
 use Rattle.ns_word.specs.declared.view.Held.{Held}
-use Rattle.ns_word.specs.declared.word.Leaving.TheVariants.{Writer, Reader}
-use Rattle.ns_word.specs.declared.walk.Walk.TheVariants.{TryLoad, AcquireLoad, ReleaseLoad, Get as GetAt, SetLoad}
-use Rattle.ns_word.specs.declared.env_walk.Chain.TheVariants.{IsNotified as Asked, NoteWait as Awaited}
-use Rattle.ns_word.specs.declared.env_walk.EnvWalk.TheVariants.{NextLoad, Notify as NotifyNote, Advance as MoveClock, ClockLoad, ExpiryLoad}
+use Rattle.ns_word.specs.declared.word.Releasing.TheVariants.{Writer, Reader}
+use Rattle.ns_word.specs.declared.walk.Walk.TheVariants.{TryLoad, AcquireLoad, ReleaseLoad, GetLoad, SetLoad}
+use Rattle.ns_word.specs.declared.env_walk.Chain.TheVariants.{ForIsNotified, ForNoteWait}
+use Rattle.ns_word.specs.declared.env_walk.EnvWalk.TheVariants.{NextLoad, Notifying, Advancing, ClockLoad, ExpiryLoad}
 use Rattle.ns_model.specs.Environments.{NoteStanding}
-use Rattle.ns_word.specs.declared.wait.Aim.TheVariants.{Lock as ToLock}
-use Rattle.ns_word.specs.declared.wait.Visit.TheVariants.{Entry}
+use Rattle.ns_word.specs.declared.wait.Aim.TheVariants.{ForLock}
+use Rattle.ns_word.specs.declared.wait.Visit.TheVariants.{OnEntry}
 use Rattle.ns_word.specs.Walks.{quiet_place, test_place}
 use Rattle.ns_word.specs.EnvSteps.{IfMade}
 use Rattle.ns_world.specs.declared.call.Start.{Start}
-use Rattle.ns_world.specs.declared.call.Start.TheVariants.{Lock as OnLock, Ask}
+use Rattle.ns_world.specs.declared.call.Start.TheVariants.{OnLock, Ask}
 use Rattle.ns_world.specs.declared.call.Call.{Call}
 use Rattle.ns_world.specs.declared.call.Call.TheVariants.{Lock, RLock, TryLock, TryRLock, Unlock, RUnlock, UnlockQuiet, Get, Set, Wait, NewNote, Notify, Advance, IsNotified, Expiry, NoteWait}
 
 -- the mode of the section that a wait leaves
-abbrev pub mode_left : Option Mode → Mode
-mode_left None = Write
-mode_left (Some mode) = mode
+abbrev pub mode_waited : Option Mode → Mode
+mode_waited None = Write
+mode_waited (Some mode) = mode
 
 -- the first place of the call's walk, over a row of N cells, with a section in hand of this mode, or with none
 abbrev pub start_of : {C : Type 0} → ℕ → Option Mode → Call C → Start C
-start_of N mode Lock = OnLock (AcquireLoad (ToLock Write) false)
-start_of N mode RLock = OnLock (AcquireLoad (ToLock Read) false)
+start_of N mode Lock = OnLock (AcquireLoad (ForLock Write) false)
+start_of N mode RLock = OnLock (AcquireLoad (ForLock Read) false)
 start_of N mode TryLock = OnLock (TryLoad Write)
 start_of N mode TryRLock = OnLock (TryLoad Read)
 start_of N mode Unlock = OnLock (ReleaseLoad Writer)
 start_of N mode RUnlock = OnLock (ReleaseLoad Reader)
 start_of N mode UnlockQuiet = OnLock (quiet_place N 0)
-start_of N mode (Get i) = OnLock (GetAt i)
+start_of N mode (Get i) = OnLock (GetLoad i)
 start_of N mode (Set i v) = OnLock (SetLoad i v)
-start_of N mode (Wait c limits) = OnLock (test_place N (record { mode = mode_left mode; cond = c; limits = limits }) Entry 0)
+start_of N mode (Wait c limits) = OnLock (test_place N (record { mode = mode_waited mode; cond = c; limits = limits }) OnEntry 0)
 start_of N mode (NewNote parent deadline) = Ask (NextLoad parent deadline)
-start_of N mode (Notify note) = Ask (NotifyNote note)
-start_of N mode (Advance moment) = Ask (MoveClock moment)
-start_of N mode (IsNotified note) = Ask (ClockLoad (Asked note))
+start_of N mode (Notify note) = Ask (Notifying note)
+start_of N mode (Advance moment) = Ask (Advancing moment)
+start_of N mode (IsNotified note) = Ask (ClockLoad (ForIsNotified note))
 start_of N mode (Expiry note) = Ask (ExpiryLoad note note None)
-start_of N mode (NoteWait note deadline) = Ask (ClockLoad (Awaited note deadline))
+start_of N mode (NoteWait note deadline) = Ask (ClockLoad (ForNoteWait note deadline))
 
 -- a call on the lock, whose need is met by a section of this mode, or by none
 abbrev pub SectionFits : {C : Type 0} → Call C → Option Mode → Type 0

@@ -6,7 +6,7 @@ use Rattle.ns_word.specs.declared.act.Act.TheVariants.{Release, ReleaseReturning
 
 -- the act commits an event where it finds this word
 abbrev pub Commits : {C : Type 0} → Act C → Word → Type 0
-Commits (Release leaving last) word = last ≡ word
-Commits (ReleaseReturning leaving last) word = last ≡ word
+Commits (Release releasing last) word = last ≡ word
+Commits (ReleaseReturning releasing last) word = last ≡ word
 Commits (WaitReturning wait again last) word = (again ≡ false) × (last ≡ word)
 Commits act word = ⊥

@@ -2,11 +2,11 @@
 use Rattle.std.specs.Prelude.{◌≡◌, ℕ, Option, None, Some, []}
 use Rattle.ns_word.specs.declared.limits.Cause.{Cause}
 use Rattle.ns_word.specs.declared.walk.Walk.{Walk}
-use Rattle.ns_word.specs.declared.act.Found.TheVariants.{Looked as Shown}
+use Rattle.ns_word.specs.declared.act.Found.TheVariants.{Looked}
 use Rattle.ns_word.specs.declared.env_act.EnvFound.{EnvFound}
 use Rattle.ns_word.specs.declared.env_walk.EnvWalk.{EnvWalk}
 use Rattle.ns_word.specs.declared.env_walk.EnvNext.{EnvNext}
-use Rattle.ns_word.specs.declared.env_walk.EnvNext.TheVariants.{On, Saw}
+use Rattle.ns_word.specs.declared.env_walk.EnvNext.TheVariants.{Go, Shown}
 use Rattle.ns_word.specs.EnvWalks.{env_want_of, env_got_of}
 use Rattle.ns_word.specs.EnvSteps.{EnvPlain, EnvEffect}
 use Rattle.ns_word.specs.Walks.{want_of, got_of, walk_after}
@@ -21,20 +21,20 @@ use Rattle.ns_world.specs.Performs.{step_of}
 -- the wait of the seat goes on with what its look has shown
 pub record Sees {C : Type 0} {N : ℕ} (seat : Seat C N) (walk : Walk C) (cause : Option Cause) (seat' : Seat C N) (step : Step) : Type 0 where
   pub goes : seat' ≡ record seat {
-    walk = walk_after (got_of N walk (Shown cause));
-    asking = look_of (walk_after (got_of N walk (Shown cause)));
+    walk = walk_after (got_of N walk (LookStep cause));
+    asking = look_of (walk_after (got_of N walk (LookStep cause)));
     held = held_after (came_back (want_of walk)) cause seat.held;
   }
-  pub answers : step ≡ step_of (got_of N walk (Shown cause))
+  pub answers : step ≡ step_of (got_of N walk (LookStep cause))
 
 -- where a step of a look leads its seat
 abbrev pub SeatLooks : {C : Type 0} {N : ℕ} → EnvNext → Seat C N → Walk C → Seat C N → Step → Type 0
-SeatLooks (On next) seat walk seat' step = (seat' ≡ record seat { asking = Some next }) × (step ≡ Went)
-SeatLooks (Saw cause) seat walk seat' step = Sees seat walk cause seat' step
+SeatLooks (Go next) seat walk seat' step = (seat' ≡ record seat { asking = Some next }) × (step ≡ Went)
+SeatLooks (LookStep cause) seat walk seat' step = Sees seat walk cause seat' step
 SeatLooks next seat walk seat' step = ⊥
 
 -- a step of a look was made, and the seat is where it leads
-pub record Looked {C : Type 0} {N : ℕ} (old new : EnvPlain) (seat : Seat C N) (walk : Walk C) (place : EnvWalk) (seat' : Seat C N) (step : Step) : Type 0 where
+pub record LookStep {C : Type 0} {N : ℕ} (old new : EnvPlain) (seat : Seat C N) (walk : Walk C) (place : EnvWalk) (seat' : Seat C N) (step : Step) : Type 0 where
   pub found : EnvFound
   pub effect : EnvEffect seat.number (env_want_of place) old found new []
   pub goes : SeatLooks (env_got_of place found) seat walk seat' step
@@ -42,7 +42,7 @@ pub record Looked {C : Type 0} {N : ℕ} (old new : EnvPlain) (seat : Seat C N) 
 -- the step was one of a call of its own, where it is in none on the lock, else one of a look
 abbrev pub MovesFrom : {C : Type 0} {N : ℕ} → Option (Walk C) → EnvPlain → EnvPlain → Seat C N → EnvWalk → Seat C N → Step → Type 0
 MovesFrom None old new seat place seat' step = Asked old new seat place seat' step
-MovesFrom (Some walk) old new seat place seat' step = Looked old new seat walk place seat' step
+MovesFrom (Some walk) old new seat place seat' step = LookStep old new seat walk place seat' step
 
 abbrev pub EnvMoves : {C : Type 0} {N : ℕ} → EnvPlain → EnvPlain → Seat C N → EnvWalk → Seat C N → Step → Type 0
 EnvMoves old new seat place seat' step = MovesFrom seat.walk old new seat place seat' step

@@ -2,12 +2,12 @@
 use Rattle.std.specs.Prelude.{◌≡◌, ℕ, Bool, false, Option, None, Some, IsSome}
 use Rattle.ns_word.specs.declared.limits.Limits.{Limits}
 use Rattle.ns_word.specs.declared.wait.Aim.{Aim}
-use Rattle.ns_word.specs.declared.wait.Aim.TheVariants.{Lock, Back}
+use Rattle.ns_word.specs.declared.wait.Aim.TheVariants.{ForLock, ForWait}
 use Rattle.ns_word.specs.declared.walk.Walk.{Walk}
-use Rattle.ns_word.specs.declared.walk.Walk.TheVariants.{AcquireLoad, Acquire, TakeToQueue, Arm, Queue, Round, Wait as Waiting}
+use Rattle.ns_word.specs.declared.walk.Walk.TheVariants.{AcquireLoad, AcquireExchange, TakeToQueue, Arm, Queue, AwaitWake, InWait}
 use Rattle.ns_word.specs.declared.act.Act.{Act}
 use Rattle.ns_word.specs.declared.act.Act.TheVariants.{Look}
-use Rattle.ns_word.specs.declared.env_walk.Chain.TheVariants.{Look as LookChain}
+use Rattle.ns_word.specs.declared.env_walk.Chain.TheVariants.{ForLook}
 use Rattle.ns_word.specs.declared.env_walk.EnvWalk.{EnvWalk}
 use Rattle.ns_word.specs.declared.env_walk.EnvWalk.TheVariants.{ClockLoad, NoteLoad}
 use Rattle.ns_word.specs.Walks.{want_of}
@@ -24,7 +24,7 @@ came_back act = false
 
 -- the first place of the look that the act is, if it is one
 abbrev pub look_place : {C : Type 0} → Act C → Option EnvWalk
-look_place (Look limits again) = Some (ClockLoad (LookChain limits))
+look_place (Look limits again) = Some (ClockLoad (ForLook limits))
 look_place act = None
 
 -- where a seat stands on the clock and the notes that has come to this place in its call on the lock
@@ -34,8 +34,8 @@ look_of (Some walk) = look_place (want_of walk)
 
 -- a place in a look by these limits
 abbrev pub LookFits : Limits → EnvWalk → Type 0
-LookFits limits (ClockLoad (LookChain by)) = by ≡ limits
-LookFits limits (NoteLoad (LookChain by) clock note) = (by ≡ limits) × IsSome limits.note
+LookFits limits (ClockLoad (ForLook by)) = by ≡ limits
+LookFits limits (NoteLoad (ForLook by) clock note) = (by ≡ limits) × IsSome limits.note
 LookFits limits walk = ⊥
 
 -- A seat stands in a call of its own on the clock and the notes where it is in none on the lock; else it stands there just where its wait looks.
@@ -46,15 +46,15 @@ AsksFor (Some walk) (Some place) = (limits : Limits) × (looks_at (want_of walk)
 
 -- the note that may end the wait that a seat is in
 abbrev pub note_for : {C : Type 0} → Aim C → Option ℕ
-note_for (Lock mode) = None
-note_for (Back wait kept) = wait.limits.note
+note_for (ForLock mode) = None
+note_for (ForWait wait kept) = wait.limits.note
 
 abbrev pub note_in : {C : Type 0} → Option (Walk C) → Option ℕ
 note_in (Some (AcquireLoad aim woken)) = note_for aim
-note_in (Some (Acquire aim woken last)) = note_for aim
+note_in (Some (AcquireExchange aim woken last)) = note_for aim
 note_in (Some (TakeToQueue aim woken last)) = note_for aim
 note_in (Some (Arm aim woken last)) = note_for aim
 note_in (Some (Queue aim woken last)) = note_for aim
-note_in (Some (Round aim)) = note_for aim
-note_in (Some (Waiting wait place)) = wait.limits.note
+note_in (Some (AwaitWake aim)) = note_for aim
+note_in (Some (InWait wait place)) = wait.limits.note
 note_in walk = None

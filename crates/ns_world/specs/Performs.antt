@@ -8,9 +8,10 @@ use Rattle.ns_word.specs.declared.view.SeatView.{SeatView}
 use Rattle.ns_word.specs.declared.walk.Walk.{Walk}
 use Rattle.ns_word.specs.declared.env_walk.EnvWalk.{EnvWalk}
 use Rattle.ns_word.specs.declared.walk.Next.{Next}
-use Rattle.ns_word.specs.declared.walk.Next.TheVariants.{On, Idle as Idles, Done}
+use Rattle.ns_word.specs.declared.walk.Next.TheVariants.{On, Done}
+use Rattle.ns_word.specs.declared.walk.Next.TheVariants as TheNext
 use Rattle.ns_word.specs.declared.act.Change.{Change}
-use Rattle.ns_word.specs.declared.act.Change.TheVariants.{Queue, Leave}
+use Rattle.ns_word.specs.declared.act.Change.TheVariants.{QueueSelf, LeaveSelf}
 use Rattle.ns_word.specs.declared.act.Act.{Act}
 use Rattle.ns_word.specs.declared.act.Found.{Found}
 use Rattle.ns_word.specs.declared.act.Found.TheVariants.{Scanned}
@@ -35,8 +36,8 @@ part word row queues flags held owed = record { word = word; row = row; lock = q
 
 -- a seat puts itself into the lock list
 abbrev pub IsQueuing : Change → Type 0
-IsQueuing (Queue mode woken) = Unit {0}
-IsQueuing Leave = ⊥
+IsQueuing (QueueSelf mode woken) = Unit {0}
+IsQueuing LeaveSelf = ⊥
 
 -- the act was made, and what it commits stands at the end of the history
 pub record Makes {C : Type 0} {N : ℕ} (truths : Truths C) (seat : ℕ) (act : Act C) (old : Part C N) (history : List (Event C N)) (found : Found) (new : Part C N) (history' : List (Event C N)) : Type 0 where
@@ -59,7 +60,7 @@ tests_after found before = before
 -- what a step was, by where it leads
 abbrev pub step_of : {C : Type 0} → Next C → Step
 step_of (On walk) = Went
-step_of (Idles walk) = Idle
+step_of (TheNext.Idle walk) = Idle
 step_of (Done reply) = Finished reply
 
 -- a seat's part of a world

@@ -2,7 +2,7 @@
 use Rattle.std.specs.Prelude.{◌≡◌, ◌≢◌, ℕ, ◌+◌, ◌<◌, ◌≤◌, ◌⊎◌, Bool, true, false, not, ◌==◌, if◌then◌else◌, List, [], ◌∷◌, ◌++◌, Option, Some, None, slice_get, slice_index, slice_set, length, replicate, unwrap_or, All}
 use Rattle.std.specs.List.{flat_map}
 use Rattle.ns_word.specs.declared.walk.Reply.{Reply}
-use Rattle.ns_word.specs.declared.walk.Reply.TheVariants.{Misuse as Misused}
+use Rattle.ns_word.specs.declared.walk.Reply.TheVariants as TheReply
 use Rattle.ns_world.specs.declared.call.Call.{Call}
 use Rattle.ns_world.specs.declared.fault.Fault.{Fault}
 use Rattle.ns_world.specs.declared.fault.Fault.TheVariants.{OutOfMemory, NoSuchSeat, TooManySeats, StepLimit}
@@ -11,7 +11,7 @@ use Rattle.ns_world.specs.declared.schedule.Line.{Line}
 use Rattle.ns_world.specs.declared.step.Begun.TheVariants.{Started, Misuse}
 use Rattle.ns_world.specs.declared.step.Step.{Step}
 use Rattle.ns_world.specs.declared.step.Step.TheVariants.{Went, Idle, Finished, Nothing}
-use Rattle.ns_world.specs.Begins.{Begins}
+use Rattle.ns_world.specs.Begins.{BeginAnswers}
 use Rattle.ns_world.specs.Calls.{CallInRange}
 use Rattle.ns_world.specs.World.{Now, IsIdle, IsBusy, StepOf, is_busy}
 
@@ -40,7 +40,7 @@ next_call lists p seat = slice_get (calls_of lists seat) (slice_index p.over sea
 
 -- how many conditions a call's scan tested, by the count of its seat; a misused call made none
 abbrev pub tests_told : Reply → ℕ → ℕ
-tests_told Misused tests = 0
+tests_told TheReply.Misuse tests = 0
 tests_told reply tests = tests
 
 -- the seat's call is over, with this answer
@@ -68,10 +68,10 @@ Counts over lines seat step tests over' lines' = (over' ≡ over) × (lines' ≡
 abbrev pub Leads : {C : Type 0} {N : ℕ} → List (List (Call C)) → Progress C N → ℕ → Now C N → Type 0
 Leads {C} {N} lists p seat world =
     (IsBusy p.world seat × (world ≡ p.world))
-    ⊎ ((call : Call C) × (next_call lists p seat ≡ Some call) × Begins p.world world seat call Started)
+    ⊎ ((call : Call C) × (next_call lists p seat ≡ Some call) × BeginAnswers p.world world seat call Started)
 
 -- the seat makes a step of the call that it goes on with or begins
-pub record Makes {C : Type 0} {N : ℕ} (lists : List (List (Call C))) (p : Progress C N) (seat : ℕ) (step : Step) (q : Progress C N) : Type 0 where
+pub record MakesTurn {C : Type 0} {N : ℕ} (lists : List (List (Call C))) (p : Progress C N) (seat : ℕ) (step : Step) (q : Progress C N) : Type 0 where
   pub begun : Now C N
   pub leads : Leads lists p seat begun
   pub world : Now C N
@@ -80,12 +80,12 @@ pub record Makes {C : Type 0} {N : ℕ} (lists : List (List (Call C))) (p : Prog
   pub after : q ≡ progressed p seat step world
 
 -- the need of the seat's next call isn't met: the call is over at once, with no step
-pub record Misuses {C : Type 0} {N : ℕ} (lists : List (List (Call C))) (p : Progress C N) (seat : ℕ) (step : Step) (q : Progress C N) : Type 0 where
+pub record MisusesTurn {C : Type 0} {N : ℕ} (lists : List (List (Call C))) (p : Progress C N) (seat : ℕ) (step : Step) (q : Progress C N) : Type 0 where
   pub call : Call C
   pub next : next_call lists p seat ≡ Some call
-  pub refused : Begins p.world p.world seat call Misuse
-  pub answer : step ≡ Finished Misused
-  pub after : q ≡ finished p seat Misused p.world
+  pub refused : BeginAnswers p.world p.world seat call Misuse
+  pub answer : step ≡ Finished TheReply.Misuse
+  pub after : q ≡ finished p seat TheReply.Misuse p.world
 
 -- no call of the seat is in progress or left
 pub record Rests {C : Type 0} {N : ℕ} (lists : List (List (Call C))) (p : Progress C N) (seat : ℕ) (step : Step) (q : Progress C N) : Type 0 where
@@ -96,7 +96,7 @@ pub record Rests {C : Type 0} {N : ℕ} (lists : List (List (Call C))) (p : Prog
 
 -- A turn of the seat takes the progress p to q, and was this.
 abbrev pub TurnOf : {C : Type 0} {N : ℕ} → List (List (Call C)) → Progress C N → ℕ → Step → Progress C N → Type 0
-TurnOf lists p seat step q = Makes lists p seat step q ⊎ (Misuses lists p seat step q ⊎ Rests lists p seat step q)
+TurnOf lists p seat step q = MakesTurn lists p seat step q ⊎ (MisusesTurn lists p seat step q ⊎ Rests lists p seat step q)
 
 -- A turn takes the world old to the world new, where this is the seat's next call, whatever came before.
 abbrev pub TurnsWith : {C : Type 0} {N : ℕ} → Option (Call C) → Now C N → ℕ → Step → Now C N → Type 0

@@ -19,7 +19,7 @@ use Rattle.ns_word.specs.Steps.{State, Step as Steps}
 use Rattle.ns_word.specs.Lawful.{IsLawful}
 use Rattle.ns_word.specs.Begins.{fresh_state}
 use Rattle.ns_word.specs.declared.env_walk.EnvNext.{EnvNext}
-use Rattle.ns_word.specs.declared.env_walk.EnvNext.TheVariants.{On, Saw}
+use Rattle.ns_word.specs.declared.env_walk.EnvNext.TheVariants.{Go, Shown}
 use Rattle.ns_word.specs.EnvWalks.{env_want_of, env_got_of}
 use Rattle.ns_word.specs.EnvSteps.{EnvPlain, EnvStep, EnvEffect, IfMade, IsLawfulEnv, fresh_plain}
 use Rattle.ns_world.specs.declared.environment.Environment.{Environment}
@@ -69,8 +69,8 @@ kept word row queues flags env seats history = record {
 }
 
 -- a world as the machine sees it
-abbrev pub seen : {C : Type 0} {N : ℕ} → Truths C → Kept C N → Now C N
-seen truths world = record {
+abbrev pub now_of : {C : Type 0} {N : ℕ} → Truths C → Kept C N → Now C N
+now_of truths world = record {
   truths = truths;
   state = record { word = world.word; row = world.row; lock = world.queues.lock; flags = flag_at world.flags; views = world.views };
   cvs = world.queues.cvs;
@@ -80,8 +80,8 @@ seen truths world = record {
   asking = world.asking;
 }
 
-abbrev pub now : {C : Type 0} {N : ℕ} → Truths C → Word → List ℕ → Lists C → List ℕ → Environment → List (Seat C N) → List (Event C N) → Now C N
-now truths word row queues flags env seats history = seen truths (kept word row queues flags env seats history)
+abbrev pub now_with : {C : Type 0} {N : ℕ} → Truths C → Word → List ℕ → Lists C → List ℕ → Environment → List (Seat C N) → List (Event C N) → Now C N
+now_with truths word row queues flags env seats history = now_of truths (kept word row queues flags env seats history)
 
 -- ---- what holds of every world
 
@@ -178,8 +178,8 @@ pub record Asks {C : Type 0} {N : ℕ} (old new : Now C N) (seat : ℕ) (step : 
 
 -- where a step of a look leads: it goes on, or the wait goes on with what it has shown
 abbrev pub LookGoes : {C : Type 0} {N : ℕ} → EnvNext → Now C N → Now C N → ℕ → Step → Type 0
-LookGoes (On next) old new seat step = (new ≡ record old { asking = slice_set old.asking seat (Some next) }) × (step ≡ Went)
-LookGoes (Saw cause) old new seat step = (goes : Goes old new seat step) × (goes.found ≡ Looked cause)
+LookGoes (Go next) old new seat step = (new ≡ record old { asking = slice_set old.asking seat (Some next) }) × (step ≡ Went)
+LookGoes (Shown cause) old new seat step = (goes : Goes old new seat step) × (goes.found ≡ Looked cause)
 LookGoes next old new seat step = ⊥
 
 -- The seat makes one step of a look of its wait: a load of the clock or of a note, which changes neither.

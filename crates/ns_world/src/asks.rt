@@ -17,19 +17,19 @@ fn settle<C: Seated<N>, const N: usize>(seat: &mut Seat<C, N>, next: EnvNext) ->
     ensures seat { seat.new ≡ record seat.old { asking = env_walk_after next } }
 {
     match next {
-        EnvNext::On(walk) => {
+        EnvNext::Go(walk) => {
             seat.asking = Some(walk);
             Step::Went
         }
-        EnvNext::Idle(walk) => {
+        EnvNext::Repeat(walk) => {
             seat.asking = Some(walk);
             Step::Idle
         }
-        EnvNext::Done(reply) => {
+        EnvNext::Over(reply) => {
             seat.asking = None;
             Step::Finished(reply)
         }
-        EnvNext::Saw(_) => {
+        EnvNext::Shown(_) => {
             seat.asking = None;
             Step::Went
         }

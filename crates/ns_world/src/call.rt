@@ -11,7 +11,7 @@ use ns_word::env_walk::{Chain, EnvWalk};
 use ns_word::limits::Limits;
 use ns_word::wait::{Aim, Wait};
 use ns_word::walk::Walk;
-use ns_word::word::Leaving;
+use ns_word::word::Releasing;
 use std::alloc::AllocError;
 
 /// A call.
@@ -75,7 +75,7 @@ impl<C: Copy> Clone for Call<C> {
 #[derive(Copy)]
 pub enum Start<C> {
     /// On the lock.
-    Lock(Walk<C>),
+    OnLock(Walk<C>),
     /// On the clock and the notes.
     Ask(EnvWalk),
 }
@@ -110,7 +110,7 @@ fn wait<C: Copy, const N: usize>(
     let mode = mode?;
     if met {
         let wait = Wait { mode, cond, limits };
-        Some(Start::Lock(Walk::wait::<N>(wait)))
+        Some(Start::OnLock(Walk::wait::<N>(wait)))
     } else {
         None
     }
@@ -136,12 +136,12 @@ impl<C: Copy> Call<C> {
                     EnvWalk::NextLoad(parent, deadline),
                 )
             }
-            Call::Notify(note) => ask(is_made(notes, note), EnvWalk::Notify(note)),
-            Call::Advance(moment) => ask(true, EnvWalk::Advance(moment)),
+            Call::Notify(note) => ask(is_made(notes, note), EnvWalk::Notifying(note)),
+            Call::Advance(moment) => ask(true, EnvWalk::Advancing(moment)),
             Call::IsNotified(note) => {
                 ask(
                     is_made(notes, note),
-                    EnvWalk::ClockLoad(Chain::IsNotified(note)),
+                    EnvWalk::ClockLoad(Chain::ForIsNotified(note)),
                 )
             }
             Call::Expiry(note) => {
@@ -150,7 +150,7 @@ impl<C: Copy> Call<C> {
             Call::NoteWait(note, deadline) => {
                 ask(
                     is_made(notes, note),
-                    EnvWalk::ClockLoad(Chain::NoteWait(note, deadline)),
+                    EnvWalk::ClockLoad(Chain::ForNoteWait(note, deadline)),
                 )
             }
             Call::Wait(cond, limits) => {
@@ -166,17 +166,17 @@ impl<C: Copy> Call<C> {
         ensures { MatchOption result (SectionFits self mode → ⊥) (λ start. (start ≡ start_of N mode self) × SectionFits self mode) }
     {
         let walk = match (self, mode) {
-            (Call::Lock, None) => Walk::AcquireLoad(Aim::Lock(Mode::Write), false),
-            (Call::RLock, None) => Walk::AcquireLoad(Aim::Lock(Mode::Read), false),
+            (Call::Lock, None) => Walk::AcquireLoad(Aim::ForLock(Mode::Write), false),
+            (Call::RLock, None) => Walk::AcquireLoad(Aim::ForLock(Mode::Read), false),
             (Call::TryLock, None) => Walk::TryLoad(Mode::Write),
             (Call::TryRLock, None) => Walk::TryLoad(Mode::Read),
-            (Call::Unlock, Some(Mode::Write)) => Walk::ReleaseLoad(Leaving::Writer),
-            (Call::RUnlock, Some(Mode::Read)) => Walk::ReleaseLoad(Leaving::Reader),
+            (Call::Unlock, Some(Mode::Write)) => Walk::ReleaseLoad(Releasing::Writer),
+            (Call::RUnlock, Some(Mode::Read)) => Walk::ReleaseLoad(Releasing::Reader),
             (Call::UnlockQuiet, Some(Mode::Write)) => Walk::quiet_release::<N>(),
-            (Call::Get(i), Some(_)) => Walk::Get(i),
+            (Call::Get(i), Some(_)) => Walk::GetLoad(i),
             (Call::Set(i, value), Some(Mode::Write)) => Walk::SetLoad(i, value),
             _ => return None,
         };
-        Some(Start::Lock(walk))
+        Some(Start::OnLock(walk))
     }
 }

@@ -41,17 +41,17 @@ impl Environment {
         ensures { (seat : ℕ) → EnvEffect seat act (plain_of self.old) result (plain_of self.new) (events_of seat act result) }
     {
         match act {
-            EnvAct::LoadNext => EnvFound::Next(self.next),
-            EnvAct::TakeNumber => {
+            EnvAct::LoadNext => EnvFound::NextNumber(self.next),
+            EnvAct::TakeNext => {
                 let number = self.next;
                 self.next = number + 1;
                 EnvFound::Taken(number)
             }
-            EnvAct::MakeNote(note, parent, deadline) => self.store_note(note, parent, deadline),
-            EnvAct::Notify(note) => self.notify(note),
-            EnvAct::Advance(moment) => {
+            EnvAct::StoreNote(note, parent, deadline) => self.store_note(note, parent, deadline),
+            EnvAct::NotifyNote(note) => self.notify(note),
+            EnvAct::MoveClock(moment) => {
                 self.clock = self.clock.max(moment);
-                EnvFound::Made
+                EnvFound::Stored
             }
             EnvAct::LoadClock => EnvFound::Clock(self.clock),
             EnvAct::LoadNote(note) => EnvFound::Note(self.notes[note as usize]),
@@ -61,7 +61,7 @@ impl Environment {
     /// Stores a note.
     fn store_note(&mut self, note: u8, parent: Option<u8>, deadline: Option<u64>) -> EnvFound
         requires { note < 64 }
-        ensures { (seat : ℕ) → EnvEffect seat (EnvAct.MakeNote note parent deadline) (plain_of self.old) result (plain_of self.new) (events_of seat (EnvAct.MakeNote note parent deadline) result) }
+        ensures { (seat : ℕ) → EnvEffect seat (EnvAct.StoreNote note parent deadline) (plain_of self.old) result (plain_of self.new) (events_of seat (EnvAct.StoreNote note parent deadline) result) }
     {
         self.notes[note as usize] = NoteState {
             made: true,
@@ -69,16 +69,16 @@ impl Environment {
             parent,
             deadline,
         };
-        EnvFound::Made
+        EnvFound::Stored
     }
 
     /// Notifies a note.
     fn notify(&mut self, note: u8) -> EnvFound
         requires { note < 64 }
-        ensures { (seat : ℕ) → EnvEffect seat (EnvAct.Notify note) (plain_of self.old) result (plain_of self.new) (events_of seat (EnvAct.Notify note) result) }
+        ensures { (seat : ℕ) → EnvEffect seat (EnvAct.NotifyNote note) (plain_of self.old) result (plain_of self.new) (events_of seat (EnvAct.NotifyNote note) result) }
     {
         self.notes[note as usize].called = true;
-        EnvFound::Made
+        EnvFound::Stored
     }
 }
 

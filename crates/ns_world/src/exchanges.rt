@@ -10,7 +10,7 @@ ghost use Rattle.ns_word.specs.Lists.{bits_of, queued};
 ghost use Rattle.ns_word.specs.Places.{CanLeave, CanWait};
 ghost use Rattle.ns_word.specs.Steps.{changed, change_found, entry_of, opening_for, section_of, waited_in, Effect};
 ghost use Rattle.ns_word.specs.Waits.{mode_for};
-ghost use Rattle.ns_word.specs.Words.{leaving_of, may_acquire};
+ghost use Rattle.ns_word.specs.Words.{releasing_of, may_acquire};
 ghost use Rattle.ns_world.specs.Performs.{part, IsQueuing, IsSeat, Makes};
 
 use crate::room::Seated;
@@ -23,7 +23,7 @@ use ns_word::act::{Act, Change, Found};
 use ns_word::limits::Cause;
 use ns_word::view::{Held, Opening};
 use ns_word::wait::{Aim, Wait, answer_of};
-use ns_word::word::{Bits, Leaving, Taking, Word};
+use ns_word::word::{Bits, Releasing, Taking, Word};
 use std::alloc::AllocError;
 
 /// What the lock list holds.
@@ -43,8 +43,8 @@ fn opening_for<C: Seated<N>, const N: usize>(aim: Aim<C>) -> Opening<C>
     ensures { result ≡ opening_for aim }
 {
     match aim {
-        Aim::Lock(_) => Opening::Plain,
-        Aim::Back(wait, kept) => Opening::Waited(wait.cond, kept.unwrap_or(Cause::Deadline)),
+        Aim::ForLock(_) => Opening::Locked,
+        Aim::ForWait(wait, kept) => Opening::CameBack(wait.cond, kept.unwrap_or(Cause::Expired)),
     }
 }
 
@@ -64,7 +64,7 @@ pub(crate) fn acquire<C: Seated<N>, const N: usize>(
 {
     let unchanged = word.is_same(last);
     if !unchanged {
-        return Found::Word(*word);
+        return Found::Saw(*word);
     }
     let mode = aim.mode();
     *word = word.acquired(mode, woken);
@@ -87,7 +87,7 @@ pub(crate) fn take_queues<C: Seated<N>, const N: usize>(
     ensures { (seat : ℕ) (queues : _) (row flags owed : List ℕ) (held : _) → Effect {N = N} C.means seat (Act.TakeQueues taking last) (part word.old row queues flags held owed) result (part word.new row queues flags held owed) [] }
 {
     if !word.is_same(last) {
-        return Found::Word(*word);
+        return Found::Saw(*word);
     }
     *word = last.taken(taking);
     Found::Made
@@ -156,11 +156,11 @@ fn change_queues<C: Seated<N>, const N: usize>(
     ensures others { queues.new.cvs ≡ queues.old.cvs }
 {
     match change {
-        Change::Queue(mode, woken) => {
+        Change::QueueSelf(mode, woken) => {
             queue_self(queues, seat, mode, woken);
             Found::Made
         }
-        Change::Leave => Found::Left(remove_self(queues, seat)),
+        Change::LeaveSelf => Found::Left(remove_self(queues, seat)),
     }
 }
 
@@ -179,7 +179,7 @@ pub(crate) fn return_queues<C: Seated<N>, const N: usize>(
     ensures others { queues.new.cvs ≡ queues.old.cvs }
 {
     if !word.is_same(last) {
-        return Found::Word(*word);
+        return Found::Saw(*word);
     }
     let found = change_queues(queues, seat, change);
     *word = last.returned(bits(queues));
@@ -192,8 +192,8 @@ fn entry<C: Seated<N>, const N: usize>(section: &Held<C, N>) -> Entry<C>
     ensures { result ≡ entry_of C.means.holds section.now.before section.now.entry }
 {
     match section.entry {
-        Opening::Plain => Entry::Plain,
-        Opening::Waited(cond, cause) => {
+        Opening::Locked => Entry::Plain,
+        Opening::CameBack(cond, cause) => {
             if cond.test(&section.before) {
                 Entry::Waited(cond, Answer::Met)
             } else {
@@ -236,19 +236,19 @@ pub(crate) fn release<C: Seated<N>, const N: usize>(
     word: &mut Word,
     held: &mut Option<Held<C, N>>,
     history: &mut Vec<Event<C, N>>,
-    leaving: Leaving,
+    releasing: Releasing,
     last: Word,
 ) -> Result<Found, AllocError>
-    requires { CanLeave C.means leaving held.old }
-    ensures ok { IfOk result (λ found. (row flags owed : List ℕ) (queues : _) → Makes C.means seat (Act.Release leaving last) (part word.old row queues flags held.old owed) history.old.items found (part word.new row queues flags held.new owed) history.new.items) }
+    requires { CanLeave C.means releasing held.old }
+    ensures ok { IfOk result (λ found. (row flags owed : List ℕ) (queues : _) → Makes C.means seat (Act.Release releasing last) (part word.old row queues flags held.old owed) history.old.items found (part word.new row queues flags held.new owed) history.new.items) }
     ensures err { OnErr result ((last ≡ word.old) × (word.new ≡ word.old) × (held.new ≡ held.old) × (history.new.items ≡ history.old.items)) }
 {
     let is_last = word.is_same(last);
     if !is_last {
-        return Ok(Found::Word(*word));
+        return Ok(Found::Saw(*word));
     }
     commit(seat, held, history, Exit::Plain)?;
-    *word = last.released(leaving);
+    *word = last.released(releasing);
     Ok(Found::Made)
 }
 
@@ -261,22 +261,22 @@ pub(crate) fn release_returning<C: Seated<N>, const N: usize>(
     queues: &mut Queues<C, N>,
     seat: &mut Seat<C, N>,
     history: &mut Vec<Event<C, N>>,
-    leaving: Leaving,
+    releasing: Releasing,
     last: Word,
 ) -> Result<Found, AllocError>
-    requires { CanLeave C.means leaving seat.old.held }
-    ensures ok { IfOk result (λ found. (flags : List ℕ) → Makes C.means seat.old.number (Act.ReleaseReturning leaving last) (part word.old row.now queues.old flags seat.old.held seat.old.owed.items) history.old.items found (part word.new row.now queues.new flags seat.new.held seat.new.owed.items) history.new.items) }
+    requires { CanLeave C.means releasing seat.old.held }
+    ensures ok { IfOk result (λ found. (flags : List ℕ) → Makes C.means seat.old.number (Act.ReleaseReturning releasing last) (part word.old row.now queues.old flags seat.old.held seat.old.owed.items) history.old.items found (part word.new row.now queues.new flags seat.new.held seat.new.owed.items) history.new.items) }
     ensures kept { IsSeat seat.old.number seat.old.walk seat.old.asking seat.old.tests seat.new }
     ensures others { queues.new.cvs ≡ queues.old.cvs }
     ensures err { OnErr result ((last ≡ word.old) × (word.new ≡ word.old) × (queues.new ≡ queues.old) × (seat.new ≡ seat.old) × (history.new.items ≡ history.old.items)) }
 {
     if !word.is_same(last) {
-        return Ok(Found::Word(*word));
+        return Ok(Found::Saw(*word));
     }
     commit(seat.number, &mut seat.held, history, Exit::Plain)?;
     let scan = queues.scan(row);
     let owes = !scan.woken.is_empty();
-    *word = last.released_returning(leaving, owes, bits(queues));
+    *word = last.released_returning(releasing, owes, bits(queues));
     seat.owed = scan.woken;
     Ok(Found::Scanned {
         owes,
@@ -285,12 +285,12 @@ pub(crate) fn release_returning<C: Seated<N>, const N: usize>(
 }
 
 /// How a section in this mode is released by a wait.
-fn leaving_of(mode: Mode) -> Leaving
-    ensures { result ≡ leaving_of mode }
+fn leaving_of(mode: Mode) -> Releasing
+    ensures { result ≡ releasing_of mode }
 {
     match mode {
-        Mode::Write => Leaving::Writer,
-        Mode::Read => Leaving::Reader,
+        Mode::Write => Releasing::Writer,
+        Mode::Read => Releasing::Reader,
     }
 }
 
@@ -362,7 +362,7 @@ pub(crate) fn wait_returning<C: Seated<N>, const N: usize>(
     ensures err { OnErr result ((again ≡ false) × (last ≡ word.old) × (word.new ≡ word.old) × (queues.new ≡ queues.old) × (seat.new ≡ seat.old) × (history.new.items ≡ history.old.items)) }
 {
     if !word.is_same(last) {
-        return Ok(Found::Word(*word));
+        return Ok(Found::Saw(*word));
     }
     leave_section(seat.number, &mut seat.held, history, wait.cond, again)?;
     let scan = scan_and_queue(queues, row, seat.number, wait, again);

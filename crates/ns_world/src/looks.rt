@@ -7,7 +7,7 @@ ghost use Rattle.ns_word.specs.Steps.{held_after, opening_by};
 ghost use Rattle.ns_word.specs.Walks.{want_of};
 ghost use Rattle.ns_world.specs.Asks.{plain_of};
 ghost use Rattle.ns_world.specs.Looks.{AsksFor, came_back, looks_at};
-ghost use Rattle.ns_world.specs.Looked.{EnvMoves, Looked, Sees};
+ghost use Rattle.ns_world.specs.Looked.{EnvMoves, LookStep, Sees};
 
 use crate::asks::ask;
 use crate::environment::Environment;
@@ -26,8 +26,8 @@ fn opening_by<C: Seated<N>, const N: usize>(entry: Opening<C>, cause: Cause) -> 
     ensures { result ≡ opening_by cause entry }
 {
     match entry {
-        Opening::Plain => Opening::Plain,
-        Opening::Waited(cond, _) => Opening::Waited(cond, cause),
+        Opening::Locked => Opening::Locked,
+        Opening::CameBack(cond, _) => Opening::CameBack(cond, cause),
     }
 }
 
@@ -80,17 +80,17 @@ fn look<C: Seated<N>, const N: usize>(
 ) -> Step
     requires looks { AsksFor (Some walk) (Some place) }
     requires fits { EnvActFits env.old.next (env_want_of place) }
-    ensures { Looked (plain_of env.old) (plain_of env.new) seat.old walk place seat.new result }
+    ensures { LookStep (plain_of env.old) (plain_of env.new) seat.old walk place seat.new result }
 {
     let found = env.make(place.want());
     match place.got(found) {
-        EnvNext::On(next) => {
+        EnvNext::Go(next) => {
             seat.asking = Some(next);
             Step::Went
         }
-        EnvNext::Saw(cause) => see(seat, walk, cause),
-        EnvNext::Idle(_) => unreachable!(),
-        EnvNext::Done(_) => unreachable!(),
+        EnvNext::Shown(cause) => see(seat, walk, cause),
+        EnvNext::Repeat(_) => unreachable!(),
+        EnvNext::Over(_) => unreachable!(),
     }
 }
 

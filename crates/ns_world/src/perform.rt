@@ -60,7 +60,7 @@ fn judge_met<C: Seated<N>, const N: usize>(held: &Option<Held<C, N>>, i: u8, con
     ensures { (seat : ℕ) (word row queues : _) (flags owed : List ℕ) → Effect C.means seat (Act.JudgeMet i cond) (part word row queues flags held.now owed) result (part word row queues flags held.now owed) [] }
 {
     let Some(section) = *held else { unreachable!() };
-    Found::Met(cond.test(&section.row))
+    Found::Tested(cond.test(&section.row))
 }
 
 /// Clears the flag of the first to whom a wake is owed.
@@ -106,17 +106,17 @@ fn make<C: Seated<N>, const N: usize>(
     ensures err { OnErr result ((Commits act word.old) × (word.new ≡ word.old) × (row.new ≡ row.old) × (queues.new ≡ queues.old) × (flags.new ≡ flags.old) × (seat.new ≡ seat.old) × (history.new.items ≡ history.old.items)) }
 {
     let found = match act {
-        Act::LoadWord => Found::Word(*word),
+        Act::LoadWord => Found::Saw(*word),
         Act::Acquire(aim, woken, last) => acquire(word, row, &mut seat.held, aim, woken, last),
         Act::TakeQueues(taking, last) => take_queues::<C, N>(word, taking, last),
         Act::ReturnQueues(change, last) => {
             return_queues(word, queues, seat.number, change, last)
         }
-        Act::Release(leaving, last) => {
-            release(seat.number, word, &mut seat.held, history, leaving, last)?
+        Act::Release(releasing, last) => {
+            release(seat.number, word, &mut seat.held, history, releasing, last)?
         }
-        Act::ReleaseReturning(leaving, last) => {
-            release_returning(word, row, queues, seat, history, leaving, last)?
+        Act::ReleaseReturning(releasing, last) => {
+            release_returning(word, row, queues, seat, history, releasing, last)?
         }
         Act::WaitReturning(wait, again, last) => {
             wait_returning(word, row, queues, seat, history, wait, again, last)?
@@ -148,7 +148,7 @@ fn look_place<C: Seated<N>, const N: usize>(act: Act<C>) -> Option<EnvWalk>
     ensures { result ≡ look_place act }
 {
     match act {
-        Act::Look(limits, _) => Some(EnvWalk::ClockLoad(Chain::Look(limits))),
+        Act::Look(limits, _) => Some(EnvWalk::ClockLoad(Chain::ForLook(limits))),
         _ => None,
     }
 }

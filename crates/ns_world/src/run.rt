@@ -3,7 +3,7 @@
 
 ghost use Rattle.std.specs.Prelude.{◌≡◌, ◌≤◌, ◌<◌, ◌+◌, ◌∷◌, [], Some, IfSome, IfOk, IfErr, OnOk, All, map, slice_get, slice_index, replicate, MatchResult, ◌^◌, ◌++◌};
 ghost use Rattle.ns_world.specs.Calls.{CallInRange};
-ghost use Rattle.ns_world.specs.World.{seen};
+ghost use Rattle.ns_world.specs.World.{now_of};
 ghost use Rattle.ns_world.specs.Runs.{calls_of, Counts, progress, progressed, is_end, TurnsWith, tests_told, TurnFault, TurnOf, Advances, Stops, Runs, RunFault, AllIdle, IsCounted, ListFits, items_of};
 
 use crate::call::Call;
@@ -40,8 +40,8 @@ fn turn<C: Seated<N>, const N: usize>(
     seat: u8,
 ) -> Result<Step, Fault>
     requires { IfSome next (CallInRange N) }
-    ensures ok { IfOk result (λ step. TurnsWith next (seen C.means world.old) seat step (seen C.means world.new)) }
-    ensures err { IfErr result (λ fault. ((seen C.means world.new) ≡ (seen C.means world.old)) × TurnFault (seen C.means world.old) seat fault) }
+    ensures ok { IfOk result (λ step. TurnsWith next (now_of C.means world.old) seat step (now_of C.means world.new)) }
+    ensures err { IfErr result (λ fault. ((now_of C.means world.new) ≡ (now_of C.means world.old)) × TurnFault (now_of C.means world.old) seat fault) }
 {
     let Some(call) = next else {
         return world.step(seat);
@@ -107,11 +107,11 @@ fn counted_turn<C: Seated<N>, const N: usize>(
     limit: u32,
 ) -> Result<Step, Fault>
     requires lists { All (λ calls. ListFits N calls.items) lists.now }
-    requires counted { IsCounted (seen C.means world.old) tally.old.over }
+    requires counted { IsCounted (now_of C.means world.old) tally.old.over }
     requires turns { tally.old.turns ≤ limit }
     ensures ok { IfOk result (λ step. let calls = map (λ calls. calls.items) lists.now in
         TurnOf calls (progress (seen C.means world.old) tally.old.over tally.old.lines.items) seat step (progress (seen C.means world.new) tally.new.over tally.new.lines.items)) }
-    ensures counted { OnOk result (IsCounted (seen C.means world.new) tally.new.over) }
+    ensures counted { OnOk result (IsCounted (now_of C.means world.new) tally.new.over) }
     ensures turns { OnOk result ((tally.new.turns ≡ tally.old.turns + 1) × (tally.new.turns ≤ limit)) }
     ensures err { IfErr result (λ fault. let calls = map (λ calls. calls.items) lists.now in
         (whole : _) → Stops calls limit (progress (seen C.means world.old) tally.old.over tally.old.lines.items) tally.old.turns (record { seat = seat; whole = whole } ∷ []) (seen C.means world.new) fault) }
@@ -138,11 +138,11 @@ fn item<C: Seated<N>, const N: usize>(
     limit: u32,
 ) -> Result<(), Fault>
     requires lists { All (λ calls. ListFits N calls.items) lists.now }
-    requires counted { IsCounted (seen C.means world.old) tally.old.over }
+    requires counted { IsCounted (now_of C.means world.old) tally.old.over }
     requires turns { tally.old.turns ≤ limit }
     ensures ok { OnOk result (let calls = map (λ calls. calls.items) lists.now in
         Advances calls limit (progress (seen C.means world.old) tally.old.over tally.old.lines.items) tally.old.turns (record { seat = seat; whole = whole } ∷ []) [] (progress (seen C.means world.new) tally.new.over tally.new.lines.items) tally.new.turns) }
-    ensures counted { OnOk result (IsCounted (seen C.means world.new) tally.new.over) }
+    ensures counted { OnOk result (IsCounted (now_of C.means world.new) tally.new.over) }
     ensures err { IfErr result (λ fault. let calls = map (λ calls. calls.items) lists.now in
         Stops calls limit (progress (seen C.means world.old) tally.old.over tally.old.lines.items) tally.old.turns (record { seat = seat; whole = whole } ∷ []) (seen C.means world.new) fault) }
 {
@@ -163,11 +163,11 @@ fn word<C: Seated<N>, const N: usize>(
     limit: u32,
 ) -> Result<(), Fault>
     requires lists { All (λ calls. ListFits N calls.items) lists.now }
-    requires counted { IsCounted (seen C.means world.old) tally.old.over }
+    requires counted { IsCounted (now_of C.means world.old) tally.old.over }
     requires turns { tally.old.turns ≤ limit }
     ensures ok { OnOk result (let calls = map (λ calls. calls.items) lists.now in
         Advances calls limit (progress (seen C.means world.old) tally.old.over tally.old.lines.items) tally.old.turns (items_of (turn.now ∷ [])) [] (progress (seen C.means world.new) tally.new.over tally.new.lines.items) tally.new.turns) }
-    ensures counted { OnOk result (IsCounted (seen C.means world.new) tally.new.over) }
+    ensures counted { OnOk result (IsCounted (now_of C.means world.new) tally.new.over) }
     ensures err { IfErr result (λ fault. let calls = map (λ calls. calls.items) lists.now in
         Stops calls limit (progress (seen C.means world.old) tally.old.over tally.old.lines.items) tally.old.turns (items_of (turn.now ∷ [])) (seen C.means world.new) fault) }
 {
@@ -193,10 +193,10 @@ impl<C: Seated<N>, const N: usize> World<C, N> {
         schedule: &[Turn],
         limit: u32,
     ) -> Result<Vec<Line>, Fault>
-        requires idle { AllIdle (seen C.means self.old) }
+        requires idle { AllIdle (now_of C.means self.old) }
         requires lists { All (λ calls. ListFits N calls.items) lists.now }
-        ensures { MatchResult result (λ lines. Runs (map (λ calls. calls.items) lists.now) schedule.now limit (seen C.means self.old) (seen C.means self.new) lines.items)
-            (RunFault (map (λ calls. calls.items) lists.now) schedule.now limit (seen C.means self.old) (seen C.means self.new)) }
+        ensures { MatchResult result (λ lines. Runs (map (λ calls. calls.items) lists.now) schedule.now limit (now_of C.means self.old) (now_of C.means self.new) lines.items)
+            (RunFault (map (λ calls. calls.items) lists.now) schedule.now limit (now_of C.means self.old) (now_of C.means self.new)) }
     {
         let mut tally = Tally {
             over: [0; 64],

@@ -25,8 +25,8 @@ fn has_queues<C: Seated<N>, const N: usize>(walk: Option<Walk<C>>) -> bool
         Some(Walk::Arm(_, _, _)) => true,
         Some(Walk::Queue(_, _, _)) => true,
         Some(Walk::ScanCells(_, _, _)) => true,
-        Some(Walk::ReleaseReturning(_, _)) => true,
-        Some(Walk::Wait(_, place)) => place_has_queues(place),
+        Some(Walk::ScanAndRelease(_, _)) => true,
+        Some(Walk::InWait(_, place)) => place_has_queues(place),
         _ => false,
     }
 }
@@ -36,8 +36,8 @@ fn place_has_queues(place: WaitPlace) -> bool
     ensures { result ≡ place_has_queues place }
 {
     match place {
-        WaitPlace::Arm(_, _) => true,
-        WaitPlace::Queue(_, _) => true,
+        WaitPlace::ArmToWait(_, _) => true,
+        WaitPlace::QueueToWait(_, _) => true,
         WaitPlace::Leave(_, _) => true,
         _ => false,
     }
@@ -57,10 +57,10 @@ fn change_in_hand<C: Seated<N>, const N: usize>(
 {
     match walk {
         Walk::Queue(aim, woken, _) => queue_self(queues, seat, aim.mode(), woken),
-        Walk::ReleaseReturning(_, _) => {
+        Walk::ScanAndRelease(_, _) => {
             let _ = queues.scan(row);
         }
-        Walk::Wait(wait, place) => wait_in_hand(queues, seat, wait, place, row),
+        Walk::InWait(wait, place) => wait_in_hand(queues, seat, wait, place, row),
         _ => (),
     }
 }
@@ -76,10 +76,10 @@ fn wait_in_hand<C: Seated<N>, const N: usize>(
     requires below { seat < 64 }
     requires free { place_has_armed place ≡ true → times seat queues.old ≡ 0 }
     requires no_variables { queues.old.cvs ≡ replicate 4 [] }
-    ensures { queues.new.lock ≡ in_hand C.means seat (Walk.Wait wait place) row.now queues.old.lock }
+    ensures { queues.new.lock ≡ in_hand C.means seat (Walk.InWait wait place) row.now queues.old.lock }
 {
     match place {
-        WaitPlace::Queue(again, _) => {
+        WaitPlace::QueueToWait(again, _) => {
             let _ = scan_and_queue(queues, row, seat, wait, again);
         }
         WaitPlace::Leave(_, _) => {

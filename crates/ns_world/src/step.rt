@@ -2,9 +2,9 @@
 
 ghost use Rattle.std.specs.Prelude.{◌≡◌, IfOk, IfErr};
 ghost use Rattle.ns_word.specs.Codec.{word_of};
-ghost use Rattle.ns_world.specs.Begins.{Begins, BeginFault, placed};
+ghost use Rattle.ns_world.specs.Begins.{BeginAnswers, BeginFault, placed};
 ghost use Rattle.ns_world.specs.Calls.{CallInRange, mode_of};
-ghost use Rattle.ns_world.specs.World.{now, IsLawfulWorld, StepOf, StepFault};
+ghost use Rattle.ns_world.specs.World.{now_with, IsLawfulWorld, StepOf, StepFault};
 
 use crate::call::{Call, Start};
 use crate::environment::Environment;
@@ -62,7 +62,7 @@ fn place<C: Seated<N>, const N: usize>(seat: &mut Seat<C, N>, start: Start<C>)
 {
     seat.tests = 0;
     match start {
-        Start::Lock(walk) => seat.walk = Some(walk),
+        Start::OnLock(walk) => seat.walk = Some(walk),
         Start::Ask(walk) => seat.asking = Some(walk),
     }
 }
@@ -79,11 +79,11 @@ pub(crate) fn begin_at<C: Seated<N>, const N: usize>(
     number: u8,
     call: Call<C>,
 ) -> Result<Begun, Fault>
-    requires lawful { IsLawfulWorld (now C.means (word_of word.now) row.now queues.now flags.now env.now seats.old.items history.now.items) }
+    requires lawful { IsLawfulWorld (now_with C.means (word_of word.now) row.now queues.now flags.now env.now seats.old.items history.now.items) }
     requires range { CallInRange N call }
-    ensures lawful { IsLawfulWorld (now C.means (word_of word.now) row.now queues.now flags.now env.now seats.new.items history.now.items) }
-    ensures ok { IfOk result (λ begun. Begins (now C.means (word_of word.now) row.now queues.now flags.now env.now seats.old.items history.now.items) (now C.means (word_of word.now) row.now queues.now flags.now env.now seats.new.items history.now.items) number call begun) }
-    ensures err { IfErr result (λ fault. (now C.means (word_of word.now) row.now queues.now flags.now env.now seats.new.items history.now.items ≡ now C.means (word_of word.now) row.now queues.now flags.now env.now seats.old.items history.now.items) × BeginFault (now C.means (word_of word.now) row.now queues.now flags.now env.now seats.old.items history.now.items) number fault) }
+    ensures lawful { IsLawfulWorld (now_with C.means (word_of word.now) row.now queues.now flags.now env.now seats.new.items history.now.items) }
+    ensures ok { IfOk result (λ begun. BeginAnswers (now_with C.means (word_of word.now) row.now queues.now flags.now env.now seats.old.items history.now.items) (now_with C.means (word_of word.now) row.now queues.now flags.now env.now seats.new.items history.now.items) number call begun) }
+    ensures err { IfErr result (λ fault. (now_with C.means (word_of word.now) row.now queues.now flags.now env.now seats.new.items history.now.items ≡ now_with C.means (word_of word.now) row.now queues.now flags.now env.now seats.old.items history.now.items) × BeginFault (now_with C.means (word_of word.now) row.now queues.now flags.now env.now seats.old.items history.now.items) number fault) }
 {
     let at = number as usize;
     if at >= seats.len() {
@@ -113,10 +113,10 @@ pub(crate) fn step_at<C: Seated<N>, const N: usize>(
     history: &mut Vec<Event<C, N>>,
     number: u8,
 ) -> Result<Step, Fault>
-    requires { IsLawfulWorld (now C.means (word_of word.old) row.old queues.old flags.old env.old seats.old.items history.old.items) }
-    ensures lawful { IsLawfulWorld (now C.means (word_of word.new) row.new queues.new flags.new env.new seats.new.items history.new.items) }
-    ensures ok { IfOk result (λ step. StepOf (now C.means (word_of word.old) row.old queues.old flags.old env.old seats.old.items history.old.items) (now C.means (word_of word.new) row.new queues.new flags.new env.new seats.new.items history.new.items) number step) }
-    ensures err { IfErr result (λ fault. (now C.means (word_of word.new) row.new queues.new flags.new env.new seats.new.items history.new.items ≡ now C.means (word_of word.old) row.old queues.old flags.old env.old seats.old.items history.old.items) × StepFault (now C.means (word_of word.old) row.old queues.old flags.old env.old seats.old.items history.old.items) number fault) }
+    requires { IsLawfulWorld (now_with C.means (word_of word.old) row.old queues.old flags.old env.old seats.old.items history.old.items) }
+    ensures lawful { IsLawfulWorld (now_with C.means (word_of word.new) row.new queues.new flags.new env.new seats.new.items history.new.items) }
+    ensures ok { IfOk result (λ step. StepOf (now_with C.means (word_of word.old) row.old queues.old flags.old env.old seats.old.items history.old.items) (now_with C.means (word_of word.new) row.new queues.new flags.new env.new seats.new.items history.new.items) number step) }
+    ensures err { IfErr result (λ fault. (now_with C.means (word_of word.new) row.new queues.new flags.new env.new seats.new.items history.new.items ≡ now_with C.means (word_of word.old) row.old queues.old flags.old env.old seats.old.items history.old.items) × StepFault (now_with C.means (word_of word.old) row.old queues.old flags.old env.old seats.old.items history.old.items) number fault) }
 {
     let at = number as usize;
     if at >= seats.len() {

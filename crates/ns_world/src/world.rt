@@ -6,10 +6,10 @@ ghost use Rattle.ns_model.specs.Histories.{IsLegal, IsBySeats};
 ghost use Rattle.ns_model.specs.Seats.{is_in};
 ghost use Rattle.ns_queue.specs.Waiters.{shown_of};
 ghost use Rattle.ns_word.specs.Lawful.{IsLawful};
-ghost use Rattle.ns_world.specs.Begins.{Begins, BeginFault};
+ghost use Rattle.ns_world.specs.Begins.{BeginAnswers, BeginFault};
 ghost use Rattle.ns_world.specs.Calls.{CallInRange};
 ghost use Rattle.ns_world.specs.Shows.{lock_shown, wakes_owed};
-ghost use Rattle.ns_world.specs.World.{fresh, seen, is_busy, NewFault, StepOf, StepFault};
+ghost use Rattle.ns_world.specs.World.{fresh, now_of, is_busy, NewFault, StepOf, StepFault};
 
 use crate::call::Call;
 use crate::environment::Environment;
@@ -53,13 +53,13 @@ pub struct World<C: Condition<N>, const N: usize> {
 
 impl<C: Condition<N>, const N: usize> Model for World<C, N> {
     ghost use Rattle.ns_word.specs.Codec.{word_of};
-    ghost use Rattle.ns_world.specs.World.{Kept, kept, now, IsLawfulWorld};
+    ghost use Rattle.ns_world.specs.World.{Kept, kept, now_with, IsLawfulWorld};
 
     ghost Value = { Kept C N };
 
     ghost view = { λ w. kept (word_of w.word) w.row w.queues w.flags w.env w.seats.items w.history.items };
 
-    ghost invariant = { λ w. IsLawfulWorld (now C.means (word_of w.word) w.row w.queues w.flags w.env w.seats.items w.history.items) };
+    ghost invariant = { λ w. IsLawfulWorld (now_with C.means (word_of w.word) w.row w.queues w.flags w.env w.seats.items w.history.items) };
 }
 
 /// A world as it stands.
@@ -90,7 +90,7 @@ impl<C: Seated<N>, const N: usize> World<C, N> {
     pub fn new(alloc: Global, seats: usize, counters: &[u32], onces: usize) -> Result<Self, Fault>
         requires counters { length counters.now ≤ 16 }
         requires onces { onces ≤ 16 }
-        ensures { MatchResult result (λ world. (seen C.means world ≡ fresh C.means seats) × (seats ≤ 64)) (NewFault seats) }
+        ensures { MatchResult result (λ world. (now_of C.means world ≡ fresh C.means seats) × (seats ≤ 64)) (NewFault seats) }
     {
         if seats > 64 {
             return Err(Fault::TooManySeats);
@@ -114,8 +114,8 @@ impl<C: Seated<N>, const N: usize> World<C, N> {
     /// and then nothing has changed.
     pub fn begin(&mut self, seat: u8, call: Call<C>) -> Result<Begun, Fault>
         requires { CallInRange N call }
-        ensures ok { IfOk result (λ begun. Begins (seen C.means self.old) (seen C.means self.new) seat call begun) }
-        ensures err { IfErr result (λ fault. (seen C.means self.new ≡ seen C.means self.old) × BeginFault (seen C.means self.old) seat fault) }
+        ensures ok { IfOk result (λ begun. BeginAnswers (now_of C.means self.old) (now_of C.means self.new) seat call begun) }
+        ensures err { IfErr result (λ fault. (now_of C.means self.new ≡ now_of C.means self.old) × BeginFault (now_of C.means self.old) seat fault) }
     {
         begin_at(
             &self.word,
@@ -136,8 +136,8 @@ impl<C: Seated<N>, const N: usize> World<C, N> {
     /// which can only come where a release is made, whose event is to be kept; then nothing has
     /// changed. A step on the clock or the notes takes no memory.
     pub fn step(&mut self, seat: u8) -> Result<Step, Fault>
-        ensures ok { IfOk result (λ step. StepOf (seen C.means self.old) (seen C.means self.new) seat step) }
-        ensures err { IfErr result (λ fault. (seen C.means self.new ≡ seen C.means self.old) × StepFault (seen C.means self.old) seat fault) }
+        ensures ok { IfOk result (λ step. StepOf (now_of C.means self.old) (now_of C.means self.new) seat step) }
+        ensures err { IfErr result (λ fault. (now_of C.means self.new ≡ now_of C.means self.old) × StepFault (now_of C.means self.old) seat fault) }
     {
         step_at(
             &mut self.word,
@@ -163,12 +163,12 @@ impl<C: Seated<N>, const N: usize> World<C, N> {
     /// The world as it stands, of which the law of the lock holds.
     pub fn state(&self) -> State<N>
         ensures word { result.word ≡ self.now.word }
-        ensures lock { result.lock.items ≡ map shown_of (lock_shown (seen C.means self.now)) }
+        ensures lock { result.lock.items ≡ map shown_of (lock_shown (now_of C.means self.now)) }
         ensures variables { All (λ list. list.items ≡ []) result.cvs }
         ensures owed { result.owed.items ≡ wakes_owed self.now.views }
         ensures row { result.row ≡ self.now.row }
         ensures busy { (seat : ℕ) → is_in result.busy seat ≡ is_busy self.now.views self.now.asking seat }
-        ensures lawful { IsLawful C.means (length self.now.views) self.now.history (seen C.means self.now).state }
+        ensures lawful { IsLawful C.means (length self.now.views) self.now.history (now_of C.means self.now).state }
     {
         State {
             word: unpacked(self.word),

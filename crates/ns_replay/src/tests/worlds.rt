@@ -59,7 +59,7 @@ fn two_try(rt: HostRuntime) -> Result<(), Fail> {
     let table = [
         (0, Step::Went),
         (1, Step::Went),
-        (0, Step::Finished(Reply::Ok)),
+        (0, Step::Finished(Reply::Succeeded)),
         (1, Step::Finished(Reply::Busy)),
         (0, Step::Nothing),
     ];
@@ -91,7 +91,7 @@ fn refused_memory_loses_nothing(rt: HostRuntime) -> Result<(), Fail> {
                     assert_eq!(rt; fault, Fault::OutOfMemory);
                     assert!(rt; world.state().word.write && world.history().is_empty());
                     let again = world.step(0)?;
-                    assert_eq!(rt; again, Step::Finished(Reply::Ok));
+                    assert_eq!(rt; again, Step::Finished(Reply::Succeeded));
                 }
             }
         }

@@ -2,7 +2,7 @@ use Rattle.std.proofs.Common.{◌≡◌, ◌&&◌, Bool, inl, inr, true, false, 
 use Rattle.std.specs.Prelude.{unwrap_or}
 use Rattle.std.specs.Option.{option_copied}
 use Rattle.ns_queue.specs.Marks.{takes}
-use Rattle.ns_queue.specs.Scans.{is_met}
+use Rattle.ns_queue.specs.Scans.{is_satisfied}
 use Rattle.ns_queue.specs.declared.stage.Stage.TheVariants.{Ended}
 use Rattle.ns_queue.proofs.Asking.{Enters, knows_entered, met_entered, knows_asked, taken_asked, asking_most, marks_on, tests_on, marks_ended, tests_ended}
 use Rattle.ns_queue.proofs.scan.choose.Given.{Over}
@@ -30,7 +30,7 @@ knows g c =
     let known = knows_entered g.C.Condition.means.same meets c.waiter-item.result.cond (option_copied c.loop-waiter.first) c.loop-waiter.truth (option_copied c.if-not-is_alike.first) c.if-not-is_alike.truth (enters g c) c.loop-waiter.invariant.known in
     let met = met_entered g.C.Condition.means.same meets (λ d e alike. g.met.C.Condition.same_agrees d e c.args.row.now c.told-row alike) c.waiter-item.result.cond (option_copied c.loop-waiter.first) c.loop-waiter.truth (option_copied c.if-not-is_alike.first) c.if-not-is_alike.truth (enters g c) in
     let asked = taken_asked g.C.Condition.means.same meets c.needs-needed.result (option_copied c.if-not-is_alike.first) c.if-not-is_alike.truth known in
-    taken g c ∙ ap (λ t. c.needs-needed.result && unwrap_or t true) c.ask-answer.ensures.truth ∙ asked ∙ ap (λ b. c.needs-needed.result && b) (sym met) ∙ ap (λ b. b && is_met meets c.waiter-item.result.cond) c.needs-needed.ensures
+    taken g c ∙ ap (λ t. c.needs-needed.result && unwrap_or t true) c.ask-answer.ensures.truth ∙ asked ∙ ap (λ b. c.needs-needed.result && b) (sym met) ∙ ap (λ b. b && is_satisfied meets c.waiter-item.result.cond) c.needs-needed.ensures
 
 pub loop-waiter-preserved : goal.loop-waiter-preserved
 loop-waiter-preserved g c =

@@ -1,6 +1,6 @@
 use Rattle.std.proofs.Common.{◌≡◌, ◌≤◌, ◌+◌, ◌++◌, drop, length, IfSome, is_some, false, None}
 use Rattle.std.specs.Option.{option_copied}
-use Rattle.ns_queue.specs.Scans.{is_met}
+use Rattle.ns_queue.specs.Scans.{is_satisfied}
 use Rattle.ns_queue.specs.Marks.{scan_marks, tests_from}
 use Rattle.ns_queue.specs.declared.stage.Stage.TheVariants.{Seeking}
 use Rattle.ns_queue.proofs.scan.choose.Given as goal
@@ -13,5 +13,5 @@ invariant-loop-waiter g l = record {
   counted : l.tests + tests_from g.C.Condition.means.same (λ c. g.C.Condition.means.holds c l.row) l.stage (option_copied l.first) (is_some l.truth) (drop l.waiter-index l.waiters)
       ≡ tests_from g.C.Condition.means.same (λ c. g.C.Condition.means.holds c l.row) Seeking None false l.waiters;
   few : l.tests ≤ l.waiter-index;
-  known : IfSome l.truth (λ t. t ≡ is_met (λ c. g.C.Condition.means.holds c l.row) (option_copied l.first));
+  known : IfSome l.truth (λ t. t ≡ is_satisfied (λ c. g.C.Condition.means.holds c l.row) (option_copied l.first));
 }

@@ -3,7 +3,7 @@ use Rattle.ns_replay.specs.Script.{plan_of}
 use Rattle.ns_replay.proofs.Plans.{script_runs}
 use Rattle.ns_replay.proofs.Runs.{few_threads}
 use Rattle.ns_replay.proofs.Outcomes.{plan_read, script_refused, run_refused}
-use Rattle.ns_world.specs.World.{seen}
+use Rattle.ns_world.specs.World.{now_of}
 use Rattle.ns_replay.specs.Condition.{script_truths}
 use Rattle.ns_replay.proofs.replaying.text_for.Goals as goal
 
@@ -27,7 +27,7 @@ pub returns-clause-ok : goal.returns-clause-ok
 returns-clause-ok c = record {
   plan = plan_of c.in_ok-script.script;
   read = plan_read c.args.bytes.now (plan_of c.in_ok-script.script) c.requires c.in_ok-script.ensures;
-  world = seen script_truths c.in_ok-run.run'.world;
+  world = now_of script_truths c.in_ok-run.run'.world;
   lines = c.in_ok-run.run'.lines.items;
   runs = c.in_ok-run.ensures.ok;
   is = c.in_ok-run_text.ensures;

@@ -3,7 +3,7 @@ use Rattle.std.proofs.lemmas.List.{length-map}
 use Rattle.ns_model.specs.Seats.{is_in}
 use Rattle.ns_world.specs.World.{is_busy}
 use Rattle.ns_queue.specs.Waiters.{shown_of}
-use Rattle.ns_world.specs.World.{seen}
+use Rattle.ns_world.specs.World.{now_of}
 use Rattle.ns_world.specs.Shows.{lock_shown, wakes_owed}
 use Rattle.ns_replay.specs.Condition.{script_truths}
 use Rattle.ns_replay.specs.Script.{plan_of}
@@ -14,7 +14,7 @@ use Rattle.ns_replay.proofs.running.run_text.Goals as goal
 pub returns : goal.returns
 unfolding text_of
 returns c =
-    let world = seen script_truths c.args.run.now.world in
+    let world = now_of script_truths c.args.run.now.world in
     let lines = c.args.run.now.lines.items in
     let threads = (plan_of c.args.script.now).threads in
     let options = c.args.options in

@@ -6,11 +6,11 @@ use Rattle.ns_world.proofs.exchanges.release_returning.Goals as goal
 
 pub returns-then-not-is_same-clause-ok : goal.returns-then-not-is_same-clause-ok
 returns-then-not-is_same-clause-ok g c = λ flags.
-    missed _ c.args.seat.now.number c.args.leaving c.args.last c.args.word.now c.args.word.now c.args.row.now flags c.args.history.now.items c.args.history.now.items c.args.queues.now c.args.seat.now.owed.items c.args.seat.now.held
+    missed _ c.args.seat.now.number c.args.releasing c.args.last c.args.word.now c.args.word.now c.args.row.now flags c.args.history.now.items c.args.history.now.items c.args.queues.now c.args.seat.now.owed.items c.args.seat.now.held
     (c.if-not-is_same.ensures.another refl)
 
 pub commit-requires : goal.commit-requires
-commit-requires g c = (g.met.C.Fits.held_fits, (g.met.C.Fits.event_fits, can_some g.C.Condition.means c.args.leaving c.args.seat.now.held c.requires))
+commit-requires g c = (g.met.C.Fits.held_fits, (g.met.C.Fits.event_fits, can_some g.C.Condition.means c.args.releasing c.args.seat.now.held c.requires))
 
 pub returns-in_err-commit-clause-err : goal.returns-in_err-commit-clause-err
 returns-in_err-commit-clause-err g c =
@@ -20,7 +20,7 @@ returns-in_err-commit-clause-err g c =
 
 pub returns-clause-ok : goal.returns-clause-ok
 returns-clause-ok g c = λ flags.
-    scanned _ c.args.seat.now.number c.args.leaving c.args.last c.args.word.now c.released_returning.result c.args.row.now flags c.args.history.now.items c.commit.new.history.items
+    scanned _ c.args.seat.now.number c.args.releasing c.args.last c.args.word.now c.released_returning.result c.args.row.now flags c.args.history.now.items c.commit.new.history.items
     c.args.queues.now c.scan-scan.new.self c.args.seat.now.owed.items c.scan-scan.result.woken.items c.args.seat.now.held c.commit.new.held (not c.is_empty-owes.result) c.scan-scan.result.tests c.bits.result
     c.requires c.in_ok-commit.ensures.ok (c.if-not-is_same.ensures.same refl) c.released_returning.ensures c.in_ok-commit.ensures.over
     c.scan-scan.ensures.left c.scan-scan.ensures.woken (ap not c.is_empty-owes.ensures ∙ some_left _) c.bits.ensures c.scan-scan.ensures.tests

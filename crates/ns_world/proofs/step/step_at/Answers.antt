@@ -3,7 +3,7 @@ use Rattle.std.proofs.lemmas.List.{set-get_or}
 use Rattle.ns_word.specs.Codec.{word_of}
 use Rattle.ns_word.proofs.Codes.{decoded}
 use Rattle.ns_world.specs.Performs.{view_of}
-use Rattle.ns_world.specs.World.{now}
+use Rattle.ns_world.specs.World.{now_with}
 use Rattle.ns_world.proofs.Mapped.{got-map}
 use Rattle.ns_world.proofs.Packable.{packable}
 use Rattle.ns_world.proofs.Worlds.{act_here, ask_here, asks_for, inside_here, goes_here, moved_here, asks_unasked, unasked_cleared, past_views, lawful_after, same_element, told}
@@ -43,7 +43,7 @@ returns-in-Some-clause-ok g c =
     (moved_here g.C.Condition.means g.met.C.Condition.has_cells.0 g.met.C.Condition.quiet_keeps (word_of c.args.word.now) c.args.row.now c.args.queues.now c.args.flags.now c.args.env.now c.args.seats.now.items c.args.history.now.items c.requires c.args.number seat within c.in-Some.place stands c.step_env.new.env c.step_env.new.seat c.step_env.result (rw (← c.index_mut.ensures.value) c.step_env.ensures)).0
 
 pub unpacked-found-requires : goal.unpacked-found-requires
-unpacked-found-requires g c = packable (now g.C.Condition.means (word_of c.args.word.now) c.args.row.now c.args.queues.now c.args.flags.now c.args.env.now c.args.seats.now.items c.args.history.now.items) c.requires
+unpacked-found-requires g c = packable (now_with g.C.Condition.means (word_of c.args.word.now) c.args.row.now c.args.queues.now c.args.flags.now c.args.env.now c.args.seats.now.items c.args.history.now.items) c.requires
 
 pub perform-requires : goal.perform-requires
 perform-requires g c =

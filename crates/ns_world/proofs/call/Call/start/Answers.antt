@@ -4,8 +4,8 @@ use Rattle.std.specs.Option.{option_map_or}
 use Rattle.ns_model.specs.declared.event.Mode.{Mode}
 use Rattle.ns_model.specs.Environments.{NoteStanding}
 use Rattle.ns_word.specs.EnvSteps.{IfMade}
-use Rattle.ns_word.specs.declared.env_walk.EnvWalk.TheVariants.{NextLoad, Notify as NotifyNote, Advance as MoveClock, ClockLoad, ExpiryLoad}
-use Rattle.ns_word.specs.declared.env_walk.Chain.TheVariants.{IsNotified as Asked, NoteWait as Awaited}
+use Rattle.ns_word.specs.declared.env_walk.EnvWalk.TheVariants.{NextLoad, Notifying, Advancing, ClockLoad, ExpiryLoad}
+use Rattle.ns_word.specs.declared.env_walk.Chain.TheVariants.{ForIsNotified, ForNoteWait}
 use Rattle.ns_world.specs.Asks.{note_at}
 use Rattle.ns_world.specs.Calls.{CallFits, start_of}
 use Rattle.ns_world.specs.declared.call.Call.{Call}
@@ -33,16 +33,16 @@ returns-in-NewNote g c = rw c.in-NewNote.is (asked g.row.N (note_at c.args.notes
     (λ e. made_from (note_at c.args.notes.now) c.in-NewNote.parent (sym c.is_made_or_none.ensures ∙ e)) (λ p. c.is_made_or_none.ensures ∙ made_to (note_at c.args.notes.now) c.in-NewNote.parent p))
 
 pub returns-in-Notify : goal.returns-in-Notify
-returns-in-Notify g c = rw c.in-Notify.is (asked g.row.N (note_at c.args.notes.now) (Notify c.in-Notify.note) c.args.mode c.is_made.result (Ask (NotifyNote c.in-Notify.note)) c.ask-in-Notify.result c.ask-in-Notify.ensures refl (λ e. sym c.is_made.ensures ∙ e) (λ p. c.is_made.ensures ∙ p))
+returns-in-Notify g c = rw c.in-Notify.is (asked g.row.N (note_at c.args.notes.now) (Notify c.in-Notify.note) c.args.mode c.is_made.result (Ask (Notifying c.in-Notify.note)) c.ask-in-Notify.result c.ask-in-Notify.ensures refl (λ e. sym c.is_made.ensures ∙ e) (λ p. c.is_made.ensures ∙ p))
 
 pub returns-in-Advance : goal.returns-in-Advance
-returns-in-Advance g c = rw c.in-Advance.is (asked g.row.N (note_at c.args.notes.now) (Advance c.in-Advance.moment) c.args.mode true (Ask (MoveClock c.in-Advance.moment)) c.ask-in-Advance.result c.ask-in-Advance.ensures refl (λ e. tt) (λ p. refl))
+returns-in-Advance g c = rw c.in-Advance.is (asked g.row.N (note_at c.args.notes.now) (Advance c.in-Advance.moment) c.args.mode true (Ask (Advancing c.in-Advance.moment)) c.ask-in-Advance.result c.ask-in-Advance.ensures refl (λ e. tt) (λ p. refl))
 
 pub returns-in-IsNotified : goal.returns-in-IsNotified
-returns-in-IsNotified g c = rw c.in-IsNotified.is (asked g.row.N (note_at c.args.notes.now) (IsNotified c.in-IsNotified.note) c.args.mode c.is_made-in-IsNotified.result (Ask (ClockLoad (Asked c.in-IsNotified.note))) c.ask-in-IsNotified.result c.ask-in-IsNotified.ensures refl (λ e. sym c.is_made-in-IsNotified.ensures ∙ e) (λ p. c.is_made-in-IsNotified.ensures ∙ p))
+returns-in-IsNotified g c = rw c.in-IsNotified.is (asked g.row.N (note_at c.args.notes.now) (IsNotified c.in-IsNotified.note) c.args.mode c.is_made-in-IsNotified.result (Ask (ClockLoad (ForIsNotified c.in-IsNotified.note))) c.ask-in-IsNotified.result c.ask-in-IsNotified.ensures refl (λ e. sym c.is_made-in-IsNotified.ensures ∙ e) (λ p. c.is_made-in-IsNotified.ensures ∙ p))
 
 pub returns-in-Expiry : goal.returns-in-Expiry
 returns-in-Expiry g c = rw c.in-Expiry.is (asked g.row.N (note_at c.args.notes.now) (Expiry c.in-Expiry.note) c.args.mode c.is_made-in-Expiry.result (Ask (ExpiryLoad c.in-Expiry.note c.in-Expiry.note None)) c.ask-in-Expiry.result c.ask-in-Expiry.ensures refl (λ e. sym c.is_made-in-Expiry.ensures ∙ e) (λ p. c.is_made-in-Expiry.ensures ∙ p))
 
 pub returns-in-NoteWait : goal.returns-in-NoteWait
-returns-in-NoteWait g c = rw c.in-NoteWait.is (asked g.row.N (note_at c.args.notes.now) (NoteWait c.in-NoteWait.note c.in-NoteWait.deadline) c.args.mode c.is_made-in-NoteWait.result (Ask (ClockLoad (Awaited c.in-NoteWait.note c.in-NoteWait.deadline))) c.ask-in-NoteWait.result c.ask-in-NoteWait.ensures refl (λ e. sym c.is_made-in-NoteWait.ensures ∙ e) (λ p. c.is_made-in-NoteWait.ensures ∙ p))
+returns-in-NoteWait g c = rw c.in-NoteWait.is (asked g.row.N (note_at c.args.notes.now) (NoteWait c.in-NoteWait.note c.in-NoteWait.deadline) c.args.mode c.is_made-in-NoteWait.result (Ask (ClockLoad (ForNoteWait c.in-NoteWait.note c.in-NoteWait.deadline))) c.ask-in-NoteWait.result c.ask-in-NoteWait.ensures refl (λ e. sym c.is_made-in-NoteWait.ensures ∙ e) (λ p. c.is_made-in-NoteWait.ensures ∙ p))

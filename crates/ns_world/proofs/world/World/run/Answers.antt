@@ -1,7 +1,7 @@
 use Rattle.std.proofs.Common.{arith, map, Vec, Global, length, ◌≡◌, refl}
 use Rattle.std.proofs.Math.Seq.{take-length}
 use Rattle.std.proofs.lemmas.Result.{err_from_is_err_and}
-use Rattle.ns_world.specs.World.{seen}
+use Rattle.ns_world.specs.World.{now_of}
 use Rattle.ns_world.specs.declared.call.Call.{Call}
 use Rattle.ns_world.specs.Runs.{start, progress}
 use Rattle.ns_world.proofs.Schedules.{advance_none, advance_word, stops_word}
@@ -12,25 +12,25 @@ pub loop-turn-init : goal.loop-turn-init
 loop-turn-init g c =
     let calls = map (λ (calls : Vec (Call _) Global). calls.items) c.args.lists.now in
     rw c.new.ensures.items (record {
-      advances = advance_none calls c.args.limit (start (seen g.C.Condition.means c.args.self.now)) 0 _ (omega arith);
-      counted = start_counted (seen g.C.Condition.means c.args.self.now) c.requires.idle;
+      advances = advance_none calls c.args.limit (start (now_of g.C.Condition.means c.args.self.now)) 0 _ (omega arith);
+      counted = start_counted (now_of g.C.Condition.means c.args.self.now) c.requires.idle;
     })
 
 pub returns-in_err-word : goal.returns-in_err-word
 returns-in_err-word g c =
     let p = err_from_is_err_and c.from_residual.result c.from_residual.ensures.1 in
     let calls = map (λ (calls : Vec (Call _) Global). calls.items) c.args.lists.now in
-    let now = progress (seen g.C.Condition.means c.loop-turn.self) c.loop-turn.tally.over c.loop-turn.tally.lines.items in
-    rw (p.1, p.2) (stops_word calls c.args.limit (start (seen g.C.Condition.means c.args.self.now)) now 0 c.loop-turn.tally.turns c.loop-turn.turn-index c.args.schedule.now _ (seen g.C.Condition.means c.word.new.world) c.in_err-word.field-0.0
+    let now = progress (now_of g.C.Condition.means c.loop-turn.self) c.loop-turn.tally.over c.loop-turn.tally.lines.items in
+    rw (p.1, p.2) (stops_word calls c.args.limit (start (now_of g.C.Condition.means c.args.self.now)) now 0 c.loop-turn.tally.turns c.loop-turn.turn-index c.args.schedule.now _ (now_of g.C.Condition.means c.word.new.world) c.in_err-word.field-0.0
     c.loop-turn-test.true c.loop-turn.invariant.advances c.in_err-word.ensures.err)
 
 pub loop-turn-preserved : goal.loop-turn-preserved
 loop-turn-preserved g c =
     let calls = map (λ (calls : Vec (Call _) Global). calls.items) c.args.lists.now in
-    let now = progress (seen g.C.Condition.means c.loop-turn.self) c.loop-turn.tally.over c.loop-turn.tally.lines.items in
-    let next = progress (seen g.C.Condition.means c.word.new.world) c.word.new.tally.over c.word.new.tally.lines.items in
+    let now = progress (now_of g.C.Condition.means c.loop-turn.self) c.loop-turn.tally.over c.loop-turn.tally.lines.items in
+    let next = progress (now_of g.C.Condition.means c.word.new.world) c.word.new.tally.over c.word.new.tally.lines.items in
     record {
-      advances = advance_word calls c.args.limit (start (seen g.C.Condition.means c.args.self.now)) now next 0 c.loop-turn.tally.turns c.word.new.tally.turns c.loop-turn.turn-index c.args.schedule.now _
+      advances = advance_word calls c.args.limit (start (now_of g.C.Condition.means c.args.self.now)) now next 0 c.loop-turn.tally.turns c.word.new.tally.turns c.loop-turn.turn-index c.args.schedule.now _
           c.loop-turn-test.true c.loop-turn.invariant.advances c.in_ok-word.ensures.ok;
       counted = c.in_ok-word.ensures.counted;
     }
@@ -39,7 +39,7 @@ pub returns : goal.returns
 returns g c =
     let at : c.loop-turn.turn-index ≡ length c.args.schedule.now = omega arith in
     record {
-      end = progress (seen g.C.Condition.means c.loop-turn.self) c.loop-turn.tally.over c.loop-turn.tally.lines.items;
+      end = progress (now_of g.C.Condition.means c.loop-turn.self) c.loop-turn.tally.over c.loop-turn.tally.lines.items;
       after = c.loop-turn.tally.turns;
       advances = rw (at, take-length c.args.schedule.now) at c.loop-turn.invariant.advances;
       here = refl;
