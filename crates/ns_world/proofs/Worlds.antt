@@ -63,11 +63,11 @@ some_ask : (next : EnvNext) → Nothing ≡ env_step_of next → ⊥
 some_ask (Go walk) e = absurd (cc)
 some_ask (Repeat walk) e = absurd (cc)
 some_ask (Over reply) e = absurd (cc)
-some_ask (TheFound.Looked cause) e = absurd (cc)
+some_ask (Shown cause) e = absurd (cc)
 
 some_look : {C : Type 0} {N : ℕ} (next : EnvNext) (old new : Now C N) (seat : ℕ) → LookGoes next old new seat Nothing → ⊥
 some_look (Go walk) old new seat p = absurd (cc (p.1))
-some_look {C} {N} (TheFound.Looked cause) old new seat p = some_step (got_of N p.0.makes.walk p.0.found) p.0.answers
+some_look {C} {N} (Shown cause) old new seat p = some_step (got_of N p.0.makes.walk p.0.found) p.0.answers
 some_look (Repeat walk) old new seat p = p
 some_look (Over reply) old new seat p = p
 
@@ -437,7 +437,7 @@ module _ {C : Type 0} {N : ℕ} (truths : Truths C) (some : 0 < N) (quiet : Quie
           lawful)
 
     -- the look is over
-    module _ (cause : Option Cause) (sees : env_got_of place p.found ≡ TheFound.Looked cause) (q : Sees (get_or seats i d) walk cause next step) where
+    module _ (cause : Option Cause) (sees : env_got_of place p.found ≡ Shown cause) (q : Sees (get_or seats i d) walk cause next step) where
       may : MayShow looks.0 cause
       may = subst (λ n. LookLeads looks.0 n) sees leads
 
@@ -471,7 +471,7 @@ module _ {C : Type 0} {N : ℕ} (truths : Truths C) (some : 0 < N) (quiet : Quie
         found = p.found;
         effect = seen_effect;
         goes = subst (λ n. LookGoes n (now_with truths word row queues flags env seats history) (now_with truths word row queues flags env' (slice_set seats i next) history) i step) (sym sees)
-            (subst (λ (w : Now C N). LookGoes (TheFound.Looked cause) (now_with truths word row queues flags env seats history) w i step) (sym same_now) (goes_here walk walks word row queues flags next history step refl performs, refl));
+            (subst (λ (w : Now C N). LookGoes (Shown cause) (now_with truths word row queues flags env seats history) w i step) (sym same_now) (goes_here walk walks word row queues flags next history step refl performs, refl));
       }
 
       lawful_over : IsLawfulWorld (now_with truths word row queues flags env' (slice_set seats i next) history)
@@ -482,7 +482,7 @@ module _ {C : Type 0} {N : ℕ} (truths : Truths C) (some : 0 < N) (quiet : Quie
     looked_by : (n : EnvNext) → env_got_of place p.found ≡ n → SeatLooks n (get_or seats i d) walk next step →
         Looks (now_with truths word row queues flags env seats history) (now_with truths word row queues flags env' (slice_set seats i next) history) i step × IsLawfulWorld (now_with truths word row queues flags env' (slice_set seats i next) history)
     looked_by (Go on) e q = (look_on on e q.0 q.1, lawful_on on e q.0)
-    looked_by (TheFound.Looked cause) e q = (look_over cause e q, lawful_over cause e q)
+    looked_by (Shown cause) e q = (look_over cause e q, lawful_over cause e q)
     looked_by n e q = absurd q
 
     -- what a step of a look is in the world, which is lawful after it

@@ -21,16 +21,16 @@ use Rattle.ns_world.specs.Performs.{step_of}
 -- the wait of the seat goes on with what its look has shown
 pub record Sees {C : Type 0} {N : ℕ} (seat : Seat C N) (walk : Walk C) (cause : Option Cause) (seat' : Seat C N) (step : Step) : Type 0 where
   pub goes : seat' ≡ record seat {
-    walk = walk_after (got_of N walk (LookStep cause));
-    asking = look_of (walk_after (got_of N walk (LookStep cause)));
+    walk = walk_after (got_of N walk (Looked cause));
+    asking = look_of (walk_after (got_of N walk (Looked cause)));
     held = held_after (came_back (want_of walk)) cause seat.held;
   }
-  pub answers : step ≡ step_of (got_of N walk (LookStep cause))
+  pub answers : step ≡ step_of (got_of N walk (Looked cause))
 
 -- where a step of a look leads its seat
 abbrev pub SeatLooks : {C : Type 0} {N : ℕ} → EnvNext → Seat C N → Walk C → Seat C N → Step → Type 0
 SeatLooks (Go next) seat walk seat' step = (seat' ≡ record seat { asking = Some next }) × (step ≡ Went)
-SeatLooks (LookStep cause) seat walk seat' step = Sees seat walk cause seat' step
+SeatLooks (Shown cause) seat walk seat' step = Sees seat walk cause seat' step
 SeatLooks next seat walk seat' step = ⊥
 
 -- a step of a look was made, and the seat is where it leads

@@ -110,11 +110,11 @@ fn counted_turn<C: Seated<N>, const N: usize>(
     requires counted { IsCounted (now_of C.means world.old) tally.old.over }
     requires turns { tally.old.turns ≤ limit }
     ensures ok { IfOk result (λ step. let calls = map (λ calls. calls.items) lists.now in
-        TurnOf calls (progress (seen C.means world.old) tally.old.over tally.old.lines.items) seat step (progress (seen C.means world.new) tally.new.over tally.new.lines.items)) }
+        TurnOf calls (progress (now_of C.means world.old) tally.old.over tally.old.lines.items) seat step (progress (now_of C.means world.new) tally.new.over tally.new.lines.items)) }
     ensures counted { OnOk result (IsCounted (now_of C.means world.new) tally.new.over) }
     ensures turns { OnOk result ((tally.new.turns ≡ tally.old.turns + 1) × (tally.new.turns ≤ limit)) }
     ensures err { IfErr result (λ fault. let calls = map (λ calls. calls.items) lists.now in
-        (whole : _) → Stops calls limit (progress (seen C.means world.old) tally.old.over tally.old.lines.items) tally.old.turns (record { seat = seat; whole = whole } ∷ []) (seen C.means world.new) fault) }
+        (whole : _) → Stops calls limit (progress (now_of C.means world.old) tally.old.over tally.old.lines.items) tally.old.turns (record { seat = seat; whole = whole } ∷ []) (now_of C.means world.new) fault) }
 {
     if seat as usize >= world.seats() {
         return Err(Fault::NoSuchSeat);
@@ -141,10 +141,10 @@ fn item<C: Seated<N>, const N: usize>(
     requires counted { IsCounted (now_of C.means world.old) tally.old.over }
     requires turns { tally.old.turns ≤ limit }
     ensures ok { OnOk result (let calls = map (λ calls. calls.items) lists.now in
-        Advances calls limit (progress (seen C.means world.old) tally.old.over tally.old.lines.items) tally.old.turns (record { seat = seat; whole = whole } ∷ []) [] (progress (seen C.means world.new) tally.new.over tally.new.lines.items) tally.new.turns) }
+        Advances calls limit (progress (now_of C.means world.old) tally.old.over tally.old.lines.items) tally.old.turns (record { seat = seat; whole = whole } ∷ []) [] (progress (now_of C.means world.new) tally.new.over tally.new.lines.items) tally.new.turns) }
     ensures counted { OnOk result (IsCounted (now_of C.means world.new) tally.new.over) }
     ensures err { IfErr result (λ fault. let calls = map (λ calls. calls.items) lists.now in
-        Stops calls limit (progress (seen C.means world.old) tally.old.over tally.old.lines.items) tally.old.turns (record { seat = seat; whole = whole } ∷ []) (seen C.means world.new) fault) }
+        Stops calls limit (progress (now_of C.means world.old) tally.old.over tally.old.lines.items) tally.old.turns (record { seat = seat; whole = whole } ∷ []) (now_of C.means world.new) fault) }
 {
     loop {
         let step = counted_turn(world, lists, tally, seat, limit)?;
@@ -166,10 +166,10 @@ fn word<C: Seated<N>, const N: usize>(
     requires counted { IsCounted (now_of C.means world.old) tally.old.over }
     requires turns { tally.old.turns ≤ limit }
     ensures ok { OnOk result (let calls = map (λ calls. calls.items) lists.now in
-        Advances calls limit (progress (seen C.means world.old) tally.old.over tally.old.lines.items) tally.old.turns (items_of (turn.now ∷ [])) [] (progress (seen C.means world.new) tally.new.over tally.new.lines.items) tally.new.turns) }
+        Advances calls limit (progress (now_of C.means world.old) tally.old.over tally.old.lines.items) tally.old.turns (items_of (turn.now ∷ [])) [] (progress (now_of C.means world.new) tally.new.over tally.new.lines.items) tally.new.turns) }
     ensures counted { OnOk result (IsCounted (now_of C.means world.new) tally.new.over) }
     ensures err { IfErr result (λ fault. let calls = map (λ calls. calls.items) lists.now in
-        Stops calls limit (progress (seen C.means world.old) tally.old.over tally.old.lines.items) tally.old.turns (items_of (turn.now ∷ [])) (seen C.means world.new) fault) }
+        Stops calls limit (progress (now_of C.means world.old) tally.old.over tally.old.lines.items) tally.old.turns (items_of (turn.now ∷ [])) (now_of C.means world.new) fault) }
 {
     for _ in 0..turn.times {
         item(world, lists, tally, turn.thread, turn.whole, limit)?;

@@ -12,33 +12,33 @@ unreachable-requires g c =
     let fits = c.requires.looks in
     let effect = rw c.want.ensures at (c.make-found.ensures 0) in
     let leads = look_leads fits.0 c.args.place fits.2 0 (plain_of c.args.env.now) (plain_of c.make-found.new.self) c.make-found.result (events_of 0 (env_want_of c.args.place) c.make-found.result) effect in
-    subst (λ next. LookLeads fits.0 next) (sym c.got.ensures ∙ c.in-Idle.is) leads
+    subst (λ next. LookLeads fits.0 next) (sym c.got.ensures ∙ c.in-Repeat.is) leads
 
-pub unreachable-requires-in-Done : goal.unreachable-requires-in-Done
-unreachable-requires-in-Done g c =
+pub unreachable-requires-in-Over : goal.unreachable-requires-in-Over
+unreachable-requires-in-Over g c =
     let fits = c.requires.looks in
     let effect = rw c.want.ensures at (c.make-found.ensures 0) in
     let leads = look_leads fits.0 c.args.place fits.2 0 (plain_of c.args.env.now) (plain_of c.make-found.new.self) c.make-found.result (events_of 0 (env_want_of c.args.place) c.make-found.result) effect in
-    subst (λ next. LookLeads fits.0 next) (sym c.got.ensures ∙ c.in-Done.is) leads
+    subst (λ next. LookLeads fits.0 next) (sym c.got.ensures ∙ c.in-Over.is) leads
 
-pub returns-in-On : goal.returns-in-On
-returns-in-On g c =
+pub returns-in-Go : goal.returns-in-Go
+returns-in-Go g c =
     let fits = c.requires.looks in
     let effect = rw c.want.ensures at (c.make-found.ensures c.args.seat.now.number) in
     record {
       found = c.make-found.result;
       effect = (look_effect fits.0 c.args.place fits.2 c.args.seat.now.number (plain_of c.args.env.now) (plain_of c.make-found.new.self) c.make-found.result effect).0;
-      goes = subst (λ next. SeatLooks next c.args.seat.now c.args.walk (record c.args.seat.now { asking = Some c.in-On.next }) Went) (sym c.in-On.is ∙ c.got.ensures) (refl, refl);
+      goes = subst (λ next. SeatLooks next c.args.seat.now c.args.walk (record c.args.seat.now { asking = Some c.in-Go.next }) Went) (sym c.in-Go.is ∙ c.got.ensures) (refl, refl);
     }
 
-pub returns-in-Saw : goal.returns-in-Saw
-returns-in-Saw g c =
+pub returns-in-Shown : goal.returns-in-Shown
+returns-in-Shown g c =
     let fits = c.requires.looks in
     let effect = rw c.want.ensures at (c.make-found.ensures c.args.seat.now.number) in
     record {
       found = c.make-found.result;
       effect = (look_effect fits.0 c.args.place fits.2 c.args.seat.now.number (plain_of c.args.env.now) (plain_of c.make-found.new.self) c.make-found.result effect).0;
-      goes = subst (λ next. SeatLooks next c.args.seat.now c.args.walk c.see.new.seat c.see.result) (sym c.in-Saw.is ∙ c.got.ensures) c.see.ensures;
+      goes = subst (λ next. SeatLooks next c.args.seat.now c.args.walk c.see.new.seat c.see.result) (sym c.in-Shown.is ∙ c.got.ensures) c.see.ensures;
     }
 
 pub make-found-requires : goal.make-found-requires
