@@ -93,7 +93,7 @@ module _ {C : Type 0} {N : ℕ} where
   look_others old new seat step (Over reply) p other ne = absurd p
 
   moves_others : (old new : Now C N) (seat : ℕ) (step : Step) → Moves old new seat step → (other : ℕ) → other ≢ seat → is_busy new.state.views new.asking other ≡ is_busy old.state.views old.asking other
-  moves_others old new seat step (inl goes) other ne = goes_others old new seat step goes.0 other ne
+  moves_others old new seat step (inl acts) other ne = goes_others old new seat step acts.goes other ne
   moves_others old new seat step (inr (inr looks)) other ne = look_others old new seat step (env_got_of looks.place looks.found) looks.goes other ne
   moves_others old new seat step (inr (inl asks)) other ne =
       both new.state.views new.asking other (is_walking old.state.views other) (is_asking old.asking other)
@@ -114,7 +114,7 @@ module _ {C : Type 0} {N : ℕ} where
   look_over old new seat reply (Over answer) p = absurd p
 
   moves_over : (old new : Now C N) (seat : ℕ) (reply : Reply) → Moves old new seat (Finished reply) → is_busy new.state.views new.asking seat ≡ false
-  moves_over old new seat reply (inl goes) = goes_over old new seat reply goes.0
+  moves_over old new seat reply (inl acts) = goes_over old new seat reply acts.goes
   moves_over old new seat reply (inr (inr looks)) = look_over old new seat reply (env_got_of looks.place looks.found) looks.goes
   moves_over old new seat reply (inr (inl asks)) =
       both new.state.views new.asking seat false false

@@ -1,5 +1,6 @@
 pub mod Busy
 pub mod Counted
+pub mod EnvGrows
 pub mod Fresh
 pub mod Lists
 pub mod Looking

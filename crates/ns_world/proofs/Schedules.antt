@@ -1,5 +1,5 @@
 -- Turns that follow a schedule, piece by piece.
-use Rattle.std.proofs.Common.{◌≡◌, ℕ, suc, ◌+◌, ◌<◌, ◌≤◌, Bool, true, false, cond, eqb, List, [], ◌∷◌, ◌++◌, None, Some, length, refl, ap, sym, ◌∙◌, subst, arith, add-zero, length-append, eq-eqb, ◌-◌, replicate, get_or, take, drop, drop-cons}
+use Rattle.std.proofs.Common.{◌≡◌, ℕ, inl, inr, append_assoc, suc, ◌+◌, ◌<◌, ◌≤◌, Bool, true, false, cond, eqb, List, [], ◌∷◌, ◌++◌, None, Some, length, refl, ap, sym, ◌∙◌, subst, arith, add-zero, length-append, eq-eqb, ◌-◌, replicate, get_or, take, drop, drop-cons}
 use Rattle.std.proofs.lemmas.List.{append-nil, replicate_more, replicate-append-replicate, take_more, take-append-drop}
 use Rattle.std.proofs.lemmas.List.Concat.{flat_map-append}
 use Rattle.ns_world.specs.declared.call.Call.{Call}
@@ -7,8 +7,9 @@ use Rattle.ns_world.specs.declared.fault.Fault.{Fault}
 use Rattle.ns_world.specs.declared.fault.Fault.TheVariants.{OutOfMemory, NoSuchSeat, TooManySeats, StepLimit}
 use Rattle.ns_world.specs.declared.schedule.Turn.{Turn}
 use Rattle.ns_world.specs.declared.step.Step.{Step}
+use Rattle.ns_world.specs.declared.step.Step.TheVariants.{Finished}
 use Rattle.ns_world.specs.World.{Now}
-use Rattle.ns_world.specs.Runs.{Progress, Turned, Item, TurnOf, TurnsOf, TurnFault, rest_of, is_end, word_items, items_of, Advances, Stops, StopsFor}
+use Rattle.ns_world.specs.Runs.{Progress, Turned, Item, TurnOf, TurnsOf, TurnFault, rest_of, is_end, word_items, items_of, Advances, IsFinished, EndFinished, Stops, StopsFor}
 
 -- ---- what is left of the items
 
@@ -50,6 +51,10 @@ one_by false item = refl
 
 rest_one : (item : Item) (step : Step) → rest_of (item ∷ []) (record { seat = item.seat; step = step } ∷ []) ≡ Some (cond (is_end item.whole step) [] (item ∷ []))
 rest_one item step = rw (eq-eqb item.seat item.seat refl) (one_by (is_end item.whole step) item)
+
+-- a finished call at the end stays there, with turns before
+ends_after : (front turns : List Turned) → EndFinished turns → EndFinished (front ++ turns)
+ends_after front turns e = record { earlier = front ++ e.earlier; seat = e.seat; reply = e.reply; last = ap (λ ts. front ++ ts) e.last ∙ sym (append_assoc front e.earlier (record { seat = e.seat; step = Finished e.reply } ∷ [])) }
 
 module _ {C : Type 0} {N : ℕ} (lists : List (List (Call C))) where
   -- ---- turns
@@ -108,61 +113,78 @@ module _ {C : Type 0} {N : ℕ} (lists : List (List (Call C))) where
 
     -- ---- where a run stops
 
-    stops_for_more : (world : Now C N) (made : ℕ) (left more : List Item) (fault : Fault) → StopsFor limit world made left fault → StopsFor limit world made (left ++ more) fault
-    stops_for_more world made [] more OutOfMemory p = tt
-    stops_for_more world made [] more NoSuchSeat p = absurd p
-    stops_for_more world made [] more StepLimit p = absurd p
-    stops_for_more world made [] more TooManySeats p = absurd p
-    stops_for_more world made (item ∷ left) more OutOfMemory p = tt
-    stops_for_more world made (item ∷ left) more NoSuchSeat p = p
-    stops_for_more world made (item ∷ left) more StepLimit p = p
-    stops_for_more world made (item ∷ left) more TooManySeats p = p
+    stops_for_more : (world : Now C N) (made : ℕ) (turns : List Turned) (left more : List Item) (fault : Fault) → StopsFor limit world made turns left fault → StopsFor limit world made turns (left ++ more) fault
+    stops_for_more world made turns [] more OutOfMemory (inl p) = absurd p
+    stops_for_more world made turns [] more OutOfMemory (inr p) = inr p
+    stops_for_more world made turns [] more NoSuchSeat p = absurd p
+    stops_for_more world made turns [] more StepLimit p = absurd p
+    stops_for_more world made turns [] more TooManySeats p = absurd p
+    stops_for_more world made turns (item ∷ left) more OutOfMemory p = p
+    stops_for_more world made turns (item ∷ left) more NoSuchSeat p = p
+    stops_for_more world made turns (item ∷ left) more StepLimit p = p
+    stops_for_more world made turns (item ∷ left) more TooManySeats p = p
+
+    -- turns before
+    stops_for_after : (world : Now C N) (made : ℕ) (front turns : List Turned) (left : List Item) (fault : Fault) → StopsFor limit world made turns left fault → StopsFor limit world made (front ++ turns) left fault
+    stops_for_after world made front turns left OutOfMemory (inl p) = inl p
+    stops_for_after world made front turns left OutOfMemory (inr p) = inr (ends_after front turns p)
+    stops_for_after world made front turns [] NoSuchSeat p = absurd p
+    stops_for_after world made front turns [] StepLimit p = absurd p
+    stops_for_after world made front turns [] TooManySeats p = absurd p
+    stops_for_after world made front turns (item ∷ left) NoSuchSeat p = p
+    stops_for_after world made front turns (item ∷ left) StepLimit p = p
+    stops_for_after world made front turns (item ∷ left) TooManySeats p = p
 
     -- at once
-    pub stops_now : (p : Progress C N) (before : ℕ) (items : List Item) (fault : Fault) → before ≤ limit → StopsFor limit p.world before items fault → Stops lists limit p before items p.world fault
+    pub stops_now : (p : Progress C N) (before : ℕ) (items : List Item) (fault : Fault) → before ≤ limit → StopsFor limit p.world before [] items fault → Stops lists limit p before items p.world fault
+    unfolding advance_none
     stops_now p before items fault within why = record { left = items; end = p; after = before; advances = advance_none p before items within; here = refl; why = why }
 
     -- where a turn was refused
     pub turn_stops : (p : Progress C N) (before seat : ℕ) (whole : Bool) (world : Now C N) (fault : Fault) → before ≤ limit → (world ≡ p.world) × TurnFault p.world seat fault →
         Stops lists limit p before (record { seat = seat; whole = whole } ∷ []) world fault
-    turn_stops p before seat whole world OutOfMemory within e = subst (λ w. Stops lists limit p before (record { seat = seat; whole = whole } ∷ []) w OutOfMemory) (sym e.0) (stops_now p before (record { seat = seat; whole = whole } ∷ []) OutOfMemory within tt)
+    turn_stops p before seat whole world OutOfMemory within e = subst (λ w. Stops lists limit p before (record { seat = seat; whole = whole } ∷ []) w OutOfMemory) (sym e.0) (stops_now p before (record { seat = seat; whole = whole } ∷ []) OutOfMemory within (inl e.1))
     turn_stops p before seat whole world NoSuchSeat within e = subst (λ w. Stops lists limit p before (record { seat = seat; whole = whole } ∷ []) w NoSuchSeat) (sym e.0) (stops_now p before (record { seat = seat; whole = whole } ∷ []) NoSuchSeat within e.1)
     turn_stops p before seat whole world TooManySeats within e = absurd e.1
     turn_stops p before seat whole world StepLimit within e = absurd e.1
 
     -- where a turn was made, and there was no memory to tell it
-    pub untold_stops : (p q : Progress C N) (before seat : ℕ) (whole : Bool) (step : Step) (world : Now C N) → TurnOf lists p seat step q → before + 1 ≤ limit → q.world ≡ world →
+    pub untold_stops : (p q : Progress C N) (before seat : ℕ) (whole : Bool) (step : Step) (world : Now C N) → TurnOf lists p seat step q → IsFinished step → before + 1 ≤ limit → q.world ≡ world →
         Stops lists limit p before (record { seat = seat; whole = whole } ∷ []) world OutOfMemory
-    untold_stops p q before seat whole step world turn within e = record {
-      left = cond (is_end whole step) [] (record { seat = seat; whole = whole } ∷ []);
+    unfolding advance_one
+    untold_stops p q before seat whole (Finished reply) world turn finished within e = record {
+      left = [];
       end = q;
       after = before + 1;
-      advances = advance_one p q before seat whole step turn within;
+      advances = advance_one p q before seat whole (Finished reply) turn within;
       here = e;
-      why = tt;
+      why = inr (record { earlier = []; seat = seat; reply = reply; last = refl });
     }
+    untold_stops p q before seat whole step world turn finished within e = absurd finished
 
     -- items more at the end
     pub stops_more : (p : Progress C N) (before : ℕ) (items more : List Item) (world : Now C N) (fault : Fault) → Stops lists limit p before items world fault → Stops lists limit p before (items ++ more) world fault
+    unfolding advance_more
     stops_more p before items more world fault s = record {
       left = s.left ++ more;
       end = s.end;
       after = s.after;
       advances = advance_more p s.end before s.after items s.left more s.advances;
       here = s.here;
-      why = stops_for_more world s.after s.left more fault s.why;
+      why = stops_for_more world s.after s.advances.turns s.left more fault s.why;
     }
 
     -- turns before
     pub stops_behind : (p q : Progress C N) (before mid : ℕ) (items left : List Item) (world : Now C N) (fault : Fault) →
         Advances lists limit p before items left q mid → Stops lists limit q mid left world fault → Stops lists limit p before items world fault
+    unfolding advance_join
     stops_behind p q before mid items left world fault a s = record {
       left = s.left;
       end = s.end;
       after = s.after;
       advances = advance_join p q s.end before mid s.after items left s.left a s.advances;
       here = s.here;
-      why = s.why;
+      why = stops_for_after world s.after a.turns s.advances.turns s.left fault s.why;
     }
 
     -- all of the items, and then a stop in more

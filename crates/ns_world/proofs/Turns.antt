@@ -27,7 +27,7 @@ use Rattle.ns_world.specs.declared.step.Step.TheVariants.{Went, Idle, Finished, 
 use Rattle.ns_world.specs.Calls.{start_of, mode_of, mode_waited}
 use Rattle.ns_world.specs.Commits.{Commits}
 use Rattle.ns_world.specs.Begins.{BeginAnswers, BeginFault, Starts, begun_at}
-use Rattle.ns_world.specs.World.{Now, LookGoes, Moves, IsWalking, IsBusy, IsIdle, StepOf, StepFault, is_walking, is_asking, is_busy}
+use Rattle.ns_world.specs.World.{Now, CommitsNext, LookGoes, Moves, IsWalking, IsBusy, IsIdle, StepOf, StepFault, is_walking, is_asking, is_busy}
 use Rattle.ns_world.specs.Runs.{Progress, progress, progressed, finished, Leads, TurnOf, TurnsWith, TurnFault}
 use Rattle.ns_world.proofs.Busy.{or_true, both, walking_at, walking_set_same, walking_set_other, asking_at, asking_set_same, asking_set_other}
 use Rattle.ns_word.proofs.EnvKeeps.{set_here}
@@ -75,7 +75,7 @@ map_err (Err e) f p = f e p
 
 module _ {C : Type 0} {N : ℕ} where
   pub busy_of : (old new : Now C N) (seat : ℕ) (step : Step) → Moves old new seat step → IsBusy old seat
-  busy_of old new seat step (inl goes) = inl (record { view = goes.0.view; at = goes.0.at; walk = goes.0.makes.walk; walks = goes.0.makes.walks })
+  busy_of old new seat step (inl acts) = inl (record { view = acts.goes.view; at = acts.goes.at; walk = acts.goes.makes.walk; walks = acts.goes.makes.walks })
   busy_of old new seat step (inr (inr looks)) = inl (record { view = looks.view; at = looks.at; walk = looks.walk; walks = looks.walks })
   busy_of old new seat step (inr (inl asks)) = inr (record { walk = asks.makes.walk; walks = asks.makes.walks })
 
@@ -179,7 +179,7 @@ module _ {C : Type 0} {N : ℕ} where
   look_stays old new seat step (Over reply) p = absurd p
 
   moves_stay : (old new : Now C N) (seat : ℕ) (step : Step) → Moves old new seat step → length new.state.views ≡ length old.state.views
-  moves_stay old new seat step (inl goes) = ap length goes.0.others ∙ length-set old.state.views seat _
+  moves_stay old new seat step (inl acts) = ap length acts.goes.others ∙ length-set old.state.views seat _
   moves_stay old new seat step (inr (inr looks)) = look_stays old new seat step (env_got_of looks.place looks.found) looks.goes
   moves_stay old new seat step (inr (inl asks)) = ap (λ (world : Now C N). length world.state.views) asks.others
 
@@ -214,13 +214,13 @@ module _ {C : Type 0} {N : ℕ} where
       ap (λ (world : Now C N). length world.state.views) (sym (progressed_world p seat step new)) ∙ turn_stays lists p (progressed p seat step new) seat step turn
 
   pub turn_fault : (old begun : Now C N) (seat : ℕ) (fault : Fault) → begun ≡ old → StepFault begun seat fault → TurnFault old seat fault
-  turn_fault old begun seat OutOfMemory e p = tt
+  turn_fault old begun seat OutOfMemory e p = subst (λ (world : Now C N). CommitsNext world seat) e p
   turn_fault old begun seat NoSuchSeat e p = subst (λ (world : Now C N). length world.state.views ≤ seat) e p
   turn_fault old begun seat TooManySeats e p = p
   turn_fault old begun seat StepLimit e p = p
 
   pub begin_fault : (world : Now C N) (seat : ℕ) (fault : Fault) → BeginFault world seat fault → TurnFault world seat fault
-  begin_fault world seat OutOfMemory p = tt
+  begin_fault world seat OutOfMemory p = absurd p
   begin_fault world seat NoSuchSeat p = p
   begin_fault world seat TooManySeats p = p
   begin_fault world seat StepLimit p = p

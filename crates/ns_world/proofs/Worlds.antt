@@ -44,7 +44,7 @@ use Rattle.ns_world.specs.declared.step.Step.TheVariants.{Went, Idle, Finished, 
 use Rattle.ns_world.specs.Performs.{Performs, view_of, seat_part, step_of, tests_after}
 use Rattle.ns_world.specs.Looks.{AsksFor, LookFits, look_of, looks_at, note_in}
 use Rattle.ns_world.specs.Looked.{EnvMoves, LookStep, MovesFrom, SeatLooks, Sees}
-use Rattle.ns_world.specs.World.{Now, now_with, Goes, Asks, Looks, LookGoes, Moves, StepOf, IsLawfulWorld, StandRight, NotesMade}
+use Rattle.ns_world.specs.World.{Now, now_with, Goes, Acts, Asks, Looks, LookGoes, Moves, StepOf, IsLawfulWorld, StandRight, NotesMade}
 use Rattle.ns_world.proofs.Looking.{FirstIf, LookLeads, first_if, if_made_stays, look_leads, look_stays, noted, right_here, shown_effect}
 use Rattle.ns_world.proofs.Mapped.{got-map, map-set, index-map}
 use Rattle.ns_world.proofs.Numbers.{number_at, numbers_stay}
@@ -73,7 +73,7 @@ some_look (Over reply) old new seat p = p
 
 -- a step that was made is one of those that a step can be
 pub told : {C : Type 0} {N : ℕ} (old new : Now C N) (seat : ℕ) (step : Step) → Moves old new seat step → StepOf old new seat step
-told {C} {N} old new seat Nothing (inl p) = absurd (some_step (got_of N p.0.makes.walk p.0.found) p.0.answers)
+told {C} {N} old new seat Nothing (inl p) = absurd (some_step (got_of N p.goes.makes.walk p.goes.found) p.goes.answers)
 told old new seat Nothing (inr (inl p)) = absurd (some_ask (env_got_of p.makes.walk p.found) p.answers)
 told {C} {N} old new seat Nothing (inr (inr p)) = absurd (some_look (env_got_of p.place p.found) old new seat p.goes)
 told old new seat Went p = p
@@ -125,7 +125,7 @@ set_again (z ∷ xs) zero x y = refl
 set_again (z ∷ xs) (suc i) x y = ap (λ zs. z ∷ zs) (set_again xs i x y)
 
 -- a seat that stands nowhere there is put at the beginning of a look, if one is to begin
-env_begins : (events : List EnvEvent) (plain : EnvPlain) (askings : List (Option EnvWalk)) (i : ℕ) (ask : Option EnvWalk) → slice_get askings i ≡ Some None → FirstIf plain.notes ask → IsLawfulEnv events (env_state plain askings) →
+pub env_begins : (events : List EnvEvent) (plain : EnvPlain) (askings : List (Option EnvWalk)) (i : ℕ) (ask : Option EnvWalk) → slice_get askings i ≡ Some None → FirstIf plain.notes ask → IsLawfulEnv events (env_state plain askings) →
     IsLawfulEnv events (env_state plain (slice_set askings i ask))
 env_begins events plain askings i None at first p = subst (λ xs. IsLawfulEnv events (env_state plain xs)) (sym (set_same askings i None at)) p
 env_begins events plain askings i (Some walk) at first p = begins_env events (env_state plain askings) (env_state plain (slice_set askings i (Some walk))) i walk (record { over = at; first = first; becomes = refl }) p
@@ -265,6 +265,11 @@ module _ {C : Type 0} {N : ℕ} (truths : Truths C) (some : 0 < N) (quiet : Quie
       env = refl;
       asking = asks_become;
     }
+
+    -- it is no look, where the seat stands nowhere on the clock and the notes
+    pub acts_here : (get_or seats i d).asking ≡ None → Acts (now_with truths word row queues flags env seats history) (now_with truths word' row' queues' flags' env (slice_set seats i next) history') i step
+    unfolding goes_here
+    acts_here unasked = record { goes = goes_here; unasked = asks_at ∙ ap Some unasked; is_no_look = inside_here walk walks unasked }
 
     abbrev new : Now C N
     new = now_with truths word' row' queues' flags' env (slice_set seats i next) history'

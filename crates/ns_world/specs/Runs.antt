@@ -13,7 +13,7 @@ use Rattle.ns_world.specs.declared.step.Step.{Step}
 use Rattle.ns_world.specs.declared.step.Step.TheVariants.{Went, Idle, Finished, Nothing}
 use Rattle.ns_world.specs.Begins.{BeginAnswers}
 use Rattle.ns_world.specs.Calls.{CallInRange}
-use Rattle.ns_world.specs.World.{Now, IsIdle, IsBusy, StepOf, is_busy}
+use Rattle.ns_world.specs.World.{Now, IsIdle, IsBusy, StepOf, CommitsNext, is_busy}
 
 -- ---- one turn
 
@@ -104,9 +104,9 @@ TurnsWith {C} {N} next old seat step new =
     (lists : List (List (Call C))) (over : List ℕ) (lines : List Line) → slice_get (calls_of lists seat) (slice_index over seat) ≡ next →
     TurnOf lists (progress old over lines) seat step (progressed (progress old over lines) seat step new)
 
--- why a turn is refused
+-- why a turn is refused: the number is no seat's, or there was no memory for its event
 abbrev pub TurnFault : {C : Type 0} {N : ℕ} → Now C N → ℕ → Fault → Type 0
-TurnFault world seat OutOfMemory = Unit {0}
+TurnFault world seat OutOfMemory = CommitsNext world seat
 TurnFault world seat NoSuchSeat = length world.state.views ≤ seat
 TurnFault world seat TooManySeats = ⊥
 TurnFault world seat StepLimit = ⊥
@@ -144,6 +144,11 @@ is_end whole Idle = true
 is_end whole Nothing = true
 is_end whole (Finished reply) = true
 
+-- the turn finished its call
+abbrev pub IsFinished : Step → Type 0
+IsFinished (Finished reply) = Unit {0}
+IsFinished step = ⊥
+
 -- what is left of the items after these turns, or nothing where the turns don't follow them
 abbrev pub rest_of : List Item → List Turned → Option (List Item)
 rest_of items [] = Some items
@@ -161,12 +166,24 @@ pub record Advances {C : Type 0} {N : ℕ} (lists : List (List (Call C))) (limit
   pub count : after ≡ before + length turns
   pub within : after ≤ limit
 
--- Why a run stops in this world after so many turns, with these items left: the next item needs one turn more than the limit, or its thread is no seat, or memory was refused.
-abbrev pub StopsFor : {C : Type 0} {N : ℕ} → ℕ → Now C N → ℕ → List Item → Fault → Type 0
-StopsFor limit world made left OutOfMemory = Unit {0}
-StopsFor limit world made (item ∷ left) StepLimit = (made ≡ limit) × (item.seat < length world.state.views)
-StopsFor limit world made (item ∷ left) NoSuchSeat = length world.state.views ≤ item.seat
-StopsFor limit world made left fault = ⊥
+-- the last of these turns finished a call
+pub record EndFinished (turns : List Turned) : Type 0 where
+  pub earlier : List Turned
+  pub seat : ℕ
+  pub reply : Reply
+  pub last : turns ≡ earlier ++ record { seat = seat; step = Finished reply } ∷ []
+
+-- the next item's turn commits an event
+abbrev pub CommitsFirst : {C : Type 0} {N : ℕ} → Now C N → List Item → Type 0
+CommitsFirst world [] = ⊥
+CommitsFirst world (item ∷ left) = CommitsNext world item.seat
+
+-- Why a run stops in this world after these turns, so many, with these items left: the next item needs one turn more than the limit, or its thread is no seat, or memory was refused: for the event of the next turn, or for the line of the call that the last turn finished.
+abbrev pub StopsFor : {C : Type 0} {N : ℕ} → ℕ → Now C N → ℕ → List Turned → List Item → Fault → Type 0
+StopsFor limit world made turns left OutOfMemory = CommitsFirst world left ⊎ EndFinished turns
+StopsFor limit world made turns (item ∷ left) StepLimit = (made ≡ limit) × (item.seat < length world.state.views)
+StopsFor limit world made turns (item ∷ left) NoSuchSeat = length world.state.views ≤ item.seat
+StopsFor limit world made turns left fault = ⊥
 
 -- Turns that follow a front of the items lead from the progress p, and then the run stops in this world.
 pub record Stops {C : Type 0} {N : ℕ} (lists : List (List (Call C))) (limit : ℕ) (p : Progress C N) (before : ℕ) (items : List Item) (world : Now C N) (fault : Fault) : Type 0 where
@@ -175,7 +192,7 @@ pub record Stops {C : Type 0} {N : ℕ} (lists : List (List (Call C))) (limit : 
   pub after : ℕ
   pub advances : Advances lists limit p before items left end after
   pub here : end.world ≡ world
-  pub why : StopsFor limit world after left fault
+  pub why : StopsFor limit world after advances.turns left fault
 
 -- A whole run takes the world old to the world new, and gives these lines: turns from the start that follow the schedule to its end, no more than the limit.
 pub record Runs {C : Type 0} {N : ℕ} (lists : List (List (Call C))) (schedule : List Turn) (limit : ℕ) (old new : Now C N) (lines : List Line) : Type 0 where

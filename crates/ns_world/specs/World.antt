@@ -30,7 +30,7 @@ use Rattle.ns_world.specs.declared.fault.Fault.{Fault}
 use Rattle.ns_world.specs.declared.fault.Fault.TheVariants.{OutOfMemory, NoSuchSeat, TooManySeats, StepLimit}
 use Rattle.ns_world.specs.Asks.{plain_of, env_state, env_step_of}
 use Rattle.ns_world.specs.Commits.{Commits}
-use Rattle.ns_world.specs.Looks.{AsksFor, look_of, note_in}
+use Rattle.ns_world.specs.Looks.{AsksFor, look_of, looks_at, note_in}
 use Rattle.ns_world.specs.Performs.{view_of, flag_at, step_of, tests_after}
 
 -- what the conditions mean, the lock and its seats, the lists of condition variables, how many conditions the scan of each seat's call tested, all that has happened, the clock and the notes, and each seat's place in a call on them
@@ -98,6 +98,14 @@ StandRight {C} {N} views askings = (seat : ℕ) (view : SeatView C N) (asking : 
 abbrev pub NotesMade : {C : Type 0} {N : ℕ} → List (SeatView C N) → (ℕ → NoteStanding) → Type 0
 NotesMade {C} {N} views notes = (seat : ℕ) (view : SeatView C N) → slice_get views seat ≡ Some view → IfMade notes (note_in view.walk)
 
+-- These events are all that has happened to the clock and the notes: they are legal, by seats of the world, and have left both as they are, and each seat that is in a call on them where it is.
+abbrev pub LedTo : {C : Type 0} {N : ℕ} → List EnvEvent → Now C N → Type 0
+LedTo events world = IsLawfulEnv events (env_state world.env world.asking)
+
+-- some such events have led to the world
+abbrev pub HasEnvHistory : {C : Type 0} {N : ℕ} → Now C N → Type 0
+HasEnvHistory world = (events : List EnvEvent) × LedTo events world
+
 -- A world has at most 64 seats, nobody waits for a condition variable yet, and it keeps the law of the lock with its history. Its clock and its notes are as some events of its seats leave them, and it keeps their law with these.
 pub record IsLawfulWorld {C : Type 0} {N : ℕ} (world : Now C N) : Type 0 where
   pub few : length world.state.views ≤ 64
@@ -108,7 +116,7 @@ pub record IsLawfulWorld {C : Type 0} {N : ℕ} (world : Now C N) : Type 0 where
   pub right : StandRight world.state.views world.asking
   pub noted : NotesMade world.state.views world.env.notes
   pub events : List EnvEvent
-  pub env_lawful : IsLawfulEnv events (env_state world.env world.asking)
+  pub env_lawful : LedTo events world
 
 -- ---- a new world
 
@@ -165,6 +173,12 @@ pub record Goes {C : Type 0} {N : ℕ} (old new : Now C N) (seat : ℕ) (step : 
   pub env : new.env ≡ old.env
   pub asking : new.asking ≡ slice_set old.asking seat (look_of (walk_after (got_of N makes.walk found)))
 
+-- The seat makes one step of a call on the lock, and it was this: its walk wants no look, and the seat stands nowhere on the clock and the notes.
+pub record Acts {C : Type 0} {N : ℕ} (old new : Now C N) (seat : ℕ) (step : Step) : Type 0 where
+  pub goes : Goes old new seat step
+  pub unasked : slice_get old.asking seat ≡ Some None
+  pub is_no_look : looks_at (want_of goes.makes.walk) ≡ None
+
 -- The seat makes one step on the clock and the notes, and it was this: it replies where its walk is over, and nothing else changes.
 pub record Asks {C : Type 0} {N : ℕ} (old new : Now C N) (seat : ℕ) (step : Step) : Type 0 where
   pub view : SeatView C N
@@ -196,7 +210,7 @@ pub record Looks {C : Type 0} {N : ℕ} (old new : Now C N) (seat : ℕ) (step :
 
 -- the seat makes one step of its call: on the lock, in a call on the clock and the notes, or in a look
 abbrev pub Moves : {C : Type 0} {N : ℕ} → Now C N → Now C N → ℕ → Step → Type 0
-Moves old new seat step = (Goes old new seat step × (slice_get old.asking seat ≡ Some None)) ⊎ (Asks old new seat step ⊎ Looks old new seat step)
+Moves old new seat step = Acts old new seat step ⊎ (Asks old new seat step ⊎ Looks old new seat step)
 
 -- what the answer says of a seat's step
 abbrev pub StepOf : {C : Type 0} {N : ℕ} → Now C N → Now C N → ℕ → Step → Type 0
@@ -205,10 +219,14 @@ StepOf old new seat Went = Moves old new seat Went
 StepOf old new seat Idle = Moves old new seat Idle
 StepOf old new seat (Finished reply) = Moves old new seat (Finished reply)
 
+-- the seat's next step is a release that finds the word that it has seen, and so commits an event
+abbrev pub CommitsNext : {C : Type 0} {N : ℕ} → Now C N → ℕ → Type 0
+CommitsNext world seat = (walking : IsWalking world seat) × Commits (want_of walking.walk) world.state.word
+
 -- Why a step is refused: the number is no seat's, or there was no memory for the event of a release that finds the word that it has seen.
 abbrev pub StepFault : {C : Type 0} {N : ℕ} → Now C N → ℕ → Fault → Type 0
 StepFault old seat NoSuchSeat = length old.state.views ≤ seat
-StepFault old seat OutOfMemory = (walking : IsWalking old seat) × Commits (want_of walking.walk) old.state.word
+StepFault old seat OutOfMemory = CommitsNext old seat
 StepFault old seat TooManySeats = ⊥
 StepFault old seat StepLimit = ⊥
 

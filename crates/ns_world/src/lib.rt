@@ -11,6 +11,7 @@ pub mod call;
 mod environment;
 mod exchanges;
 pub mod fault;
+pub mod law;
 mod looks;
 mod packed;
 mod perform;

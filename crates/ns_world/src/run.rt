@@ -1,10 +1,10 @@
 //! A run of a schedule: items of its words one after another, each of one turn or of as many as
 //! its call takes.
 
-ghost use Rattle.std.specs.Prelude.{◌≡◌, ◌≤◌, ◌<◌, ◌+◌, ◌∷◌, [], Some, IfSome, IfOk, IfErr, OnOk, All, map, slice_get, slice_index, replicate, MatchResult, ◌^◌, ◌++◌};
+ghost use Rattle.std.specs.Prelude.{◌≡◌, ◌≤◌, ◌<◌, ◌+◌, ◌∷◌, [], Some, IfSome, IfOk, IfErr, OnOk, OnErr, All, map, slice_get, slice_index, replicate, MatchResult, ◌^◌, ◌++◌};
 ghost use Rattle.ns_world.specs.Calls.{CallInRange};
 ghost use Rattle.ns_world.specs.World.{now_of};
-ghost use Rattle.ns_world.specs.Runs.{calls_of, Counts, progress, progressed, is_end, TurnsWith, tests_told, TurnFault, TurnOf, Advances, Stops, Runs, RunFault, AllIdle, IsCounted, ListFits, items_of};
+ghost use Rattle.ns_world.specs.Runs.{calls_of, Counts, progress, progressed, is_end, TurnsWith, tests_told, TurnFault, TurnOf, Advances, IsFinished, Stops, Runs, RunFault, AllIdle, IsCounted, ListFits, items_of};
 
 use crate::call::Call;
 use crate::fault::Fault;
@@ -83,6 +83,7 @@ fn count(tally: &mut Tally, seat: u8, step: Step, tests: u32) -> Result<(), Allo
     requires turns { tally.old.turns + 1 < 2 ^ 32 }
     ensures ok { OnOk result (Counts tally.old.over tally.old.lines.items seat step tests tally.new.over tally.new.lines.items) }
     ensures turns { tally.new.turns ≡ tally.old.turns + 1 }
+    ensures err { OnErr result (IsFinished step) }
 {
     tally.turns += 1;
     if let Step::Finished(reply) = step {
@@ -185,7 +186,8 @@ impl<C: Seated<N>, const N: usize> World<C, N> {
     /// Needs a world with no call in progress, lists of at most 256 calls, and calls whose cells
     /// are below `N`, whose notes are below 64, and whose moments are below 2^54. Refuses an item
     /// whose thread is no seat (`NoSuchSeat`), the turn after `limit` turns (`StepLimit`), and want
-    /// of memory (`OutOfMemory`); the world is then as the last turn left it.
+    /// of memory (`OutOfMemory`), for the event of the next turn or for the line of the call that the
+    /// last turn finished; the world is then as the last turn left it.
     pub fn run(
         &mut self,
         alloc: Global,

@@ -9,7 +9,7 @@ ghost use Rattle.ns_word.specs.Lawful.{IsLawful};
 ghost use Rattle.ns_world.specs.Begins.{BeginAnswers, BeginFault};
 ghost use Rattle.ns_world.specs.Calls.{CallInRange};
 ghost use Rattle.ns_world.specs.Shows.{lock_shown, wakes_owed};
-ghost use Rattle.ns_world.specs.World.{fresh, now_of, is_busy, NewFault, StepOf, StepFault};
+ghost use Rattle.ns_world.specs.World.{fresh, now_of, is_busy, HasEnvHistory, NewFault, StepOf, StepFault};
 
 use crate::call::Call;
 use crate::environment::Environment;
@@ -160,7 +160,8 @@ impl<C: Seated<N>, const N: usize> World<C, N> {
         self.history.as_slice()
     }
 
-    /// The world as it stands, of which the law of the lock holds.
+    /// The world as it stands, of which the law of the lock holds, and that of the clock and the
+    /// notes.
     pub fn state(&self) -> State<N>
         ensures word { result.word ≡ self.now.word }
         ensures lock { result.lock.items ≡ map shown_of (lock_shown (now_of C.means self.now)) }
@@ -169,6 +170,7 @@ impl<C: Seated<N>, const N: usize> World<C, N> {
         ensures row { result.row ≡ self.now.row }
         ensures busy { (seat : ℕ) → is_in result.busy seat ≡ is_busy self.now.views self.now.asking seat }
         ensures lawful { IsLawful C.means (length self.now.views) self.now.history (now_of C.means self.now).state }
+        ensures env_lawful { HasEnvHistory (now_of C.means self.now) }
     {
         State {
             word: unpacked(self.word),

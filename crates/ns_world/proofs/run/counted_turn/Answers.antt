@@ -38,7 +38,7 @@ returns-in_err-count-clause-err g c =
     let p = err_from_is_err_and c.from_residual-in_err-count.result c.from_residual-in_err-count.ensures.1 in
     let before = progress (now_of g.C.Condition.means c.args.world.now) c.args.tally.now.over c.args.tally.now.lines.items in
     let turn = c.in_ok-step.ensures.ok _ c.args.tally.now.over c.args.tally.now.lines.items (sym c.next_call-next.ensures) in
-    rw (p.1, p.2) (λ whole. untold_stops _ c.args.limit before (progressed before c.args.seat c.in_ok-step.step (now_of g.C.Condition.means c.turn.new.world)) c.args.tally.now.turns c.args.seat whole c.in_ok-step.step (now_of g.C.Condition.means c.turn.new.world) turn (omega arith) (progressed_world before c.args.seat c.in_ok-step.step (now_of g.C.Condition.means c.turn.new.world)))
+    rw (p.1, p.2) (λ whole. untold_stops _ c.args.limit before (progressed before c.args.seat c.in_ok-step.step (now_of g.C.Condition.means c.turn.new.world)) c.args.tally.now.turns c.args.seat whole c.in_ok-step.step (now_of g.C.Condition.means c.turn.new.world) turn c.in_err-count.ensures.err (omega arith) (progressed_world before c.args.seat c.in_ok-step.step (now_of g.C.Condition.means c.turn.new.world)))
 
 pub returns-clause-ok : goal.returns-clause-ok
 returns-clause-ok g c =

@@ -6,7 +6,7 @@ use Rattle.ns_world.specs.Performs.{view_of}
 use Rattle.ns_world.specs.World.{now_with}
 use Rattle.ns_world.proofs.Mapped.{got-map}
 use Rattle.ns_world.proofs.Packable.{packable}
-use Rattle.ns_world.proofs.Worlds.{act_here, ask_here, asks_for, inside_here, goes_here, moved_here, asks_unasked, unasked_cleared, past_views, lawful_after, same_element, told}
+use Rattle.ns_world.proofs.Worlds.{act_here, ask_here, asks_for, inside_here, acts_here, moved_here, asks_unasked, unasked_cleared, past_views, lawful_after, same_element, told}
 use Rattle.ns_world.proofs.step.step_at.Goals as goal
 
 pub returns-then-at-len-clause-err : goal.returns-then-at-len-clause-err
@@ -85,9 +85,9 @@ returns-in-Ok-clause-ok g c =
     let same = same_element c.args.seats.now.items c.args.number c.index-2.result.now seat within c.index-2.ensures c.index_mut-2.ensures.value in
     let unasked = rw (same_element c.args.seats.now.items c.args.number c.index.result.now seat within c.index.ensures c.index_mut-2.ensures.value, c.index_mut-2.ensures.value) at c.in_default.is in
     rw (c.encode.ensures, decoded c.perform.new.word) (told _ _ c.args.number c.in-Ok.step (inl (
-      goes_here g.C.Condition.means g.met.C.Condition.has_cells.0 g.met.C.Condition.quiet_keeps (word_of c.args.word.now) c.args.row.now c.args.queues.now c.args.flags.now c.args.env.now c.args.seats.now.items c.args.history.now.items c.requires c.args.number seat within c.in-Some-walk.walk (rw (same, c.index_mut-2.ensures.value) at c.in-Some-walk.is) c.perform.new.word c.perform.new.row c.perform.new.queues c.perform.new.flags c.perform.new.seat c.perform.new.history.items c.in-Ok.step c.in-Ok.ensures.others
-          (rw (← c.index_mut-2.ensures.value, ← c.unpacked-found.ensures) c.in-Ok.ensures.ok),
-      asks_unasked c.args.seats.now.items c.args.number c.index.result.now within c.index.ensures c.in_default.is,
+      acts_here g.C.Condition.means g.met.C.Condition.has_cells.0 g.met.C.Condition.quiet_keeps (word_of c.args.word.now) c.args.row.now c.args.queues.now c.args.flags.now c.args.env.now c.args.seats.now.items c.args.history.now.items c.requires c.args.number seat within c.in-Some-walk.walk (rw (same, c.index_mut-2.ensures.value) at c.in-Some-walk.is) c.perform.new.word c.perform.new.row c.perform.new.queues c.perform.new.flags c.perform.new.seat c.perform.new.history.items c.in-Ok.step c.in-Ok.ensures.others
+          (rw (← c.index_mut-2.ensures.value, ← c.unpacked-found.ensures) c.in-Ok.ensures.ok)
+      unasked
     )))
 
 pub returns-in-Ok-clause-lawful : goal.returns-in-Ok-clause-lawful

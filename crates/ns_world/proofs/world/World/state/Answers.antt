@@ -52,3 +52,6 @@ returns-clause-lawful g c = rw (← c.self.view_is) c.self.invariant.lawful
 
 pub returns-clause-row : goal.returns-clause-row
 returns-clause-row g c = rw (← c.self.view_is) refl
+
+pub returns-clause-env_lawful : goal.returns-clause-env_lawful
+returns-clause-env_lawful g c = rw (← c.self.view_is) (c.self.invariant.events, c.self.invariant.env_lawful)
