@@ -53,6 +53,7 @@ but_at note value others n = if n == note then value else others n
 abbrev pub notified_note : NoteStanding → NoteStanding
 notified_note note = record { made = note.made; called = true; parent = note.parent; deadline = note.deadline }
 
+-- a note as it is made, below this parent and with this deadline
 abbrev pub made_note : Option ℕ → Option ℕ → NoteStanding
 made_note parent deadline = record { made = true; called = false; parent = parent; deadline = deadline }
 
@@ -63,6 +64,7 @@ env_next now (New who note parent deadline) = record { clock = now.clock; takes 
 env_next now (Notify who note) = record { clock = now.clock; takes = now.takes; takers = now.takers; notes = but_at note (notified_note (now.notes note)) now.notes }
 env_next now (Advance who to) = record { clock = max now.clock to; takes = now.takes; takers = now.takers; notes = now.notes }
 
+-- what events leave of a standing, one after another
 abbrev pub env_from : EnvStanding → List EnvEvent → EnvStanding
 env_from now [] = now
 env_from now (event ∷ events) = env_from (env_next now event) events
@@ -88,14 +90,17 @@ clock_of history = (env_after history).clock
 abbrev pub takes_in : List EnvEvent → ℕ
 takes_in history = (env_after history).takes
 
+-- whether the history has made the note
 abbrev pub is_made : List EnvEvent → ℕ → Bool
 is_made history note = ((env_after history).notes note).made
 
+-- the history has made the note
 abbrev pub IsMade : List EnvEvent → ℕ → Type 0
 IsMade history note = is_made history note ≡ true
 
 -- ---- a note and its ancestors
 
+-- the line of the parent, if there is one
 abbrev pub from_parent : (ℕ → List ℕ) → Option ℕ → List ℕ
 from_parent line None = []
 from_parent line (Some parent) = line parent
@@ -122,9 +127,11 @@ is_over clock note = note.called || is_due clock note.deadline
 abbrev pub notified_in : EnvStanding → ℕ → Bool
 notified_in now note = list_any (λ n. is_over now.clock (now.notes n)) (line_of now note)
 
+-- whether the note is notified after the history
 unfoldable pub is_notified : List EnvEvent → ℕ → Bool
 is_notified history note = notified_in (env_after history) note
 
+-- the note is notified after the history
 abbrev pub IsNotified : List EnvEvent → ℕ → Type 0
 IsNotified history note = is_notified history note ≡ true
 
@@ -143,6 +150,7 @@ earliest notes (note ∷ others) = earlier (notes note).deadline (earliest notes
 abbrev pub expiry_in : EnvStanding → ℕ → Option ℕ
 expiry_in now note = earliest now.notes (line_of now note)
 
+-- the expiry of the note after the history
 unfoldable pub expiry_of : List EnvEvent → ℕ → Option ℕ
 expiry_of history note = expiry_in (env_after history) note
 

@@ -50,9 +50,11 @@ phase_next seat phase (Signal who k woken) = if is_in woken seat then woken_phas
 phase_next seat phase (Broadcast who k woken) = if is_in woken seat then woken_phase phase else phase
 phase_next seat phase (Leave who k) = if who == seat then left_phase phase else phase
 
+-- what the event leaves of a standing
 abbrev pub standing_next : {C : Type 0} {N : ℕ} → Standing C → Event C N → Standing C
 standing_next now event = record { row = row_next now.row event; phases = λ seat. phase_next seat (now.phases seat) event }
 
+-- what events leave of a standing, one after another
 abbrev pub standing_from : {C : Type 0} {N : ℕ} → Standing C → List (Event C N) → Standing C
 standing_from now [] = now
 standing_from now (event ∷ events) = standing_from (standing_next now event) events

@@ -6,6 +6,7 @@ use Rattle.ns_model.specs.declared.event.Mode.TheVariants.{Write, Read}
 use Rattle.ns_model.specs.declared.phase.Phase.{Phase}
 use Rattle.ns_model.specs.declared.phase.Phase.TheVariants.{Waiting, Woken, Left}
 
+-- whether the mode is that of a writer
 abbrev pub is_write : Mode → Bool
 is_write Write = true
 is_write Read = false

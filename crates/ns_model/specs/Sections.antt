@@ -14,6 +14,7 @@ use Rattle.ns_model.specs.declared.phase.Phase.TheVariants.{Idle, Cond, Waiting,
 
 -- Below, `holds` tells where a condition is true.
 
+-- whether the answer says that the wait was met
 abbrev pub is_met : Answer → Bool
 is_met Met = true
 is_met TimedOut = false

@@ -7,6 +7,7 @@ pub record Truths (C : Type 0) : Type 0 where
   pub same : C → C → Bool
   pub quiet : List ℕ → List ℕ → Bool
 
+-- what conditions mean, part by part
 abbrev pub truths : {C : Type 0} → (C → List ℕ → Bool) → (C → C → Bool) → (List ℕ → List ℕ → Bool) → Truths C
 truths holds same quiet = record { holds = holds; same = same; quiet = quiet }
 

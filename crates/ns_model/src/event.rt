@@ -5,7 +5,9 @@ use crate::seats::Seats;
 /// How a section holds the lock: alone, or beside other readers.
 #[derive(Clone, Copy, Debug, PartialEq, Eq)]
 pub enum Mode {
+    /// Alone.
     Write,
+    /// Beside other readers.
     Read,
 }
 
@@ -13,8 +15,11 @@ pub enum Mode {
 /// notified. nsync's 0, `ETIMEDOUT` and `ECANCELED`.
 #[derive(Clone, Copy, Debug, PartialEq, Eq)]
 pub enum Answer {
+    /// The condition was met, or the caller was woken: 0.
     Met,
+    /// The deadline passed: `ETIMEDOUT`.
     TimedOut,
+    /// The note was notified: `ECANCELED`.
     Canceled,
 }
 
@@ -22,16 +27,22 @@ pub enum Answer {
 /// for a condition variable.
 #[derive(Clone, Copy, Debug)]
 pub enum Entry<C> {
+    /// By a call that locks.
     Plain,
+    /// As the return from a wait for the condition, with its answer.
     Waited(C, Answer),
+    /// As the return from a wait for the condition variable, with its answer.
     AfterCv(u8, Answer),
 }
 
 /// How a section ended: by a release, or by a wait for a condition or for a condition variable.
 #[derive(Clone, Copy, Debug)]
 pub enum Exit<C> {
+    /// By a release.
     Plain,
+    /// By a wait for the condition.
     CondWait(C),
+    /// By a wait for the condition variable.
     CvWait(u8),
 }
 
@@ -40,6 +51,7 @@ pub enum Exit<C> {
 /// condition variable that was left for its deadline or its note.
 #[derive(Clone, Copy)]
 pub enum Event<C, const N: usize> {
+    /// A whole section.
     Section {
         who: u8,
         mode: Mode,
@@ -48,16 +60,19 @@ pub enum Event<C, const N: usize> {
         after: [u64; N],
         exit: Exit<C>,
     },
+    /// A signal of the condition variable `k`.
     Signal {
         who: u8,
         k: u8,
         woken: Seats,
     },
+    /// A broadcast of the condition variable `k`.
     Broadcast {
         who: u8,
         k: u8,
         woken: Seats,
     },
+    /// A wait for the condition variable `k` was left.
     Leave {
         who: u8,
         k: u8,

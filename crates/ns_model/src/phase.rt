@@ -11,10 +11,15 @@ use crate::event::Mode;
 /// or a broadcast, or to `Left` by its deadline or its note.
 #[derive(Clone, Copy, Debug)]
 pub enum Phase<C> {
+    /// It owes nothing.
     Idle,
+    /// It waits for the condition.
     Cond(C, Mode),
+    /// It waits for the condition variable.
     Waiting(u8, Mode),
+    /// It was woken from the condition variable.
     Woken(u8, Mode),
+    /// It has left the condition variable.
     Left(u8, Mode),
 }
 

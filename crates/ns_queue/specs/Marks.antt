@@ -14,6 +14,7 @@ marked [] xs = []
 marked (m ∷ ms) [] = []
 marked (m ∷ ms) (x ∷ xs) = if m then x ∷ marked ms xs else marked ms xs
 
+-- those of a list that bear no mark, in order
 abbrev pub unmarked : {A : Type 0} → List Bool → List A → List A
 unmarked [] xs = xs
 unmarked (m ∷ ms) [] = []
@@ -25,6 +26,7 @@ needs Seeking w = true
 needs Reading w = reads w
 needs Ended w = false
 
+-- whether the pass takes a waiter that it comes to at this stage
 abbrev pub takes : {C : Type 0} → (C → Bool) → Stage → Waiter C → Bool
 takes meets stage w = needs stage w && is_eligible meets w
 
@@ -34,6 +36,7 @@ stage_next Seeking taken w = if taken then (if writes w then Ended else Reading)
 stage_next Reading taken w = Reading
 stage_next Ended taken w = Ended
 
+-- the stage behind a waiter
 abbrev pub stage_after : {C : Type 0} → (C → Bool) → Stage → Waiter C → Stage
 stage_after meets stage w = stage_next stage (takes meets stage w) w
 
@@ -41,6 +44,7 @@ stage_after meets stage w = stage_next stage (takes meets stage w) w
 abbrev pub asked_for : {C : Type 0} → (C → Bool) → Bool → Option C → Option Bool → Option Bool
 asked_for meets needed first truth = if needed && is_none truth then Some (is_satisfied meets first) else truth
 
+-- how many tests it takes to learn what is needed of a condition: one, where it is needed and not known yet
 abbrev pub asking : {C : Type 0} → Bool → Option C → Option Bool → ℕ
 asking needed first truth = if needed && is_none truth && is_some first then 1 else 0
 
@@ -65,12 +69,14 @@ wanted_after ReadersAndWriter w = if writes w then Readers else ReadersAndWriter
 wanted_after Readers w = Readers
 wanted_after Nobody w = Nobody
 
+-- whether a signal that wants these takes the waiter
 abbrev pub is_wanted : {C : Type 0} → Wanted → Waiter C → Bool
 is_wanted Anybody w = true
 is_wanted ReadersAndWriter w = true
 is_wanted Readers w = reads w
 is_wanted Nobody w = false
 
+-- which of the waiters a signal takes
 abbrev pub signal_marks : {C : Type 0} → Wanted → List (Waiter C) → List Bool
 signal_marks wanted [] = []
 signal_marks wanted (w ∷ ws) = is_wanted wanted w ∷ signal_marks (wanted_after wanted w) ws

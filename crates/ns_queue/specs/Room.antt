@@ -10,9 +10,11 @@ use Rattle.arrayvec.specs.contracts.array_vec.ArrayVec.{the_row as array_vec_row
 use Rattle.ns_queue.specs.contracts.waiter.Waiter.{the_row as waiter_row}
 use Rattle.ns_model.specs.Room.{HasRoom, room_enough}
 
+-- a waiter with such a condition fits in memory
 abbrev pub WaiterFits : (C : RattleType) → Type 0
 WaiterFits C = FitsInMemory (waiter_row C)
 
+-- a waiter fits where the condition has room
 pub waiter_fits : (C N : RattleType) → HasRoom (copied 0 C) (param 1 N) → WaiterFits (copied 0 C)
 waiter_fits C N small = let most = room_enough (layout (waiter_row (copied 0 C))) in omega (arith, most, small.0, small.1)
 
@@ -20,6 +22,7 @@ waiter_fits C N small = let most = room_enough (layout (waiter_row (copied 0 C))
 abbrev pub ListFits : (C : RattleType) → Type 0
 ListFits C = size (layout (array_vec_row (waiter_row C) (number 64) unit)) < 2 ^ 60
 
+-- a list of waiters fits where the condition has room
 pub list_fits : (C N : RattleType) → HasRoom (copied 0 C) (param 1 N) → ListFits (copied 0 C)
 list_fits C N small =
     let one = room_enough (layout (waiter_row (copied 0 C))) in

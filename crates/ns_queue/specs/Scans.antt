@@ -9,6 +9,7 @@ abbrev pub is_satisfied : {C : Type 0} → (C → Bool) → Option C → Bool
 is_satisfied meets None = true
 is_satisfied meets (Some c) = meets c
 
+-- whether the waiter could go on: it has no condition, or one that is true
 abbrev pub is_eligible : {C : Type 0} → (C → Bool) → Waiter C → Bool
 is_eligible meets w = is_satisfied meets w.cond
 

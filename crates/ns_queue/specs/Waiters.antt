@@ -8,18 +8,23 @@ use Rattle.ns_queue.specs.declared.waiter.Shown.{Shown}
 abbrev pub shown_of : {C : Type 0} → Waiter C → Shown
 shown_of w = record { seat = w.seat; mode = w.mode; conditional = is_some w.cond }
 
+-- whether the waiter waits to write
 abbrev pub writes : {C : Type 0} → Waiter C → Bool
 writes w = is_write w.mode
 
+-- whether the waiter waits to read
 abbrev pub reads : {C : Type 0} → Waiter C → Bool
 reads w = not (is_write w.mode)
 
+-- whether the waiter waits for a condition
 abbrev pub has_condition : {C : Type 0} → Waiter C → Bool
 has_condition w = is_some w.cond
 
+-- whether the waiter is this seat's
 abbrev pub is_of : {C : Type 0} → ℕ → Waiter C → Bool
 is_of seat w = w.seat == seat
 
+-- the seats of the waiters, in order
 abbrev pub seats_of : {C : Type 0} → List (Waiter C) → List ℕ
 seats_of ws = map (λ w. w.seat) ws
 

@@ -19,7 +19,9 @@ use arrayvec::ArrayVec;
 /// tested.
 #[derive(Drop)]
 pub struct Scan {
+    /// The seats of those whom it took out, in list order.
     pub woken: ArrayVec<u8, 64>,
+    /// How many conditions it tested.
     pub tests: u32,
 }
 

@@ -15,9 +15,13 @@ use arrayvec::ArrayVec;
 /// Whom a signal still takes.
 #[derive(Clone, Copy)]
 pub(crate) enum Wanted {
+    /// The first who comes.
     Anybody,
+    /// Each reader, and one writer.
     ReadersAndWriter,
+    /// Each reader.
     Readers,
+    /// Nobody else.
     Nobody,
 }
 

@@ -9,8 +9,11 @@ use crate::waiter::Waiter;
 /// so has come to its end.
 #[derive(Clone, Copy)]
 pub(crate) enum Stage {
+    /// Nobody was taken yet.
     Seeking,
+    /// A reader was taken, and later readers may be.
     Reading,
+    /// A writer was taken, and nobody else will be.
     Ended,
 }
 

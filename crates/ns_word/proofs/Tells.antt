@@ -17,7 +17,8 @@ use Rattle.ns_model.specs.Truths.{Truths, QuietKeeps}
 use Rattle.ns_word.specs.Steps.{State, Part, Effect, Step}
 use Rattle.ns_word.specs.Begins.{IsFirst, FirstStep}
 use Rattle.ns_word.specs.Lawful.{IsLawful}
-use Rattle.ns_word.specs.Told.{Told, IsTold, nothing_told, told_after, AreBy, BeginsWith, walk_over, LedBy, IsLed}
+use Rattle.ns_model.specs.Beginnings.{BeginsWith}
+use Rattle.ns_word.specs.Told.{Told, IsTold, nothing_told, told_after, AreBy, walk_over, LedBy, IsLed}
 use Rattle.ns_word.proofs.Starts.{begins}
 use Rattle.ns_word.proofs.Dispatch.{keeps}
 
@@ -92,7 +93,7 @@ module _ {C : Type 0} {N : ℕ} where
   told_here holds seats h seat walk walk' commits begun told by legal by_seats firsts led p =
       let mine : told.mine ++ commits ≡ own (h ++ commits) seat = ap (λ xs. xs ++ commits) p.own_of ∙ ap (λ xs. own h seat ++ xs) (sym (own_all seat commits by)) ∙ sym (own_append seat h commits) in
       record {
-        seen_of = ([], append-nil (h ++ commits));
+        seen_of = ([], sym (append-nil (h ++ commits)));
         legal = legal;
         by_seats = by_seats;
         own_of = mine;
@@ -103,7 +104,7 @@ module _ {C : Type 0} {N : ℕ} where
 
   -- what a seat has seen goes on being a beginning
   pub seen_grows : (h seen commits : List (Event C N)) → BeginsWith h seen → BeginsWith (h ++ commits) seen
-  seen_grows h seen commits p = (p.0 ++ commits, sym (append_assoc seen p.0 commits) ∙ ap (λ xs. xs ++ commits) p.1)
+  seen_grows h seen commits p = (p.0 ++ commits, ap (λ xs. xs ++ commits) p.1 ∙ append_assoc seen p.0 commits)
 
   -- another seat
   pub told_there : (holds : C → List ℕ → Bool) (seats : ℕ) (h : List (Event C N)) (seat other : ℕ) (walk : Option (Walk C)) (commits : List (Event C N)) (told : Told C N) → AreBy seat commits → seat ≢ other →

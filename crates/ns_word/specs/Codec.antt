@@ -2,6 +2,7 @@
 use Rattle.std.specs.Prelude.{◌≡◌, ℕ, ◌+◌, ◌*◌, ◌/◌, ◌%◌, ◌≤◌, Bool, true, if◌then◌else◌, ◌==◌, ◌⊎◌}
 use Rattle.ns_word.specs.declared.word.Word.{Word}
 
+-- a bit as a number
 abbrev pub bit : Bool → ℕ
 bit b = if b then 1 else 0
 
@@ -15,6 +16,7 @@ number_of w =
 abbrev pub is_set : ℕ → ℕ → Bool
 is_set bits value = (bits / value) % 2 == 1
 
+-- the word whose bits and count of readers the number has
 unfoldable pub word_of : ℕ → Word
 word_of bits = record {
   write = is_set bits 1;

@@ -112,6 +112,7 @@ pub record IsLawfulEnv (events : List EnvEvent) (state : EnvState) : Type 0 wher
 abbrev pub fresh_plain : EnvPlain
 fresh_plain = record { clock = 0; next = 0; notes = λ note. no_note }
 
+-- the same, with seats that stand in no call on them
 abbrev pub fresh_asks : ℕ → EnvState
 fresh_asks seats = record { plain = fresh_plain; askings = replicate seats None }
 

@@ -19,6 +19,7 @@ use Rattle.ns_word.specs.declared.walk.Reply.TheVariants.{Succeeded, Number, Not
 abbrev pub standing_of : NoteState → NoteStanding
 standing_of note = record { made = note.made; called = note.called; parent = note.parent; deadline = note.deadline }
 
+-- a note as a load finds it
 abbrev pub state_of : NoteStanding → NoteState
 state_of note = record { made = note.made; called = note.called; parent = note.parent; deadline = note.deadline }
 

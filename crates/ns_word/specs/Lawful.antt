@@ -57,6 +57,7 @@ pub record ViewFits {C : Type 0} {N : ℕ} (truths : Truths C) (seats : ℕ) (no
   pub owes : has_some view.owed ≡ pays view.walk
   pub section : SectionFits now row view.seat view.walk view.held
 
+-- each view fits
 abbrev pub EachFits : {C : Type 0} {N : ℕ} → Truths C → ℕ → Standing C → List ℕ → List (SeatView C N) → Type 0
 EachFits truths seats now row [] = Unit {0}
 EachFits truths seats now row (view ∷ views) = ViewFits truths seats now row view × EachFits truths seats now row views
@@ -87,6 +88,7 @@ pub record BitsTell {C : Type 0} {N : ℕ} (word : Word) (lock : List (Waiter C)
 
 -- ---- the waiters
 
+-- whether a flag is set, and its seat not woken yet
 abbrev pub is_armed : ℕ → Bool
 is_armed flag = flag == 1
 

@@ -7,6 +7,7 @@ use Rattle.ns_queue.specs.Waiters.{has_condition, writes}
 use Rattle.ns_queue.specs.Scans.{is_eligible}
 use Rattle.ns_word.specs.declared.word.Bits.{Bits}
 
+-- whether the list has anything
 abbrev pub has_some : {A : Type 0} → List A → Bool
 has_some [] = false
 has_some (x ∷ xs) = true

@@ -57,6 +57,7 @@ pub record MayWait {C : Type 0} {N : ℕ} (truths : Truths C) (wait : Wait C) (a
   pub unmet : truths.holds wait.cond held.row ≡ false
   pub back : again ≡ true → ComesBack wait (cause_or None) held
 
+-- a wait that is about to queue has a section in its own mode, of whose row its condition is false; one that queues again has not changed the row
 abbrev pub CanWait : {C : Type 0} {N : ℕ} → Truths C → Wait C → Bool → Option (Held C N) → Type 0
 CanWait truths wait again None = ⊥
 CanWait truths wait again (Some held) = MayWait truths wait again held

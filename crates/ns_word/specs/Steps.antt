@@ -78,6 +78,7 @@ abbrev pub opening_by : {C : Type 0} → Cause → Opening C → Opening C
 opening_by cause Locked = Locked
 opening_by cause (CameBack c was) = CameBack c cause
 
+-- the section in hand, once it is known what ended its wait
 abbrev pub held_by : {C : Type 0} {N : ℕ} → Cause → Option (Held C N) → Option (Held C N)
 held_by cause None = None
 held_by cause (Some held) = Some (record held { entry = opening_by cause held.entry })
@@ -186,13 +187,6 @@ Effect truths seat LoadFlag old (Flag v) new commits = (v ≡ old.flags seat) ×
 -- a look
 Effect truths seat (Look limits again) old (Looked cause) new commits = MayShow limits cause × (new ≡ record old { held = held_after again cause old.held }) × (commits ≡ [])
 Effect truths seat act old found new commits = ⊥
-
--- Whether the act may commit an event.
-abbrev pub IsRelease : {C : Type 0} → Act C → Type 0
-IsRelease (Release releasing last) = Unit {0}
-IsRelease (ReleaseReturning releasing last) = Unit {0}
-IsRelease (WaitReturning wait again last) = Unit {0}
-IsRelease act = ⊥
 
 -- a view's part of a state
 abbrev pub part_of : {C : Type 0} {N : ℕ} → State C N → Option (Held C N) → List ℕ → Part C N

@@ -1,6 +1,7 @@
 -- What a seat was told: the history that it has seen, its own events, and the calls that it has begun.
 use Rattle.std.specs.Prelude.{◌≡◌, ℕ, Bool, List, [], ◌∷◌, ◌++◌, Option, None, Some, All}
 use Rattle.ns_model.specs.declared.event.Event.{Event}
+use Rattle.ns_model.specs.Beginnings.{BeginsWith}
 use Rattle.ns_model.specs.Histories.{IsLegal, IsBySeats, own, who_of}
 use Rattle.ns_word.specs.declared.walk.Walk.{Walk}
 use Rattle.ns_word.specs.declared.act.Found.{Found}
@@ -17,9 +18,6 @@ pub record Told (C : Type 0) (N : ℕ) : Type 0 where
 abbrev pub nothing_told : {C : Type 0} {N : ℕ} → Told C N
 nothing_told = record { seen = []; mine = []; begun = [] }
 
-abbrev pub BeginsWith : {C : Type 0} {N : ℕ} → List (Event C N) → List (Event C N) → Type 0
-BeginsWith {C} {N} history seen = (rest : List (Event C N)) × (seen ++ rest ≡ history)
-
 -- where what its steps found leads a call, over a row of N cells
 abbrev pub walk_over : {C : Type 0} → ℕ → List Found → Option (Walk C) → Option (Walk C)
 walk_over N [] walk = walk
@@ -34,6 +32,7 @@ pub record LedBy {C : Type 0} (N : ℕ) (begun : List (Walk C)) (walk : Walk C) 
   pub last : begun ≡ earlier ++ first ∷ []
   pub leads : walk_over N founds (Some first) ≡ Some walk
 
+-- the call in progress, if there is one, is the last that was begun
 abbrev pub IsLed : {C : Type 0} → ℕ → List (Walk C) → Option (Walk C) → Type 0
 IsLed N begun None = Unit {0}
 IsLed N begun (Some walk) = LedBy N begun walk

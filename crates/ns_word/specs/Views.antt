@@ -7,10 +7,12 @@ use Rattle.ns_word.specs.declared.walk.Walk.{Walk}
 use Rattle.ns_word.specs.Lists.{times_among}
 use Rattle.ns_word.specs.Walks.{has_queues, is_queuing}
 
+-- whether the section in hand, if there is one, is a write section
 abbrev pub is_writing : {C : Type 0} {N : ℕ} → Option (Held C N) → Bool
 is_writing None = false
 is_writing (Some held) = is_write held.mode
 
+-- whether the section in hand, if there is one, is a read section
 abbrev pub is_reading : {C : Type 0} {N : ℕ} → Option (Held C N) → Bool
 is_reading None = false
 is_reading (Some held) = not (is_write held.mode)
@@ -20,14 +22,17 @@ abbrev pub writers : {C : Type 0} {N : ℕ} → List (SeatView C N) → ℕ
 writers [] = 0
 writers (view ∷ views) = (if is_writing view.held then 1 else 0) + writers views
 
+-- how many have a read section in hand
 abbrev pub readers : {C : Type 0} {N : ℕ} → List (SeatView C N) → ℕ
 readers [] = 0
 readers (view ∷ views) = (if is_reading view.held then 1 else 0) + readers views
 
+-- how many have the queues
 abbrev pub takers : {C : Type 0} {N : ℕ} → List (SeatView C N) → ℕ
 takers [] = 0
 takers (view ∷ views) = (if has_queues view.walk then 1 else 0) + takers views
 
+-- how many have taken the queues to queue without a condition
 abbrev pub queuers : {C : Type 0} {N : ℕ} → List (SeatView C N) → ℕ
 queuers [] = 0
 queuers (view ∷ views) = (if is_queuing view.walk then 1 else 0) + queuers views
@@ -47,6 +52,7 @@ abbrev pub NoneIs : {C : Type 0} {N : ℕ} → ℕ → List (SeatView C N) → T
 NoneIs seat [] = Unit {0}
 NoneIs seat (view ∷ views) = (view.seat ≢ seat) × NoneIs seat views
 
+-- no two views are the same seat's
 abbrev pub AreApart : {C : Type 0} {N : ℕ} → List (SeatView C N) → Type 0
 AreApart [] = Unit {0}
 AreApart (view ∷ views) = NoneIs view.seat views × AreApart views

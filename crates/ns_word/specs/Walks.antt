@@ -202,12 +202,6 @@ reply_of (On walk) = None
 reply_of (Idle walk) = None
 reply_of (Done reply) = Some reply
 
--- the call has to wait for another seat
-abbrev pub is_idle : {C : Type 0} → Next C → Bool
-is_idle (On walk) = false
-is_idle (Idle walk) = true
-is_idle (Done reply) = false
-
 -- ---- what a place in a call tells of its seat
 
 -- how a waiter stands in the lock list: in which mode, and for which condition, if for one
@@ -237,6 +231,7 @@ is_queuing (Some (Arm aim woken last)) = true
 is_queuing (Some (Queue aim woken last)) = true
 is_queuing walk = false
 
+-- whether a wait at the place has set its flag, and not queued yet
 abbrev pub place_has_armed : WaitPlace → Bool
 place_has_armed (QueueToWait again last) = true
 place_has_armed place = false
@@ -264,9 +259,11 @@ waits_in (Some (AwaitWake aim)) = Some (record { mode = mode_for aim; cond = Non
 waits_in (Some (InWait wait place)) = if place_awaits place then Some (record { mode = wait.mode; cond = Some wait.cond }) else None
 waits_in walk = None
 
+-- whether a seat at the place waits: it has queued, and has not loaded its flag as clear nor taken itself out
 abbrev pub awaits : {C : Type 0} → Option (Walk C) → Bool
 awaits walk = is_some (waits_in walk)
 
+-- whether a wait at the place is about to pay a wake
 abbrev pub place_pays : WaitPlace → Bool
 place_pays PayInWait = true
 place_pays place = false

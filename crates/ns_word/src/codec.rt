@@ -1,18 +1,9 @@
 //! The lock word as one number, as a table of atomic words keeps it. The values stand here and in
 //! `specs/Codec.antt`, and nowhere else.
-//!
-//! | value | bit |
-//! |---|---|
-//! | 1 | held in write mode |
-//! | 2 | one caller has the waiter queues: the spinlock bit |
-//! | 4 | somebody waits for the lock |
-//! | 8 | a designated waker is on its way |
-//! | 16 | somebody waits with a condition |
-//! | 32 | a writer waits without condition |
-//! | 64 | every waiter has a condition, and it is false |
-//! | 128 | one reader; each counts so much |
+//! The table of the bits, with the value of each, is at the head of `word.rt`.
 
 ghost use Rattle.std.specs.Prelude.{◌≡◌, ◌*◌, ◌<◌, Ok, MatchResult};
+ghost use Rattle.ns_word.specs.Begins.{free_word};
 ghost use Rattle.ns_word.specs.Codec.{bit, number_of, word_of, is_set, IsPackable, IsBad};
 
 use crate::word::Word;
@@ -70,6 +61,12 @@ pub fn encode(word: Word) -> u64
         + valued(word.all_false, ALL_FALSE)
         + READER * u64::from(word.readers)
 }
+
+/// A free lock for which nobody waits has the number 0, so a table of zeros holds free locks.
+pub fn a_free_word_is_zero()
+    ensures number { number_of Word.FREE ≡ 0 }
+    ensures word { Word.FREE ≡ free_word }
+{}
 
 /// The word of a number, so that decoding undoes encoding. Refuses (`BadWord`) a number with a
 /// writer beside readers, and one with more than 64 readers, and no other.

@@ -5,6 +5,7 @@ ghost use Rattle.ns_model.specs.declared.event.Answer.{Answer};
 ghost use Rattle.ns_model.specs.declared.event.Entry.TheVariants.{Waited};
 ghost use Rattle.ns_model.specs.declared.event.Event.{Event};
 ghost use Rattle.ns_model.specs.declared.phase.Phase.TheVariants.{Cond};
+ghost use Rattle.ns_model.specs.Beginnings.{BeginsWith};
 ghost use Rattle.ns_model.specs.Histories.{phase_of};
 ghost use Rattle.ns_model.specs.Sections.{is_met};
 ghost use Rattle.ns_queue.specs.declared.waiter.Waiter.{Waiter};
@@ -23,7 +24,7 @@ ghost use Rattle.ns_word.specs.Answers.{cause_kept, has_come_back, is_back};
 ghost use Rattle.ns_word.specs.Begins.{Begins, FirstStep, IsFirst, fresh_state};
 ghost use Rattle.ns_word.specs.Steps.{State, Step, entry_of};
 ghost use Rattle.ns_word.specs.Lawful.{IsLawful};
-ghost use Rattle.ns_word.specs.Told.{Told, IsTold, nothing_told, told_after, BeginsWith};
+ghost use Rattle.ns_word.specs.Told.{Told, IsTold, nothing_told, told_after};
 ghost use Rattle.ns_word.specs.Waits.{answer_of};
 ghost use Rattle.ns_word.specs.Walks.{got_of, walk_after};
 

@@ -13,6 +13,8 @@ pub struct Limits {
 /// What ended a wait early: its deadline passed, or its note was notified.
 #[derive(Clone, Copy, Debug, PartialEq, Eq)]
 pub enum Cause {
+    /// Its deadline passed.
     Expired,
+    /// Its note was notified.
     Notified,
 }

@@ -1,15 +1,36 @@
 //! The lock word, the decisions by it, and the words that the steps make of it.
 //!
-//! | part | tells |
-//! |---|---|
-//! | write | the lock is held in write mode |
-//! | spin | the spinlock bit: one seat has the queues |
-//! | waiting | somebody stands in the lock list |
-//! | desig | the designated waker: one taken from the lock list is on its way |
-//! | cond | a waiter with a condition stands in the lock list |
-//! | writer_waits | a writer without condition stands in the lock list |
-//! | all_false | all who stand in the lock list wait for conditions that are false |
-//! | readers | how many seats hold the lock in read mode |
+//! # How the lock works
+//!
+//! A caller acquires by one compare-exchange on the word, and releases by another, where nobody waits.
+//! One that can't acquire takes the waiter queues by setting the spinlock bit, puts itself into the lock
+//! list, puts the queues back, and waits for its own flag to be cleared.
+//!
+//! - **One designated waker is enough.** A release that wakes somebody sets the designated bit; while it
+//!   is set, other releases wake nobody. The woken one clears it as it acquires or queues again, so from
+//!   then on a release looks at the list itself. So somebody is always on its way, or the next release
+//!   looks, and nobody is forgotten; and a lock that changes hands often wakes no crowd.
+//! - **When 'all false' may be believed.** A release that has the queues, tests the waiters' conditions
+//!   and takes nobody sets the bit: all wait for conditions that are false of the row which it leaves.
+//!   Whoever may change that clears it: an ordinary writer as it releases, and a waiter
+//!   without condition as it queues.
+//!   A reader, and a writer whose change is quiet, leave it, and need no scan while it is set.
+//! - **Why a woken reader passes a waiting writer.** A fresh reader stands back where a writer waits, so
+//!   that readers who come and go keep no writer out. A woken one was taken from the list in its turn:
+//!   if it stood back, the writer could wait for it, and it for the writer.
+//!
+//! # The bits
+//!
+//! | value | part | tells |
+//! |---|---|---|
+//! | 1 | write | the lock is held in write mode |
+//! | 2 | spin | the spinlock bit: one seat has the queues |
+//! | 4 | waiting | somebody stands in the lock list |
+//! | 8 | desig | the designated waker: one taken from the lock list is on its way |
+//! | 16 | cond | a waiter with a condition stands in the lock list |
+//! | 32 | writer_waits | a writer without condition stands in the lock list |
+//! | 64 | all_false | all who stand in the lock list wait for conditions that are false |
+//! | 128 | readers | how many seats hold the lock in read mode; each counts 128, up to 64 of them |
 //!
 //! While the spinlock bit is set, `waiting`, `cond` and `writer_waits` may tell of one that is
 //! about to queue.

@@ -21,6 +21,7 @@ note_at notes note = standing_of (get_or notes note (state_of no_note))
 abbrev pub plain_of : Environment → EnvPlain
 plain_of env = record { clock = env.clock; next = env.next; notes = note_at env.notes }
 
+-- the clock and the notes, with each seat's place in a call on them
 abbrev pub env_state : EnvPlain → List (Option EnvWalk) → EnvState
 env_state plain askings = record { plain = plain; askings = askings }
 

@@ -65,13 +65,16 @@ CallFits notes (NoteWait note deadline) mode = (notes note).made ≡ true
 CallFits notes (Wait c limits) mode = IsSome mode × IfMade notes limits.note
 CallFits notes call mode = SectionFits call mode
 
+-- the mode of the section in hand, if there is one
 abbrev pub mode_of : {C : Type 0} {N : ℕ} → Option (Held C N) → Option Mode
 mode_of None = None
 mode_of (Some held) = Some held.mode
 
+-- a number that a note may have
 abbrev pub IsNoteNumber : ℕ → Type 0
 IsNoteNumber note = note < 64
 
+-- a moment that the clock may come to
 abbrev pub IsMoment : ℕ → Type 0
 IsMoment moment = moment < 2 ^ 54
 

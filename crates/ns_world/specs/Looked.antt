@@ -44,5 +44,6 @@ abbrev pub MovesFrom : {C : Type 0} {N : ℕ} → Option (Walk C) → EnvPlain �
 MovesFrom None old new seat place seat' step = Asked old new seat place seat' step
 MovesFrom (Some walk) old new seat place seat' step = LookStep old new seat walk place seat' step
 
+-- the seat made a step on the clock and the notes, of a call of its own or of its wait's look
 abbrev pub EnvMoves : {C : Type 0} {N : ℕ} → EnvPlain → EnvPlain → Seat C N → EnvWalk → Seat C N → Step → Type 0
 EnvMoves old new seat place seat' step = MovesFrom seat.walk old new seat place seat' step

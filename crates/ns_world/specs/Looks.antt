@@ -49,6 +49,7 @@ abbrev pub note_for : {C : Type 0} → Aim C → Option ℕ
 note_for (ForLock mode) = None
 note_for (ForWait wait kept) = wait.limits.note
 
+-- the note that may end the wait of a seat at this place, if it is in a wait and a note was given
 abbrev pub note_in : {C : Type 0} → Option (Walk C) → Option ℕ
 note_in (Some (AcquireLoad aim woken)) = note_for aim
 note_in (Some (AcquireExchange aim woken last)) = note_for aim

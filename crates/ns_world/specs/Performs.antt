@@ -31,6 +31,7 @@ view_of seat = record { seat = seat.number; walk = seat.walk; held = seat.held; 
 abbrev pub flag_at : List ℕ → ℕ → ℕ
 flag_at flags seat = get_or flags seat 0
 
+-- the parts of a world that one step of one seat reads and writes, as the machine sees them
 abbrev pub part : {C : Type 0} {N : ℕ} → Word → List ℕ → Lists C → List ℕ → Option (Held C N) → List ℕ → Part C N
 part word row queues flags held owed = record { word = word; row = row; lock = queues.lock; flags = flag_at flags; held = held; owed = owed }
 

@@ -9,6 +9,7 @@ use denote.Param.{layout, copied, param}
 use Rattle.ns_world.specs.contracts.seat.Seat.{the_row as seat_row}
 use Rattle.ns_model.specs.Room.{HasRoom, room, room_enough}
 
+-- a seat of a world fits in memory
 abbrev pub SeatFits : (C N : RattleType) → Type 0
 SeatFits C N = FitsInMemory (seat_row C N)
 
@@ -16,6 +17,7 @@ SeatFits C N = FitsInMemory (seat_row C N)
 small_by : (τ : Ty) → room τ < 2 ^ 63 → size τ < 2 ^ 63
 small_by τ few = let most = room_enough τ in omega (arith, most, few)
 
+-- a seat fits where a condition and a row have room
 pub seat_fits : (C N : RattleType) → HasRoom (copied 0 C) (param 1 N) → SeatFits (copied 0 C) (param 1 N)
 seat_fits C N small =
     let few : room (layout (seat_row (copied 0 C) (param 1 N))) < 2 ^ 63 = omega (arith, small.0, small.1) in

@@ -23,6 +23,7 @@ pub record Progress (C : Type 0) (N : ℕ) : Type 0 where
   pub over : List ℕ
   pub lines : List Line
 
+-- a progress, part by part
 abbrev pub progress : {C : Type 0} {N : ℕ} → Now C N → List ℕ → List Line → Progress C N
 progress world over lines = record { world = world; over = over; lines = lines }
 
@@ -134,6 +135,7 @@ pub record Item : Type 0 where
 abbrev pub word_items : Turn → List Item
 word_items turn = replicate turn.times (record { seat = turn.thread; whole = turn.whole })
 
+-- the items of a schedule, word by word
 abbrev pub items_of : List Turn → List Item
 items_of schedule = flat_map word_items schedule
 

@@ -19,6 +19,7 @@ abbrev pub lock_by : {C : Type 0} {N : ℕ} → Truths C → List ℕ → List (
 lock_by truths row lock [] = lock
 lock_by truths row lock (view ∷ views) = if has_queues view.walk then hand_of truths view.seat view.walk row lock else lock_by truths row lock views
 
+-- the lock list that a world shows
 abbrev pub lock_shown : {C : Type 0} {N : ℕ} → Now C N → List (Waiter C)
 lock_shown world = lock_by world.truths world.state.row world.state.lock world.state.views
 
@@ -26,5 +27,6 @@ lock_shown world = lock_by world.truths world.state.row world.state.lock world.s
 abbrev pub wakes_of : {C : Type 0} {N : ℕ} → SeatView C N → List (ℕ × ℕ)
 wakes_of view = map (λ woken. (view.seat, woken)) view.owed
 
+-- the wakes that the seats owe, who and whom, seat by seat
 abbrev pub wakes_owed : {C : Type 0} {N : ℕ} → List (SeatView C N) → List (ℕ × ℕ)
 wakes_owed views = flat_map wakes_of views

@@ -55,6 +55,7 @@ pub record Kept (C : Type 0) (N : ℕ) : Type 0 where
   pub env : Environment
   pub asking : List (Option EnvWalk)
 
+-- what a world keeps, of its parts
 abbrev pub kept : {C : Type 0} {N : ℕ} → Word → List ℕ → Lists C → List ℕ → Environment → List (Seat C N) → List (Event C N) → Kept C N
 kept word row queues flags env seats history = record {
   word = word;
@@ -80,6 +81,7 @@ now_of truths world = record {
   asking = world.asking;
 }
 
+-- a world as the machine sees it, of its parts
 abbrev pub now_with : {C : Type 0} {N : ℕ} → Truths C → Word → List ℕ → Lists C → List ℕ → Environment → List (Seat C N) → List (Event C N) → Now C N
 now_with truths word row queues flags env seats history = now_of truths (kept word row queues flags env seats history)
 
@@ -236,6 +238,7 @@ StepFault old seat StepLimit = ⊥
 abbrev pub is_walking : {C : Type 0} {N : ℕ} → List (SeatView C N) → ℕ → Bool
 is_walking views seat = option_map_or (λ view. is_some view.walk) (slice_get views seat) false
 
+-- whether a call of the seat on the clock and the notes is in progress, or a look of its wait
 abbrev pub is_asking : List (Option EnvWalk) → ℕ → Bool
 is_asking askings seat = option_map_or (λ walk. is_some walk) (slice_get askings seat) false
 
