@@ -7,5 +7,6 @@ pub mod Phases
 pub mod Room
 pub mod Seats
 pub mod Sections
+pub mod Tallies
 pub mod Truths
 pub mod Wakes

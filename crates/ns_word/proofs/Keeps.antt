@@ -31,7 +31,8 @@ use Rattle.ns_word.specs.Places.{PlaceFits}
 use Rattle.ns_word.specs.Lawful.{is_armed, is_unwoken, ViewFits, bits_in, phase_before}
 use Rattle.ns_word.proofs.Groups.{Safe, Homed, Known, Groups}
 use Rattle.ns_word.proofs.Knows.{is_loud, rests as known_rests, acquires as known_acquires, puts, withdraws as known_withdraws, releases as known_releases, scans as known_scans}
-use Rattle.ns_word.proofs.Views.{one_if, view_of, apart_parts, each_parts}
+use Rattle.ns_model.specs.Tallies.{one_if}
+use Rattle.ns_word.proofs.Views.{view_of, apart_parts, each_parts}
 use Rattle.ns_word.proofs.Waits.{not_due, cleared, rested, armed, queues, withdraws as withdrawn, scanned, waited, woke, seen}
 use Rattle.ns_word.proofs.Owns.{own_stays, own_same, nowhere, own_queued, own_scanned, own_waited, own_without}
 use Rattle.ns_word.proofs.Scans.{times_queued, queued_eligible}

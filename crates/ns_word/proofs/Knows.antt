@@ -22,7 +22,8 @@ use Rattle.ns_word.specs.Views.{takers, queuers, walk_at, NoneIs}
 use Rattle.ns_word.specs.Lawful.{WaitersPlaced, NobodyCouldGoOn, is_armed, is_unwoken}
 use Rattle.ns_word.proofs.Groups.{Homed, Known}
 use Rattle.ns_word.proofs.Scans.{times_scan, times_queued, times_without, times_others, some_queued, filter_eligible, writer_eligible, none_eligible, woken_none, woken_some}
-use Rattle.ns_word.proofs.Views.{one_if, one_most, view_of, takers_at, queuers_at, walk_here, walk_there}
+use Rattle.ns_model.specs.Tallies.{one_if}
+use Rattle.ns_word.proofs.Views.{one_most, view_of, takers_at, queuers_at, walk_here, walk_there}
 
 on_way_fewer : {C : Type 0} (walk : Option (Walk C)) (n m : ℕ) → (n ≡ 0 → m ≡ 0) → is_on_way walk n ≡ true → is_on_way walk m ≡ true
 on_way_fewer walk n m f e = go (awaits walk) e where

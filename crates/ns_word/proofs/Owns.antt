@@ -14,7 +14,8 @@ use Rattle.ns_word.specs.Lists.{queued}
 use Rattle.ns_word.specs.Walks.{waits_in}
 use Rattle.ns_word.specs.Views.{owed_to, walk_at, NoneIs}
 use Rattle.ns_word.specs.Lawful.{is_unwoken, stance_of, WaitersPlaced, WaiterFits, WaitersOwn}
-use Rattle.ns_word.proofs.Views.{one_if, view_of, walk_here, walk_there}
+use Rattle.ns_model.specs.Tallies.{one_if}
+use Rattle.ns_word.proofs.Views.{view_of, walk_here, walk_there}
 use Rattle.ns_word.proofs.Scans.{times_scan, times_without}
 
 module _ {C : Type 0} {N : ℕ} where

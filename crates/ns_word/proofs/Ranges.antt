@@ -15,7 +15,8 @@ use Rattle.ns_word.specs.Views.{is_reading, readers, owed_to, walk_at, NoneIs, A
 use Rattle.ns_model.specs.Truths.{Truths}
 use Rattle.ns_word.specs.Steps.{State, flags_with}
 use Rattle.ns_word.specs.Lawful.{EachFits, WaitersPlaced, IsLawful, is_unwoken}
-use Rattle.ns_word.proofs.Views.{one_if, one_most, owed_at, none_parts, each_parts}
+use Rattle.ns_model.specs.Tallies.{one_if}
+use Rattle.ns_word.proofs.Views.{one_most, owed_at, none_parts, each_parts}
 use Rattle.ns_word.proofs.Knows.{due_awaits}
 
 -- ---- seats that wait

@@ -3,6 +3,8 @@ use Rattle.std.proofs.Common.{◌≡◌, ◌≢◌, ℕ, ◌+◌, ◌≤◌, Boo
 use Rattle.std.proofs.lemmas.Bool.{ne_eqb}
 use Rattle.ns_model.specs.Phases.{is_write}
 use Rattle.ns_model.specs.Histories.{Standing}
+use Rattle.ns_model.specs.Tallies.{one_if}
+use Rattle.ns_model.proofs.Tallies.{total_amid, every_parts, every_join}
 use Rattle.ns_word.specs.declared.view.Held.{Held}
 use Rattle.ns_word.specs.declared.view.SeatView.{SeatView}
 use Rattle.ns_word.specs.declared.walk.Walk.{Walk}
@@ -11,9 +13,6 @@ use Rattle.ns_word.specs.Walks.{has_queues, is_queuing}
 use Rattle.ns_word.specs.Views.{is_writing, is_reading, writers, readers, takers, queuers, owed_to, walk_at, NoneIs, AreApart}
 use Rattle.ns_model.specs.Truths.{Truths}
 use Rattle.ns_word.specs.Lawful.{ViewFits, SectionFits, EachFits}
-
-abbrev pub one_if : Bool → ℕ
-one_if b = cond b 1 0
 
 -- a seat with this place, this section and these wakes to pay
 abbrev pub view_of : {C : Type 0} {N : ℕ} → ℕ → Option (Walk C) → Option (Held C N) → List ℕ → SeatView C N
@@ -32,28 +31,23 @@ module _ {C : Type 0} {N : ℕ} where
 
   pub readers_at : (front : List (SeatView C N)) (view : SeatView C N) (back : List (SeatView C N)) →
       readers (front ++ view ∷ back) ≡ readers front + (cond (is_reading view.held) 1 0 + readers back)
-  readers_at [] view back = omega arith
-  readers_at (u ∷ front) view back = let rest = readers_at front view back in omega arith
+  readers_at front view back = total_amid (λ view. one_if (is_reading view.held)) front view back
 
   pub writers_at : (front : List (SeatView C N)) (view : SeatView C N) (back : List (SeatView C N)) →
       writers (front ++ view ∷ back) ≡ writers front + (cond (is_writing view.held) 1 0 + writers back)
-  writers_at [] view back = omega arith
-  writers_at (u ∷ front) view back = let rest = writers_at front view back in omega arith
+  writers_at front view back = total_amid (λ view. one_if (is_writing view.held)) front view back
 
   pub takers_at : (front : List (SeatView C N)) (view : SeatView C N) (back : List (SeatView C N)) →
       takers (front ++ view ∷ back) ≡ takers front + (cond (has_queues view.walk) 1 0 + takers back)
-  takers_at [] view back = omega arith
-  takers_at (u ∷ front) view back = let rest = takers_at front view back in omega arith
+  takers_at front view back = total_amid (λ view. one_if (has_queues view.walk)) front view back
 
   pub owed_at : (seat : ℕ) (front : List (SeatView C N)) (view : SeatView C N) (back : List (SeatView C N)) →
       owed_to seat (front ++ view ∷ back) ≡ owed_to seat front + (times_among seat view.owed + owed_to seat back)
-  owed_at seat [] view back = omega arith
-  owed_at seat (u ∷ front) view back = let rest = owed_at seat front view back in omega arith
+  owed_at seat front view back = total_amid (λ view. times_among seat view.owed) front view back
 
   pub queuers_at : (front : List (SeatView C N)) (view : SeatView C N) (back : List (SeatView C N)) →
       queuers (front ++ view ∷ back) ≡ queuers front + (cond (is_queuing view.walk) 1 0 + queuers back)
-  queuers_at [] view back = omega arith
-  queuers_at (u ∷ front) view back = let rest = queuers_at front view back in omega arith
+  queuers_at front view back = total_amid (λ view. one_if (is_queuing view.walk)) front view back
 
   none_held : (held : Option (Held C N)) → cond (is_writing held) 1 0 + cond (is_reading held) 1 0 ≡ 0 → held ≡ None
   none_held None e = refl
@@ -105,14 +99,12 @@ module _ {C : Type 0} {N : ℕ} where
     pub each_parts : (now : Standing C) (row : List ℕ) (front : List (SeatView C N)) (view : SeatView C N) (back : List (SeatView C N)) →
         EachFits truths seats now row (front ++ view ∷ back) →
         EachFits truths seats now row front × ViewFits truths seats now row view × EachFits truths seats now row back
-    each_parts now row [] view back p = (tt, p.0, p.1)
-    each_parts now row (u ∷ front) view back p = let rest = each_parts now row front view back p.1 in ((p.0, rest.0), rest.1, rest.2)
+    each_parts now row front view back p = every_parts (ViewFits truths seats now row) front view back p
 
     pub each_join : (now : Standing C) (row : List ℕ) (front : List (SeatView C N)) (view : SeatView C N) (back : List (SeatView C N)) →
         EachFits truths seats now row front → ViewFits truths seats now row view → EachFits truths seats now row back →
         EachFits truths seats now row (front ++ view ∷ back)
-    each_join now row [] view back p q r = (q, r)
-    each_join now row (u ∷ front) view back p q r = (p.0, each_join now row front view back p.1 q r)
+    each_join now row front view back p q r = every_join (ViewFits truths seats now row) front view back p q r
 
     section_moves : (now next : Standing C) (row cells : List ℕ) (who : ℕ) (walk : Option (Walk C)) (held : Option (Held C N)) →
         next.phases who ≡ now.phases who →

@@ -2,6 +2,7 @@
 use Rattle.std.specs.Prelude.{◌≡◌, ℕ, zero, suc, ◌+◌, ◌<◌, ◌≤◌, max, min, nat_lt, Bool, true, false, if◌then◌else◌, List, [], ◌∷◌, length, replicate, Option, None, Some, IfSome, slice_get, slice_set}
 use Rattle.ns_model.specs.declared.environment.EnvEvent.{EnvEvent}
 use Rattle.ns_model.specs.declared.environment.EnvEvent.TheVariants.{Take, New, Notify, Advance}
+use Rattle.ns_model.specs.Tallies.{total, one_if}
 use Rattle.ns_model.specs.Environments.{NoteStanding, EnvStanding, no_note, ParentFits, but_at, notified_note, made_note, IsLegalEnv, env_after, clock_of, takes_in, expiry_in, earlier, IsEnvBySeats}
 use Rattle.ns_word.specs.declared.env_act.EnvAct.{EnvAct}
 use Rattle.ns_word.specs.declared.env_act.EnvAct.TheVariants.{LoadNext, TakeNext, StoreNote, NotifyNote, MoveClock, LoadClock, LoadNote}
@@ -96,8 +97,7 @@ is_adding walk = false
 
 -- how many seats are to take a number
 abbrev pub adders : List (Option EnvWalk) → ℕ
-adders [] = 0
-adders (walk ∷ walks) = (if is_adding walk then 1 else 0) + adders walks
+adders walks = total (λ walk. one_if (is_adding walk)) walks
 
 -- These events are what has happened, by these seats. The next number may pass 64, where seats saw it below 64 and are to take one, but no further than the seats go.
 pub record IsLawfulEnv (events : List EnvEvent) (state : EnvState) : Type 0 where

@@ -5,6 +5,7 @@ use Rattle.ns_model.specs.declared.event.Mode.TheVariants.{Read}
 use Rattle.ns_model.specs.declared.event.Event.{Event}
 use Rattle.ns_model.specs.declared.phase.Phase.{Phase}
 use Rattle.ns_model.specs.declared.phase.Phase.TheVariants.{Idle, Cond}
+use Rattle.ns_model.specs.Tallies.{Every}
 use Rattle.ns_model.specs.Histories.{Standing, IsLegal, IsBySeats, standing_after}
 use Rattle.ns_queue.specs.declared.waiter.Waiter.{Waiter}
 use Rattle.ns_queue.specs.Waiters.{times_in}
@@ -59,8 +60,7 @@ pub record ViewFits {C : Type 0} {N : ℕ} (truths : Truths C) (seats : ℕ) (no
 
 -- each view fits
 abbrev pub EachFits : {C : Type 0} {N : ℕ} → Truths C → ℕ → Standing C → List ℕ → List (SeatView C N) → Type 0
-EachFits truths seats now row [] = Unit {0}
-EachFits truths seats now row (view ∷ views) = ViewFits truths seats now row view × EachFits truths seats now row views
+EachFits truths seats now row views = Every (ViewFits truths seats now row) views
 
 -- The history is legal and by these seats, and the views and the cells are as it leaves them. With no writer the cells are the row after it.
 pub record OneHistory {C : Type 0} {N : ℕ} (truths : Truths C) (seats : ℕ) (history : List (Event C N)) (word : Word) (row : List ℕ) (views : List (SeatView C N)) : Type 0 where
@@ -112,8 +112,7 @@ WaiterFits views w = waits_in (walk_at w.seat views) ≡ Some (stance_of w)
 
 -- Each waiter of the lock list is its seat's own.
 abbrev pub WaitersOwn : {C : Type 0} {N : ℕ} → List (Waiter C) → List (SeatView C N) → Type 0
-WaitersOwn [] views = Unit {0}
-WaitersOwn (w ∷ ws) views = WaiterFits views w × WaitersOwn ws views
+WaitersOwn lock views = Every (WaiterFits views) lock
 
 -- ---- nobody is forgotten
 

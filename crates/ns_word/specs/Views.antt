@@ -1,6 +1,7 @@
 -- What is counted over the seats' views, and one of them among the others.
 use Rattle.std.specs.Prelude.{◌≢◌, ℕ, ◌+◌, ◌==◌, Bool, false, not, if◌then◌else◌, List, [], ◌∷◌, Option, None, Some}
 use Rattle.ns_model.specs.Phases.{is_write}
+use Rattle.ns_model.specs.Tallies.{total, one_if}
 use Rattle.ns_word.specs.declared.view.Held.{Held}
 use Rattle.ns_word.specs.declared.view.SeatView.{SeatView}
 use Rattle.ns_word.specs.declared.walk.Walk.{Walk}
@@ -17,30 +18,25 @@ abbrev pub is_reading : {C : Type 0} {N : ℕ} → Option (Held C N) → Bool
 is_reading None = false
 is_reading (Some held) = not (is_write held.mode)
 
--- how many seats have a write section in hand, how many a read section, how many the queues, and how many have taken them to queue
+-- how many have a write section in hand
 abbrev pub writers : {C : Type 0} {N : ℕ} → List (SeatView C N) → ℕ
-writers [] = 0
-writers (view ∷ views) = (if is_writing view.held then 1 else 0) + writers views
+writers views = total (λ view. one_if (is_writing view.held)) views
 
 -- how many have a read section in hand
 abbrev pub readers : {C : Type 0} {N : ℕ} → List (SeatView C N) → ℕ
-readers [] = 0
-readers (view ∷ views) = (if is_reading view.held then 1 else 0) + readers views
+readers views = total (λ view. one_if (is_reading view.held)) views
 
 -- how many have the queues
 abbrev pub takers : {C : Type 0} {N : ℕ} → List (SeatView C N) → ℕ
-takers [] = 0
-takers (view ∷ views) = (if has_queues view.walk then 1 else 0) + takers views
+takers views = total (λ view. one_if (has_queues view.walk)) views
 
 -- how many have taken the queues to queue without a condition
 abbrev pub queuers : {C : Type 0} {N : ℕ} → List (SeatView C N) → ℕ
-queuers [] = 0
-queuers (view ∷ views) = (if is_queuing view.walk then 1 else 0) + queuers views
+queuers views = total (λ view. one_if (is_queuing view.walk)) views
 
 -- how many wakes a seat is owed, by all seats
 abbrev pub owed_to : {C : Type 0} {N : ℕ} → ℕ → List (SeatView C N) → ℕ
-owed_to seat [] = 0
-owed_to seat (view ∷ views) = times_among seat view.owed + owed_to seat views
+owed_to seat views = total (λ view. times_among seat view.owed) views
 
 -- the place of a seat in its call
 abbrev pub walk_at : {C : Type 0} {N : ℕ} → ℕ → List (SeatView C N) → Option (Walk C)
