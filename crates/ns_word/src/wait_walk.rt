@@ -1,23 +1,30 @@
 //! The places of a wait for a condition, one atomic step at a time.
 //!
-//! | place | wants | where an answer leads |
-//! |---|---|---|
-//! | `TestCells`, `TestLast` | load each cell | the last tells: met, or the wait's decision |
-//! | `LookIn` | look, with the section in hand | what it shows is answered; nothing: `Load` |
-//! | `Load` | load the word | `Take`, or idle and again while another has the queues |
-//! | `Take` | take the queues | `Arm`; a failed exchange: as after `Load` |
-//! | `Arm` | set one's own flag | `Queue` |
-//! | `Queue` | scan, put the queues back, oneself in the lock list with the condition, and release | `Pay` if somebody was taken, else `Round`; a failed exchange: again, on the word found |
-//! | `Pay` | clear the flag of the first who is owed a wake | again while wakes are owed, then `Round` |
-//! | `Round` | load one's own flag | 0: the lock is acquired again, woken, to come back; else `LookOut`, or idle and again where nothing may end the wait early |
-//! | `LookOut` | look, while queued | what it shows is kept: `LeaveLoad`; nothing: idle, and `Round` again |
-//! | `LeaveLoad` | load the word | `TakeToLeave`, or idle and again while another has the queues |
-//! | `TakeToLeave` | take the queues | `Leave`; a failed exchange: as after `LeaveLoad` |
-//! | `Leave` | put the queues back without oneself | the lock is acquired again, fresh, if one still stood there, else `LeaveRound`; a failed exchange: again, on the word found |
-//! | `LeaveRound` | load one's own flag | 0: the lock is acquired again, woken; else idle, and again |
+//! *Again* says that the wait has come back once, found its condition false, and queues anew. A
+//! compare-exchange that finds another word leads on as a load of that word would; but the two that
+//! put the queues back are tried again, on the word found.
 //!
-//! The wait's decision, where its condition is false: what ended it early is answered; else
-//! `LookIn` where anything may end it early; else `Load`.
+//! | place | knows | wants | where an answer leads |
+//! |---|---|---|---|
+//! | `TestCells`, `TestLast` | a section, which as it comes back from the wait is unchanged | load each cell; the last tells whether the condition is true | `Met`, or the wait's decision |
+//! | `LookIn` | a section, of whose row the condition is false | look at the note and the deadline | what is shown is answered; nothing: `Load` |
+//! | `Load` | the same | load the word | `Take`; idle, and again while another has the queues |
+//! | `Take` | the same, and nobody has the queues | set the spinlock bit | `ArmToWait` |
+//! | `ArmToWait` | has the queues | set one's own flag | `QueueToWait` |
+//! | `QueueToWait` | has the queues, its flag is set, the condition is false | put back what a scan leaves, with oneself in the list: at the back, or at the front if again; release, and commit if not again | `PayInWait` if the scan took somebody, else `AwaitWakeInWait` |
+//! | `PayInWait` | waits, and owes wakes | clear the flag of the next who is owed one | again while wakes are owed, then `AwaitWakeInWait` |
+//! | `AwaitWakeInWait` | waits | load one's own flag | clear: `AcquireLoad`, woken, to come back; else `LookOut`, or idle and again if nothing may end the wait early |
+//! | `LookOut` | waits | look | what is shown is kept: `LeaveLoad`; nothing: idle, and `AwaitWakeInWait` again |
+//! | `LeaveLoad` | waits, and has kept a cause | load the word | `TakeToLeave`; idle, and again while another has the queues |
+//! | `TakeToLeave` | the same, and nobody has the queues | set the spinlock bit | `Leave` |
+//! | `Leave` | waits, and has the queues | put the queues back without oneself | `AcquireLoad`, fresh, if one still stood there; else `AwaitWakeToLeave` |
+//! | `AwaitWakeToLeave` | was taken before it could leave | load one's own flag | clear: `AcquireLoad`, woken; else idle, and again |
+//!
+//! The wait's decision, where its condition is false: over with the cause that it has kept, if it has
+//! one; else `LookIn`, if anything may end it early; else `Load`. An acquire is *for* a lock or for a
+//! wait (`Aim`): the latter goes on with the test. What a wait answers early is open until the section
+//! is committed: the section in hand keeps the cause (`Opening`), and the event says 'met' where the
+//! condition is true of the row that the section began at.
 
 ghost use Rattle.std.specs.Prelude.{◌≡◌, ◌≤◌};
 ghost use Rattle.ns_word.specs.Walks.{want_waiting, got_waiting, test_place, queue_by, leave_by, unmet_by, look_or_queue, rest_or_look, pay_waiting};

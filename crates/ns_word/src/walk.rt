@@ -1,30 +1,36 @@
 //! The walks of the calls, one atomic step at a time.
 //!
-//! | place | wants | where an answer leads |
-//! |---|---|---|
-//! | `TryLoad` | load the word | `TryAcquire`, or `Busy` if it may not be acquired |
-//! | `TryAcquire` | acquire | `Ok`; a failed exchange: `Busy` |
-//! | `AcquireLoad` | load the word | the acquire's decision |
-//! | `Acquire` | acquire | `Ok`, or for a wait that comes back the test; a failed exchange: the acquire's decision |
-//! | `TakeToQueue` | take the queues | `Arm`; a failed exchange: the acquire's decision |
-//! | `Arm` | set one's own flag | `Queue` |
-//! | `Queue` | put the queues back, oneself in the lock list | `Round`; a failed exchange: again, on the word found |
-//! | `Round` | load one's own flag | 0: `AcquireLoad`, now woken; else idle, and again |
-//! | `QuietCells`, `QuietLast` | load each cell | the last tells: `ReleaseLoad` of a quiet writer, or `Noisy` |
-//! | `ReleaseLoad` | load the word | the release's decision |
-//! | `Release` | release | `Ok`; a failed exchange: the release's decision |
-//! | `TakeToScan` | take the queues | `ScanCells` if a waiter has a condition, else `ReleaseReturning`; a failed exchange: the release's decision |
-//! | `ScanCells` | load each cell | after the last `ReleaseReturning` |
-//! | `ReleaseReturning` | scan, put the queues back and release | `Pay` if somebody was taken, else `Ok`; a failed exchange: again, on the word found |
-//! | `Pay` | clear the flag of the first who is owed a wake | again while wakes are owed, then `Ok` |
-//! | `Get` | load the cell | its value |
-//! | `SetLoad`, `SetStore` | load the cell, store it | `Ok` |
-//! | `Wait` | as its place says | as its place says, in `wait_walk.rt` |
+//! A word in a place is the one last seen; *woken* says whether the seat was woken from the lock
+//! list. A compare-exchange that finds another word leads to the decision of its walk with that
+//! word, and loads nothing; but a try is over then, and the exchanges that put the queues back are
+//! tried again, on the word found.
 //!
-//! The acquire's decision, by a word: `Acquire` where it may be acquired; else idle and from
-//! `AcquireLoad` again where the spinlock bit is set; else `TakeToQueue`. The release's decision:
-//! `Release` where no scan is needed; else idle and from `ReleaseLoad` again where the spinlock
-//! bit is set; else `TakeToScan`.
+//! | place | knows | wants | where an answer leads |
+//! |---|---|---|---|
+//! | `TryLoad` | nothing in hand | load the word | `TryAcquire` if it may be acquired, else `Busy` |
+//! | `TryAcquire` | the word may be acquired | acquire | `Succeeded`, or `Busy` |
+//! | `AcquireLoad` | nothing in hand | load the word | the acquire's decision |
+//! | `AcquireExchange` | the word may be acquired | acquire | `Succeeded`; for a wait that comes back, its test |
+//! | `TakeToQueue` | the word may not be acquired, and nobody has the queues | set the spinlock bit, and tell of the waiter | `Arm` |
+//! | `Arm` | has the queues | set one's own flag | `Queue` |
+//! | `Queue` | has the queues, its flag is set | put the queues back with oneself in the list: at the back, or at the front if woken | `AwaitWake` |
+//! | `AwaitWake` | waits | load one's own flag | clear: `AcquireLoad`, woken; else idle, and again |
+//! | `QuietCells`, `QuietLast` | a write section | load each cell | the last tells: `ReleaseLoad` of a quiet writer, or `Noisy` |
+//! | `ReleaseLoad` | a section that may be left so | load the word | the release's decision |
+//! | `ReleaseExchange` | no scan is needed | release, which commits the section | `Succeeded` |
+//! | `TakeToScan` | a scan is needed, and nobody has the queues | set the spinlock bit | `ScanCells` if a waiter has a condition, else `ScanAndRelease` |
+//! | `ScanCells` | has the queues | load each cell | after the last `ScanAndRelease` |
+//! | `ScanAndRelease` | has the queues | put back what a scan leaves, release and commit | `Pay` if somebody was taken, else `Succeeded` |
+//! | `Pay` | owes wakes, has no section | clear the flag of the next who is owed one | again while wakes are owed, then `Succeeded` |
+//! | `GetLoad` | a section | load the cell | its value |
+//! | `SetLoad`, `SetStore` | a write section | load the cell's old value, store the new one | `Succeeded` |
+//! | `InWait` | as its place says | as its place says | as its place says, in `wait_walk.rt` |
+//!
+//! The acquire's decision, by a word: `AcquireExchange` where it may be acquired; else idle and from
+//! `AcquireLoad` again where another has the queues; else `TakeToQueue`. The release's decision:
+//! `ReleaseExchange` where no scan is needed; else idle and from `ReleaseLoad` again where another
+//! has the queues; else `TakeToScan`. Idle is a step that was made, after which the call repeats
+//! from that place.
 
 ghost use Rattle.std.specs.Prelude.{◌≡◌, ◌≤◌, ⊤, if◌then◌else◌};
 ghost use Rattle.ns_word.specs.Walks.{want_of, got_of, acquire_by, acquired_for, release_by, quiet_place, scan_place, test_place};
