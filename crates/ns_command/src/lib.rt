@@ -8,11 +8,14 @@
 mod command;
 mod console;
 mod ending;
+mod finishing;
 mod prints;
 mod running;
+mod unread;
 
 pub use console::Console;
 pub use ending::Ending;
 pub use prints::Prints;
-pub use running::{run, without_words};
+pub use running::run;
+pub use unread::without_words;
 

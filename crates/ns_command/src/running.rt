@@ -1,39 +1,21 @@
 //! A run of the program, from its words to its ending.
 
 ghost use Rattle.std.specs.Prelude.{◌≡◌, ◌≢◌, ◌⊎◌, [], map, true, false, string_bytes, IsErrOf, IfErr};
-ghost use Rattle.std.specs.Io.KnownBytes.{Keeps};
 ghost use Rattle.clap.specs.Words.{kind_of};
 ghost use Rattle.ns_replay.specs.Transfer.{Gave, IsReadFault};
 ghost use Rattle.ns_replay.specs.Replaying.{Answers, WasRead};
 ghost use Rattle.ns_command.specs.Words.{kinds_of};
 ghost use Rattle.ns_command.specs.Asked.{options_by};
-ghost use Rattle.ns_command.specs.Endings.{Says, Shows, Tells, Heeds, ending_of, outcome_of};
+ghost use Rattle.ns_command.specs.Endings.{Says, Shows, Tells, Heeds, outcome_of};
 
 use crate::command::asked;
 use crate::ending::Ending;
+use crate::finishing::finish;
 use crate::prints::Prints;
 use clap::Error;
 use clap::error::ErrorKind;
 use ns_replay::{Fault, Sink, Source, replay};
 use std::alloc::Global;
-use std::io;
-
-/// Ends a run, with the fault's line on the error side if there is a fault.
-fn finish<P: Prints>(printer: &mut P, outcome: Result<(), Fault>) -> Ending
-    ensures ending { result ≡ ending_of outcome }
-    ensures said { Says (P.has_failed printer.new) (P.errors printer.old) (P.errors printer.new) result }
-    ensures output { Keeps (P.output printer.old) (P.output printer.new) }
-    ensures other { P.has_failed_output printer.new ≡ P.has_failed_output printer.old }
-{
-    match outcome {
-        Ok(()) => Ending::Replayed,
-        Err(fault) => {
-            // Where the error side is at fault, nobody is left to be told of it.
-            let _ = printer.error_line(fault);
-            Ending::Failed(fault)
-        }
-    }
-}
 
 /// Ends a run whose words ask for no replay, by what clap says of them.
 fn answered<P: Prints>(printer: &mut P, answer: Error) -> Ending
@@ -53,19 +35,6 @@ fn answered<P: Prints>(printer: &mut P, answer: Error) -> Ending
     } else {
         finish(printer, Err(Fault::Write))
     }
-}
-
-/// Ends a run whose words could not be read: out of memory, or they are no text.
-pub fn without_words<P: Prints>(printer: &mut P, error: &io::Error) -> Ending
-    ensures ending { (result ≡ Ending.Failed Fault.OutOfMemory) ⊎ (result ≡ Ending.Misused) }
-    ensures said { Says (P.has_failed printer.new) (P.errors printer.old) (P.errors printer.new) result }
-    ensures output { Keeps (P.output printer.old) (P.output printer.new) }
-{
-    if error.kind() == io::ErrorKind::OutOfMemory {
-        return finish(printer, Err(Fault::OutOfMemory));
-    }
-    let _ = printer.error_line("error: the words are no text");
-    Ending::Misused
 }
 
 /// Runs the program: replays the script that the source gives by the words, the first of which is

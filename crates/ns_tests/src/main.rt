@@ -13,6 +13,8 @@
 mod compare;
 mod memory;
 mod row;
+#[cfg(test)]
+mod tests;
 
 use crate::compare::report;
 use crate::row::Row;

@@ -1,5 +1,7 @@
 //! A row: what a run of the program is given, and what it must print.
 
+ghost use Rattle.std.specs.Prelude.{◌≡◌, false};
+
 use crate::memory::{Collected, Given, Printed};
 use ns_command::run;
 use std::alloc::{AllocError, Global};
@@ -32,7 +34,7 @@ fn file<R: Files + AllocGlobal>(rt: &R, row: &str, ending: &str) -> io::Result<V
 }
 
 /// The program's name, and then a word for each line.
-fn words_in(alloc: Global, text: &str) -> Result<Vec<String>, AllocError> {
+pub fn words_in(alloc: Global, text: &str) -> Result<Vec<String>, AllocError> {
     let mut words = Vec::new(alloc);
     words.push(String::from_str(alloc, "ns_cli")?)?;
     for word in text.lines() {
@@ -51,6 +53,30 @@ fn status_in(bytes: &[u8]) -> io::Result<u8> {
         Ok(status) => Ok(status),
         Err(_) => Err(io::Error::from(io::ErrorKind::InvalidData)),
     }
+}
+
+/// What is seen of a run by these words over these streams.
+pub fn run_seen(
+    alloc: Global,
+    words: &[String],
+    source: Given,
+    sink: Collected,
+    printer: Printed,
+) -> Result<Seen, AllocError>
+    requires source { source.entry.has_failed ≡ false }
+    requires sink { sink.has_failed ≡ false }
+{
+    let mut source = source;
+    let mut sink = sink;
+    let mut printer = printer;
+    let ending = run(alloc, words, &mut source, &mut sink, &mut printer);
+    let mut output = sink.into_bytes();
+    output.extend_from_slice(printer.output.as_bytes())?;
+    Ok(Seen {
+        output,
+        errors: printer.errors.into_bytes(),
+        status: ending.status(),
+    })
 }
 
 impl Row {
@@ -75,22 +101,12 @@ impl Row {
 
     /// What is seen of a run of the program in memory.
     pub fn run(&self, alloc: Global) -> Result<Seen, AllocError> {
-        let mut source = Given::new(&self.input);
-        let mut sink = Collected::new(alloc);
-        let mut printer = Printed::new(alloc);
-        let ending = run(
+        run_seen(
             alloc,
             self.words.as_slice(),
-            &mut source,
-            &mut sink,
-            &mut printer,
-        );
-        let mut output = sink.into_bytes();
-        output.extend_from_slice(printer.output.as_bytes())?;
-        Ok(Seen {
-            output,
-            errors: printer.errors.into_bytes(),
-            status: ending.status(),
-        })
+            Given::new(&self.input),
+            Collected::new(alloc),
+            Printed::new(alloc),
+        )
     }
 }
