@@ -3,9 +3,8 @@
 //! It only reads its words, and passes them and the process's streams on to the command.
 #![tactic(auto)]
 
-use ns_command::{Console, run, without_words};
+use ns_command::{Console, Ending, run, without_words};
 use ns_replay::{OverRead, OverWrite};
-use std::process::ExitCode;
 use std::{env, io};
 
 /// The words of the program, the first of which is its name.
@@ -13,9 +12,9 @@ fn words(rt: &HostRuntime) -> io::Result<Vec<String>> {
     Ok(env::args(rt)?.collect(rt.alloc())?)
 }
 
-fn main(rt: HostRuntime) -> ExitCode {
+fn main(rt: HostRuntime) -> Ending {
     let mut console = Console::new(&rt);
-    let ending = match words(&rt) {
+    match words(&rt) {
         Ok(words) => {
             let mut source = OverRead::new(rt.stdin());
             let mut sink = OverWrite::new(rt.stdout());
@@ -28,6 +27,5 @@ fn main(rt: HostRuntime) -> ExitCode {
             )
         }
         Err(error) => without_words(&mut console, &error),
-    };
-    ExitCode::from(ending.status())
+    }
 }

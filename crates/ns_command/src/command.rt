@@ -40,7 +40,8 @@ fn limit<'a>(alloc: Global) -> Arg<'a>
 
 /// `replay [--history] [--tests] [--state] [--limit N]`
 fn replay_command<'a>(alloc: Global) -> Result<Command<'a>, AllocError>
-    ensures { IfOk result (λ command. (app_of command ≡ replay_app) × ((out-Command command).has_globals ≡ false)) }
+    ensures { IfOk result (λ command. (app_of command ≡ replay_app)
+        × ((out-Command command).has_globals ≡ false)) }
 {
     let history = flag(
         alloc,
@@ -77,7 +78,7 @@ fn command<'a>(alloc: Global) -> Result<Command<'a>, AllocError>
         .subcommand(replay)
 }
 
-/// Whether a flag was given.
+/// Whether a flag was given. (`get_flag` says the same, but its contract says less.)
 fn is_set(matches: &ArgMatches, name: &str) -> bool
     ensures { result ≡ is_given name.now (rows_of (found_of matches.now)) }
 {
@@ -98,12 +99,14 @@ fn options(matches: &ArgMatches) -> Options
 
 /// How to replay, if the words ask for it; else what clap has to say of them.
 pub fn asked(alloc: Global, words: &[String]) -> Result<Options, Error>
-    ensures ok { IfOk result (λ options. (kinds_of (map string_bytes words.now) ≡ []) × (options ≡ options_by (map string_bytes words.now))) }
+    ensures ok { IfOk result (λ options. (kinds_of (map string_bytes words.now) ≡ [])
+        × (options ≡ options_by (map string_bytes words.now))) }
     ensures err { IfErr result (HasKind (kinds_of (map string_bytes words.now))) }
 {
     let matches = command(alloc)?.try_get_matches_from(words)?;
     match matches.subcommand() {
         Some((_, inner)) => Ok(options(inner)),
+        // Never: the command wants a subcommand.
         None => Err(Error::from(AllocError)),
     }
 }

@@ -1,6 +1,7 @@
 //! How a run of the program ends.
 
 use ns_replay::Fault;
+use std::process::{ExitCode, Termination};
 
 /// How a run of the program ended.
 #[derive(Clone, Copy, Debug, Drop, PartialEq, Eq)]
@@ -30,5 +31,18 @@ impl Ending {
             Ending::Failed(Fault::Read | Fault::Write) => 4,
             Ending::Failed(_) => 3,
         }
+    }
+}
+
+impl Termination for Ending {
+    ghost use Rattle.std.specs.Prelude.{◌≡◌};
+    ghost use Rattle.std.specs.Process.{exit_status};
+    ghost use Rattle.ns_command.specs.Endings.{status_of};
+
+    /// A `main` that gives an ending ends the process with its status.
+    fn report<R: Eprint>(self, _rt: &R) -> ExitCode
+        ensures { exit_status result ≡ status_of self }
+    {
+        ExitCode::from(self.status())
     }
 }

@@ -11,7 +11,8 @@ use ns_replay::Fault;
 /// Ends a run, with the fault's line on the error side if there is a fault.
 pub fn finish<P: Prints>(printer: &mut P, outcome: Result<(), Fault>) -> Ending
     ensures ending { result ≡ ending_of outcome }
-    ensures said { Says (P.has_failed printer.new) (P.errors printer.old) (P.errors printer.new) result }
+    ensures said { let failed = P.has_failed printer.new in
+        Says failed (P.errors printer.old) (P.errors printer.new) result }
     ensures output { Keeps (P.output printer.old) (P.output printer.new) }
     ensures other { P.has_failed_output printer.new ≡ P.has_failed_output printer.old }
 {

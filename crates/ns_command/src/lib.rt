@@ -18,4 +18,3 @@ pub use ending::Ending;
 pub use prints::Prints;
 pub use running::run;
 pub use unread::without_words;
-

@@ -1,6 +1,6 @@
 //! Where the program says what is no text of a run.
 
-ghost use Rattle.std.specs.Prelude.{◌≡◌, ◌||◌, not, ℕ, List, Bool, Option};
+ghost use Rattle.std.specs.Prelude.{◌≡◌, ◌&&◌, ◌||◌, not, ℕ, List, Bool, Option};
 ghost use Rattle.std.specs.Io.KnownBytes.{Keeps};
 ghost use Rattle.std.specs.Fmt.{with_newline};
 ghost use Rattle.clap.specs.Words.{kind_of};
@@ -27,7 +27,8 @@ pub trait Prints {
 
     /// Prints a line on the error side, and answers whether it could.
     fn error_line<D: Display + Drop>(&mut self, line: D) -> bool
-        ensures errors { PrintsText (errors self.old) (errors self.new) result (with_newline (D.output line)) }
+        ensures errors { let text = with_newline (D.output line) in
+            PrintsText (errors self.old) (errors self.new) result text }
         ensures output { Keeps (output self.old) (output self.new) }
         ensures failure { has_failed self.new ≡ (has_failed self.old || not result) }
         ensures other { has_failed_output self.new ≡ has_failed_output self.old };
@@ -35,8 +36,12 @@ pub trait Prints {
     /// Prints what clap says of the words: help and the version on the output side, how the words
     /// are wrong on the error side. Answers whether it could.
     fn answer(&mut self, answer: &Error) -> bool
-        ensures errors { PrintsOn (not (is_request (kind_of answer.now))) (errors self.old) (errors self.new) }
-        ensures output { PrintsOn (is_request (kind_of answer.now)) (output self.old) (output self.new) }
-        ensures failure { has_failed self.new ≡ (has_failed self.old || not (result || is_request (kind_of answer.now))) }
-        ensures output_failure { has_failed_output self.new ≡ (has_failed_output self.old || not (result || not (is_request (kind_of answer.now)))) };
+        ensures errors { let is_mine = not (is_request (kind_of answer.now)) in
+            PrintsOn is_mine (errors self.old) (errors self.new) }
+        ensures output { let is_mine = is_request (kind_of answer.now) in
+            PrintsOn is_mine (output self.old) (output self.new) }
+        ensures failure { let is_mine = not (is_request (kind_of answer.now)) in
+            has_failed self.new ≡ (has_failed self.old || (is_mine && not result)) }
+        ensures output_failure { let is_mine = is_request (kind_of answer.now) in
+            has_failed_output self.new ≡ (has_failed_output self.old || (is_mine && not result)) };
 }

@@ -1,6 +1,6 @@
 //! A run of the program, from its words to its ending.
 
-ghost use Rattle.std.specs.Prelude.{◌≡◌, ◌≢◌, ◌⊎◌, [], map, true, false, string_bytes, IsErrOf, IfErr};
+ghost use Rattle.std.specs.Prelude.{◌≡◌, ◌≢◌, ◌⊎◌, [], map, true, false, string_bytes, IfErr};
 ghost use Rattle.clap.specs.Words.{kind_of};
 ghost use Rattle.ns_replay.specs.Transfer.{Gave, IsReadFault};
 ghost use Rattle.ns_replay.specs.Replaying.{Answers, WasRead};
@@ -20,9 +20,11 @@ use std::alloc::Global;
 /// Ends a run whose words ask for no replay, by what clap says of them.
 fn answered<P: Prints>(printer: &mut P, answer: Error) -> Ending
     ensures told { Tells (kind_of answer) result }
-    ensures said { Says (P.has_failed printer.new) (P.errors printer.old) (P.errors printer.new) result }
+    ensures said { let failed = P.has_failed printer.new in
+        Says failed (P.errors printer.old) (P.errors printer.new) result }
     ensures shown { Shows (P.output printer.old) (P.output printer.new) result }
-    ensures write_fault { IsErrOf (outcome_of result) Fault.Write → P.has_failed_output printer.new ≡ true }
+    ensures write_fault { result ≡ Ending.Failed Fault.Write
+        → P.has_failed_output printer.new ≡ true }
 {
     if answer.kind() == ErrorKind::OutOfMemory {
         return finish(printer, Err(Fault::OutOfMemory));
@@ -59,19 +61,24 @@ pub fn run<S: Source, W: Sink, P: Prints>(
     ensures unread { kinds_of (map string_bytes words.now) ≢ [] → source.new ≡ source.old }
     ensures unwritten { kinds_of (map string_bytes words.now) ≢ [] → sink.new ≡ sink.old }
     // A replay is made by the options that the words give.
-    ensures replayed { kinds_of (map string_bytes words.now) ≡ [] →
-        Gave (S.to_come source.old) (S.to_come source.new) (λ bytes.
+    ensures replayed { let options = options_by (map string_bytes words.now) in
+        kinds_of (map string_bytes words.now) ≡ []
+        → Gave (S.to_come source.old) (S.to_come source.new) (λ bytes.
         WasRead bytes (S.to_come source.new) (outcome_of result)
-        × Answers (W.taken sink.old) (W.taken sink.new) (options_by (map string_bytes words.now)) bytes (outcome_of result)) }
-    ensures untouched { IfErr (outcome_of result) (λ fault. fault ≢ Fault.Write → sink.new ≡ sink.old) }
+        × Answers (W.taken sink.old) (W.taken sink.new) options bytes (outcome_of result)) }
+    ensures untouched { IfErr (outcome_of result) (λ fault. fault ≢ Fault.Write
+        → sink.new ≡ sink.old) }
     // A read or a write that failed is told, and not tried again.
-    ensures failed_read { S.has_failed source.new ≡ true → IsErrOf (outcome_of result) Fault.Read }
-    ensures failed_write { W.has_failed sink.new ≡ true → IsErrOf (outcome_of result) Fault.Write }
-    ensures read_fault { IsErrOf (outcome_of result) Fault.Read → IsReadFault (S.has_failed source.new) (S.asked source.old) (S.asked source.new) }
-    ensures write_fault { IsErrOf (outcome_of result) Fault.Write → (W.has_failed sink.new ≡ true) ⊎ ((W.is_stuck sink.new ≡ true) ⊎ (P.has_failed_output printer.new ≡ true)) }
+    ensures failed_read { S.has_failed source.new ≡ true → result ≡ Ending.Failed Fault.Read }
+    ensures failed_write { W.has_failed sink.new ≡ true → result ≡ Ending.Failed Fault.Write }
+    ensures read_fault { result ≡ Ending.Failed Fault.Read
+        → IsReadFault (S.has_failed source.new) (S.asked source.old) (S.asked source.new) }
+    ensures write_fault { result ≡ Ending.Failed Fault.Write → (W.has_failed sink.new ≡ true)
+        ⊎ ((W.is_stuck sink.new ≡ true) ⊎ (P.has_failed_output printer.new ≡ true)) }
     // The line of a fault is printed where there is one, a text where the words are wrong, and
     // nothing else.
-    ensures said { Says (P.has_failed printer.new) (P.errors printer.old) (P.errors printer.new) result }
+    ensures said { let failed = P.has_failed printer.new in
+        Says failed (P.errors printer.old) (P.errors printer.new) result }
     ensures shown { Shows (P.output printer.old) (P.output printer.new) result }
 {
     match asked(alloc, words) {

@@ -1,6 +1,5 @@
 use Rattle.std.proofs.Common.{◌∙◌, map, string_bytes}
 use Rattle.std.proofs.lemmas.Result.{err_from_is_err_and}
-use Rattle.clap.specs.Words.{app_of}
 use Rattle.ns_command.proofs.Heeded.{kind_of_refusal, no_kinds, options_entered}
 use Rattle.ns_command.proofs.command.asked.Goals as goal
 
@@ -11,6 +10,7 @@ returns-in_err-matches-clause-err c =
 
 pub returns-in-Some-clause-ok : goal.returns-in-Some-clause-ok
 returns-in-Some-clause-ok c =
-    let words = map string_bytes c.args.words.now in
-    (no_kinds _ words c.in_ok-command.ensures c.in_ok-matches.ensures.kinds,
-     c.options.ensures ∙ options_entered _ words c.in_ok-command.ensures c.in_ok-matches.matches _ c.in_ok-matches.ensures.matches c.in-Some.ensures.rows)
+    let words = map string_bytes c.args.words.now in (
+      no_kinds _ words c.in_ok-command.ensures c.in_ok-matches.ensures.kinds,
+      c.options.ensures ∙ options_entered _ words c.in_ok-command.ensures c.in_ok-matches.matches _ c.in_ok-matches.ensures.matches c.in-Some.ensures.rows,
+    )

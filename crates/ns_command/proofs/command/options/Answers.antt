@@ -8,5 +8,5 @@ use Rattle.ns_command.proofs.command.options.Goals as goal
 pub returns : goal.returns
 returns c =
     let limit : c.unwrap_or.result ≡ limit_in (rows_of (found_of c.args.matches.now)) =
-        c.unwrap_or.ensures ∙ limit_is _ (λ bs r. ParsesUnsigned 32 10 bs r × ExplainsUnsignedError 10 bs r × HasUnsignedDigitsIfOk bs r) (found_of c.args.matches.now) c.get_one.result (λ t o g. g.0) c.get_one.ensures.none c.get_one.ensures.value in
+    c.unwrap_or.ensures ∙ limit_is _ (λ bs r. ParsesUnsigned 32 10 bs r × ExplainsUnsignedError 10 bs r × HasUnsignedDigitsIfOk bs r) (found_of c.args.matches.now) c.get_one.result (λ t o g. g.0) c.get_one.ensures.none c.get_one.ensures.value in
     rw (c.is_set.ensures, c.is_set-2.ensures, c.is_set-3.ensures, limit) refl
