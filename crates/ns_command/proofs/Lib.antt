@@ -1,0 +1,2 @@
+pub mod Getters
+pub mod Heeded

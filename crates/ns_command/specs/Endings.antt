@@ -1,0 +1,80 @@
+-- How a run ends, and what is said of it.
+use Rattle.std.specs.Prelude.{◌≡◌, ◌⊎◌, ℕ, ⊤, List, [], ◌++◌, Bool, true, false, Option, Result, Ok, Err, codes}
+use Rattle.std.specs.List.{list_any}
+use Rattle.std.specs.Io.KnownBytes.{Appends, Keeps}
+use Rattle.clap.specs.Words.{Kinds}
+use Rattle.clap.specs.declared.error.kind.ErrorKind.{ErrorKind}
+use Rattle.clap.specs.declared.error.kind.ErrorKind.TheVariants as kind
+use Rattle.ns_replay.specs.declared.fault.Fault.{Fault}
+use Rattle.ns_replay.specs.declared.fault.Fault.TheVariants.{OutOfMemory, NotJson, BadScript, TooMany, StepLimit, Read, Write}
+use Rattle.ns_replay.specs.Faults.{fault_text}
+use Rattle.ns_command.specs.declared.ending.Ending.{Ending}
+use Rattle.ns_command.specs.declared.ending.Ending.TheVariants.{Replayed, Failed, Shown, Misused}
+use Rattle.ns_command.specs.Printing.{PrintsSome, is_mistake, is_request}
+
+-- 4 where a stream is at fault, and else 3
+abbrev pub fault_status : Fault → ℕ
+fault_status OutOfMemory = 3
+fault_status NotJson = 3
+fault_status (BadScript place) = 3
+fault_status (TooMany place) = 3
+fault_status StepLimit = 3
+fault_status Read = 4
+fault_status Write = 4
+
+-- the exit status
+abbrev pub status_of : Ending → ℕ
+status_of Replayed = 0
+status_of (Failed fault) = fault_status fault
+status_of Shown = 0
+status_of Misused = 2
+
+-- the ending by what a replay answered
+abbrev pub ending_of : Result ⊤ Fault → Ending
+ending_of (Ok _) = Replayed
+ending_of (Err fault) = Failed fault
+
+-- a fault's line on the error side
+abbrev pub fault_line : Fault → List ℕ
+fault_line fault = fault_text fault ++ codes "\n"
+
+-- What was printed on the error side: the line of a fault, a text on wrong words, and else
+-- nothing. Where printing failed, nothing is said.
+abbrev pub Says : Bool → Option (List ℕ) → Option (List ℕ) → Ending → Type 0
+Says true old new ending = Unit {0}
+Says false old new Replayed = Keeps old new
+Says false old new (Failed fault) = Appends old new (fault_line fault)
+Says false old new Shown = Keeps old new
+Says false old new Misused = PrintsSome old new
+
+-- What was printed on the output side, beside the text of a run: help or the version, or some of
+-- it before a failure.
+abbrev pub Shows : Option (List ℕ) → Option (List ℕ) → Ending → Type 0
+Shows old new Replayed = Keeps old new
+Shows old new (Failed Write) = PrintsSome old new
+Shows old new (Failed fault) = Keeps old new
+Shows old new Shown = PrintsSome old new
+Shows old new Misused = Keeps old new
+
+-- the ending where clap says this of the words
+abbrev pub Tells : ErrorKind → Ending → Type 0
+Tells what Replayed = ⊥
+Tells what (Failed OutOfMemory) = what ≡ kind.OutOfMemory
+Tells what (Failed Write) = is_request what ≡ true
+Tells what (Failed fault) = ⊥
+Tells what Shown = is_request what ≡ true
+Tells what Misused = is_mistake what ≡ true
+
+-- The ending where clap has one of these to say of the words, or none, if they ask for a replay.
+abbrev pub Heeds : Kinds → Ending → Type 0
+Heeds kinds Replayed = kinds ≡ []
+Heeds kinds (Failed OutOfMemory) = Unit {0}
+Heeds kinds (Failed Write) = (kinds ≡ []) ⊎ (list_any is_request kinds ≡ true)
+Heeds kinds (Failed fault) = kinds ≡ []
+Heeds kinds Shown = list_any is_request kinds ≡ true
+Heeds kinds Misused = list_any is_mistake kinds ≡ true
+
+-- what a replay answered, where there was one
+abbrev pub outcome_of : Ending → Result ⊤ Fault
+outcome_of (Failed fault) = Err fault
+outcome_of ending = Ok tt

@@ -1,0 +1,4 @@
+pub mod Asked
+pub mod Endings
+pub mod Printing
+pub mod Words

@@ -1,0 +1,36 @@
+-- The command, as clap reads words by it, and what it makes of them.
+use Rattle.std.specs.Prelude.{true, pos, codes, List, [], ◌∷◌, Some}
+use Rattle.clap.specs.Words.{App, Kinds, Rule, Text, fault_of, new_app, new_rule, with_rule, with_subcommand}
+use Rattle.clap.specs.declared.builder.ArgAction.TheVariants.{SetTrue}
+use Rattle.clap.specs.declared.builder.value_parser.ValueParser.TheVariants.{Signed}
+
+-- a word that is there or not
+abbrev pub flag_rule : Text → Rule
+flag_rule name = record (new_rule name) { long = Some name; action = Some SetTrue }
+
+-- `--limit N`, with N from 1 to 10,000,000, and 1,000,000 if it isn't given
+abbrev pub limit_rule : Rule
+limit_rule = record (new_rule (codes "limit")) {
+  long = Some (codes "limit");
+  value_names = 1;
+  parser = Some (Signed (pos 1) (pos 10000000));
+  defaults = codes "1000000" ∷ [];
+}
+
+-- `replay [--history] [--tests] [--state] [--limit N]`
+abbrev pub replay_app : App
+replay_app = with_rule (with_rule (with_rule (with_rule (new_app (codes "replay"))
+    (flag_rule (codes "history"))) (flag_rule (codes "tests"))) (flag_rule (codes "state"))) limit_rule
+
+-- the program, which has a version, and wants a subcommand
+abbrev pub bare_app : App
+bare_app = record (new_app (codes "ns_cli")) {
+  top = record (new_app (codes "ns_cli")).top { has_version = true; subcommand_required = true };
+}
+
+abbrev pub application : App
+application = with_subcommand bare_app replay_app.top
+
+-- the kinds of what clap has to say of the words: none, where they ask for a replay
+unfoldable pub kinds_of : List Text → Kinds
+kinds_of words = fault_of application words

@@ -1,0 +1,112 @@
+//! The words of the program, and what they ask for.
+
+ghost use Rattle.std.specs.Prelude.{◌≡◌, [], map, false, IfOk, IfErr, string_bytes};
+ghost use Rattle.clap.specs.Words.{HasKind, app_of, found_of, rows_of, rule_of};
+ghost use Rattle.clap.specs.declared.builder.command.Command.TheViews.{out-Command};
+ghost use Rattle.ns_command.specs.Words.{application, flag_rule, kinds_of, limit_rule, replay_app};
+ghost use Rattle.ns_command.specs.Asked.{is_set as is_given, options_by, options_in};
+
+use clap::builder::Command;
+use clap::{Arg, ArgAction, ArgMatches, Error, value_parser};
+use ns_replay::Options;
+use std::alloc::{AllocError, Global};
+
+/// How many turns a schedule may need where `--limit` isn't given.
+const LIMIT: u32 = 1_000_000;
+
+/// A word that is there or not.
+fn flag<'a>(alloc: Global, name: &'a str, help: &'a str) -> Arg<'a>
+    ensures rule { rule_of result ≡ flag_rule name.entry.now }
+    ensures local { result.global ≡ false }
+{
+    Arg::new(alloc, name)
+        .long(name)
+        .help(help)
+        .action(ArgAction::SetTrue)
+}
+
+/// How many turns a schedule may need.
+fn limit<'a>(alloc: Global) -> Arg<'a>
+    ensures rule { rule_of result ≡ limit_rule }
+    ensures local { result.global ≡ false }
+{
+    Arg::new(alloc, "limit")
+        .long("limit")
+        .value_name("N")
+        .help("Refuse a schedule that needs more turns than N, from 1 to 10000000, as: --limit 7")
+        .value_parser(value_parser!(u32).range(1..=10_000_000))
+        .default_value("1000000")
+}
+
+/// `replay [--history] [--tests] [--state] [--limit N]`
+fn replay_command<'a>(alloc: Global) -> Result<Command<'a>, AllocError>
+    ensures { IfOk result (λ command. (app_of command ≡ replay_app)
+        × ((out-Command command).has_globals ≡ false)) }
+{
+    let history = flag(
+        alloc,
+        "history",
+        "Print each section that was committed, as: section 0 w plain plain 0,0,0,0,0,0,0,0 5,0,0,0,0,0,0,0",
+    );
+    let tests = flag(
+        alloc,
+        "tests",
+        "Print how many conditions each release tested, as: 0 3 ok tests 0",
+    );
+    let state = flag(
+        alloc,
+        "state",
+        "Print the lock word, its queue and the wakes that are owed, as: word write readers=0",
+    );
+    Command::new(alloc, "replay")
+        .about("Replay a script from standard input: ns_cli replay < examples/first_path.json")
+        .arg(history)?
+        .arg(tests)?
+        .arg(state)?
+        .arg(limit(alloc))
+}
+
+/// The words that the program takes.
+fn command<'a>(alloc: Global) -> Result<Command<'a>, AllocError>
+    ensures { IfOk result (λ command. app_of command ≡ application) }
+{
+    let replay = replay_command(alloc)?;
+    Command::new(alloc, "ns_cli")
+        .version("0.1.0")
+        .about("Replay scripts of calls on a lock, turn by turn")
+        .subcommand_required(true)
+        .subcommand(replay)
+}
+
+/// Whether a flag was given. (`get_flag` says the same, but its contract says less.)
+fn is_set(matches: &ArgMatches, name: &str) -> bool
+    ensures { result ≡ is_given name.now (rows_of (found_of matches.now)) }
+{
+    matches.get_one::<bool>(name).unwrap_or(false)
+}
+
+/// How to replay, by the words that were given.
+fn options(matches: &ArgMatches) -> Options
+    ensures { result ≡ options_in (rows_of (found_of matches.now)) }
+{
+    Options {
+        history: is_set(matches, "history"),
+        tests: is_set(matches, "tests"),
+        state: is_set(matches, "state"),
+        limit: matches.get_one::<u32>("limit").unwrap_or(LIMIT),
+    }
+}
+
+/// How to replay, if the words ask for it; else what clap has to say of them.
+pub fn asked(alloc: Global, words: &[String]) -> Result<Options, Error>
+    ensures ok { IfOk result (λ options. (kinds_of (map string_bytes words.now) ≡ [])
+        × (options ≡ options_by (map string_bytes words.now))) }
+    ensures err { IfErr result (HasKind (kinds_of (map string_bytes words.now))) }
+{
+    let matches = command(alloc)?.try_get_matches_from(words)?;
+    match matches.subcommand() {
+        Some((_, inner)) => Ok(options(inner)),
+        // Never: the command wants a subcommand.
+        None => Err(Error::from(AllocError)),
+    }
+}

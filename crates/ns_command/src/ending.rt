@@ -1,0 +1,48 @@
+//! How a run of the program ends.
+
+use ns_replay::Fault;
+use std::process::{ExitCode, Termination};
+
+/// How a run of the program ended.
+#[derive(Clone, Copy, Debug, Drop, PartialEq, Eq)]
+pub enum Ending {
+    /// The script was replayed.
+    Replayed,
+    /// There was a fault, and its line stands on the error side.
+    Failed(Fault),
+    /// Help or the version was asked for, and stands on the output side.
+    Shown,
+    /// The words are wrong, and a text on the error side says how.
+    Misused,
+}
+
+impl Ending {
+    ghost use Rattle.std.specs.Prelude.{◌≡◌};
+    ghost use Rattle.ns_command.specs.Endings.{status_of};
+
+    /// The exit status: 0 for a replay that is done, and for help and the version, 2 where the
+    /// words are wrong, 4 where a stream was at fault, and 3 for every refusal.
+    pub fn status(self) -> u8
+        ensures { result ≡ status_of self }
+    {
+        match self {
+            Ending::Replayed | Ending::Shown => 0,
+            Ending::Misused => 2,
+            Ending::Failed(Fault::Read | Fault::Write) => 4,
+            Ending::Failed(_) => 3,
+        }
+    }
+}
+
+impl Termination for Ending {
+    ghost use Rattle.std.specs.Prelude.{◌≡◌};
+    ghost use Rattle.std.specs.Process.{exit_status};
+    ghost use Rattle.ns_command.specs.Endings.{status_of};
+
+    /// A `main` that gives an ending ends the process with its status.
+    fn report<R: Eprint>(self, _rt: &R) -> ExitCode
+        ensures { exit_status result ≡ status_of self }
+    {
+        ExitCode::from(self.status())
+    }
+}

@@ -1,0 +1,20 @@
+//! The command: from the words of the program to its exit status.
+//!
+//! [`run`] reads the words, replays a script by them, says on the error side what went wrong, and
+//! tells how it all [ended](Ending). It is generic over its streams and over where it prints, so
+//! that its contract can speak of what was read, written and printed.
+#![tactic(auto)]
+
+mod command;
+mod console;
+mod ending;
+mod finishing;
+mod prints;
+mod running;
+mod unread;
+
+pub use console::Console;
+pub use ending::Ending;
+pub use prints::Prints;
+pub use running::run;
+pub use unread::without_words;

@@ -1,0 +1,91 @@
+//! A run of the program, from its words to its ending.
+
+ghost use Rattle.std.specs.Prelude.{◌≡◌, ◌≢◌, ◌⊎◌, [], map, true, false, string_bytes, IfErr};
+ghost use Rattle.clap.specs.Words.{kind_of};
+ghost use Rattle.ns_replay.specs.Transfer.{Gave, IsReadFault};
+ghost use Rattle.ns_replay.specs.Replaying.{Answers, WasRead};
+ghost use Rattle.ns_command.specs.Words.{kinds_of};
+ghost use Rattle.ns_command.specs.Asked.{options_by};
+ghost use Rattle.ns_command.specs.Endings.{Says, Shows, Tells, Heeds, outcome_of};
+
+use crate::command::asked;
+use crate::ending::Ending;
+use crate::finishing::finish;
+use crate::prints::Prints;
+use clap::Error;
+use clap::error::ErrorKind;
+use ns_replay::{Fault, Sink, Source, replay};
+use std::alloc::Global;
+
+/// Ends a run whose words ask for no replay, by what clap says of them.
+fn answered<P: Prints>(printer: &mut P, answer: Error) -> Ending
+    ensures told { Tells (kind_of answer) result }
+    ensures said { let failed = P.has_failed printer.new in
+        Says failed (P.errors printer.old) (P.errors printer.new) result }
+    ensures shown { Shows (P.output printer.old) (P.output printer.new) result }
+    ensures write_fault { result ≡ Ending.Failed Fault.Write
+        → P.has_failed_output printer.new ≡ true }
+{
+    if answer.kind() == ErrorKind::OutOfMemory {
+        return finish(printer, Err(Fault::OutOfMemory));
+    }
+    let is_done = printer.answer(&answer);
+    if answer.use_stderr() {
+        Ending::Misused
+    } else if is_done {
+        Ending::Shown
+    } else {
+        finish(printer, Err(Fault::Write))
+    }
+}
+
+/// Runs the program: replays the script that the source gives by the words, the first of which is
+/// the program's name, and writes the text of its run to the sink.
+///
+/// Where the words ask for no replay, clap answers them, and the source and the sink stay as they
+/// are. The line of a fault goes to the error side; where printing fails there, the ending is the
+/// same. Help that can't be printed is a failed write.
+///
+/// Needs a source and a sink that have not failed.
+pub fn run<S: Source, W: Sink, P: Prints>(
+    alloc: Global,
+    words: &[String],
+    source: &mut S,
+    sink: &mut W,
+    printer: &mut P,
+) -> Ending
+    requires source { S.has_failed source.old ≡ false }
+    requires sink { W.has_failed sink.old ≡ false }
+    // The words decide whether there is a replay, and else what is said.
+    ensures heeded { Heeds (kinds_of (map string_bytes words.now)) result }
+    ensures unread { kinds_of (map string_bytes words.now) ≢ [] → source.new ≡ source.old }
+    ensures unwritten { kinds_of (map string_bytes words.now) ≢ [] → sink.new ≡ sink.old }
+    // A replay is made by the options that the words give.
+    ensures replayed { let options = options_by (map string_bytes words.now) in
+        kinds_of (map string_bytes words.now) ≡ []
+        → Gave (S.to_come source.old) (S.to_come source.new) (λ bytes.
+        WasRead bytes (S.to_come source.new) (outcome_of result)
+        × Answers (W.taken sink.old) (W.taken sink.new) options bytes (outcome_of result)) }
+    ensures untouched { IfErr (outcome_of result) (λ fault. fault ≢ Fault.Write
+        → sink.new ≡ sink.old) }
+    // A read or a write that failed is told, and not tried again.
+    ensures failed_read { S.has_failed source.new ≡ true → result ≡ Ending.Failed Fault.Read }
+    ensures failed_write { W.has_failed sink.new ≡ true → result ≡ Ending.Failed Fault.Write }
+    ensures read_fault { result ≡ Ending.Failed Fault.Read
+        → IsReadFault (S.has_failed source.new) (S.asked source.old) (S.asked source.new) }
+    ensures write_fault { result ≡ Ending.Failed Fault.Write → (W.has_failed sink.new ≡ true)
+        ⊎ ((W.is_stuck sink.new ≡ true) ⊎ (P.has_failed_output printer.new ≡ true)) }
+    // The line of a fault is printed where there is one, a text where the words are wrong, and
+    // nothing else.
+    ensures said { let failed = P.has_failed printer.new in
+        Says failed (P.errors printer.old) (P.errors printer.new) result }
+    ensures shown { Shows (P.output printer.old) (P.output printer.new) result }
+{
+    match asked(alloc, words) {
+        Ok(options) => {
+            let outcome = replay(alloc, source, sink, options);
+            finish(printer, outcome)
+        }
+        Err(answer) => answered(printer, answer),
+    }
+}

@@ -1,0 +1,112 @@
+//! A row: what a run of the program is given, and what it must print.
+
+ghost use Rattle.std.specs.Prelude.{◌≡◌, false};
+
+use crate::memory::{Collected, Given, Printed};
+use ns_command::run;
+use std::alloc::{AllocError, Global};
+use std::rt::Files;
+use std::{fs, io};
+
+/// What a user sees of a run.
+#[derive(Drop)]
+pub struct Seen {
+    pub output: Vec<u8>,
+    pub errors: Vec<u8>,
+    pub status: u8,
+}
+
+/// What a run is given, and what must be seen of it.
+#[derive(Drop)]
+pub struct Row {
+    words: Vec<String>,
+    input: Vec<u8>,
+    pub wanted: Seen,
+}
+
+/// The bytes of a row's file, none if it is missing.
+fn file<R: Files + AllocGlobal>(rt: &R, row: &str, ending: &str) -> io::Result<Vec<u8>> {
+    let path = format!(in rt.alloc(); "{row}.{ending}")?;
+    match fs::read(rt, path.as_str()) {
+        Err(error) if error.kind() == io::ErrorKind::NotFound => Ok(Vec::new(rt.alloc())),
+        answer => answer,
+    }
+}
+
+/// The program's name, and then a word for each line.
+pub fn words_in(alloc: Global, text: &str) -> Result<Vec<String>, AllocError> {
+    let mut words = Vec::new(alloc);
+    words.push(String::from_str(alloc, "ns_cli")?)?;
+    for word in text.lines() {
+        words.push(String::from_str(alloc, word)?)?;
+    }
+    Ok(words)
+}
+
+/// The number that the bytes write, 0 if there are none.
+fn status_in(bytes: &[u8]) -> io::Result<u8> {
+    if bytes.is_empty() {
+        return Ok(0);
+    }
+    let text = str::from_utf8(bytes).unwrap_or("");
+    match text.trim().parse::<u8>() {
+        Ok(status) => Ok(status),
+        Err(_) => Err(io::Error::from(io::ErrorKind::InvalidData)),
+    }
+}
+
+/// What is seen of a run by these words over these streams.
+pub fn run_seen(
+    alloc: Global,
+    words: &[String],
+    source: Given,
+    sink: Collected,
+    printer: Printed,
+) -> Result<Seen, AllocError>
+    requires source { source.entry.has_failed ≡ false }
+    requires sink { sink.has_failed ≡ false }
+{
+    let mut source = source;
+    let mut sink = sink;
+    let mut printer = printer;
+    let ending = run(alloc, words, &mut source, &mut sink, &mut printer);
+    let mut output = sink.into_bytes();
+    output.extend_from_slice(printer.output.as_bytes())?;
+    Ok(Seen {
+        output,
+        errors: printer.errors.into_bytes(),
+        status: ending.status(),
+    })
+}
+
+impl Row {
+    /// Reads the files of the row of this name.
+    pub fn read<R: Files + AllocGlobal>(rt: &R, folder: &str, name: &str) -> io::Result<Row> {
+        let row = format!(in rt.alloc(); "{folder}/{name}")?;
+        let row = row.as_str();
+        let args = format!(in rt.alloc(); "{row}.args")?;
+        let text = fs::read_to_string(rt, args.as_str())?;
+        let status = file(rt, row, "status")?;
+        let stdout = format!(in rt.alloc(); "{row}.stdout")?;
+        Ok(Row {
+            words: words_in(rt.alloc(), text.as_str())?,
+            input: file(rt, row, "json")?,
+            wanted: Seen {
+                output: fs::read(rt, stdout.as_str())?,
+                errors: file(rt, row, "stderr")?,
+                status: status_in(&status)?,
+            },
+        })
+    }
+
+    /// What is seen of a run of the program in memory.
+    pub fn run(&self, alloc: Global) -> Result<Seen, AllocError> {
+        run_seen(
+            alloc,
+            self.words.as_slice(),
+            Given::new(&self.input),
+            Collected::new(alloc),
+            Printed::new(alloc),
+        )
+    }
+}
