@@ -21,6 +21,4 @@ pub mod history;
 pub mod phase;
 pub mod seats;
 pub mod sections;
-#[cfg(test)]
-mod tests;
 pub mod wakes;

@@ -13,6 +13,4 @@ pub mod room;
 pub mod scan;
 pub mod signal;
 mod stage;
-#[cfg(test)]
-mod tests;
 pub mod waiter;

@@ -12,9 +12,15 @@
 
 mod compare;
 mod memory;
+#[cfg(test)]
+mod model;
+#[cfg(test)]
+mod queue;
 mod row;
 #[cfg(test)]
 mod tests;
+#[cfg(test)]
+mod words;
 
 use crate::compare::report;
 use crate::row::Row;

@@ -9,7 +9,7 @@ use ns_model::event::Mode;
 use std::alloc::AllocError;
 
 /// What is done to the lock list in hand before it is put back.
-#[derive(Clone, Copy, PartialEq, Eq)]
+#[derive(Clone, Copy)]
 pub enum Change {
     /// One puts itself in, without condition, in this mode: at the back, or at the front if it was
     /// woken from the list before, so that it loses no turn.
@@ -21,7 +21,7 @@ pub enum Change {
 /// One atomic step. Where it is a compare-exchange, the word is the one last seen. A look reads a
 /// clock and notes, one load after another, and nothing of the lock: whoever runs the walk makes
 /// it, and tells what it has shown.
-#[derive(Copy, PartialEq, Eq)]
+#[derive(Copy)]
 pub enum Act<C> {
     /// Loads the lock word.
     LoadWord,
@@ -69,7 +69,7 @@ impl<C: Copy> Clone for Act<C> {
 }
 
 /// What a step found.
-#[derive(Clone, Copy, PartialEq, Eq)]
+#[derive(Clone, Copy)]
 pub enum Found {
     /// The lock word, by a load or by a compare-exchange that failed.
     Saw(Word),

@@ -1,7 +1,7 @@
 //! What one atomic step on the clock and the notes does, and what it finds.
 
 /// A note as it stands.
-#[derive(Clone, Copy, Debug, PartialEq, Eq)]
+#[derive(Clone, Copy)]
 pub struct NoteState {
     /// Whether the note is made.
     pub made: bool,
@@ -14,7 +14,7 @@ pub struct NoteState {
 }
 
 /// One atomic step on the clock or the notes. A moment is in ticks.
-#[derive(Clone, Copy, PartialEq, Eq)]
+#[derive(Clone, Copy)]
 pub enum EnvAct {
     /// Loads the number that the next note gets.
     LoadNext,
@@ -33,7 +33,7 @@ pub enum EnvAct {
 }
 
 /// What a step on the clock or the notes found.
-#[derive(Clone, Copy, PartialEq, Eq)]
+#[derive(Clone, Copy)]
 pub enum EnvFound {
     /// The next note's number.
     NextNumber(u8),

@@ -26,7 +26,7 @@ use crate::limits::{Cause, Limits};
 use crate::walk::Reply;
 
 /// What a chain of notes, from one up to its root, is loaded for.
-#[derive(Clone, Copy, PartialEq, Eq)]
+#[derive(Clone, Copy)]
 pub enum Chain {
     /// A wait looks whether it is to end early.
     ForLook(Limits),
@@ -37,7 +37,7 @@ pub enum Chain {
 }
 
 /// A place in a call on the clock and the notes. A moment is in ticks.
-#[derive(Clone, Copy, PartialEq, Eq)]
+#[derive(Clone, Copy)]
 pub enum EnvWalk {
     /// A note is to be made with this parent and this deadline, and the next number is to be
     /// loaded.
@@ -60,7 +60,7 @@ pub enum EnvWalk {
 }
 
 /// Where a walk on the clock and the notes goes.
-#[derive(Clone, Copy, PartialEq, Eq)]
+#[derive(Clone, Copy)]
 pub enum EnvNext {
     /// It goes on at this place.
     Go(EnvWalk),

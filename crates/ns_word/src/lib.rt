@@ -20,8 +20,6 @@ pub mod env_walk;
 pub mod law;
 pub mod limits;
 pub mod room;
-#[cfg(test)]
-mod tests;
 pub mod view;
 pub mod wait;
 mod wait_walk;

@@ -9,7 +9,7 @@ use ns_model::event::{Answer, Mode};
 use std::alloc::AllocError;
 
 /// A wait for a condition.
-#[derive(Copy, PartialEq, Eq)]
+#[derive(Copy)]
 pub struct Wait<C> {
     /// The mode of the section that is left, in which the lock is acquired again.
     pub mode: Mode,
@@ -30,7 +30,7 @@ impl<C: Copy> Clone for Wait<C> {
 }
 
 /// What an acquire is for.
-#[derive(Copy, PartialEq, Eq)]
+#[derive(Copy)]
 pub enum Aim<C> {
     /// For a call that locks in this mode.
     ForLock(Mode),
@@ -49,7 +49,7 @@ impl<C: Copy> Clone for Aim<C> {
 }
 
 /// When the condition of a wait is tested.
-#[derive(Clone, Copy, PartialEq, Eq)]
+#[derive(Clone, Copy)]
 pub enum Visit {
     /// As the call begins.
     OnEntry,
@@ -59,7 +59,7 @@ pub enum Visit {
 
 /// A place in a wait. A word is the one last seen. The flag tells whether the wait queues again,
 /// after it was woken and found its condition false.
-#[derive(Clone, Copy, PartialEq, Eq)]
+#[derive(Clone, Copy)]
 pub enum WaitPlace {
     /// It tests its condition, and is about to load this cell, which isn't the last.
     TestCells(Visit, u8),

@@ -45,7 +45,7 @@ use std::alloc::AllocError;
 
 /// A place in a call. A word is the one last seen. The flag beside what an acquire is for tells
 /// whether the seat was woken from the lock list.
-#[derive(Copy, PartialEq, Eq)]
+#[derive(Copy)]
 pub enum Walk<C> {
     /// A try that is about to load the word.
     TryLoad(Mode),
@@ -124,7 +124,7 @@ pub enum Reply {
 }
 
 /// Where a walk goes.
-#[derive(Copy, PartialEq, Eq)]
+#[derive(Copy)]
 pub enum Next<C> {
     /// It goes on at this place.
     On(Walk<C>),

@@ -3,11 +3,11 @@
 ghost use Rattle.std.specs.Prelude.{◌≡◌, nat_le, ◌==◌, slice_index, false};
 ghost use Rattle.ns_model.specs.Truths.{truths};
 
-use crate::condition::Condition;
-use crate::event::{Answer, Entry, Event, Exit, Mode};
-use crate::history::{legal, phase_of, row_after};
-use crate::phase::Phase;
-use crate::seats::Seats;
+use ns_model::condition::Condition;
+use ns_model::event::{Answer, Entry, Event, Exit, Mode};
+use ns_model::history::{legal, phase_of, row_after};
+use ns_model::phase::Phase;
+use ns_model::seats::Seats;
 
 /// The first cell is at least a value.
 #[derive(Clone, Copy)]

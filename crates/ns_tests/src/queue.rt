@@ -4,8 +4,8 @@ ghost use Rattle.std.specs.Prelude.{◌≡◌, ◌==◌, ◌&&◌, nat_lt, nat_l
 ghost use Rattle.ns_model.specs.Truths.{truths};
 ghost use Rattle.ns_queue.specs.Queues.{IsList};
 
-use crate::queues::Queues;
-use crate::waiter::{Shown, Waiter, Which};
+use ns_queue::queues::Queues;
+use ns_queue::waiter::{Shown, Waiter, Which};
 use arrayvec::ArrayVec;
 use ns_model::condition::Condition;
 use ns_model::event::Mode;

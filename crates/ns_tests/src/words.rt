@@ -1,0 +1,224 @@
+//! The lock word: the numbers of its bits, and the words that the steps make, from outside.
+
+use ns_model::event::Mode;
+use ns_word::codec::{BadWord, decode, encode};
+use ns_word::word::{Bits, Releasing, Word};
+
+const WRITING: Word = Word {
+    write: true,
+    ..Word::FREE
+};
+
+/// Held by a writer, with one that waits for a condition.
+const CONDITIONAL: Word = Word {
+    write: true,
+    waiting: true,
+    cond: true,
+    ..Word::FREE
+};
+
+const CONDITIONAL_TAKEN: Word = Word {
+    spin: true,
+    ..CONDITIONAL
+};
+
+/// Held by a reader, with a writer that waits and has no condition.
+const STOOD_BACK: Word = Word {
+    waiting: true,
+    writer_waits: true,
+    readers: 1,
+    ..Word::FREE
+};
+
+/// The same while one has the queues.
+const STOOD_BACK_TAKEN: Word = Word {
+    spin: true,
+    ..STOOD_BACK
+};
+
+#[test]
+fn new_words(rt: HostRuntime) {
+    let idle = Bits {
+        waiting: true,
+        conditional: true,
+        writer_waits: false,
+    };
+    let nobody = Bits {
+        waiting: false,
+        conditional: false,
+        writer_waits: false,
+    };
+    assert_eq!(rt; Word::FREE.acquired(Mode::Write, false), WRITING);
+    assert_eq!(rt;
+        Word {
+            desig: true,
+            ..Word::FREE
+        }
+        .acquired(Mode::Read, true),
+        Word {
+            readers: 1,
+            ..Word::FREE
+        }
+    );
+    assert_eq!(rt;
+        Word {
+            all_false: true,
+            ..CONDITIONAL
+        }
+        .released(Releasing::Writer),
+        Word {
+            write: false,
+            ..CONDITIONAL
+        }
+    );
+    // a release keeps the mark of one on its way, and a quiet one also that all conditions are false
+    let marked = Word {
+        desig: true,
+        all_false: true,
+        ..CONDITIONAL
+    };
+    assert_eq!(rt;
+        marked.released(Releasing::Writer),
+        Word {
+            write: false,
+            all_false: false,
+            ..marked
+        }
+    );
+    assert_eq!(rt;
+        marked.released(Releasing::QuietWriter),
+        Word {
+            write: false,
+            ..marked
+        }
+    );
+    // a scan that took nobody leaves the mark that all conditions are false, one that took the last nothing
+    let left = CONDITIONAL_TAKEN.released_returning(Releasing::Writer, false, idle);
+    assert_eq!(rt;
+        left,
+        Word {
+            waiting: true,
+            cond: true,
+            all_false: true,
+            ..Word::FREE
+        }
+    );
+    let woken = CONDITIONAL_TAKEN.released_returning(Releasing::Writer, true, nobody);
+    assert_eq!(rt;
+        woken,
+        Word {
+            desig: true,
+            ..Word::FREE
+        }
+    );
+    // a reader that came meanwhile stays
+    let word = Word {
+        readers: 2,
+        ..STOOD_BACK_TAKEN
+    };
+    assert_eq!(rt;
+        word.released_returning(Releasing::Reader, true, nobody),
+        Word {
+            desig: true,
+            readers: 1,
+            ..Word::FREE
+        }
+    );
+    assert_eq!(rt;
+        word.returned(idle),
+        Word {
+            waiting: true,
+            cond: true,
+            readers: 2,
+            ..Word::FREE
+        }
+    );
+}
+
+/// A waiting list of waiters whose conditions are all false.
+const ALL_WAIT_IN_VAIN: Word = Word {
+    waiting: true,
+    cond: true,
+    all_false: true,
+    ..Word::FREE
+};
+
+/// So many readers.
+fn read_by(readers: u8) -> Word {
+    Word {
+        readers,
+        ..Word::FREE
+    }
+}
+
+/// The number decodes to the word, which encodes to the number again.
+fn has_number(word: Word, bits: u64) -> bool {
+    match decode(bits) {
+        Ok(decoded) => decoded == word && encode(decoded) == bits,
+        Err(_) => false,
+    }
+}
+
+#[test]
+fn words_have_their_numbers(rt: HostRuntime) {
+    let writer = Word {
+        write: true,
+        ..Word::FREE
+    };
+    assert!(rt; has_number(Word::FREE, 0));
+    assert!(rt; has_number(writer, 1));
+    assert!(rt; has_number(ALL_WAIT_IN_VAIN, 84));
+    assert!(rt; has_number(read_by(2), 256));
+    assert!(rt; has_number(read_by(64), 8192));
+}
+
+#[test]
+fn each_bit_has_its_value(rt: HostRuntime) {
+    let free = Word::FREE;
+    assert!(rt; has_number(Word { spin: true, ..free }, 2));
+    assert!(rt;
+        has_number(
+            Word {
+                waiting: true,
+                ..free
+            },
+            4
+        )
+    );
+    assert!(rt;
+        has_number(
+            Word {
+                desig: true,
+                ..free
+            },
+            8
+        )
+    );
+    assert!(rt; has_number(Word { cond: true, ..free }, 16));
+    assert!(rt;
+        has_number(
+            Word {
+                writer_waits: true,
+                ..free
+            },
+            32
+        )
+    );
+    assert!(rt;
+        has_number(
+            Word {
+                all_false: true,
+                ..free
+            },
+            64
+        )
+    );
+    assert!(rt; has_number(read_by(1), 128));
+}
+
+#[test]
+fn others_are_refused(rt: HostRuntime) {
+    for bits in [129, 8320, 8193, u64::MAX] {
+        assert!(rt; decode(bits) == Err(BadWord));
+    }
+}
