@@ -1,6 +1,7 @@
 //! What no contract says: worked scripts with their texts, refusals at their places, and streams
 //! that fail at each place.
 
+mod errors;
 mod memory;
 mod notes;
 mod waits;
@@ -510,6 +511,8 @@ fn interrupted(rt: HostRuntime) {
             is_next: true,
             always,
             asked: 0,
+            ends: 0,
+            last: 0,
         };
         let mut sink = Expects::new(written.as_bytes(), 4096, usize::MAX);
         let outcome = replay(rt.alloc(), &mut source, &mut sink, PLAIN);
