@@ -53,10 +53,10 @@ IsReadFault has_failed before after = (has_failed ≡ true) ⊎ Counts before af
 abbrev pub WritesFront : Option (List ℕ) → Option (List ℕ) → List ℕ → Type 0
 WritesFront old new bytes = (front : List ℕ) × (rest : List ℕ) × (bytes ≡ front ++ rest) × (0 < length rest) × Appends old new front
 
--- no write failed, and none took no byte
+-- no write failed, and each took some byte
 abbrev pub IsFine : Bool → ℕ → ℕ → Type 0
 IsFine has_failed before after = (has_failed ≡ false) × Counts before after 0
 
--- one write failed, or one took no byte
+-- a write failed, or else one took no byte
 abbrev pub IsWriteFault : Bool → ℕ → ℕ → Type 0
 IsWriteFault has_failed before after = ((has_failed ≡ true) × Counts before after 0) ⊎ ((has_failed ≡ false) × Counts before after 1)

@@ -3,7 +3,7 @@
 //! The bytes that are still to come, and those that were taken, are ghost members, and are known
 //! only where the stream knows them. A replay claims nothing of the other bytes of the world.
 
-ghost use Rattle.std.specs.Prelude.{◌≡◌, ◌<◌, ◌||◌, ℕ, List, Bool, Option, false, length};
+ghost use Rattle.std.specs.Prelude.{◌≡◌, ◌<◌, ℕ, List, Bool, Option, false, length};
 ghost use Rattle.ns_replay.specs.Streams.{Counts, Reads, Writes, ends_by, given, is_failure, is_refusal, stuck_by};
 
 /// What a read gave.

@@ -2,6 +2,7 @@
 //! that fail at each place.
 
 mod errors;
+mod example;
 mod memory;
 mod notes;
 mod waits;
@@ -9,6 +10,7 @@ mod worlds;
 
 use self::memory::{Expects, Interrupted, Pieces};
 use super::*;
+use crate::condition::{AtLeast, ScriptCondition};
 use ns_model::condition::Condition;
 use std::alloc::Global;
 use std::test::Fail;
