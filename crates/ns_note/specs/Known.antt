@@ -16,9 +16,11 @@ pub record EnvKnown : Type 0 where
   pub seen : List EnvEvent
   pub mine : List EnvEvent
 
+-- what a seat of an environment with so many seats has seen and done
 abbrev pub known : TableId → ℕ → ℕ → List EnvEvent → List EnvEvent → EnvKnown
 known env limit who seen mine = record { env = env; limit = limit; who = who; seen = seen; mine = mine }
 
+-- what a seat with this view shows of itself
 abbrev pub known_of : TableId → SeatView → EnvKnown
 known_of env view = known env view.limit view.who view.seen view.mine
 
@@ -27,15 +29,18 @@ abbrev pub the : List SeatView → SeatView
 the [] = record { limit = 0; who = 0; making = Nothing; seen = []; mine = [] }
 the (view ∷ views) = view
 
+-- the other of two seats that a view stands for, where there are two
 abbrev pub the_second : List SeatView → SeatView
 the_second [] = the []
 the_second (view ∷ views) = the views
 
+-- the view stands for one seat alone
 abbrev pub IsOne : List SeatView → Type 0
 IsOne [] = ⊥
 IsOne (view ∷ []) = Unit {0}
 IsOne (view ∷ other ∷ views) = ⊥
 
+-- the view stands for two seats
 abbrev pub ArePair : List SeatView → Type 0
 ArePair [] = ⊥
 ArePair (view ∷ views) = IsOne views
@@ -72,5 +77,6 @@ pub record SawAllOf (ahead behind : EnvKnown) : Type 0 where
   pub own : env_own ahead.seen ahead.who ≡ ahead.mine
   pub theirs : env_own ahead.seen behind.who ≡ behind.mine
 
+-- Of two seats, one has seen all that the other has.
 abbrev pub AreOfOneHistory : EnvKnown → EnvKnown → Type 0
 AreOfOneHistory first second = SawAllOf first second ⊎ SawAllOf second first

@@ -1,4 +1,4 @@
--- The rule of an environment's table: word 0 is the clock, word 1 the next note's number, and the notes' words follow.
+-- The rule of an environment's table, whose words stand as `places.rt` names them: the clock at CLOCK, the next note's number at NEXT, and the notes from NOTES on.
 use Rattle.std.specs.Prelude.{◌≡◌, ℕ, suc, zero, ◌+◌, ◌^◌, ◌<◌, ◌≤◌, min, Bool, true, false, ◌==◌, List, [], ◌∷◌, length, Some, slice_index}
 use Rattle.atomic_table.specs.Table.{State}
 use Rattle.ns_model.specs.declared.environment.EnvEvent.{EnvEvent}
@@ -10,13 +10,16 @@ use Rattle.ns_note.specs.declared.view.Making.TheVariants.{Nothing, Adding, Take
 use Rattle.ns_note.specs.declared.view.SeatView.{SeatView}
 use Rattle.ns_note.specs.Words.{WordFits, word_of}
 
+-- what all seats know, a list for each seat of the table
 abbrev pub Views : Type 0
 Views = List (List SeatView)
 
+-- the sum of a number over a list
 abbrev pub total : {A : Type 0} → (A → ℕ) → List A → ℕ
 total f [] = 0
 total f (x ∷ xs) = f x + total f xs
 
+-- a fact of each element of a list
 abbrev pub Every : {A : Type 0} → (A → Type 0) → List A → Type 0
 Every P [] = Unit {0}
 Every P (x ∷ xs) = P x × Every P xs
@@ -25,6 +28,7 @@ Every P (x ∷ xs) = P x × Every P xs
 abbrev pub tally : (SeatView → ℕ) → Views → ℕ
 tally f views = total (total f) views
 
+-- 1 where it is so, and else 0
 abbrev pub one_if : Bool → ℕ
 one_if true = 1
 one_if false = 0
@@ -35,9 +39,11 @@ adds Nothing = 0
 adds Adding = 1
 adds (Taken note) = 0
 
+-- 1 for a seat that goes to take a number
 abbrev pub is_adding : SeatView → ℕ
 is_adding view = adds view.making
 
+-- 1 for the seat of this number
 abbrev pub is_who : ℕ → SeatView → ℕ
 is_who who view = one_if (view.who == who)
 
@@ -60,6 +66,7 @@ pub record Fits (limit : ℕ) (h : List EnvEvent) (view : SeatView) : Type 0 whe
 abbrev pub note_word : NoteStanding → NoteWord
 note_word note = record { notified = note.called; made = note.made; parent = note.parent; deadline = note.deadline }
 
+-- a word is that of a note as a history leaves it, and the note has room in it
 abbrev pub NoteFits : ℕ → NoteStanding → Type 0
 NoteFits word note = (word ≡ word_of (note_word note)) × WordFits (note_word note)
 
@@ -83,6 +90,7 @@ pub record IsRuled (limit clock next : ℕ) (notes : List ℕ) (views : Views) (
 abbrev pub fresh_seat : ℕ → ℕ → SeatView
 fresh_seat limit who = record { limit = limit; who = who; making = Nothing; seen = []; mine = [] }
 
+-- the first views of so many seats, from a number on
 abbrev pub fresh : ℕ → ℕ → ℕ → List SeatView
 fresh limit from zero = []
 fresh limit from (suc k) = fresh_seat limit from ∷ fresh limit (suc from) k
@@ -92,14 +100,17 @@ abbrev pub first_of : List SeatView → List SeatView
 first_of [] = []
 first_of (v ∷ vs) = v ∷ []
 
+-- the seats of a view but the first
 abbrev pub rest_of : List SeatView → List SeatView
 rest_of [] = []
 rest_of (v ∷ vs) = vs
 
+-- The rule holds of these words: some history is as it says.
 abbrev pub HoldsAt : ℕ → List ℕ → Views → Type 0
 HoldsAt limit [] views = ⊥
 HoldsAt limit (clock ∷ []) views = ⊥
 HoldsAt limit (clock ∷ next ∷ notes) views = (h : List EnvEvent) × IsRuled limit clock next notes views h
 
+-- The rule of a table with so many seats.
 abbrev pub Holds : {S : Type 0} → ℕ → State S (List SeatView) → Type 0
 Holds limit s = HoldsAt limit s.words s.views

@@ -62,6 +62,7 @@ pub record HaveLearned (a b a' b' : SeatView) : Type 0 where
   pub same : b'.seen ≡ a'.seen
   pub before : (env : TableId) → AreOfOneHistory (known_of env a) (known_of env b)
 
+-- two seats that stand together have learned the history so far, and hold what they held
 abbrev pub Learned : {S : Type 0} → Me S (List SeatView) → Me S (List SeatView) → Type 0
 Learned me now = ArePair now.0 × (now.1 ≡ me.1) × HaveLearned (the me.0) (the_second me.0) (the now.0) (the_second now.0)
 

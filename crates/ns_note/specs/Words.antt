@@ -2,6 +2,7 @@
 use Rattle.std.specs.Prelude.{ℕ, ◌+◌, ◌-◌, ◌*◌, ◌/◌, ◌%◌, ◌^◌, ◌<◌, ◌==◌, nat_lt, if◌then◌else◌, Bool, true, false, Option, None, Some, IfSome}
 use Rattle.ns_note.specs.declared.note.NoteWord.{NoteWord}
 
+-- a mark as a bit
 abbrev pub flag : Bool → ℕ
 flag true = 1
 flag false = 0
@@ -24,9 +25,11 @@ WordFits note = IfSome note.parent (λ p. p < 64) × IfSome note.deadline (λ d.
 abbrev pub word_of : NoteWord → ℕ
 word_of note = flag note.notified + 2 * flag note.made + 4 * parent_code note.parent + 512 * deadline_code note.deadline
 
+-- the parent that the bits tell of
 abbrev pub parent_at : ℕ → Option ℕ
 parent_at bits = if bits == 0 then None else Some (bits - 1)
 
+-- the deadline that the bits tell of
 abbrev pub deadline_at : ℕ → Option ℕ
 deadline_at bits = if nat_lt bits (2 ^ 54) then None else Some (bits - 2 ^ 54)
 

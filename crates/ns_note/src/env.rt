@@ -12,6 +12,7 @@ ghost use Rattle.ns_note.specs.Words.{WordFits};
 
 use crate::fault::{Fault, NotesFull};
 use crate::note::{Note, NoteWord, decode_note, encode_note, index_of, is_due};
+use crate::places::{CLOCK, NEXT, NOTES, WORDS};
 use crate::plays::{
     FirstOut, Law, Learn, LoadClock, LoadNext, LoadNote, Make, Mark, MoveClock, Take, Together,
 };
@@ -38,12 +39,13 @@ pub struct Env {
 impl Model for Env {
     ghost use Rattle.std.specs.Prelude.{◌≡◌};
     ghost use Rattle.atomic_table.specs.Seated.{TableId};
+    ghost use Rattle.ns_note.specs.declared.places.TheConstants.{WORDS};
 
     ghost Value = { TableId };
 
     ghost view = { λ e. e.table.shared.table_id };
 
-    ghost invariant = { λ e. (e.table.shared.table_id.words ≡ 66) × (e.table.shared.table_id.slots ≡ 0) };
+    ghost invariant = { λ e. (e.table.shared.table_id.words ≡ WORDS) × (e.table.shared.table_id.slots ≡ 0) };
 }
 
 /// One new seat.
@@ -75,7 +77,7 @@ impl Env {
         if seats > 64 {
             return Err(Fault::TooManySeats);
         }
-        let (table, mut rest) = Table::of_words(alloc, &[0; 66], &(seats as u8))?;
+        let (table, mut rest) = Table::of_words(alloc, &[0; WORDS], &(seats as u8))?;
         let mut given = Vec::new(alloc);
         for _who in 0..seats {
             let seat = table.shared.split_seat::<FirstOut>(&mut rest);
@@ -98,7 +100,7 @@ impl Env {
         let EnvSeat { seat: second } = second;
         let shared = &self.table.shared;
         shared.join_seat::<Together>(&mut both, second);
-        shared.load::<Learn>(&mut both, 0);
+        shared.load::<Learn>(&mut both, CLOCK);
         let first = shared.split_seat::<FirstOut>(&mut both);
         (seated(first), seated(both))
     }
@@ -113,10 +115,10 @@ impl Env {
         ensures full { IfErr result (λ _. FoundFull (the seat.old.me.0) (the seat.new.me.0)) }
     {
         let shared = &self.table.shared;
-        if shared.load::<LoadNext>(seat, 1) >= 64 {
+        if shared.load::<LoadNext>(seat, NEXT) >= 64 {
             return Err(NotesFull);
         }
-        let number = shared.fetch_add::<Take>(seat, 1, 1);
+        let number = shared.fetch_add::<Take>(seat, NEXT, 1);
         if number < 64 {
             Ok(number as u8)
         } else {
@@ -152,7 +154,7 @@ impl Env {
         });
         self.table
             .shared
-            .store::<Make>(&mut seat.seat, usize::from(index) + 2, word);
+            .store::<Make>(&mut seat.seat, usize::from(index) + NOTES, word);
         Ok(Note { index })
     }
 
@@ -164,7 +166,7 @@ impl Env {
         ensures clock { result ≡ clock_of seat.new.seen }
         ensures moment { result < 2 ^ 54 }
     {
-        self.table.shared.load::<LoadClock>(&mut seat.seat, 0)
+        self.table.shared.load::<LoadClock>(&mut seat.seat, CLOCK)
     }
 
     /// Moves the clock to a moment, in ticks; a clock that stands later stays where it is.
@@ -178,7 +180,7 @@ impl Env {
     {
         self.table
             .shared
-            .fetch_max::<MoveClock>(&mut seat.seat, 0, to);
+            .fetch_max::<MoveClock>(&mut seat.seat, CLOCK, to);
     }
 
     /// Notifies a note, for good, and with it every note below it. nsync's `nsync_note_notify`.
@@ -192,7 +194,7 @@ impl Env {
     {
         self.table
             .shared
-            .fetch_or::<Mark>(&mut seat.seat, usize::from(note.index) + 2, 1);
+            .fetch_or::<Mark>(&mut seat.seat, usize::from(note.index) + NOTES, 1);
     }
 
     /// What the word of a number tells now.
@@ -207,7 +209,7 @@ impl Env {
         let word = self
             .table
             .shared
-            .load::<LoadNote>(&mut seat.seat, usize::from(number) + 2);
+            .load::<LoadNote>(&mut seat.seat, usize::from(number) + NOTES);
         decode_note(word)
     }
 

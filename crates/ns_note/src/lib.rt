@@ -1,19 +1,23 @@
 //! A clock and a tree of notes, shared between threads.
 //!
-//! A note becomes notified once, and stays so: where somebody says so, where its deadline comes, or
-//! where that happens to a note above it. A caller that
-//! waits for something else watches a note to learn that it should give up:
+//! A note becomes notified once, and stays so: where somebody says so, where its deadline comes,
+//! or where that happens to a note above it. A caller that waits for something else watches a note
+//! to learn that it should give up:
 //!
-//! ```text
-//! let (env, mut seats) = Env::new(alloc, 2)?;     // one seat for each thread
+//! ```rust
+//! let (env, mut seats) = Env::new(rt.alloc(), 2)?; // a seat for each thread
+//! let (Some(mut theirs), Some(mut mine)) = (seats.pop(), seats.pop()) else {
+//!     return Ok(());
+//! };
 //!
 //! // the one that may call it off:
-//! let stop = env.note_new(&mut mine, None, Some(1_000))?;   // notified at 1,000 ticks, or
-//! env.notify(&mut mine, stop);                              // before, by this call
+//! let stop = env.note_new(&mut mine, None, Some(1_000))?; // notified at 1,000 ticks, or
+//! env.notify(&mut mine, stop); // before, by this call
 //!
 //! // the other, which has been handed `stop`:
 //! if env.knows(&mut theirs, stop) {
-//!     env.note_wait(rt, &mut theirs, stop, None);
+//!     let notified = env.note_wait(&rt, &mut theirs, stop, None);
+//!     assert!(rt; notified);
 //! }
 //! ```
 //!
@@ -35,6 +39,7 @@
 pub mod env;
 pub mod fault;
 pub mod note;
+mod places;
 mod plays;
 pub mod seat;
 #[cfg(test)]

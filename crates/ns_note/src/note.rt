@@ -9,6 +9,7 @@ ghost use Rattle.ns_note.specs.Words.{WordFits, deadline_at, deadline_code, note
 pub struct Note {
     /// The number.
     pub index: u8,
+    /// There are 64 notes.
     pub ghost in_range: { index < 64 },
 }
 

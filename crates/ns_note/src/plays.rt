@@ -1,6 +1,7 @@
 //! The rule of the table, and what each step on it tells.
 
 ghost use Rattle.std.specs.Prelude.{◌-◌, ◌++◌, []};
+ghost use Rattle.ns_note.specs.declared.places.TheConstants.{NOTES};
 ghost use Rattle.ns_note.specs.Law.{Holds, first_of, fresh, rest_of};
 ghost use Rattle.ns_note.specs.Told.{Added, AdvancedClock, Learned, LoadedClock, LoadedNext, LoadedNote, Made, NotifiedNote, Stepped};
 
@@ -34,7 +35,7 @@ impl Play<(), View> for LoadNext {
 pub struct LoadNote;
 
 impl Play<(), View> for LoadNote {
-    ghost then = { λ st me found now. Stepped (LoadedNote (st.word - 2) found) me now };
+    ghost then = { λ st me found now. Stepped (LoadedNote (st.word - NOTES) found) me now };
 }
 
 /// An addition of 1 to the next number.
@@ -48,14 +49,14 @@ impl Play<(), View> for Take {
 pub struct Make;
 
 impl Play<(), View> for Make {
-    ghost then = { λ st me found now. Stepped (Made (st.word - 2) st.first) me now };
+    ghost then = { λ st me found now. Stepped (Made (st.word - NOTES) st.first) me now };
 }
 
 /// A mark on a note's word.
 pub struct Mark;
 
 impl Play<(), View> for Mark {
-    ghost then = { λ st me found now. Stepped (NotifiedNote (st.word - 2)) me now };
+    ghost then = { λ st me found now. Stepped (NotifiedNote (st.word - NOTES)) me now };
 }
 
 /// A move of the clock.

@@ -12,6 +12,7 @@ pub(crate) type TableSeat = atomic_table::Seat<(), View>;
 /// the history of the environment that it has seen, and its own events in it. It has no bytes.
 #[derive(Drop)]
 pub struct EnvSeat {
+    /// The seat of the table, which carries what is known.
     pub(crate) seat: TableSeat,
 }
 

@@ -12,7 +12,8 @@ use ns_model::event::Answer;
 use std::alloc::Global;
 use std::sync::Wait;
 use std::test::Fail;
-use std::thread::{Threads, join};
+use std::thread::{Threads, join, sleep};
+use std::time::{Clock, Duration};
 
 fn one_seat(alloc: Global) -> Option<(Env, EnvSeat)>
     ensures { IfSome result (λ r. r.1.env ≡ r.0) }
@@ -298,5 +299,99 @@ fn note_threads(rt: HostRuntime) -> Result<(), Fail> {
     assert_eq!(rt; env.now(&mut third), 3);
     let (mut first, _) = env.meet(first, second);
     assert_eq!(rt; env.now(&mut first), 3);
+    Ok(())
+}
+
+/// Whether the note is notified before so many milliseconds have passed.
+fn is_notified_within<R: Clock>(
+    rt: &R,
+    env: &Env,
+    seat: &mut EnvSeat,
+    note: Note,
+    millis: u32,
+) -> bool
+    requires { seat.old.env ≡ env.now }
+    ensures { seat.new.env ≡ seat.old.env }
+{
+    for _ in 0..millis {
+        if is_notified(env, seat, note) == Some(true) {
+            return true;
+        }
+        sleep(rt, Duration::from_millis(1));
+    }
+    false
+}
+
+/// One thread waits for tick 10, and notifies the root once it has come back. The other moves the
+/// clock to 9 and to 10, and answers whether the first came back at each of them. At 11 the wait
+/// is over in any case.
+fn wait_and_advance<R: Threads + Wait + Clock + Sync>(
+    rt: &R,
+    env: &Env,
+    mut first: EnvSeat,
+    mut second: EnvSeat,
+    root: Note,
+    other: Note,
+) -> ((EnvSeat, bool, bool), (EnvSeat, Option<bool>))
+    requires { (first.env ≡ env.now) × (second.env ≡ env.now) }
+    ensures { (result.0.0.env ≡ env.now) × (result.1.0.env ≡ env.now) }
+{
+    join(
+        rt,
+        move || -> (EnvSeat, bool, bool)
+            requires { IsSync R.row × (first.env ≡ env.now) }
+            ensures { result.0.env ≡ env.entry.now }
+        {
+            env.advance(&mut first, 9);
+            let early = is_notified_within(rt, env, &mut first, root, 50);
+            env.advance(&mut first, 10);
+            let in_time = is_notified_within(rt, env, &mut first, root, 10_000);
+            env.advance(&mut first, 11);
+            (first, early, in_time)
+        },
+        move || -> (EnvSeat, Option<bool>)
+            requires { IsSync R.row × (second.env ≡ env.now) }
+            ensures { result.0.env ≡ env.entry.now }
+        {
+            let answer = wait(rt, env, &mut second, other, Some(10));
+            let _ = notify(env, &mut second, root);
+            (second, answer)
+        },
+    )
+}
+
+/// A wait goes on at the tick before its deadline, and ends at the tick itself.
+#[test]
+fn waits_to_the_tick(rt: HostRuntime) -> Result<(), Fail> {
+    let Some((env, mut first, second, _third, root, _grandchild)) = family(rt.alloc()) else {
+        panic!(rt; "no environment")
+    };
+    let other = make(&env, &mut first, None, None).expect(&rt, "another root");
+    let ((_first, early, in_time), (_second, answer)) = wait_and_advance(
+        &rt, &env, first, second, root, other,
+    );
+    assert!(rt; !early);
+    assert!(rt; in_time);
+    assert_eq!(rt; answer, Some(false));
+    Ok(())
+}
+
+/// The example at the head of the crate.
+#[test]
+fn head_example(rt: HostRuntime) -> Result<(), Fail> {
+    let (env, mut seats) = Env::new(rt.alloc(), 2)?; // a seat for each thread
+    let (Some(mut theirs), Some(mut mine)) = (seats.pop(), seats.pop()) else {
+        return Ok(());
+    };
+
+    // the one that may call it off:
+    let stop = env.note_new(&mut mine, None, Some(1_000))?; // notified at 1,000 ticks, or
+    env.notify(&mut mine, stop); // before, by this call
+
+    // the other, which has been handed `stop`:
+    if env.knows(&mut theirs, stop) {
+        let notified = env.note_wait(&rt, &mut theirs, stop, None);
+        assert!(rt; notified);
+    }
     Ok(())
 }

@@ -16,10 +16,15 @@ pub enum Making {
 /// What one seat knows: how many seats its environment has, its own number, the history that it
 /// has seen, and its own events in it.
 pub struct SeatView {
+    /// How many seats the environment has.
     pub limit: u8,
+    /// The seat's own number.
     pub who: u8,
+    /// How far it has come in making a note.
     pub making: Making,
+    /// The history that it has seen.
     pub seen: LinkedList<EnvEvent>,
+    /// Its own events in that history.
     pub mine: LinkedList<EnvEvent>,
 }
 

@@ -9,8 +9,9 @@ use Rattle.ns_replay.specs.declared.fault.Fault.{Fault}
 use Rattle.ns_replay.specs.declared.fault.Fault.TheVariants.{OutOfMemory, NotJson, BadScript, TooMany, StepLimit, Read, Write}
 use Rattle.ns_replay.specs.Faults.{Fails}
 use Rattle.ns_replay.specs.Script.{Plan, script_of}
-use Rattle.ns_replay.specs.Transfer.{Gave, Collects, max_bytes}
-use Rattle.ns_replay.specs.Replaying.{IsRunFault, plan_from, IsRefused, WasRead, Answers}
+use Rattle.ns_replay.specs.Streams.{Counts}
+use Rattle.ns_replay.specs.Transfer.{Gave, Collects, IsEnough, max_bytes}
+use Rattle.ns_replay.specs.Replaying.{IsRunFault, plan_from, IsRefused, WasRead, Ended, Answers}
 
 -- ---- bytes that are not too many
 
@@ -52,7 +53,7 @@ too_many bytes lt =
 not_collected : (taken left : Option (List ℕ)) (options : Options) (bytes : List ℕ) (fault : Fault) → Collects bytes left (Err fault) → Answers taken taken options bytes (Err fault)
 not_collected taken left options bytes OutOfMemory h = (tt, Keeps-refl taken)
 not_collected taken left options bytes Read h = Keeps-refl taken
-not_collected taken left options bytes (TooMany at.Root) h = (too_many bytes h.0, Keeps-refl taken)
+not_collected taken left options bytes (TooMany at.Root) h = (too_many bytes h, Keeps-refl taken)
 not_collected taken left options bytes (TooMany at.Version) h = absurd h
 not_collected taken left options bytes (TooMany at.Threads) h = absurd h
 not_collected taken left options bytes (TooMany (at.Thread t)) h = absurd h
@@ -69,8 +70,8 @@ not_collected taken left options bytes Write h = absurd h
 -- all of it, or as much as shows that it is too much
 read_part : (bytes : List ℕ) (left : Option (List ℕ)) (fault : Fault) → Collects bytes left (Err fault) → WasRead bytes left (Err fault)
 read_part bytes left OutOfMemory h = tt
-read_part bytes left Read h = tt
-read_part bytes left (TooMany at.Root) h = (inl h.0, h.1)
+read_part bytes left Read h = h
+read_part bytes left (TooMany at.Root) h = inl h
 read_part bytes left (TooMany at.Version) h = absurd h
 read_part bytes left (TooMany at.Threads) h = absurd h
 read_part bytes left (TooMany (at.Thread t)) h = absurd h
@@ -82,5 +83,27 @@ read_part bytes left (BadScript place) h = absurd h
 read_part bytes left StepLimit h = absurd h
 read_part bytes left Write h = absurd h
 
-pub unread : (old new taken : Option (List ℕ)) (options : Options) (fault : Fault) → Gave old new (λ bytes. Collects bytes new (Err fault)) → Gave old new (λ bytes. WasRead bytes new (Err fault) × Answers taken taken options bytes (Err fault))
-unread old new taken options fault (bytes, consumed, h) = (bytes, consumed, (read_part bytes new fault h, not_collected taken new options bytes fault h))
+pub unread : (old new taken : Option (List ℕ)) (last : ℕ) (options : Options) (fault : Fault) → Gave old new (λ bytes. IsEnough bytes last × Collects bytes new (Err fault))
+    → Gave old new (λ bytes. IsEnough bytes last × WasRead bytes new (Err fault) × Answers taken taken options bytes (Err fault))
+unread old new taken last options fault (bytes, consumed, (enough, h)) = (bytes, consumed, (enough, read_part bytes new fault h, not_collected taken new options bytes fault h))
+
+-- ---- whether the end came
+
+-- not where all could not be read
+ended_part : (bytes : List ℕ) (left : Option (List ℕ)) (before after : ℕ) (fault : Fault) → Collects bytes left (Err fault) → Counts before after 0 → Ended before after (Err fault)
+ended_part bytes left before after OutOfMemory h count = inl count
+ended_part bytes left before after Read h count = count
+ended_part bytes left before after (TooMany at.Root) h count = inl count
+ended_part bytes left before after (TooMany at.Version) h count = absurd h
+ended_part bytes left before after (TooMany at.Threads) h count = absurd h
+ended_part bytes left before after (TooMany (at.Thread t)) h count = absurd h
+ended_part bytes left before after (TooMany (at.Call t c)) h count = absurd h
+ended_part bytes left before after (TooMany at.Schedule) h count = absurd h
+ended_part bytes left before after (TooMany (at.Word i)) h count = absurd h
+ended_part bytes left before after NotJson h count = absurd h
+ended_part bytes left before after (BadScript place) h count = absurd h
+ended_part bytes left before after StepLimit h count = absurd h
+ended_part bytes left before after Write h count = absurd h
+
+pub unended : (old new : Option (List ℕ)) (last before after : ℕ) (fault : Fault) → Gave old new (λ bytes. IsEnough bytes last × Collects bytes new (Err fault)) → Counts before after 0 → Ended before after (Err fault)
+unended old new last before after fault (bytes, consumed, (enough, h)) count = ended_part bytes new before after fault h count

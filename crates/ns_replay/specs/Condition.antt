@@ -9,6 +9,7 @@ use Rattle.ns_replay.specs.declared.condition.ScriptCondition.{ScriptCondition}
 abbrev pub at_least_text : AtLeast → List ℕ
 at_least_text part = decimal part.cell ++ codes ">=" ++ decimal part.least
 
+-- `&I>=V` for a second part, if there is one
 abbrev pub second_text : Option AtLeast → List ℕ
 second_text None = []
 second_text (Some part) = codes "&" ++ at_least_text part
@@ -21,6 +22,7 @@ condition_text condition = at_least_text condition.first ++ second_text conditio
 abbrev pub is_at_least : AtLeast → List ℕ → Bool
 is_at_least part row = nat_lt part.cell (length row) && nat_le part.least (slice_index row part.cell)
 
+-- a second part is true, or there is none
 abbrev pub are_at_least : Option AtLeast → List ℕ → Bool
 are_at_least None row = true
 are_at_least (Some part) row = is_at_least part row
@@ -29,9 +31,11 @@ are_at_least (Some part) row = is_at_least part row
 abbrev pub is_true_of : ScriptCondition → List ℕ → Bool
 is_true_of condition row = is_at_least condition.first row && are_at_least condition.second row
 
+-- two parts have one text
 abbrev pub has_same_fields : AtLeast → AtLeast → Bool
 has_same_fields a b = (a.cell == b.cell) && (a.least == b.least)
 
+-- two second parts have one text, or there is none of either
 abbrev pub have_same_fields : Option AtLeast → Option AtLeast → Bool
 have_same_fields None None = true
 have_same_fields (Some a) (Some b) = has_same_fields a b

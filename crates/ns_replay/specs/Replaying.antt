@@ -12,8 +12,9 @@ use Rattle.ns_replay.specs.declared.place.Place.TheVariants as at
 use Rattle.ns_replay.specs.declared.fault.Fault.{Fault}
 use Rattle.ns_replay.specs.declared.fault.Fault.TheVariants.{OutOfMemory, TooMany, StepLimit, Read, Write}
 use Rattle.ns_replay.specs.Script.{Plan, script_of}
+use Rattle.ns_replay.specs.Streams.{Counts}
 use Rattle.ns_replay.specs.Text.{text_of}
-use Rattle.ns_replay.specs.Transfer.{max_bytes, max_piece}
+use Rattle.ns_replay.specs.Transfer.{max_bytes}
 
 -- ---- a run
 
@@ -68,9 +69,17 @@ IsRefused limit bytes fault = plan_from bytes ≡ Err fault
 abbrev pub WasRead : List ℕ → Option (List ℕ) → Result ⊤ Fault → Type 0
 WasRead bytes left (Ok _) = IsAtEnd left
 WasRead bytes left (Err OutOfMemory) = Unit {0}
-WasRead bytes left (Err Read) = Unit {0}
-WasRead bytes left (Err (TooMany at.Root)) = ((max_bytes < length bytes) ⊎ IsAtEnd left) × (length bytes ≤ max_bytes + max_piece)
+WasRead bytes left (Err Read) = length bytes ≤ max_bytes
+WasRead bytes left (Err (TooMany at.Root)) = (max_bytes < length bytes) ⊎ IsAtEnd left
 WasRead bytes left (Err fault) = IsAtEnd left
+
+-- How often the source's end came: once where all was to be read, and else not.
+abbrev pub Ended : ℕ → ℕ → Result ⊤ Fault → Type 0
+Ended before after (Ok _) = Counts before after 1
+Ended before after (Err OutOfMemory) = Counts before after 0 ⊎ Counts before after 1
+Ended before after (Err Read) = Counts before after 0
+Ended before after (Err (TooMany at.Root)) = Counts before after 0 ⊎ Counts before after 1
+Ended before after (Err fault) = Counts before after 1
 
 -- What was written: the whole text after Ok, a front of it after a failed write, and else nothing.
 abbrev pub Answers : Option (List ℕ) → Option (List ℕ) → Options → List ℕ → Result ⊤ Fault → Type 0

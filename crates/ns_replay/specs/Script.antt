@@ -21,13 +21,16 @@ pub record Plan : Type 0 where
   pub threads : List (List (Call ScriptCondition))
   pub schedule : List Turn
 
+-- what a script that was read runs
 abbrev pub plan_of : Script → Plan
 plan_of script = record { threads = map (λ v. v.items) script.threads.items; schedule = script.schedule.items }
 
+-- the values of an array, in order
 abbrev pub list_of : Items → List Data
 list_of no_items = []
 list_of (item d ds) = d ∷ list_of ds
 
+-- a list, if it has at most so many elements, and else too much at the place
 abbrev pub at_most : {A : Type 0} → ℕ → Place → List A → Result (List A) Fault
 at_most limit place xs = if nat_le (length xs) limit then Ok xs else Err (TooMany place)
 
@@ -57,6 +60,7 @@ threads_of d = do
 abbrev pub words_of : List ℕ → List (List ℕ)
 words_of text = if length text == 0 then [] else parts 32 text
 
+-- a word of the schedule: a turn of one of so many threads
 unfoldable pub turn_at : ℕ → ℕ → List ℕ → Result Turn Fault
 turn_at threads number word = need (at.Word number) (turn_of threads (parts 42 word))
 
@@ -67,9 +71,11 @@ schedule_of threads d = do
   words ← at_most 4096 at.Schedule (words_of text)
   each_from (turn_at threads) 0 words
 
+-- a script has a member of this name
 abbrev pub is_known : List ℕ → Bool
 is_known name = bytes_eq name (codes "version") || bytes_eq name (codes "threads") || bytes_eq name (codes "schedule")
 
+-- a script has each of these members
 abbrev pub are_known : Members → Bool
 are_known no_members = true
 are_known (member name d ms) = is_known name && are_known ms
@@ -91,10 +97,12 @@ plan_in d = do
   schedule ← schedule_of (length threads) d
   Ok (record { threads = threads; schedule = schedule })
 
+-- the value that a JSON text gives, if it is one
 abbrev pub json_read : Option Data → Result Data Fault
 json_read None = Err NotJson
 json_read (Some d) = Ok d
 
+-- the value that bytes give, if they are a JSON text in UTF-8
 unfoldable pub json_of : List ℕ → Result Data Fault
 json_of bytes = if is_utf8 bytes then json_read (read bytes) else Err NotJson
 

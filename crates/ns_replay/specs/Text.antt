@@ -36,6 +36,7 @@ answer_text Met = codes "0"
 answer_text TimedOut = codes "ETIMEDOUT"
 answer_text Canceled = codes "ECANCELED"
 
+-- whether a note is notified
 abbrev pub truth_text : Bool → List ℕ
 truth_text true = codes "true"
 truth_text false = codes "false"
@@ -45,6 +46,7 @@ abbrev pub expiry_text : Option ℕ → List ℕ
 expiry_text None = codes "never"
 expiry_text (Some moment) = decimal moment
 
+-- what a call answered
 abbrev pub reply_text : Reply → List ℕ
 reply_text Succeeded = codes "ok"
 reply_text Busy = codes "busy"
@@ -56,10 +58,12 @@ reply_text (Expiry moment) = expiry_text moment
 reply_text (Answered answer) = answer_text answer
 reply_text Misuse = codes "misuse"
 
+-- the call was made, and had nothing else to answer
 abbrev pub is_ok : Reply → Bool
 is_ok Succeeded = true
 is_ok reply = false
 
+-- the call gives the lock back
 abbrev pub is_unlock : Option (Call ScriptCondition) → Bool
 is_unlock None = false
 is_unlock (Some Unlock) = true
@@ -79,6 +83,7 @@ tests_text asked threads line = if asked && is_ok line.reply && is_release threa
 abbrev pub line_text : Bool → List (List (Call ScriptCondition)) → Line → List ℕ
 line_text tests threads line = decimal line.thread ++ codes " " ++ decimal line.call ++ codes " " ++ reply_text line.reply ++ tests_text tests threads line ++ codes "\n"
 
+-- the lines of finished calls, in order
 abbrev pub lines_text : Bool → List (List (Call ScriptCondition)) → List Line → List ℕ
 lines_text tests threads lines = flat_map (line_text tests threads) lines
 
@@ -92,11 +97,13 @@ finished_calls lines thread = count_by (λ line. line.thread == thread) lines
 abbrev pub left_text : (ℕ → Bool) → List Line → ℕ → List ℕ
 left_text is_busy lines thread = if is_busy thread then decimal thread ++ codes " " ++ decimal (finished_calls lines thread) ++ codes " left\n" else []
 
+-- the lines of so many threads whose calls are in progress, by number
 abbrev pub lefts_text : (ℕ → Bool) → List Line → ℕ → List ℕ
 lefts_text is_busy lines threads = flat_map (left_text is_busy lines) (range_with_len 0 threads)
 
 -- ---- cells
 
+-- a cell of the row, after a space
 abbrev pub cell_text : ℕ → List ℕ
 cell_text cell = codes " " ++ decimal cell
 
@@ -106,6 +113,7 @@ row_text row = codes "row" ++ flat_map cell_text row ++ codes "\n"
 
 -- ---- events
 
+-- a number that is not the first
 abbrev pub after_comma : ℕ → List ℕ
 after_comma number = codes "," ++ decimal number
 
@@ -118,11 +126,13 @@ abbrev pub mode_text : Mode → List ℕ
 mode_text mode.Write = codes "w"
 mode_text mode.Read = codes "r"
 
+-- how a section began
 abbrev pub entry_text : Entry ScriptCondition → List ℕ
 entry_text Plain = codes "plain"
 entry_text (Waited condition answer) = codes "waited:" ++ condition_text condition ++ codes ":" ++ answer_text answer
 entry_text (AfterCv k answer) = codes "aftercv:" ++ decimal k ++ codes ":" ++ answer_text answer
 
+-- how a section ended
 abbrev pub exit_text : Exit ScriptCondition → List ℕ
 exit_text TheExit.Plain = codes "plain"
 exit_text (CondWait condition) = codes "cond:" ++ condition_text condition
@@ -141,6 +151,7 @@ some_numbers_text (n ∷ ns) = numbers_text (n ∷ ns)
 unfoldable pub seats_below : ℕ → Seats → List ℕ
 seats_below n seats = filter (is_in seats) (range_with_len 0 n)
 
+-- the seats of a set, ascending, or a dash for none
 abbrev pub seats_text : Seats → List ℕ
 seats_text seats = some_numbers_text (seats_below 64 seats)
 
@@ -148,6 +159,7 @@ seats_text seats = some_numbers_text (seats_below 64 seats)
 abbrev pub section_text : ℕ → Mode → Entry ScriptCondition → Exit ScriptCondition → List ℕ
 section_text who mode entry exit = codes "section " ++ decimal who ++ codes " " ++ mode_text mode ++ codes " " ++ entry_text entry ++ codes " " ++ exit_text exit
 
+-- the rows before and after a section
 abbrev pub rows_text : List ℕ → List ℕ → List ℕ
 rows_text before after = codes " " ++ numbers_text before ++ codes " " ++ numbers_text after
 
@@ -158,9 +170,11 @@ event_words (Signal who k woken) = codes "signal " ++ decimal who ++ codes " " +
 event_words (Broadcast who k woken) = codes "broadcast " ++ decimal who ++ codes " " ++ decimal k ++ codes " " ++ seats_text woken
 event_words (Leave who k) = codes "leave " ++ decimal who ++ codes " " ++ decimal k
 
+-- the line of an event
 abbrev pub event_text : Event ScriptCondition 8 → List ℕ
 event_text event = event_words event ++ codes "\n"
 
+-- the lines of events, in order
 abbrev pub events_text : List (Event ScriptCondition 8) → List ℕ
 events_text events = flat_map event_text events
 
@@ -174,6 +188,7 @@ history_text asked events = if asked then events_text events else []
 abbrev pub bit_text : List ℕ → Bool → List ℕ
 bit_text name set = if set then name else []
 
+-- the names of the bits that are set
 abbrev pub bits_text : Word → List ℕ
 bits_text word =
     bit_text (codes " write") word.write ++ bit_text (codes " spin") word.spin ++ bit_text (codes " wait") word.waiting
@@ -188,6 +203,7 @@ word_text word = codes "word" ++ bits_text word ++ codes " readers=" ++ decimal 
 abbrev pub waiter_text : Shown → List ℕ
 waiter_text waiter = codes " " ++ decimal waiter.seat ++ codes ":" ++ mode_text waiter.mode ++ bit_text (codes "?") waiter.conditional
 
+-- the waiters for the lock, front to back
 abbrev pub queue_text : List Shown → List ℕ
 queue_text waiters = codes "queue" ++ flat_map waiter_text waiters ++ codes "\n"
 
@@ -195,9 +211,11 @@ queue_text waiters = codes "queue" ++ flat_map waiter_text waiters ++ codes "\n"
 abbrev pub wake_text : ℕ × ℕ → List ℕ
 wake_text wake = codes "owed " ++ decimal wake.0 ++ codes ">" ++ decimal wake.1 ++ codes "\n"
 
+-- the lines of the wakes that are owed
 abbrev pub wakes_text : List (ℕ × ℕ) → List ℕ
 wakes_text wakes = flat_map wake_text wakes
 
+-- the lock word, the waiters and the wakes that are owed
 abbrev pub lock_text : Word → List Shown → List (ℕ × ℕ) → List ℕ
 lock_text word waiters wakes = word_text word ++ queue_text waiters ++ wakes_text wakes
 

@@ -1,10 +1,11 @@
 -- All the bytes of a source, and all the bytes to a sink.
-use Rattle.std.specs.Prelude.{◌≡◌, ℕ, ◌+◌, ◌%◌, ◌^◌, ◌<◌, ◌≤◌, ◌⊎◌, List, ◌++◌, length, Bool, true, Option, Result, Ok, Err}
+use Rattle.std.specs.Prelude.{◌≡◌, ℕ, ◌+◌, ◌<◌, ◌≤◌, ◌⊎◌, List, ◌++◌, length, Bool, true, false, Option, Result, Ok, Err}
 use Rattle.std.specs.Global.{Vec}
 use Rattle.std.specs.Io.KnownBytes.{Consumes, Appends, IsAtEnd}
 use Rattle.ns_replay.specs.declared.place.Place.TheVariants as at
 use Rattle.ns_replay.specs.declared.fault.Fault.{Fault}
 use Rattle.ns_replay.specs.declared.fault.Fault.TheVariants.{OutOfMemory, TooMany, Read}
+use Rattle.ns_replay.specs.Streams.{Counts}
 
 -- a script has at most 1 MiB
 abbrev pub max_bytes : ℕ
@@ -22,18 +23,40 @@ max_piece = 4096
 abbrev pub Gave : Option (List ℕ) → Option (List ℕ) → (List ℕ → Type 0) → Type 0
 Gave old new P = (bytes : List ℕ) × Consumes old new bytes × P bytes
 
+-- Before the last read, which gave so many of these bytes, no more had come than a script may have; and a read gives no more than it is asked for.
+pub record IsEnough (bytes : List ℕ) (last : ℕ) : Type 0 where
+  pub before : length bytes ≤ max_bytes + last
+  pub piece : length bytes ≤ max_bytes + max_piece
+
 -- what was read of a source: all of it, or as much as shows that it is too much
 abbrev pub Collects : List ℕ → Option (List ℕ) → Result (Vec ℕ) Fault → Type 0
 Collects bytes left (Ok v) = (v.items ≡ bytes) × (length bytes ≤ max_bytes) × IsAtEnd left
 Collects bytes left (Err OutOfMemory) = Unit {0}
-Collects bytes left (Err Read) = Unit {0}
-Collects bytes left (Err (TooMany at.Root)) = (max_bytes < length bytes) × (length bytes ≤ max_bytes + max_piece)
+Collects bytes left (Err Read) = length bytes ≤ max_bytes
+Collects bytes left (Err (TooMany at.Root)) = max_bytes < length bytes
 Collects bytes left (Err fault) = ⊥
+
+-- a source was asked no more often than it may be
+abbrev pub IsAskedEnough : ℕ → ℕ → Type 0
+IsAskedEnough before after = (times : ℕ) × (times ≤ max_reads) × Counts before after times
+
+-- how often the end came, where all was to be read
+abbrev pub ends_for : {A : Type 0} → Result A Fault → ℕ
+ends_for (Ok _) = 1
+ends_for (Err _) = 0
 
 -- a read failed, or the last read that is allowed was asked for
 abbrev pub IsReadFault : Bool → ℕ → ℕ → Type 0
-IsReadFault has_failed before after = (has_failed ≡ true) ⊎ (after % 2 ^ 64 ≡ (before + max_reads) % 2 ^ 64)
+IsReadFault has_failed before after = (has_failed ≡ true) ⊎ Counts before after max_reads
 
 -- a front of the bytes was taken, but not all
 abbrev pub WritesFront : Option (List ℕ) → Option (List ℕ) → List ℕ → Type 0
 WritesFront old new bytes = (front : List ℕ) × (rest : List ℕ) × (bytes ≡ front ++ rest) × (0 < length rest) × Appends old new front
+
+-- no write failed, and each took some byte
+abbrev pub IsFine : Bool → ℕ → ℕ → Type 0
+IsFine has_failed before after = (has_failed ≡ false) × Counts before after 0
+
+-- a write failed, or else one took no byte
+abbrev pub IsWriteFault : Bool → ℕ → ℕ → Type 0
+IsWriteFault has_failed before after = ((has_failed ≡ true) × Counts before after 0) ⊎ ((has_failed ≡ false) × Counts before after 1)

@@ -16,6 +16,7 @@ is_numeral word = all_ascii_digits word && nat_lt 0 (length word) && (length wor
 unfoldable pub number_of : List ℕ → Option ℕ
 number_of word = if is_numeral word && nat_lt (digits_value 10 word) (2 ^ 64) then Some (digits_value 10 word) else None
 
+-- a number, if it is below the limit
 abbrev pub below : ℕ → Option ℕ → Option ℕ
 below limit number = option_and_then (λ n. if nat_lt n limit then Some n else None) number
 
@@ -27,8 +28,10 @@ moment_of word = below (2 ^ 54) (number_of word)
 abbrev pub or_none : List ℕ → Option ℕ → Option (Option ℕ)
 or_none word number = if bytes_eq word (codes "-") then Some None else option_map (λ n. Some n) number
 
+-- a moment, or none for a dash
 abbrev pub moment_or_none_of : List ℕ → Option (Option ℕ)
 moment_or_none_of word = or_none word (moment_of word)
 
+-- the number of a note, or none for a dash
 abbrev pub note_or_none_of : List ℕ → Option (Option ℕ)
 note_or_none_of word = or_none word (below 64 (number_of word))

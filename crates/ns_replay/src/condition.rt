@@ -9,7 +9,9 @@ use std::fmt;
 /// `I>=V`: the cell is there, and at least the value.
 #[derive(Clone, Copy, Debug, PartialEq, Eq)]
 pub struct AtLeast {
+    /// The cell's number; a row need not have it.
     pub cell: u8,
+    /// The value that the cell has to have reached.
     pub least: u64,
 }
 
@@ -50,7 +52,9 @@ impl fmt::Display for AtLeast {
 /// declared quiet where no cell rose.
 #[derive(Clone, Copy, Debug, PartialEq, Eq)]
 pub struct ScriptCondition {
+    /// The part that each condition has.
     pub first: AtLeast,
+    /// The part behind `&`.
     pub second: Option<AtLeast>,
 }
 

@@ -4,6 +4,25 @@
 //! [`replay`] reads one from a [`Source`], runs it in a plain world of `ns_world`, and writes
 //! every answer to a [`Sink`]. Its contract says that what was written is the text of a run of
 //! the script that was read, and when each refusal comes.
+//!
+//! ```rust
+//! let script = b"{\"version\":1,\"threads\":[[\"trylock\",\"unlock\"]],\"schedule\":\"0!*2\"}";
+//! let options = Options {
+//!     history: true,
+//!     tests: false,
+//!     state: false,
+//!     limit: 1_000,
+//! };
+//! let mut text = Vec::new(rt.alloc()); // or `rt.stdout()`, over `rt.stdin()`
+//! let mut source = OverRead::new(script.as_slice());
+//! let mut sink = OverWrite::new(&mut text);
+//! match replay(rt.alloc(), &mut source, &mut sink, options) {
+//!     Ok(()) => {}
+//!     Err(Fault::Read | Fault::Write) => return Err(Fail::from("a stream failed")),
+//!     Err(fault) => rt.eprintln(fault)?, // `refused 7: bad script at /threads/0/1`
+//! }
+//! assert!(rt; text.starts_with(b"0 0 ok\n0 1 ok\n"));
+//! ```
 #![tactic(auto)]
 
 mod adapters;
@@ -22,7 +41,6 @@ mod waits;
 mod words;
 
 pub use adapters::{OverRead, OverWrite};
-pub use condition::{AtLeast, ScriptCondition};
 pub use fault::Fault;
 pub use options::Options;
 pub use place::Place;

@@ -3,9 +3,9 @@
 //! The source is read to its end, the script is read and run, and only then is anything
 //! written. Nothing else here takes memory.
 
-ghost use Rattle.std.specs.Prelude.{◌≡◌, ◌≢◌, ◌⊎◌, ◌≤◌, length, IfOk, IfErr, IsErrOf, true, false, string_bytes};
-ghost use Rattle.ns_replay.specs.Transfer.{Gave, IsReadFault};
-ghost use Rattle.ns_replay.specs.Replaying.{IsText, IsRefused, WasRead, Answers};
+ghost use Rattle.std.specs.Prelude.{◌≡◌, ◌≢◌, ◌≤◌, length, IfOk, IfErr, IsErrOf, OnOk, true, false, string_bytes};
+ghost use Rattle.ns_replay.specs.Transfer.{Gave, IsAskedEnough, IsEnough, IsFine, IsReadFault, IsWriteFault};
+ghost use Rattle.ns_replay.specs.Replaying.{Answers, Ended, IsText, IsRefused, WasRead};
 
 use crate::fault::Fault;
 use crate::options::Options;
@@ -48,14 +48,18 @@ pub fn replay<S: Source, W: Sink>(
     requires sink { W.has_failed sink.old ≡ false }
     // What was read gives what was answered and written, and nothing else was.
     ensures answers { Gave (S.to_come source.old) (S.to_come source.new) (λ bytes.
-        WasRead bytes (S.to_come source.new) result × Answers (W.taken sink.old) (W.taken sink.new) options bytes result) }
+        IsEnough bytes (S.last source.new) × WasRead bytes (S.to_come source.new) result × Answers (W.taken sink.old) (W.taken sink.new) options bytes result) }
     // Nothing is written before the whole run is made.
     ensures untouched { IfErr result (λ fault. fault ≢ Fault.Write → sink.new ≡ sink.old) }
+    // The source is asked no more often than it may be, and never after its end.
+    ensures asked { IsAskedEnough (S.asked source.old) (S.asked source.new) }
+    ensures ended { Ended (S.ends source.old) (S.ends source.new) result }
     ensures read_fault { IsErrOf result Fault.Read → IsReadFault (S.has_failed source.new) (S.asked source.old) (S.asked source.new) }
     // A read or a write that failed is answered, and not tried again.
     ensures failed_read { S.has_failed source.new ≡ true → IsErrOf result Fault.Read }
     ensures failed_write { W.has_failed sink.new ≡ true → IsErrOf result Fault.Write }
-    ensures write_fault { IsErrOf result Fault.Write → (W.has_failed sink.new ≡ true) ⊎ (W.is_stuck sink.new ≡ true) }
+    ensures fine { OnOk result (IsFine (W.has_failed sink.new) (W.stuck sink.old) (W.stuck sink.new)) }
+    ensures write_fault { IsErrOf result Fault.Write → IsWriteFault (W.has_failed sink.new) (W.stuck sink.old) (W.stuck sink.new) }
 {
     let bytes = collect_bytes(alloc, source)?;
     let text = text_for(alloc, &bytes, options)?;

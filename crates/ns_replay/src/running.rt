@@ -20,7 +20,9 @@ use std::alloc::{AllocError, Global};
 /// A run: its world after it, and the lines of the calls that it finished.
 #[derive(Drop)]
 pub struct Run {
+    /// The world as the run left it.
     pub world: World<ScriptCondition, 8>,
+    /// The finished calls, in the order in which they ended.
     pub lines: Vec<Line>,
 }
 

@@ -24,7 +24,9 @@ use std::alloc::{AllocError, Global};
 /// What to run: the calls of each thread, and whose turn it is.
 #[derive(Drop)]
 pub struct Script {
+    /// The calls of each thread, in order.
     pub threads: Vec<Vec<Call<ScriptCondition>>>,
+    /// Whose turn it is, item by item.
     pub schedule: Vec<Turn>,
 }
 

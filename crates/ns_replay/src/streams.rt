@@ -3,8 +3,8 @@
 //! The bytes that are still to come, and those that were taken, are ghost members, and are known
 //! only where the stream knows them. A replay claims nothing of the other bytes of the world.
 
-ghost use Rattle.std.specs.Prelude.{◌≡◌, ◌+◌, ◌%◌, ◌^◌, ◌||◌, ℕ, List, Bool, Option};
-ghost use Rattle.ns_replay.specs.Streams.{Reads, Writes, is_failure, takes_none, is_refusal};
+ghost use Rattle.std.specs.Prelude.{◌≡◌, ◌<◌, ℕ, List, Bool, Option, false, length};
+ghost use Rattle.ns_replay.specs.Streams.{Counts, Reads, Writes, ends_by, given, is_failure, is_refusal, stuck_by};
 
 /// What a read gave.
 #[derive(Clone, Copy, Debug, Drop, PartialEq, Eq)]
@@ -28,12 +28,22 @@ pub trait Source {
     /// How many reads were asked for, modulo 2^64.
     ghost asked: { Self → ℕ };
 
-    /// Reads some bytes into the buffer. It gives 0 bytes only at the end, or where the buffer
-    /// has no room.
+    /// How many of them gave the end, modulo 2^64.
+    ghost ends: { Self → ℕ };
+
+    /// How many bytes the last one gave.
+    ghost last: { Self → ℕ };
+
+    /// Reads some bytes into the buffer, and gives none only at the end. Needs room for some, and
+    /// that no read has failed.
     fn read(&mut self, buffer: &mut [u8]) -> Got
+        requires fine { has_failed self.old ≡ false }
+        requires room { 0 < length buffer.old }
         ensures bytes { Reads (to_come self.old) (to_come self.new) result buffer.new }
-        ensures failure { has_failed self.new ≡ (has_failed self.old || is_failure result) }
-        ensures count { asked self.new ≡ (asked self.old + 1) % 2 ^ 64 };
+        ensures failure { has_failed self.new ≡ is_failure result }
+        ensures count { Counts (asked self.old) (asked self.new) 1 }
+        ensures ended { Counts (ends self.old) (ends self.new) (ends_by result) }
+        ensures gave { last self.new ≡ given result };
 
     /// Whether a read has failed.
     fn failed(&self) -> bool
@@ -48,15 +58,18 @@ pub trait Sink {
     /// Whether a write has failed.
     ghost has_failed: { Self → Bool };
 
-    /// Whether the last write took no byte, and did not fail.
-    ghost is_stuck: { Self → Bool };
+    /// How many writes took no byte of those that they were offered, and did not fail, modulo 2^64.
+    ghost stuck: { Self → ℕ };
 
     /// Writes a front of the bytes, and answers how many it took, or `None` where the write
-    /// failed and took none. An interrupted write is a failed one.
+    /// failed and took none. An interrupted write is a failed one. Needs some bytes, and that no
+    /// write has failed.
     fn write(&mut self, bytes: &[u8]) -> Option<usize>
+        requires fine { has_failed self.old ≡ false }
+        requires some { 0 < length bytes.now }
         ensures bytes { Writes (taken self.old) (taken self.new) result bytes.now }
-        ensures failure { has_failed self.new ≡ (has_failed self.old || is_refusal result) }
-        ensures stuck { is_stuck self.new ≡ takes_none result };
+        ensures failure { has_failed self.new ≡ is_refusal result }
+        ensures count { Counts (stuck self.old) (stuck self.new) (stuck_by result) };
 
     /// Whether a write has failed.
     fn failed(&self) -> bool

@@ -1,11 +1,14 @@
 //! What no contract says: streams that fail at each place, and what memory there is. Scripts with
 //! their texts, and refusals at their places, are rows of ns_tests.
 
+mod errors;
+mod example;
 mod memory;
 mod worlds;
 
 use self::memory::{Expects, Interrupted, Pieces};
 use super::*;
+use crate::condition::{AtLeast, ScriptCondition};
 use ns_model::condition::Condition;
 use std::alloc::Global;
 use std::test::Fail;
@@ -124,6 +127,8 @@ fn interrupted(rt: HostRuntime) {
             is_next: true,
             always,
             asked: 0,
+            ends: 0,
+            last: 0,
         };
         let mut sink = Expects::new(written.as_bytes(), 4096, usize::MAX);
         let outcome = replay(rt.alloc(), &mut source, &mut sink, PLAIN);

@@ -1,8 +1,9 @@
 //! All the bytes of a source, and all the bytes to a sink.
 
-ghost use Rattle.std.specs.Prelude.{◌≡◌, ◌⊎◌, IfErr, OnOk, OnErr, IsErrOf, true, false};
+ghost use Rattle.std.specs.Prelude.{◌≡◌, IfErr, OnOk, OnErr, IsErrOf, true, false};
 ghost use Rattle.std.specs.Io.KnownBytes.{Appends};
-ghost use Rattle.ns_replay.specs.Transfer.{Collects, Gave, IsReadFault, WritesFront};
+ghost use Rattle.ns_replay.specs.Streams.{Counts};
+ghost use Rattle.ns_replay.specs.Transfer.{Collects, Gave, IsAskedEnough, IsEnough, IsFine, IsReadFault, IsWriteFault, WritesFront, ends_for};
 
 use crate::fault::Fault;
 use crate::place::Place;
@@ -18,10 +19,14 @@ const MAX_READS: u32 = 2_097_152;
 /// How many bytes a source is asked for.
 const PIECE: usize = 4096;
 
-/// All the bytes of a source. It is asked for no more as soon as too many have come.
+/// All the bytes of a source. It is asked for no more as soon as too many have come, and never
+/// again after its end.
 pub fn collect_bytes<S: Source>(alloc: Global, source: &mut S) -> Result<Vec<u8>, Fault>
     requires { S.has_failed source.old ≡ false }
-    ensures bytes { Gave (S.to_come source.old) (S.to_come source.new) (λ bytes. Collects bytes (S.to_come source.new) result) }
+    ensures bytes { Gave (S.to_come source.old) (S.to_come source.new) (λ bytes.
+        IsEnough bytes (S.last source.new) × Collects bytes (S.to_come source.new) result) }
+    ensures asked { IsAskedEnough (S.asked source.old) (S.asked source.new) }
+    ensures ended { Counts (S.ends source.old) (S.ends source.new) (ends_for result) }
     ensures read_fault { IsErrOf result Fault.Read → IsReadFault (S.has_failed source.new) (S.asked source.old) (S.asked source.new) }
     ensures failed { S.has_failed source.new ≡ true → IsErrOf result Fault.Read }
 {
@@ -47,9 +52,9 @@ pub fn collect_bytes<S: Source>(alloc: Global, source: &mut S) -> Result<Vec<u8>
 pub fn write_all<W: Sink>(sink: &mut W, bytes: &[u8]) -> Result<(), Fault>
     requires { W.has_failed sink.old ≡ false }
     ensures ok { OnOk result (Appends (W.taken sink.old) (W.taken sink.new) bytes.now) }
+    ensures fine { OnOk result (IsFine (W.has_failed sink.new) (W.stuck sink.old) (W.stuck sink.new)) }
     ensures err { OnErr result (WritesFront (W.taken sink.old) (W.taken sink.new) bytes.now) }
-    ensures failed { W.has_failed sink.new ≡ true → IsErrOf result Fault.Write }
-    ensures fault { IfErr result (λ fault. (fault ≡ Fault.Write) × ((W.has_failed sink.new ≡ true) ⊎ (W.is_stuck sink.new ≡ true))) }
+    ensures fault { IfErr result (λ fault. (fault ≡ Fault.Write) × IsWriteFault (W.has_failed sink.new) (W.stuck sink.old) (W.stuck sink.new)) }
 {
     let mut rest = bytes;
     while !rest.is_empty() {

@@ -13,6 +13,8 @@ pub struct Pieces<'a> {
     pub reads: usize,
     pub has_failed: bool,
     pub asked: u64,
+    pub ends: u64,
+    pub last: usize,
     ghost some_piece: { 1 ≤ piece },
 }
 
@@ -27,6 +29,8 @@ impl<'a> Pieces<'a> {
             reads,
             has_failed: false,
             asked: 0,
+            ends: 0,
+            last: 0,
         }
     }
 }
@@ -38,8 +42,13 @@ impl Source for Pieces<'_> {
 
     ghost asked = { λ s. s.asked };
 
+    ghost ends = { λ s. s.ends };
+
+    ghost last = { λ s. s.last };
+
     fn read(&mut self, buffer: &mut [u8]) -> Got {
         self.asked = self.asked.wrapping_add(1);
+        self.last = 0;
         if self.reads == 0 {
             self.has_failed = true;
             return Got::Failed;
@@ -48,6 +57,10 @@ impl Source for Pieces<'_> {
         let count = self.bytes.len().min(buffer.len()).min(self.piece);
         buffer[..count].copy_from_slice(&self.bytes[..count]);
         self.bytes = &self.bytes[count..];
+        self.last = count;
+        if count == 0 {
+            self.ends = self.ends.wrapping_add(1);
+        }
         Got::Bytes(count)
     }
 
@@ -63,6 +76,8 @@ pub struct Interrupted<'a> {
     pub is_next: bool,
     pub always: bool,
     pub asked: u64,
+    pub ends: u64,
+    pub last: usize,
 }
 
 impl Source for Interrupted<'_> {
@@ -72,8 +87,13 @@ impl Source for Interrupted<'_> {
 
     ghost asked = { λ s. s.asked };
 
+    ghost ends = { λ s. s.ends };
+
+    ghost last = { λ s. s.last };
+
     fn read(&mut self, buffer: &mut [u8]) -> Got {
         self.asked = self.asked.wrapping_add(1);
+        self.last = 0;
         if self.always || self.is_next {
             self.is_next = false;
             return Got::Interrupted;
@@ -82,6 +102,10 @@ impl Source for Interrupted<'_> {
         let count = self.bytes.len().min(buffer.len()).min(1);
         buffer[..count].copy_from_slice(&self.bytes[..count]);
         self.bytes = &self.bytes[count..];
+        self.last = count;
+        if count == 0 {
+            self.ends = self.ends.wrapping_add(1);
+        }
         Got::Bytes(count)
     }
 
@@ -101,7 +125,7 @@ pub struct Expects<'a> {
     /// Whether anything else was written.
     pub is_wrong: bool,
     pub has_failed: bool,
-    pub is_stuck: bool,
+    pub stuck: u64,
 }
 
 impl<'a> Expects<'a> {
@@ -114,7 +138,7 @@ impl<'a> Expects<'a> {
             writes,
             is_wrong: false,
             has_failed: false,
-            is_stuck: false,
+            stuck: 0,
         }
     }
 
@@ -129,10 +153,9 @@ impl Sink for Expects<'_> {
 
     ghost has_failed = { λ s. s.has_failed };
 
-    ghost is_stuck = { λ s. s.is_stuck };
+    ghost stuck = { λ s. s.stuck };
 
     fn write(&mut self, bytes: &[u8]) -> Option<usize> {
-        self.is_stuck = false;
         if self.writes == 0 {
             self.has_failed = true;
             return None;
@@ -144,7 +167,9 @@ impl Sink for Expects<'_> {
         } else {
             self.is_wrong = true;
         }
-        self.is_stuck = count == 0;
+        if count == 0 {
+            self.stuck = self.stuck.wrapping_add(1);
+        }
         Some(count)
     }
 

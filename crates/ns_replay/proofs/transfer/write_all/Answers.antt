@@ -1,7 +1,13 @@
-use Rattle.std.proofs.Common.{◌≡◌, ℕ, ◌-◌, List, ◌++◌, length, take, drop, sym, ap, ◌∙◌, append_assoc, take-append-drop, refl}
+use Rattle.std.proofs.Common.{◌≡◌, ℕ, ◌-◌, List, ◌++◌, length, take, drop, sym, ap, ◌∙◌, append_assoc, take-append-drop, refl, ◌<◌, zero, suc, Some, arith}
 use Rattle.std.proofs.lemmas.List.{take_rest}
 use Rattle.std.proofs.KnownBytes.{Appends-trans}
+use Rattle.ns_replay.specs.Streams.{Counts, stuck_by}
 use Rattle.ns_replay.proofs.transfer.write_all.Goals as goal
+
+-- a write that took some byte is counted as none
+not_stuck : (first old new n : ℕ) → 0 < n → Counts first old 0 → Counts old new (stuck_by (Some n)) → Counts first new 0
+not_stuck first old new zero some none one = absurd (omega arith)
+not_stuck first old new (suc n) some none one = omega arith
 
 moves_front : (all done rest : List ℕ) (n : ℕ) → all ≡ done ++ rest → all ≡ (done ++ take n rest) ++ take (length rest - n) (drop n rest)
 moves_front all done rest n e =
@@ -9,7 +15,7 @@ moves_front all done rest n e =
 
 pub loop-rest-preserved : goal.loop-rest-preserved
 loop-rest-preserved g c =
-    let (done, split, appended, fine) = c.loop-rest.invariant in
+    let (done, split, appended, fine, none) = c.loop-rest.invariant in
     let rest = c.loop-rest.rest.now in
     let n = c.in-Some.n in
-    (done ++ take n rest, moves_front _ done rest n split, Appends-trans _ _ _ _ _ appended c.in-Some.ensures.bytes.1, c.in-Some.ensures.failure ∙ rw fine refl)
+    (done ++ take n rest, moves_front _ done rest n split, Appends-trans _ _ _ _ _ appended c.in-Some.ensures.bytes.1, c.in-Some.ensures.failure, not_stuck _ _ _ n (omega arith) none c.in-Some.ensures.count)
