@@ -9,10 +9,11 @@ use Rattle.ns_model.proofs.Beginnings.{begins_itself, begins_more}
 use Rattle.ns_model.proofs.Environments.{env_from-append, legal_env_append, by_seats_append, env_own-mine, env_own-other, but_cases}
 use Rattle.ns_note.specs.declared.view.Making.{Making}
 use Rattle.ns_note.specs.declared.view.Making.TheVariants.{Nothing, Adding, Taken}
-use Rattle.ns_note.specs.declared.view.SeatView.{SeatView}
-use Rattle.ns_note.specs.Law.{Views, total, Every, tally, one_if, adds, is_adding, is_who, MakingFits, Fits, NoteFits, IsRuled}
+use Rattle.ns_note.specs.declared.view.EnvView.{EnvView}
+use Rattle.ns_model.specs.Tallies.{total, Every, one_if}
+use Rattle.ns_note.specs.Law.{Views, tally, adds, is_adding, is_who, MakingFits, Fits, NoteFits, IsRuled}
 use Rattle.ns_note.specs.Told.{Adds}
-use Rattle.ns_note.proofs.Tallies.{total_set, total_most, total_none, Others, every_at, others_of, others_both, others_map, others_none, every_put}
+use Rattle.ns_model.proofs.Tallies.{total_set, total_most, total_none, Others, every_at, others_of, others_both, others_map, others_none, every_put}
 
 pub after_one : (h : List EnvEvent) (e : EnvEvent) → env_after (h ++ e ∷ []) ≡ env_next (env_after h) e
 after_one h e = env_from-append first_env h (e ∷ [])
@@ -21,13 +22,13 @@ abbrev pub NotesAre : List ℕ → EnvStanding → Type 0
 NotesAre notes now = (n : ℕ) → n < 64 → NoteFits (get_or notes n 0) (now.notes n)
 
 -- the view with what it is about, what it has seen and what it did
-abbrev pub view_with : SeatView → Making → List EnvEvent → List EnvEvent → SeatView
+abbrev pub view_with : EnvView → Making → List EnvEvent → List EnvEvent → EnvView
 view_with v making seen mine = record { limit = v.limit; who = v.who; making = making; seen = seen; mine = mine }
 
-who_one : (who : ℕ) (v : SeatView) → v.who ≡ who → is_who who v ≡ 1
+who_one : (who : ℕ) (v : EnvView) → v.who ≡ who → is_who who v ≡ 1
 who_one who v is = ap one_if (eq-eqb v.who who is)
 
-apart_of : (who : ℕ) (u : SeatView) → is_who who u ≡ 0 → who ≢ u.who
+apart_of : (who : ℕ) (u : EnvView) → is_who who u ≡ 0 → who ≢ u.who
 apart_of who u z e = let o = who_one who u (sym e) in omega arith
 
 adds_most : (m : Making) → adds m ≤ 1
@@ -62,7 +63,7 @@ making_stays h e who Nothing apart l f = tt
 making_stays h e who Adding apart l f = tt
 making_stays h e who (Taken n) apart l f = subst (λ (now : EnvStanding). (now.takers n ≡ Some who) × ((now.notes n).made ≡ false) × (n < now.takes)) (sym (after_one h e)) (taken_stays (env_after h) e who n apart l f.0 f.1 f.2)
 
-fits_stays : (limit : ℕ) (h : List EnvEvent) (e : EnvEvent) (u : SeatView) → IsLegalEnvEvent (env_after h) e → Fits limit h u → env_who e ≢ u.who → Fits limit (h ++ e ∷ []) u
+fits_stays : (limit : ℕ) (h : List EnvEvent) (e : EnvEvent) (u : EnvView) → IsLegalEnvEvent (env_after h) e → Fits limit h u → env_who e ≢ u.who → Fits limit (h ++ e ∷ []) u
 fits_stays limit h e u l f apart = record {
   limited = f.limited;
   below = f.below;
@@ -72,7 +73,7 @@ fits_stays limit h e u l f apart = record {
   making = making_stays h e u.who u.making apart l f.making;
 }
 
-module _ (limit clock next : ℕ) (notes : List ℕ) (views : Views) (h : List EnvEvent) (l : IsRuled limit clock next notes views h) (id : ℕ) (v : SeatView) (at : get_elem? views id ≡ some (v ∷ [])) where
+module _ (limit clock next : ℕ) (notes : List ℕ) (views : Views) (h : List EnvEvent) (l : IsRuled limit clock next notes views h) (id : ℕ) (v : EnvView) (at : get_elem? views id ≡ some (v ∷ [])) where
   -- what the rule says of the one who steps
   pub its_fit : Fits limit h v
   its_fit = (every_at (Every (Fits limit h)) views id (v ∷ []) l.each at).0
@@ -88,12 +89,12 @@ module _ (limit clock next : ℕ) (notes : List ℕ) (views : Views) (h : List E
   others_fit : (e : EnvEvent) → env_who e ≡ v.who → IsLegalEnvEvent (env_after h) e → Others (Every (Fits limit (h ++ e ∷ []))) id views
   others_fit e is le = others_both (Every (Fits limit h)) (Every (λ u. is_who v.who u ≡ 0)) (Every (Fits limit (h ++ e ∷ []))) (λ us f z. each us f z) views id others_same others_apart
     where
-      each : (us : List SeatView) → Every (Fits limit h) us → Every (λ u. is_who v.who u ≡ 0) us → Every (Fits limit (h ++ e ∷ [])) us
+      each : (us : List EnvView) → Every (Fits limit h) us → Every (λ u. is_who v.who u ≡ 0) us → Every (Fits limit (h ++ e ∷ [])) us
       each [] f z = tt
       each (u ∷ us) f z = (fits_stays limit h e u le f.0 (λ same. apart_of v.who u z.0 (sym is ∙ same)), each us f.1 z.1)
 
   -- the rule after a step with the view w after it
-  keep : (w : SeatView) (clock' next' : ℕ) (notes' : List ℕ) (h' : List EnvEvent) → w.who ≡ v.who → clock' ≡ clock_of h' → clock' < 2 ^ 54 → takes_in h' ≡ min next' 64 → next' + tally is_adding (set views id (w ∷ [])) ≤ 127 → length notes' ≡ 64 → NotesAre notes' (env_after h')
+  keep : (w : EnvView) (clock' next' : ℕ) (notes' : List ℕ) (h' : List EnvEvent) → w.who ≡ v.who → clock' ≡ clock_of h' → clock' < 2 ^ 54 → takes_in h' ≡ min next' 64 → next' + tally is_adding (set views id (w ∷ [])) ≤ 127 → length notes' ≡ 64 → NotesAre notes' (env_after h')
       → IsLegalEnv h' → IsEnvBySeats limit h' → Others (Every (Fits limit h')) id views → Fits limit h' w → IsRuled limit clock' next' notes' (set views id (w ∷ [])) h'
   keep w clock' next' notes' h' same clock_is moment takes_are room width notes_are legal by_seats others mine = record {
     clock_is = clock_is;
@@ -102,7 +103,7 @@ module _ (limit clock next : ℕ) (notes : List ℕ) (views : Views) (h : List E
     room = room;
     width = width;
     notes_are = notes_are;
-    seats = let s = total_set (total (λ (u : SeatView). 1)) views id (v ∷ []) (w ∷ []) at in let was = l.seats in omega arith;
+    seats = let s = total_set (total (λ (u : EnvView). 1)) views id (v ∷ []) (w ∷ []) at in let was = l.seats in omega arith;
     few = l.few;
     once = λ x. let s = total_set (total (is_who x)) views id (v ∷ []) (w ∷ []) at in let was = l.once x in let e : is_who x w ≡ is_who x v = ap (λ (k : ℕ). one_if (eqb k x)) same in omega arith;
     legal = legal;
@@ -111,17 +112,17 @@ module _ (limit clock next : ℕ) (notes : List ℕ) (views : Views) (h : List E
   }
 
   -- a step that makes no seat more go to take a number leaves as much room as there was
-  pub room_stays : (w : SeatView) (taken : ℕ) → taken + is_adding w ≤ is_adding v → next + taken + tally is_adding (set views id (w ∷ [])) ≤ 127
+  pub room_stays : (w : EnvView) (taken : ℕ) → taken + is_adding w ≤ is_adding v → next + taken + tally is_adding (set views id (w ∷ [])) ≤ 127
   room_stays w taken less = let s = total_set (total is_adding) views id (v ∷ []) (w ∷ []) at in let was = l.room in omega arith
 
   -- while the next number is below 64, every seat may go and take one
-  pub room_below : (w : SeatView) → next < 64 → next + tally is_adding (set views id (w ∷ [])) ≤ 127
-  room_below w below = let s = total_set (total (λ (u : SeatView). 1)) views id (v ∷ []) (w ∷ []) at in let was = l.seats in let few = l.few in
-      let most : tally is_adding (set views id (w ∷ [])) ≤ tally (λ _. 1) (set views id (w ∷ [])) = total_most (total is_adding) (total (λ (u : SeatView). 1)) (λ us. total_most is_adding (λ _. 1) (λ u. adds_most u.making) us) (set views id (w ∷ [])) in omega arith
+  pub room_below : (w : EnvView) → next < 64 → next + tally is_adding (set views id (w ∷ [])) ≤ 127
+  room_below w below = let s = total_set (total (λ (u : EnvView). 1)) views id (v ∷ []) (w ∷ []) at in let was = l.seats in let few = l.few in
+      let most : tally is_adding (set views id (w ∷ [])) ≤ tally (λ _. 1) (set views id (w ∷ [])) = total_most (total is_adding) (total (λ (u : EnvView). 1)) (λ us. total_most is_adding (λ _. 1) (λ u. adds_most u.making) us) (set views id (w ∷ [])) in omega arith
 
   -- ---- a step with no event: the seat sees the history
 
-  abbrev pub looked : Making → SeatView
+  abbrev pub looked : Making → EnvView
   looked m = view_with v m h v.mine
 
   pub looks : (m : Making) (next' : ℕ) → takes_in h ≡ min next' 64 → MakingFits h v.who m → next' + tally is_adding (set views id (looked m ∷ [])) ≤ 127 → IsRuled limit clock next' notes (set views id (looked m ∷ [])) h
@@ -136,7 +137,7 @@ module _ (limit clock next : ℕ) (notes : List ℕ) (views : Views) (h : List E
 
   -- ---- a step with one event of the seat's own
 
-  abbrev pub done : EnvEvent → Making → SeatView
+  abbrev pub done : EnvEvent → Making → EnvView
   done e m = view_with v m (h ++ e ∷ []) (v.mine ++ e ∷ [])
 
   legal_more : (e : EnvEvent) → IsLegalEnvEvent (env_after h) e → IsLegalEnv (h ++ e ∷ [])

@@ -4,5 +4,4 @@ pub mod Lines
 pub mod Looks
 pub mod Rests
 pub mod Seats
-pub mod Tallies
 pub mod Turns

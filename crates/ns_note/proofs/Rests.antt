@@ -12,12 +12,12 @@ use Rattle.ns_note.specs.declared.note.Note.{Note}
 use Rattle.ns_note.specs.declared.note.NoteWord.{NoteWord}
 use Rattle.ns_note.specs.Words.{note_of}
 use Rattle.ns_note.specs.declared.view.Making.TheVariants.{Nothing}
-use Rattle.ns_note.specs.declared.view.SeatView.{SeatView}
+use Rattle.ns_note.specs.declared.view.EnvView.{EnvView}
 use Rattle.ns_note.specs.Known.{EnvKnown, known_of, the, IsOne, IsTrueToHistory, IsAtRest, Grows}
 use Rattle.ns_note.specs.Told.{Adds, Added, HasTaken, FoundFull}
 
 -- the seat is at rest again
-pub rests : {S : Type 0} (env : TableId) (es : List EnvEvent) (me now : Me S (List SeatView)) → me.1 ≡ [] → IsOne now.0 → now.1 ≡ me.1 → (the now.0).making ≡ Nothing → Adds es (the me.0) (the now.0) → IsAtRest env now
+pub rests : {S : Type 0} (env : TableId) (es : List EnvEvent) (me now : Me S (List EnvView)) → me.1 ≡ [] → IsOne now.0 → now.1 ≡ me.1 → (the now.0).making ≡ Nothing → Adds es (the me.0) (the now.0) → IsAtRest env now
 rests env es me now empty one same idle a = record { one = one; empty = same ∙ empty; idle = idle; true_to = (a.grows env).true_to }
 
 -- no table in particular: what a step tells is the same for any
@@ -25,7 +25,7 @@ nowhere : TableId
 nowhere = record { words = 0; slots = 0; views_name = 0; atom = 0; block = 0; offset = 0; slot_names = [] }
 
 -- what its caller knows has grown
-pub grew : (k : EnvKnown) (env env' : TableId) (es : List EnvEvent) (v w : SeatView) → known_of env v ≡ k → env' ≡ env → Adds es v w → Grows k (known_of env' w)
+pub grew : (k : EnvKnown) (env env' : TableId) (es : List EnvEvent) (v w : EnvView) → known_of env v ≡ k → env' ≡ env → Adds es v w → Grows k (known_of env' w)
 grew k env env' es v w is same a = subst (λ (z : EnvKnown × TableId). Grows z.0 (known_of z.1 w)) (λ i. (is i, sym same i)) (a.grows env)
 
 pub grows_through : (a b c : EnvKnown) → Grows a b → Grows b c → Grows a c
@@ -35,7 +35,7 @@ pub grows_not : (k : EnvKnown) → IsTrueToHistory k → Grows k k
 grows_not k t = record { env = refl; limit = refl; who = refl; begins = begins_itself k.seen; true_to = t }
 
 -- two steps
-pub adds_through : (es fs : List EnvEvent) (u v w : SeatView) → Adds es u v → Adds fs v w → Adds (es ++ fs) u w
+pub adds_through : (es fs : List EnvEvent) (u v w : EnvView) → Adds es u v → Adds fs v w → Adds (es ++ fs) u w
 adds_through es fs u v w a b = record {
   grows = λ env. grows_through (known_of env u) (known_of env v) (known_of env w) (a.grows env) (b.grows env);
   mine = b.mine ∙ (ap (λ (l : List EnvEvent). l ++ fs) a.mine ∙ append_assoc u.mine es fs);
@@ -58,18 +58,18 @@ grows_since a b c s g = record { env = g.env ∙ s.env; limit = g.limit ∙ s.li
 pub since_grows : (a b c : EnvKnown) → IsSince a b → Grows b c → c.mine ≡ b.mine → IsSince a c
 since_grows a b c s g m = record { env = g.env ∙ s.env; limit = g.limit ∙ s.limit; who = g.who ∙ s.who; begins = begins_through c.seen b.seen a.seen g.begins s.begins; mine = m ∙ s.mine }
 
-pub has_taken : (number : ℕ) (v u w : SeatView) → Adds [] v u → number < 64 → Added number u w → HasTaken number v w
+pub has_taken : (number : ℕ) (v u w : EnvView) → Adds [] v u → number < 64 → Added number u w → HasTaken number v w
 has_taken number v u w a below b = let t = b.0 below in let g = a.grows nowhere in let who : u.who ≡ v.who = g.who in
     let grown = (grown_begins u.seen v.seen g.true_to.legal g.begins).takes in let least = t.2 in
     (below, subst (λ (k : ℕ). Adds (Take k number ∷ []) v w) who (adds_through [] (Take u.who number ∷ []) v u w a t.0), t.1, omega arith)
 
-pub found_full : (number : ℕ) (v u w : SeatView) → Adds [] v u → 64 ≤ number → Added number u w → FoundFull v w
+pub found_full : (number : ℕ) (v u w : EnvView) → Adds [] v u → 64 ≤ number → Added number u w → FoundFull v w
 found_full number v u w a most b = let t = b.1 most in (adds_through [] [] v u w a t.0, t.1, t.2)
 
 -- ---- a note is made
 
 -- a number is taken, and then its note is made
-pub adds_note : (number place : ℕ) (word : ℕ) (note : NoteWord) (v u w : SeatView) → Adds (Take v.who number ∷ []) v u → Adds (New u.who place (note_of word).parent (note_of word).deadline ∷ []) u w → place ≡ number → note_of word ≡ note
+pub adds_note : (number place : ℕ) (word : ℕ) (note : NoteWord) (v u w : EnvView) → Adds (Take v.who number ∷ []) v u → Adds (New u.who place (note_of word).parent (note_of word).deadline ∷ []) u w → place ≡ number → note_of word ≡ note
     → Adds (Take v.who number ∷ New v.who number note.parent note.deadline ∷ []) v w
 adds_note number place word note v u w a b is told = let who : u.who ≡ v.who = (a.grows nowhere).who in
     adds_through (Take v.who number ∷ []) (New v.who number note.parent note.deadline ∷ []) v u w a (subst (λ (z : ℕ × ℕ × NoteWord). Adds (New z.0 z.1 z.2.parent z.2.deadline ∷ []) u w) (λ i. (who i, is i, told i)) b)
@@ -80,7 +80,7 @@ numbers_fit None = tt
 numbers_fit (Some n) = n.in_range
 
 -- a parent that was seen made has a smaller number than one that is taken later
-pub parent_above : (o : Option Note) (number : ℕ) (v w : SeatView) → HasTaken number v w → IsLegalEnv v.seen → IfSome o (λ p. IsMade v.seen p.index) → IfSome (option_map (λ n. n.index) o) (λ p. IsMade w.seen p × (p < number))
+pub parent_above : (o : Option Note) (number : ℕ) (v w : EnvView) → HasTaken number v w → IsLegalEnv v.seen → IfSome o (λ p. IsMade v.seen p.index) → IfSome (option_map (λ n. n.index) o) (λ p. IsMade w.seen p × (p < number))
 parent_above None number v w t l made = tt
 parent_above (Some n) number v w t l made = let g = t.1.grows nowhere in let below = (sound_after v.seen l).made n.index made in let least = t.3 in (made_begins w.seen v.seen n.index g.true_to.legal g.begins made, omega arith)
 

@@ -15,12 +15,13 @@ use Rattle.ns_model.specs.Environments.{IsEnvBySeats, env_own}
 use Rattle.ns_model.proofs.Beginnings.{begins_itself, begins_either, begins_both}
 use Rattle.ns_model.proofs.Environments.{env_own-append}
 use Rattle.ns_note.specs.declared.view.Making.{Making}
-use Rattle.ns_note.specs.declared.view.SeatView.{SeatView}
+use Rattle.ns_note.specs.declared.view.EnvView.{EnvView}
 use Rattle.ns_note.specs.Known.{EnvKnown, known, known_of, the, the_second, IsOne, ArePair, SawAllOf, AreOfOneHistory, AreNew}
-use Rattle.ns_note.specs.Law.{Views, total, Every, tally, one_if, adds, is_adding, is_who, Fits, IsRuled, fresh_seat, fresh, first_of, rest_of, HoldsAt, Holds}
+use Rattle.ns_model.specs.Tallies.{total, Every, one_if}
+use Rattle.ns_note.specs.Law.{Views, tally, adds, is_adding, is_who, Fits, IsRuled, fresh_seat, fresh, first_of, rest_of, HoldsAt, Holds}
 use Rattle.ns_note.specs.Told.{Adds, HaveLearned, Learned}
 use Rattle.ns_note.proofs.Keeps.{view_with}
-use Rattle.ns_note.proofs.Tallies.{total_set, total-append, every_at, others_of, every_put, every-append}
+use Rattle.ns_model.proofs.Tallies.{total_set, total-append, every_at, others_of, every_put, every-append}
 
 -- the rule reads the views by sums, and by what holds of each
 same_counts : (limit c x : ℕ) (notes : List ℕ) (views views' : Views) (h : List EnvEvent) → IsRuled limit c x notes views h → ((f : ℕ → Making → ℕ) → tally (λ v. f v.who v.making) views' ≡ tally (λ v. f v.who v.making) views) → Every (Every (Fits limit h)) views'
@@ -40,29 +41,29 @@ same_counts limit c x notes views views' h l same each = record {
   each = each;
 }
 
-cut_total : (f : SeatView → ℕ) (vs : List SeatView) → total f (rest_of vs) + total f (first_of vs) ≡ total f vs
+cut_total : (f : EnvView → ℕ) (vs : List EnvView) → total f (rest_of vs) + total f (first_of vs) ≡ total f vs
 cut_total f [] = refl
 cut_total f (v ∷ vs) = omega arith
 
-cut_every : (P : SeatView → Type 0) (vs : List SeatView) → Every P vs → Every P (rest_of vs) × Every P (first_of vs)
+cut_every : (P : EnvView → Type 0) (vs : List EnvView) → Every P vs → Every P (rest_of vs) × Every P (first_of vs)
 cut_every P [] h = (tt, tt)
 cut_every P (v ∷ vs) h = (h.1, (h.0, tt))
 
-cuts_at : (limit id : ℕ) (ws : List ℕ) (views : Views) (vs : List SeatView) → HoldsAt limit ws views → get_elem? views id ≡ some vs → HoldsAt limit ws (set views id (rest_of vs) ++ first_of vs ∷ [])
+cuts_at : (limit id : ℕ) (ws : List ℕ) (views : Views) (vs : List EnvView) → HoldsAt limit ws views → get_elem? views id ≡ some vs → HoldsAt limit ws (set views id (rest_of vs) ++ first_of vs ∷ [])
 cuts_at limit id [] views vs h at = absurd h
 cuts_at limit id (c ∷ []) views vs h at = absurd h
 cuts_at limit id (c ∷ x ∷ notes) views vs h at = let P = Fits limit h.0 in let l = h.1 in let own = cut_every P vs (every_at (Every P) views id vs l.each at) in (
   h.0,
   same_counts limit c x notes views (set views id (rest_of vs) ++ first_of vs ∷ []) h.0 l
-      (λ g. let f : SeatView → ℕ = λ v. g v.who v.making in let a = total-append (total f) (set views id (rest_of vs)) (first_of vs ∷ []) in let b = total_set (total f) views id vs (rest_of vs) at in let d = cut_total f vs in omega arith)
+      (λ g. let f : EnvView → ℕ = λ v. g v.who v.making in let a = total-append (total f) (set views id (rest_of vs)) (first_of vs ∷ []) in let b = total_set (total f) views id vs (rest_of vs) at in let d = cut_total f vs in omega arith)
       (every-append (Every P) (set views id (rest_of vs)) (first_of vs ∷ []) (every_put (Every P) views id (rest_of vs) (others_of (Every P) views id l.each) own.0) (own.1, tt)),
 )
 
 -- the first seat of a view may go to a seat of its own
-pub cuts : (S : Type 0) (limit id : ℕ) (vs : List SeatView) → Splits (Holds {S = S} limit) id vs (rest_of vs) (first_of vs)
+pub cuts : (S : Type 0) (limit id : ℕ) (vs : List EnvView) → Splits (Holds {S = S} limit) id vs (rest_of vs) (first_of vs)
 cuts S limit id vs s h at = cuts_at limit id s.words s.views vs h at
 
-glues_at : (limit id other : ℕ) (ws : List ℕ) (views : Views) (vs us : List SeatView) → HoldsAt limit ws views → get_elem? views id ≡ some vs → get_elem? (set views id (vs ++ us)) other ≡ some us → ¬ (other ≡ id)
+glues_at : (limit id other : ℕ) (ws : List ℕ) (views : Views) (vs us : List EnvView) → HoldsAt limit ws views → get_elem? views id ≡ some vs → get_elem? (set views id (vs ++ us)) other ≡ some us → ¬ (other ≡ id)
     → HoldsAt limit ws (set (set views id (vs ++ us)) other [])
 glues_at limit id other [] views vs us h at there apart = absurd h
 glues_at limit id other (c ∷ []) views vs us h at there apart = absurd h
@@ -71,12 +72,12 @@ glues_at limit id other (c ∷ x ∷ notes) views vs us h at there apart = let P
     let mine = every_at (Every P) views id vs l.each at in (
       h.0,
       same_counts limit c x notes views (set one other []) h.0 l
-          (λ g. let f : SeatView → ℕ = λ v. g v.who v.making in let a = total-append f vs us in let b = total_set (total f) views id vs (vs ++ us) at in let d = total_set (total f) one other us [] there in omega arith)
+          (λ g. let f : EnvView → ℕ = λ v. g v.who v.making in let a = total-append f vs us in let b = total_set (total f) views id vs (vs ++ us) at in let d = total_set (total f) one other us [] there in omega arith)
           (every_put (Every P) one other [] (others_of (Every P) one other (every_put (Every P) views id (vs ++ us) (others_of (Every P) views id l.each) (every-append P vs us mine theirs))) tt),
     )
 
 -- two seats may be joined
-pub glues : (S : Type 0) (limit id other : ℕ) (vs us : List SeatView) → Joins (Holds {S = S} limit) id vs other us (vs ++ us) []
+pub glues : (S : Type 0) (limit id other : ℕ) (vs us : List EnvView) → Joins (Holds {S = S} limit) id vs other us (vs ++ us) []
 glues S limit id other vs us s h at apart there = glues_at limit id other s.words s.views vs us h at there apart
 
 -- ---- two that are joined see one history
@@ -88,20 +89,20 @@ own_begins l p who b = (env_own b.0 who, ap (λ (k : List EnvEvent). env_own k w
 own_between : (h k p mine : List EnvEvent) (who : ℕ) → BeginsWith h k → BeginsWith k p → env_own h who ≡ mine → env_own p who ≡ mine → env_own k who ≡ mine
 own_between h k p mine who b d most least = begins_both (env_own k who) mine (subst (BeginsWith (env_own k who)) least (own_begins k p who d)) (subst (λ (z : List EnvEvent). BeginsWith z (env_own k who)) most (own_begins h k who b))
 
-one_history : (limit : ℕ) (h : List EnvEvent) (a b : SeatView) (env : TableId) → Fits limit h a → Fits limit h b → AreOfOneHistory (known_of env a) (known_of env b)
+one_history : (limit : ℕ) (h : List EnvEvent) (a b : EnvView) (env : TableId) → Fits limit h a → Fits limit h b → AreOfOneHistory (known_of env a) (known_of env b)
 one_history limit h a b env f g = ⊎_elim
     (λ (t : BeginsWith a.seen b.seen). let r : SawAllOf (known_of env a) (known_of env b) = record { begins = t; own = f.mine_seen; theirs = own_between h a.seen b.seen b.mine b.who f.seen t g.mine g.mine_seen } in inl r)
     (λ (t : BeginsWith b.seen a.seen). let r : SawAllOf (known_of env b) (known_of env a) = record { begins = t; own = g.mine_seen; theirs = own_between h b.seen a.seen a.mine a.who g.seen t f.mine f.mine_seen } in inr r)
     (begins_either h a.seen b.seen f.seen g.seen)
 
 module _ (limit c x : ℕ) (notes : List ℕ) (views : Views) (h : List EnvEvent) (l : IsRuled limit c x notes views h) where
-  abbrev seen_now : SeatView → SeatView
+  abbrev seen_now : EnvView → EnvView
   seen_now v = view_with v v.making h v.mine
 
-  fits_now : (v : SeatView) → Fits limit h v → Fits limit h (seen_now v)
+  fits_now : (v : EnvView) → Fits limit h v → Fits limit h (seen_now v)
   fits_now v f = record { limited = f.limited; below = f.below; seen = begins_itself h; mine = f.mine; mine_seen = f.mine; making = f.making }
 
-  tells_now : (v : SeatView) → Fits limit h v → Adds [] v (seen_now v)
+  tells_now : (v : EnvView) → Fits limit h v → Adds [] v (seen_now v)
   tells_now v f = record {
     grows = λ env. record { env = refl; limit = refl; who = refl; begins = f.seen; true_to = record { legal = l.legal; by_seats = subst (λ (k : ℕ). IsEnvBySeats k h) (sym f.limited) l.by_seats; own = f.mine } };
     mine = sym (append-nil v.mine);
@@ -109,7 +110,7 @@ module _ (limit c x : ℕ) (notes : List ℕ) (views : Views) (h : List EnvEvent
 
 module _ (S : Type 0) (limit id : ℕ) where
   abbrev V : Type 0
-  V = List SeatView
+  V = List EnvView
 
   learn_at : (ws : List ℕ) (views : Views) (vs : V) (cs : List (ℕ × S)) → ArePair vs → HoldsAt limit ws views → get_elem? views id ≡ some vs → (w : V) × HoldsAt limit ws (set views id w) × Learned (vs, cs) (w, cs)
   learn_at [] views vs cs two h at = absurd h
@@ -122,7 +123,7 @@ module _ (S : Type 0) (limit id : ℕ) where
         both,
         (
           k,
-          same_counts limit c x notes views (set views id both) k l (λ g. let f : SeatView → ℕ = λ v. g v.who v.making in let t = total_set (total f) views id (a ∷ b ∷ []) both at in omega arith)
+          same_counts limit c x notes views (set views id both) k l (λ g. let f : EnvView → ℕ = λ v. g v.who v.making in let t = total_set (total f) views id (a ∷ b ∷ []) both at in omega arith)
               (every_put (Every P) views id both (others_of (Every P) views id l.each) (fits_now limit c x notes views k l a own.0, (fits_now limit c x notes views k l b own.1.0, tt))),
         ),
         (tt, refl, record { first = tells_now limit c x notes views k l a own.0; second = tells_now limit c x notes views k l b own.1.0; first_making = refl; second_making = refl; same = refl; before = λ env. one_history limit k a b env own.0 own.1.0 }),
@@ -132,10 +133,10 @@ module _ (S : Type 0) (limit id : ℕ) where
   learns slots me two s h _ at _ = let t = learn_at s.words s.views me.0 me.1 two h at in
       (t.0, keeps, tt, subst (λ (ws : List ℕ). HoldsAt limit ws (set s.views id t.0)) (sym (set-get_or s.words 0 0)) t.1, t.2)
 
-pub pair_of : (vs us ws : List SeatView) → IsOne vs → IsOne us → ws ≡ vs ++ us → ArePair ws
+pub pair_of : (vs us ws : List EnvView) → IsOne vs → IsOne us → ws ≡ vs ++ us → ArePair ws
 pair_of vs us ws one two is = subst ArePair (sym is) (pair vs us one two)
   where
-    pair : (vs us : List SeatView) → IsOne vs → IsOne us → ArePair (vs ++ us)
+    pair : (vs us : List EnvView) → IsOne vs → IsOne us → ArePair (vs ++ us)
     pair [] us one two = absurd one
     pair (v ∷ x ∷ xs) us one two = absurd one
     pair (v ∷ []) [] one two = absurd two
@@ -144,11 +145,11 @@ pair_of vs us ws one two is = subst ArePair (sym is) (pair vs us one two)
 
 -- ---- a table at its start
 
-fresh_total : (f : SeatView → ℕ) (limit from k : ℕ) → ((w : ℕ) → f (fresh_seat limit w) ≡ 0) → total f (fresh limit from k) ≡ 0
+fresh_total : (f : EnvView → ℕ) (limit from k : ℕ) → ((w : ℕ) → f (fresh_seat limit w) ≡ 0) → total f (fresh limit from k) ≡ 0
 fresh_total f limit from zero h = refl
 fresh_total f limit from (suc k) h = let a = h from in let b = fresh_total f limit (suc from) k h in omega arith
 
-fresh_count : (limit from k : ℕ) → total (λ (v : SeatView). 1) (fresh limit from k) ≡ k
+fresh_count : (limit from k : ℕ) → total (λ (v : EnvView). 1) (fresh limit from k) ≡ k
 fresh_count limit from zero = refl
 fresh_count limit from (suc k) = let b = fresh_count limit (suc from) k in omega arith
 
@@ -207,7 +208,7 @@ new_more limit env from [] k f is = (is ∙ ap (λ (i : ℕ). known env limit i 
 new_more limit env from (x ∷ xs) k f is = (f.0, new_more limit env (suc from) xs k f.1 (is ∙ ap (λ (i : ℕ). known env limit i [] []) (omega arith)))
 
 -- what two seats know once they were joined, have learned and are split again
-pub meets : (vs us ws xs a b : List SeatView) → IsOne vs → IsOne us → ws ≡ vs ++ us → ArePair xs → HaveLearned (the ws) (the_second ws) (the xs) (the_second xs) → a ≡ first_of xs → b ≡ rest_of xs → IsOne a × IsOne b × HaveLearned (the vs) (the us) (the a) (the b)
+pub meets : (vs us ws xs a b : List EnvView) → IsOne vs → IsOne us → ws ≡ vs ++ us → ArePair xs → HaveLearned (the ws) (the_second ws) (the xs) (the_second xs) → a ≡ first_of xs → b ≡ rest_of xs → IsOne a × IsOne b × HaveLearned (the vs) (the us) (the a) (the b)
 meets [] us ws xs a b one two e pair h x y = absurd one
 meets (v ∷ z ∷ zs) us ws xs a b one two e pair h x y = absurd one
 meets (v ∷ []) [] ws xs a b one two e pair h x y = absurd two
@@ -215,4 +216,4 @@ meets (v ∷ []) (u ∷ z ∷ zs) ws xs a b one two e pair h x y = absurd two
 meets (v ∷ []) (u ∷ []) ws [] a b one two e pair h x y = absurd pair
 meets (v ∷ []) (u ∷ []) ws (p ∷ []) a b one two e pair h x y = absurd pair
 meets (v ∷ []) (u ∷ []) ws (p ∷ q ∷ r ∷ rs) a b one two e pair h x y = absurd pair
-meets (v ∷ []) (u ∷ []) ws (p ∷ q ∷ []) a b one two e pair h x y = subst (λ (z : List SeatView × List SeatView). IsOne z.0 × IsOne z.1 × HaveLearned v u (the z.0) (the z.1)) (λ i. (sym x i, sym y i)) (tt, tt, subst (λ (k : List SeatView). HaveLearned (the k) (the_second k) p q) e h)
+meets (v ∷ []) (u ∷ []) ws (p ∷ q ∷ []) a b one two e pair h x y = subst (λ (z : List EnvView × List EnvView). IsOne z.0 × IsOne z.1 × HaveLearned v u (the z.0) (the z.1)) (λ i. (sym x i, sym y i)) (tt, tt, subst (λ (k : List EnvView). HaveLearned (the k) (the_second k) p q) e h)

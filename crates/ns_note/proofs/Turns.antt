@@ -12,7 +12,7 @@ use Rattle.ns_model.specs.Environments.{NoteStanding, EnvStanding, IsLegalEnvEve
 use Rattle.ns_model.proofs.Environments.{IsSound, sound_after, grown_begins, made_begins, but_cases, but-here}
 use Rattle.ns_note.specs.declared.note.NoteWord.{NoteWord}
 use Rattle.ns_note.specs.declared.view.Making.TheVariants.{Nothing, Adding, Taken}
-use Rattle.ns_note.specs.declared.view.SeatView.{SeatView}
+use Rattle.ns_note.specs.declared.view.EnvView.{EnvView}
 use Rattle.ns_note.specs.Words.{WordFits, word_of, note_of}
 use Rattle.ns_note.specs.Known.{the, IsOne}
 use Rattle.ns_note.specs.Law.{Views, adds, MakingFits, note_word, NoteFits, IsRuled, HoldsAt, Holds}
@@ -41,16 +41,16 @@ unmade now n s h = by_cases (now.notes n).made (λ e. s.made n e)
 
 module _ (S : Type 0) (limit id : ℕ) where
   abbrev V : Type 0
-  V = List SeatView
+  V = List EnvView
 
   -- what is owed of a step that leaves the words ws'
   abbrev Owes : Views → List (ℕ × S) → List ℕ → (Me S V → Type 0) → Type 0
   Owes views cs ws' then = (w : V) × HoldsAt limit ws' (set views id w) × then (w, cs)
 
   -- the seat with the view v may make a step that changes the word i by f, and tells this of the number found
-  abbrev pub Turns : ℕ → (ℕ → ℕ) → (ℕ → Tells) → SeatView → Type 0
+  abbrev pub Turns : ℕ → (ℕ → ℕ) → (ℕ → Tells) → EnvView → Type 0
   Turns i f tells v = (c x : ℕ) (notes : List ℕ) (views : Views) (h : _) (l : IsRuled limit c x notes views h) → get_elem? views id ≡ some (v ∷ [])
-      → (w : SeatView) × HoldsAt limit (set (c ∷ x ∷ notes) i (f (get_or (c ∷ x ∷ notes) i 0))) (set views id (w ∷ [])) × tells (get_or (c ∷ x ∷ notes) i 0) v w
+      → (w : EnvView) × HoldsAt limit (set (c ∷ x ∷ notes) i (f (get_or (c ∷ x ∷ notes) i 0))) (set views id (w ∷ [])) × tells (get_or (c ∷ x ∷ notes) i 0) v w
 
   turn_at : (i : ℕ) (f : ℕ → ℕ) (tells : ℕ → Tells) (ws : List ℕ) (views : Views) (vs : V) (cs : List (ℕ × S)) → IsOne vs → Turns i f tells (the vs) → HoldsAt limit ws views → get_elem? views id ≡ some vs
       → Owes views cs (set ws i (f (get_or ws i 0))) (Stepped (tells (get_or ws i 0)) (vs, cs))
@@ -72,7 +72,7 @@ module _ (S : Type 0) (limit id : ℕ) where
     (tells_look limit c x notes views h l id v at m, refl, l.clock_is, l.moment),
   ))
 
-  turns_next : (v : SeatView) → v.making ≡ Nothing → Turns 1 (λ n. n) LoadedNext v
+  turns_next : (v : EnvView) → v.making ≡ Nothing → Turns 1 (λ n. n) LoadedNext v
   turns_next v idle c x notes views h l at = let takes_are = l.takes_are in dite (dec_le 64 x)
       (λ full. let w = looked limit c x notes views h l id v at Nothing in (
         w,
@@ -101,7 +101,7 @@ module _ (S : Type 0) (limit id : ℕ) where
   small : (x : ℕ) → x ≤ 127 → (x + 1) % 2 ^ 64 ≡ x + 1
   small x h = omega arith
 
-  turns_add : (v : SeatView) → v.making ≡ Adding → Turns 1 (λ n. (n + 1) % 2 ^ 64) Added v
+  turns_add : (v : EnvView) → v.making ≡ Adding → Turns 1 (λ n. (n + 1) % 2 ^ 64) Added v
   turns_add v goes c x notes views h l at = let takes_are = l.takes_are in let room = l.room in let one : adds v.making ≡ 1 = ap adds goes in let wide = small x (omega arith) in dite (dec_le 64 x)
       (λ full. let w = looked limit c x notes views h l id v at Nothing in let takes : takes_in h ≡ min (x + 1) 64 = omega arith in (
         w,
@@ -133,7 +133,7 @@ module _ (S : Type 0) (limit id : ℕ) where
       (λ here. let within : n < length notes = omega arith in subst (λ (k : ℕ). NoteFits (get_or (set notes n word) k 0) note) (sym here) (rw get_or-set_same fits))
       (λ apart. rw get_or-set_other (are m below))
 
-  turns_make : (v : SeatView) (n word : ℕ) (note : NoteWord) → v.making ≡ Taken n → note.made ≡ true → note.notified ≡ false → word ≡ word_of note → WordFits note → IfSome note.parent (λ p. IsMade v.seen p × (p < n))
+  turns_make : (v : EnvView) (n word : ℕ) (note : NoteWord) → v.making ≡ Taken n → note.made ≡ true → note.notified ≡ false → word ≡ word_of note → WordFits note → IfSome note.parent (λ p. IsMade v.seen p × (p < n))
       → Turns (n + 2) (λ _. word) (λ _. Made ((n + 2) - 2) word) v
   turns_make v n word note taken made unnotified is small_enough above c x notes views h l at =
       let f = its_fit limit c x notes views h l id v at in let t = subst (MakingFits h v.who) taken f.making in let e = New v.who n note.parent note.deadline in let now = env_after h in
@@ -157,7 +157,7 @@ module _ (S : Type 0) (limit id : ℕ) where
 
   -- ---- a note is notified
 
-  turns_mark : (v : SeatView) (n : ℕ) → v.making ≡ Nothing → n < 64 → IsMade v.seen n → Turns (n + 2) (λ k. bit_or k 1) (λ _. NotifiedNote ((n + 2) - 2)) v
+  turns_mark : (v : EnvView) (n : ℕ) → v.making ≡ Nothing → n < 64 → IsMade v.seen n → Turns (n + 2) (λ k. bit_or k 1) (λ _. NotifiedNote ((n + 2) - 2)) v
   turns_mark v n idle below seen c x notes views h l at =
       let f = its_fit limit c x notes views h l id v at in let e = Notify v.who n in let now = env_after h in let legal = made_begins h v.seen n l.legal f.seen seen in
       let w = done limit c x notes views h l id v at e Nothing in let old = get_or notes n 0 in let was = l.notes_are n below in
@@ -177,7 +177,7 @@ module _ (S : Type 0) (limit id : ℕ) where
 
   -- ---- the clock is moved
 
-  turns_move : (v : SeatView) (to : ℕ) → v.making ≡ Nothing → to < 2 ^ 54 → Turns 0 (λ k. max k to) (λ _. AdvancedClock to) v
+  turns_move : (v : EnvView) (to : ℕ) → v.making ≡ Nothing → to < 2 ^ 54 → Turns 0 (λ k. max k to) (λ _. AdvancedClock to) v
   turns_move v to idle below c x notes views h l at = let e = Advance v.who to in let w = done limit c x notes views h l id v at e Nothing in (
     w,
     (h ++ e ∷ [], does limit c x notes views h l id v at e Nothing (max c to) x notes refl tt tt (ap (λ (k : ℕ). max k to) l.clock_is) (let was = l.moment in omega arith) l.takes_are (let r = room_stays limit c x notes views h l id v at w 0 (omega arith) in omega arith) l.width l.notes_are),

@@ -6,7 +6,7 @@ use Rattle.ns_model.specs.declared.environment.EnvEvent.{EnvEvent}
 use Rattle.ns_model.specs.Beginnings.{BeginsWith}
 use Rattle.ns_model.specs.Environments.{IsLegalEnv, IsEnvBySeats, env_own}
 use Rattle.ns_note.specs.declared.view.Making.TheVariants.{Nothing}
-use Rattle.ns_note.specs.declared.view.SeatView.{SeatView}
+use Rattle.ns_note.specs.declared.view.EnvView.{EnvView}
 
 -- what contracts see of a seat: its environment, how many seats that has, its own number, the history that it has seen, and its own events
 pub record EnvKnown : Type 0 where
@@ -21,27 +21,27 @@ abbrev pub known : TableId → ℕ → ℕ → List EnvEvent → List EnvEvent �
 known env limit who seen mine = record { env = env; limit = limit; who = who; seen = seen; mine = mine }
 
 -- what a seat with this view shows of itself
-abbrev pub known_of : TableId → SeatView → EnvKnown
+abbrev pub known_of : TableId → EnvView → EnvKnown
 known_of env view = known env view.limit view.who view.seen view.mine
 
 -- the seat that a view stands for, where it is one
-abbrev pub the : List SeatView → SeatView
+abbrev pub the : List EnvView → EnvView
 the [] = record { limit = 0; who = 0; making = Nothing; seen = []; mine = [] }
 the (view ∷ views) = view
 
 -- the other of two seats that a view stands for, where there are two
-abbrev pub the_second : List SeatView → SeatView
+abbrev pub the_second : List EnvView → EnvView
 the_second [] = the []
 the_second (view ∷ views) = the views
 
 -- the view stands for one seat alone
-abbrev pub IsOne : List SeatView → Type 0
+abbrev pub IsOne : List EnvView → Type 0
 IsOne [] = ⊥
 IsOne (view ∷ []) = Unit {0}
 IsOne (view ∷ other ∷ views) = ⊥
 
 -- the view stands for two seats
-abbrev pub ArePair : List SeatView → Type 0
+abbrev pub ArePair : List EnvView → Type 0
 ArePair [] = ⊥
 ArePair (view ∷ views) = IsOne views
 
@@ -52,7 +52,7 @@ pub record IsTrueToHistory (k : EnvKnown) : Type 0 where
   pub own : env_own k.seen k.who ≡ k.mine
 
 -- a seat between its calls: it stands for itself alone, holds nothing of the table and makes no note
-pub record IsAtRest {S : Type 0} (env : TableId) (me : Me S (List SeatView)) : Type 0 where
+pub record IsAtRest {S : Type 0} (env : TableId) (me : Me S (List EnvView)) : Type 0 where
   pub one : IsOne me.0
   pub empty : me.1 ≡ []
   pub idle : (the me.0).making ≡ Nothing

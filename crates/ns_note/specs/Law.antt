@@ -3,35 +3,21 @@ use Rattle.std.specs.Prelude.{◌≡◌, ℕ, suc, zero, ◌+◌, ◌^◌, ◌<�
 use Rattle.atomic_table.specs.Table.{State}
 use Rattle.ns_model.specs.declared.environment.EnvEvent.{EnvEvent}
 use Rattle.ns_model.specs.Beginnings.{BeginsWith}
+use Rattle.ns_model.specs.Tallies.{total, one_if, Every}
 use Rattle.ns_model.specs.Environments.{NoteStanding, IsLegalEnv, env_after, clock_of, takes_in, is_made, env_own, IsEnvBySeats}
 use Rattle.ns_note.specs.declared.note.NoteWord.{NoteWord}
 use Rattle.ns_note.specs.declared.view.Making.{Making}
 use Rattle.ns_note.specs.declared.view.Making.TheVariants.{Nothing, Adding, Taken}
-use Rattle.ns_note.specs.declared.view.SeatView.{SeatView}
+use Rattle.ns_note.specs.declared.view.EnvView.{EnvView}
 use Rattle.ns_note.specs.Words.{WordFits, word_of}
 
 -- what all seats know, a list for each seat of the table
 abbrev pub Views : Type 0
-Views = List (List SeatView)
-
--- the sum of a number over a list
-abbrev pub total : {A : Type 0} → (A → ℕ) → List A → ℕ
-total f [] = 0
-total f (x ∷ xs) = f x + total f xs
-
--- a fact of each element of a list
-abbrev pub Every : {A : Type 0} → (A → Type 0) → List A → Type 0
-Every P [] = Unit {0}
-Every P (x ∷ xs) = P x × Every P xs
+Views = List (List EnvView)
 
 -- a sum over all seats
-abbrev pub tally : (SeatView → ℕ) → Views → ℕ
+abbrev pub tally : (EnvView → ℕ) → Views → ℕ
 tally f views = total (total f) views
-
--- 1 where it is so, and else 0
-abbrev pub one_if : Bool → ℕ
-one_if true = 1
-one_if false = 0
 
 -- 1 for a seat that goes to take a number
 abbrev pub adds : Making → ℕ
@@ -40,11 +26,11 @@ adds Adding = 1
 adds (Taken note) = 0
 
 -- 1 for a seat that goes to take a number
-abbrev pub is_adding : SeatView → ℕ
+abbrev pub is_adding : EnvView → ℕ
 is_adding view = adds view.making
 
 -- 1 for the seat of this number
-abbrev pub is_who : ℕ → SeatView → ℕ
+abbrev pub is_who : ℕ → EnvView → ℕ
 is_who who view = one_if (view.who == who)
 
 -- a number that a seat has taken is its own, and its note isn't made yet
@@ -54,7 +40,7 @@ MakingFits h who Adding = Unit {0}
 MakingFits h who (Taken note) = ((env_after h).takers note ≡ Some who) × (is_made h note ≡ false) × (note < takes_in h)
 
 -- what one of so many seats knows fits the history: it has seen a beginning of it, which has all of its own events
-pub record Fits (limit : ℕ) (h : List EnvEvent) (view : SeatView) : Type 0 where
+pub record Fits (limit : ℕ) (h : List EnvEvent) (view : EnvView) : Type 0 where
   pub limited : view.limit ≡ limit
   pub below : view.who < limit
   pub seen : BeginsWith h view.seen
@@ -87,21 +73,21 @@ pub record IsRuled (limit clock next : ℕ) (notes : List ℕ) (views : Views) (
   pub each : Every (Every (Fits limit h)) views
 
 -- the seats from a number on, so many of them, of which none has made a step
-abbrev pub fresh_seat : ℕ → ℕ → SeatView
+abbrev pub fresh_seat : ℕ → ℕ → EnvView
 fresh_seat limit who = record { limit = limit; who = who; making = Nothing; seen = []; mine = [] }
 
 -- the first views of so many seats, from a number on
-abbrev pub fresh : ℕ → ℕ → ℕ → List SeatView
+abbrev pub fresh : ℕ → ℕ → ℕ → List EnvView
 fresh limit from zero = []
 fresh limit from (suc k) = fresh_seat limit from ∷ fresh limit (suc from) k
 
 -- the first seat of a view, alone, and the rest
-abbrev pub first_of : List SeatView → List SeatView
+abbrev pub first_of : List EnvView → List EnvView
 first_of [] = []
 first_of (v ∷ vs) = v ∷ []
 
 -- the seats of a view but the first
-abbrev pub rest_of : List SeatView → List SeatView
+abbrev pub rest_of : List EnvView → List EnvView
 rest_of [] = []
 rest_of (v ∷ vs) = vs
 
@@ -112,5 +98,5 @@ HoldsAt limit (clock ∷ []) views = ⊥
 HoldsAt limit (clock ∷ next ∷ notes) views = (h : List EnvEvent) × IsRuled limit clock next notes views h
 
 -- The rule of a table with so many seats.
-abbrev pub Holds : {S : Type 0} → ℕ → State S (List SeatView) → Type 0
+abbrev pub Holds : {S : Type 0} → ℕ → State S (List EnvView) → Type 0
 Holds limit s = HoldsAt limit s.words s.views

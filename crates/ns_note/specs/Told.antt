@@ -6,22 +6,22 @@ use Rattle.ns_model.specs.declared.environment.EnvEvent.{EnvEvent}
 use Rattle.ns_model.specs.declared.environment.EnvEvent.TheVariants.{Take, New, Notify, Advance}
 use Rattle.ns_model.specs.Environments.{env_after, clock_of, takes_in, IsMade}
 use Rattle.ns_note.specs.declared.view.Making.TheVariants.{Nothing, Adding, Taken}
-use Rattle.ns_note.specs.declared.view.SeatView.{SeatView}
+use Rattle.ns_note.specs.declared.view.EnvView.{EnvView}
 use Rattle.ns_note.specs.Words.{note_of}
 use Rattle.ns_note.specs.Law.{NoteFits}
 use Rattle.ns_note.specs.Known.{known_of, the, the_second, IsOne, ArePair, Grows, AreOfOneHistory}
 
 -- what a step tells of the seat's view before and after it
 abbrev pub Tells : Type 1
-Tells = SeatView → SeatView → Type 0
+Tells = EnvView → EnvView → Type 0
 
 -- a step of one seat, with these events of its own
-pub record Adds (events : List EnvEvent) (v w : SeatView) : Type 0 where
+pub record Adds (events : List EnvEvent) (v w : EnvView) : Type 0 where
   pub grows : (env : TableId) → Grows (known_of env v) (known_of env w)
   pub mine : w.mine ≡ v.mine ++ events
 
 -- the seat stands for itself alone before and after, and holds what it held
-abbrev pub Stepped : {S : Type 0} → Tells → Me S (List SeatView) → Me S (List SeatView) → Type 0
+abbrev pub Stepped : {S : Type 0} → Tells → Me S (List EnvView) → Me S (List EnvView) → Type 0
 Stepped tells me now = IsOne now.0 × (now.1 ≡ me.1) × tells (the me.0) (the now.0)
 
 -- the clock was loaded
@@ -54,7 +54,7 @@ abbrev pub AdvancedClock : ℕ → Tells
 AdvancedClock to v w = Adds (Advance v.who to ∷ []) v w × (w.making ≡ v.making)
 
 -- two seats that are joined have seen the history so far
-pub record HaveLearned (a b a' b' : SeatView) : Type 0 where
+pub record HaveLearned (a b a' b' : EnvView) : Type 0 where
   pub first : Adds [] a a'
   pub second : Adds [] b b'
   pub first_making : a'.making ≡ a.making
@@ -63,7 +63,7 @@ pub record HaveLearned (a b a' b' : SeatView) : Type 0 where
   pub before : (env : TableId) → AreOfOneHistory (known_of env a) (known_of env b)
 
 -- two seats that stand together have learned the history so far, and hold what they held
-abbrev pub Learned : {S : Type 0} → Me S (List SeatView) → Me S (List SeatView) → Type 0
+abbrev pub Learned : {S : Type 0} → Me S (List EnvView) → Me S (List EnvView) → Type 0
 Learned me now = ArePair now.0 × (now.1 ≡ me.1) × HaveLearned (the me.0) (the_second me.0) (the now.0) (the_second now.0)
 
 -- the seat has taken this number, which is past all that it had seen taken

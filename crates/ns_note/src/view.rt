@@ -15,7 +15,7 @@ pub enum Making {
 
 /// What one seat knows: how many seats its environment has, its own number, the history that it
 /// has seen, and its own events in it.
-pub struct SeatView {
+pub struct EnvView {
     /// How many seats the environment has.
     pub limit: u8,
     /// The seat's own number.
@@ -29,4 +29,4 @@ pub struct SeatView {
 }
 
 /// The seats that a seat of the table stands for: one, but for while seats are split or joined.
-pub type View = LinkedList<SeatView>;
+pub type View = LinkedList<EnvView>;

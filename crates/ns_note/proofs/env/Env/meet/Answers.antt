@@ -1,16 +1,16 @@
 use Rattle.std.proofs.Common.{ℕ, List, rules, ap, sym, subst, ◌∙◌}
 use Rattle.atomic_table.specs.Table.{Me}
 use Rattle.atomic_table.specs.Seated.{TableId}
-use Rattle.ns_note.specs.declared.view.SeatView.{SeatView}
+use Rattle.ns_note.specs.declared.view.EnvView.{EnvView}
 use Rattle.ns_note.specs.Known.{EnvKnown, known_of, the, Grows, AreOfOneHistory}
 use Rattle.ns_note.proofs.Rests.{grew}
 use Rattle.ns_note.proofs.Seats.{glues, cuts, learns, pair_of, meets}
 use Rattle.ns_note.proofs.env.Env.meet.Goals as goal
 
-abbrev views : {S : Type 0} → Me S (List SeatView) → List SeatView
+abbrev views : {S : Type 0} → Me S (List EnvView) → List EnvView
 views m = m.0
 
-abbrev held : {S : Type 0} → Me S (List SeatView) → List (ℕ × S)
+abbrev held : {S : Type 0} → Me S (List EnvView) → List (ℕ × S)
 held m = m.1
 
 pub join_seat-requires : goal.join_seat-requires

@@ -1,13 +1,13 @@
 use Rattle.std.proofs.Common.{rules, arith, ap, sym, subst, refl, ◌∙◌, ◌≡◌, ◌+◌, ◌<◌, ℕ, List, [], ◌∷◌, length, length-append}
 use Rattle.atomic_table.specs.Table.{Me}
-use Rattle.ns_note.specs.declared.view.SeatView.{SeatView}
+use Rattle.ns_note.specs.declared.view.EnvView.{EnvView}
 use Rattle.ns_note.specs.Law.{first_of, rest_of}
 use Rattle.ns_note.specs.Known.{the, IsAtRest, AreNew, known, known_of}
 use Rattle.ns_note.proofs.Seats.{begins_with, cuts, fresh_first, fresh_rest, new_more}
 use Rattle.ns_note.proofs.env.Env.new.Goals as goal
 
 abbrev Seated : Type 0
-Seated = Me (Unit {0}) (List SeatView)
+Seated = Me (Unit {0}) (List EnvView)
 
 pub of_words-requires : goal.of_words-requires
 of_words-requires c = begins_with c.args.seats _ (omega arith) refl
@@ -17,12 +17,12 @@ split_seat-seat-requires c = (search rules, search rules, cuts _ _ _ _)
 
 pub seated-requires : goal.seated-requires
 seated-requires c = let n = c.args.seats in let i = c.loop-who._who in let lt : i < n = omega arith in
-    let is = c.split_seat-seat.ensures.4 ∙ ap (λ (vs : List SeatView). (vs, [])) (ap first_of c.loop-who.invariant.1 ∙ fresh_first n i lt) in
+    let is = c.split_seat-seat.ensures.4 ∙ ap (λ (vs : List EnvView). (vs, [])) (ap first_of c.loop-who.invariant.1 ∙ fresh_first n i lt) in
     subst (λ (m : Seated). IsAtRest c.split_seat-seat.result.table_id m) (sym is) (record { one = tt; empty = refl; idle = refl; true_to = record { legal = tt; by_seats = tt; own = refl } })
 
 pub loop-who-preserved : goal.loop-who-preserved
 loop-who-preserved c = let v = c.loop-who.invariant in let n = c.args.seats in let i = c.loop-who._who in let lt : i < n = omega arith in let s = c.split_seat-seat.ensures in let p = c.in_ok-add.ensures in let t = c.in_ok-table.rest.table_id in
-    let is = ap (λ (m : Seated). the m.0) (s.4 ∙ ap (λ (vs : List SeatView). (vs, [])) (ap first_of v.1 ∙ fresh_first n i lt)) in
+    let is = ap (λ (m : Seated). the m.0) (s.4 ∙ ap (λ (vs : List EnvView). (vs, [])) (ap first_of v.1 ∙ fresh_first n i lt)) in
     let k : c.seated.result ≡ known t n i [] [] = c.seated.ensures ∙ (λ j. known_of ((s.3 ∙ v.0) j) (is j)) in
     let e : i ≡ 0 + length c.loop-who.given.items = omega arith in (
       s.0 ∙ v.0,

@@ -4,7 +4,7 @@ use Rattle.ns_model.specs.Environments.{IsMade}
 use Rattle.ns_note.specs.declared.note.Note.{Note}
 use Rattle.ns_note.specs.declared.note.NoteWord.{NoteWord}
 use Rattle.ns_note.specs.declared.view.Making.TheVariants.{Taken}
-use Rattle.ns_note.specs.declared.view.SeatView.{SeatView}
+use Rattle.ns_note.specs.declared.view.EnvView.{EnvView}
 use Rattle.ns_note.specs.Words.{WordFits, word_of, note_of}
 use Rattle.ns_note.specs.Known.{EnvKnown, the}
 use Rattle.ns_note.specs.Told.{Adds}
@@ -30,7 +30,7 @@ store-requires c = let e = c.in_ok-index.ensures in let note = new_note c.index_
     (search rules, search rules, makes _ _ _ _ c.from.result c.encode_note-word.result note c.take_number.new.seat.me e.seat.1 (e.taken.2 ∙ ap Taken (sym c.from.ensures)) refl refl c.encode_note-word.ensures fits above)
 
 -- the two events of a call that made a note
-both_added : (parent : Option Note) (deadline : Option ℕ) (above : Option ℕ) (number index word : ℕ) (v u w : SeatView) → above ≡ option_map (λ n. n.index) parent → IfSome deadline (λ d. d < 2 ^ 54) → word ≡ word_of (new_note above deadline) → number ≡ index
+both_added : (parent : Option Note) (deadline : Option ℕ) (above : Option ℕ) (number index word : ℕ) (v u w : EnvView) → above ≡ option_map (λ n. n.index) parent → IfSome deadline (λ d. d < 2 ^ 54) → word ≡ word_of (new_note above deadline) → number ≡ index
     → Adds (Take v.who index ∷ []) v u → Adds (New u.who ((number + 2) - 2) (note_of word).parent (note_of word).deadline ∷ []) u w → Adds (Take v.who index ∷ New v.who index (option_map (λ n. n.index) parent) deadline ∷ []) v w
 both_added parent deadline above number index word v u w is below coded same a b = let fits : WordFits (new_note above deadline) = (subst (λ (o : Option ℕ). IfSome o (λ p. p < 64)) (sym is) (numbers_fit parent), below) in
     subst (λ (o : Option ℕ). Adds (Take v.who index ∷ New v.who index o deadline ∷ []) v w) is (adds_note index ((number + 2) - 2) word (new_note above deadline) v u w a b (back number ∙ same) (ap note_of coded ∙ note_of-word_of (new_note above deadline) fits))
