@@ -47,7 +47,7 @@ module _ {C : Type 0} {N : ℕ} where
   look_keeps (Over reply) old new seat step h = absurd h
 
   moves_keep : (old new : Now C N) (seat : ℕ) (step : Step) → Moves old new seat step → seats_of new ≡ seats_of old
-  moves_keep old new seat step (inl (goes, unasked)) = goes_keeps old new seat step goes
+  moves_keep old new seat step (inl acts) = goes_keeps old new seat step acts.goes
   moves_keep old new seat step (inr (inl asks)) = ap seats_of asks.others
   moves_keep old new seat step (inr (inr looks)) = look_keeps (env_got_of looks.place looks.found) old new seat step looks.goes
 
@@ -104,13 +104,13 @@ items_in seats (turn ∷ turns) h =
 
 -- ---- why a run fails
 
-no_seat : {C : Type 0} {N : ℕ} (limit : ℕ) (now : Now C N) (made seats : ℕ) (left : List Item) → length now.state.views ≡ seats → AllByRecursion (λ item. item.seat < seats) left → StopsFor limit now made left world.NoSuchSeat → ⊥
-no_seat limit now made seats [] same each h = h
-no_seat limit now made seats (item ∷ left) same each h = absurd (omega (arith, same, each.0, h))
+no_seat : {C : Type 0} {N : ℕ} (limit : ℕ) (now : Now C N) (made seats : ℕ) (turns : List Turned) (left : List Item) → length now.state.views ≡ seats → AllByRecursion (λ item. item.seat < seats) left → StopsFor limit now made turns left world.NoSuchSeat → ⊥
+no_seat limit now made seats turns [] same each h = h
+no_seat limit now made seats turns (item ∷ left) same each h = absurd (omega (arith, same, each.0, h))
 
-no_room : {C : Type 0} {N : ℕ} (limit : ℕ) (now : Now C N) (made : ℕ) (left : List Item) → StopsFor limit now made left world.TooManySeats → ⊥
-no_room limit now made [] h = h
-no_room limit now made (item ∷ left) h = h
+no_room : {C : Type 0} {N : ℕ} (limit : ℕ) (now : Now C N) (made : ℕ) (turns : List Turned) (left : List Item) → StopsFor limit now made turns left world.TooManySeats → ⊥
+no_room limit now made turns [] h = h
+no_room limit now made turns (item ∷ left) h = h
 
 seat_there : (limit : ℕ) (plan : Plan) (now : Now ScriptCondition 8) → IsRunnable plan → RunFault plan.threads plan.schedule limit (world_for plan) now world.NoSuchSeat → ⊥
 seat_there limit plan now runnable stops =
@@ -118,14 +118,14 @@ seat_there limit plan now runnable stops =
     let kept = turns_keep plan.threads (start (world_for plan)) stops.advances.turns stops.end stops.advances.made in
     let same : length now.state.views ≡ length plan.threads = ap (λ (w : Now ScriptCondition 8). length w.state.views) (sym stops.here) ∙ kept ∙ first in
     let items = items_in (length plan.threads) plan.schedule (recursion_from_All _ _ runnable.in_range) in
-    no_seat limit now stops.after (length plan.threads) stops.left same (rest_each _ (items_of plan.schedule) stops.advances.turns stops.left stops.advances.rest (recursion_from_All _ _ items)) stops.why
+    no_seat limit now stops.after (length plan.threads) stops.advances.turns stops.left same (rest_each _ (items_of plan.schedule) stops.advances.turns stops.left stops.advances.rest (recursion_from_All _ _ items)) stops.why
 
 -- A run of a script that was read fails by want of memory, or by the limit.
 pub run_fails : (limit : ℕ) (plan : Plan) (now : Now ScriptCondition 8) (fault : WorldFault) → IsRunnable plan → RunFault plan.threads plan.schedule limit (world_for plan) now fault → IsRunFault limit plan (fault_of_world fault)
 run_fails limit plan now world.OutOfMemory runnable stops = tt
 run_fails limit plan now world.StepLimit runnable stops = (now, stops)
 run_fails limit plan now world.NoSuchSeat runnable stops = absurd (seat_there limit plan now runnable stops)
-run_fails limit plan now world.TooManySeats runnable stops = absurd (no_room limit now stops.after stops.left stops.why)
+run_fails limit plan now world.TooManySeats runnable stops = absurd (no_room limit now stops.after stops.advances.turns stops.left stops.why)
 
 -- the same, as a run over the lists of a script gives it
 pub script_fails : (limit : ℕ) (script : Script) (old now : Now ScriptCondition 8) (fault : WorldFault) → IsRunnable (plan_of script) → old ≡ world_for (plan_of script) →
