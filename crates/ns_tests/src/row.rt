@@ -63,7 +63,7 @@ pub fn run_seen(
     sink: Collected,
     printer: Printed,
 ) -> Result<Seen, AllocError>
-    requires source { source.entry.has_failed ≡ false }
+    requires source { source.has_failed ≡ false }
     requires sink { sink.has_failed ≡ false }
 {
     let mut source = source;

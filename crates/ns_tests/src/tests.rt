@@ -47,7 +47,15 @@ fn failing_writes(rt: HostRuntime) -> Result<(), Fail> {
             Collected::with_room(rt.alloc(), 1, writes),
             Printed::new(rt.alloc()),
         )?;
-        assert!(rt; is_seen(&got, &FIRST_TEXT.as_bytes()[..writes], "fault 11: write\n", 4), "at {writes}");
+        assert!(rt;
+            is_seen(
+                &got,
+                &FIRST_TEXT.as_bytes()[..writes],
+                "fault 11: write\n",
+                4
+            ),
+            "at {writes}"
+        );
     }
     Ok(())
 }
@@ -70,7 +78,13 @@ fn sink_that_takes_nothing(rt: HostRuntime) -> Result<(), Fail> {
 fn seen_by(alloc: Global, words: &str, printer: Printed) -> Result<Seen, Fail> {
     let words = words_in(alloc, words)?;
     let source = Given::new(FIRST.as_bytes());
-    Ok(run_seen(alloc, words.as_slice(), source, Collected::new(alloc), printer)?)
+    Ok(run_seen(
+        alloc,
+        words.as_slice(),
+        source,
+        Collected::new(alloc),
+        printer,
+    )?)
 }
 
 /// Help that can't be printed is a failed write; on the error side a failure changes no status.
@@ -89,7 +103,10 @@ fn failing_printers(rt: HostRuntime) -> Result<(), Fail> {
         printer.takes_output = takes_output;
         printer.takes_errors = takes_errors;
         let got = seen_by(rt.alloc(), words, printer)?;
-        assert!(rt; is_seen(&got, output.as_bytes(), errors, status), "at {words}");
+        assert!(rt;
+            is_seen(&got, output.as_bytes(), errors, status),
+            "at {words}"
+        );
     }
     Ok(())
 }
@@ -99,7 +116,11 @@ fn failing_printers(rt: HostRuntime) -> Result<(), Fail> {
 fn unread_words(rt: HostRuntime) {
     let table = [
         (io::ErrorKind::OutOfMemory, "refused 2: out of memory\n", 3),
-        (io::ErrorKind::InvalidData, "error: the words are no text\n", 2),
+        (
+            io::ErrorKind::InvalidData,
+            "error: the words are no text\n",
+            2,
+        ),
     ];
     for (kind, errors, status) in table {
         let mut printer = Printed::new(rt.alloc());
