@@ -1,5 +1,5 @@
 -- What a read and a write do to the bytes, and what is counted of them.
-use Rattle.std.specs.Prelude.{◌≡◌, ℕ, zero, suc, ◌+◌, ◌%◌, ◌^◌, ◌<◌, ◌≤◌, List, length, take, Bool, true, false, Option, Some, None}
+use Rattle.std.specs.Prelude.{◌≡◌, ℕ, zero, suc, ◌+◌, ◌%◌, ◌^◌, ◌≤◌, List, length, take, Bool, true, false, Option, Some, None}
 use Rattle.std.specs.Io.KnownBytes.{Consumes, Appends, Keeps, IsAtEnd}
 use Rattle.ns_replay.specs.declared.streams.Got.{Got}
 use Rattle.ns_replay.specs.declared.streams.Got.TheVariants.{Bytes, Interrupted, Failed}
