@@ -2,7 +2,7 @@
 
 ghost use Rattle.std.specs.Prelude.{◌≡◌, ◌≢◌, ◌⊎◌, [], map, true, false, string_bytes, IfErr};
 ghost use Rattle.clap.specs.Words.{kind_of};
-ghost use Rattle.ns_replay.specs.Transfer.{Gave, IsReadFault};
+ghost use Rattle.ns_replay.specs.Transfer.{Gave, IsReadFault, IsWriteFault};
 ghost use Rattle.ns_replay.specs.Replaying.{Answers, WasRead};
 ghost use Rattle.ns_command.specs.Words.{kinds_of};
 ghost use Rattle.ns_command.specs.Asked.{options_by};
@@ -73,8 +73,9 @@ pub fn run<S: Source, W: Sink, P: Prints>(
     ensures failed_write { W.has_failed sink.new ≡ true → result ≡ Ending.Failed Fault.Write }
     ensures read_fault { result ≡ Ending.Failed Fault.Read
         → IsReadFault (S.has_failed source.new) (S.asked source.old) (S.asked source.new) }
-    ensures write_fault { result ≡ Ending.Failed Fault.Write → (W.has_failed sink.new ≡ true)
-        ⊎ ((W.is_stuck sink.new ≡ true) ⊎ (P.has_failed_output printer.new ≡ true)) }
+    ensures write_fault { result ≡ Ending.Failed Fault.Write
+        → IsWriteFault (W.has_failed sink.new) (W.stuck sink.old) (W.stuck sink.new)
+        ⊎ (P.has_failed_output printer.new ≡ true) }
     // The line of a fault is printed where there is one, a text where the words are wrong, and
     // nothing else.
     ensures said { let failed = P.has_failed printer.new in

@@ -17,6 +17,8 @@ pub struct Given<'a> {
     reads: usize,
     pub has_failed: bool,
     asked: u64,
+    ends: u64,
+    last: usize,
     ghost some_piece: { 1 ≤ piece },
 }
 
@@ -39,6 +41,8 @@ impl<'a> Given<'a> {
             reads,
             has_failed: false,
             asked: 0,
+            ends: 0,
+            last: 0,
         }
     }
 }
@@ -50,8 +54,13 @@ impl Source for Given<'_> {
 
     ghost asked = { λ s. s.asked };
 
+    ghost ends = { λ s. s.ends };
+
+    ghost last = { λ s. s.last };
+
     fn read(&mut self, buffer: &mut [u8]) -> Got {
         self.asked = self.asked.wrapping_add(1);
+        self.last = 0;
         if self.reads == 0 {
             self.has_failed = true;
             return Got::Failed;
@@ -60,6 +69,10 @@ impl Source for Given<'_> {
         let count = self.rest.len().min(buffer.len()).min(self.piece);
         buffer[..count].copy_from_slice(&self.rest[..count]);
         self.rest = &self.rest[count..];
+        self.last = count;
+        if count == 0 {
+            self.ends = self.ends.wrapping_add(1);
+        }
         Got::Bytes(count)
     }
 
@@ -77,7 +90,7 @@ pub struct Collected {
     /// How many writes don't fail.
     writes: usize,
     pub has_failed: bool,
-    is_stuck: bool,
+    stuck: u64,
 }
 
 impl Collected {
@@ -97,7 +110,7 @@ impl Collected {
             room,
             writes,
             has_failed: false,
-            is_stuck: false,
+            stuck: 0,
         }
     }
 
@@ -112,17 +125,18 @@ impl Sink for Collected {
 
     ghost has_failed = { λ s. s.has_failed };
 
-    ghost is_stuck = { λ s. s.is_stuck };
+    ghost stuck = { λ s. s.stuck };
 
     fn write(&mut self, bytes: &[u8]) -> Option<usize> {
-        self.is_stuck = false;
         let count = bytes.len().min(self.room);
         if self.writes == 0 || self.bytes.extend_from_slice(&bytes[..count]).is_err() {
             self.has_failed = true;
             return None;
         }
         self.writes -= 1;
-        self.is_stuck = count == 0;
+        if count == 0 {
+            self.stuck = self.stuck.wrapping_add(1);
+        }
         Some(count)
     }
 
