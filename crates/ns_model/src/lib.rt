@@ -12,6 +12,30 @@
 //! Beside the lock stand a clock and a tree of notes, which callers watch: their events are in
 //! [`environment`], and which of their histories are legal, what the clock then shows and which
 //! notes are notified is defined in `specs/`.
+//!
+//! ```rust
+//! // two sections in one chain: the second begins at the row that the first one left
+//! let wrote = Event::Section {
+//!     who: 0,
+//!     mode: Mode::Write,
+//!     entry: Entry::Plain,
+//!     before: [0; 8],
+//!     after: [5, 0, 0, 0, 0, 0, 0, 0],
+//!     exit: Exit::Plain,
+//! };
+//! let read = Event::Section {
+//!     who: 1,
+//!     mode: Mode::Read,
+//!     entry: Entry::Plain,
+//!     before: [5, 0, 0, 0, 0, 0, 0, 0],
+//!     after: [5, 0, 0, 0, 0, 0, 0, 0],
+//!     exit: Exit::Plain,
+//! };
+//! let happened: [Event<AtLeast, 8>; 2] = [wrote, read];
+//! assert!(rt; legal(&happened)); // `AtLeast` is any `Condition<8>`
+//! assert!(rt; row_after(&happened) == [5, 0, 0, 0, 0, 0, 0, 0]);
+//! assert!(rt; !legal(&[read, wrote])); // a reader can't see what is written later
+//! ```
 #![tactic(auto)]
 
 pub mod condition;

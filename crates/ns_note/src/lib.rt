@@ -42,6 +42,4 @@ pub mod note;
 mod places;
 mod plays;
 pub mod seat;
-#[cfg(test)]
-mod tests;
 mod view;

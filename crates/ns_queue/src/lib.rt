@@ -5,6 +5,23 @@
 //! them, [`queues::Queues::scan`] decides whom a release of the lock wakes, and
 //! [`queues::Queues::take_signal`] whom a signal takes. Each contract says what a call makes of the
 //! lists in the words of lists; the definitions stand in `specs/`.
+//!
+//! ```rust
+//! let mut queues: Queues<Plain, 2> = Queues::new(); // `Plain` is any `Condition<2>`
+//! for (seat, mode) in [(0, Mode::Read), (1, Mode::Write), (2, Mode::Read)] {
+//!     let waiter = Waiter {
+//!         seat,
+//!         mode,
+//!         cond: None,
+//!     };
+//!     if !queues.holds(seat) {
+//!         queues.push_back(Which::Lock, waiter);
+//!     }
+//! }
+//! let scan = queues.scan(&[0, 0]); // a reader is first, so every later reader goes with it
+//! assert!(rt; scan.woken.as_slice() == [0, 2].as_slice());
+//! assert!(rt; scan.tests == 0 && queues.holds(1) && !queues.holds(2));
+//! ```
 #![tactic(auto)]
 
 mod marks;

@@ -46,6 +46,3 @@ pub use options::Options;
 pub use place::Place;
 pub use replaying::replay;
 pub use streams::{Got, Sink, Source};
-
-#[cfg(test)]
-mod tests;

@@ -11,11 +11,17 @@
 #![tactic(auto)]
 
 mod compare;
+#[cfg(test)]
+mod examples;
 mod memory;
 #[cfg(test)]
 mod model;
 #[cfg(test)]
+mod note;
+#[cfg(test)]
 mod queue;
+#[cfg(test)]
+mod replay;
 mod row;
 #[cfg(test)]
 mod tests;

@@ -4,11 +4,11 @@ ghost use Rattle.std.specs.Prelude.{◌≡◌, ◌==◌, ◌&&◌, nat_lt, nat_l
 ghost use Rattle.ns_model.specs.Truths.{truths};
 ghost use Rattle.ns_queue.specs.Queues.{IsList};
 
-use ns_queue::queues::Queues;
-use ns_queue::waiter::{Shown, Waiter, Which};
 use arrayvec::ArrayVec;
 use ns_model::condition::Condition;
 use ns_model::event::Mode;
+use ns_queue::queues::Queues;
+use ns_queue::waiter::{Shown, Waiter, Which};
 use std::cell::Cell;
 
 /// The cell is at least the value. Each test is counted in the cell that it refers to.

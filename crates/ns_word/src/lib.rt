@@ -10,6 +10,22 @@
 //!
 //! The law is in `specs/Lawful.antt`, its proof in `proofs/`, and the contract that carries it
 //! is [`law::steps_keep_the_law`]'s.
+//!
+//! ```rust
+//! // a call is a walk: a place that wants an act next, and goes on by what the act found
+//! let place: Walk<bool> = Walk::TryLoad(Mode::Write);
+//! assert!(rt; matches!(place.want(), Act::LoadWord));
+//! let Next::On(place) = place.got::<8>(Found::Saw(Word::FREE)) else {
+//!     return Ok(());
+//! };
+//! assert!(rt; matches!(place.want(), Act::Acquire(_, _, _))); // the word may be acquired
+//! let over = place.got::<8>(Found::Made);
+//! assert!(rt; matches!(over, Next::Done(Reply::Succeeded)));
+//!
+//! // the lock word after that, as a number
+//! let word = Word::FREE.acquired(Mode::Write, false);
+//! assert!(rt; encode(word) == 1);
+//! ```
 #![tactic(auto)]
 
 pub mod act;

@@ -149,10 +149,16 @@ impl WaitPlace {
         match self {
             WaitPlace::Load(again) => queue_by(wait, again, word),
             WaitPlace::Take(again, _) => queue_by(wait, again, word),
-            WaitPlace::QueueToWait(again, _) => Next::On(Walk::InWait(wait, WaitPlace::QueueToWait(again, word))),
+            WaitPlace::QueueToWait(again, _) => Next::On(Walk::InWait(
+                wait,
+                WaitPlace::QueueToWait(again, word),
+            )),
             WaitPlace::LeaveLoad(cause) => leave_by(wait, cause, word),
             WaitPlace::TakeToLeave(cause, _) => leave_by(wait, cause, word),
-            WaitPlace::Leave(cause, _) => Next::On(Walk::InWait(wait, WaitPlace::Leave(cause, word))),
+            WaitPlace::Leave(cause, _) => Next::On(Walk::InWait(
+                wait,
+                WaitPlace::Leave(cause, word),
+            )),
             place => Next::On(Walk::InWait(wait, place)),
         }
     }
@@ -284,7 +290,10 @@ impl WaitPlace {
                 Next::On(Walk::InWait(wait, WaitPlace::Load(again)))
             }
             (WaitPlace::LookIn(_), Some(cause)) => Next::Done(Reply::Answered(answer_of(cause))),
-            (WaitPlace::LookOut, None) => Next::Idle(Walk::InWait(wait, WaitPlace::AwaitWakeInWait)),
+            (WaitPlace::LookOut, None) => Next::Idle(Walk::InWait(
+                wait,
+                WaitPlace::AwaitWakeInWait,
+            )),
             (WaitPlace::LookOut, Some(cause)) => {
                 Next::On(Walk::InWait(wait, WaitPlace::LeaveLoad(cause)))
             }

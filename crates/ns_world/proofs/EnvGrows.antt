@@ -24,7 +24,7 @@ module _ {C : Type 0} {N : ℕ} (events : List EnvEvent) (old new : Now C N) (se
       let next = walk_after (got_of N p.makes.walk p.found) in
       let made : IfMade old.env.notes (note_in next) = noted N (IfMade old.env.notes) p.makes.walk p.found tt (subst (λ w. IfMade old.env.notes (note_in w)) p.makes.walks (lawful.noted seat p.view p.at)) in
       let looks : IsLawfulEnv events (env_state old.env (slice_set (slice_set old.asking seat None) seat (look_of next))) =
-          env_begins events old.env (slice_set old.asking seat None) seat (look_of next) (set_here old.asking seat None within) (first_if old.env.notes next made) cleared in
+      env_begins events old.env (slice_set old.asking seat None) seat (look_of next) (set_here old.asking seat None within) (first_if old.env.notes next made) cleared in
       let there = set_again old.asking seat None (look_of next) ∙ sym p.asking in
       subst (λ env. IsLawfulEnv events (env_state env new.asking)) (sym p.env) (subst (λ ws. IsLawfulEnv events (env_state old.env ws)) there looks)
 

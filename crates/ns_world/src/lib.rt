@@ -4,6 +4,18 @@
 //! A world steps the call machine of `ns_word` on plain data, one atomic step at a time, in
 //! whatever order it is told to. It keeps the machine's law as its own invariant: see
 //! [`world::World`].
+//!
+//! ```rust
+//! let mut world = World::<Never, 8>::new(rt.alloc(), 2, &[], 0)?; // `Never` is any `Condition<8>`
+//! world.begin(0, Call::TryLock)?;
+//! world.step(0)?; // Step::Went: the word was loaded
+//! let step = world.step(0)?;
+//! assert!(rt; step == Step::Finished(Reply::Succeeded)); // seat 0 has the lock
+//! world.begin(1, Call::TryLock)?;
+//! let step = world.step(1)?;
+//! assert!(rt; step == Step::Finished(Reply::Busy));
+//! assert!(rt; world.state().word.write && legal(world.history()));
+//! ```
 #![tactic(auto)]
 
 mod asks;

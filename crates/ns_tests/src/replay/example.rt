@@ -1,6 +1,6 @@
 //! The example at the head of the crate.
 
-use crate::{Fault, Options, OverRead, OverWrite, replay};
+use ns_replay::{Fault, Options, OverRead, OverWrite, replay};
 use std::test::Fail;
 
 #[test]

@@ -1,5 +1,5 @@
 //! What no contract says: streams that fail at each place, and what memory there is. Scripts with
-//! their texts, and refusals at their places, are rows of ns_tests.
+//! their texts, and refusals at their places, are rows.
 
 mod errors;
 mod example;
@@ -7,9 +7,7 @@ mod memory;
 mod worlds;
 
 use self::memory::{Expects, Interrupted, Pieces};
-use super::*;
-use crate::condition::{AtLeast, ScriptCondition};
-use ns_model::condition::Condition;
+use ns_replay::{Fault, Options, OverRead, OverWrite, Place, Sink, Source, replay};
 use std::alloc::Global;
 use std::test::Fail;
 
@@ -153,27 +151,6 @@ fn std_streams(rt: HostRuntime) {
 fn refused_memory(rt: HostRuntime) {
     let (outcome, done) = replayed(rt.alloc(), FIRST, PLAIN, FIRST_TEXT);
     assert!(rt; outcome == Ok(()) && done || outcome == Err(Fault::OutOfMemory) && !done);
-}
-
-#[test]
-fn conditions(rt: HostRuntime) -> Result<(), Fail> {
-    let first = AtLeast { cell: 0, least: 5 };
-    let one = ScriptCondition {
-        first,
-        second: None,
-    };
-    let two = ScriptCondition {
-        first,
-        second: Some(AtLeast { cell: 9, least: 0 }),
-    };
-    let row = [5, 0, 0, 0, 0, 0, 0, 0];
-    assert!(rt; one.test(&row));
-    assert!(rt; !two.test(&row));
-    assert!(rt; one.same(&one) && !one.same(&two));
-    assert!(rt; ScriptCondition::quiet(&row, &[0; 8]) && !ScriptCondition::quiet(&[0; 8], &row));
-    let text = two.to_string(rt.alloc())?;
-    assert_eq!(rt; text.as_str(), "0>=5&9>=0");
-    Ok(())
 }
 
 #[test]

@@ -2,7 +2,7 @@
 
 ghost use Rattle.std.specs.Prelude.{◌≡◌, ◌≤◌, Some, None, false};
 
-use crate::streams::{Got, Sink, Source};
+use ns_replay::{Got, Sink, Source};
 
 /// Bytes in pieces of at most `piece`, up to a read that fails.
 #[derive(Drop)]

@@ -3,7 +3,7 @@
 
 use super::memory::Expects;
 use super::{FIRST, FIRST_TEXT, PLAIN};
-use crate::{Fault, OverRead, OverWrite, Sink, Source, replay};
+use ns_replay::{Fault, OverRead, OverWrite, Sink, Source, replay};
 use std::io::{self, ErrorKind, Read, Write};
 
 /// The kinds, and whether a read that returned it is made again.

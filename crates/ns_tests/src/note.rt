@@ -4,11 +4,11 @@
 ghost use Rattle.std.specs.Prelude.{◌≡◌, ◌<◌, ◌^◌, IfSome};
 ghost use Rattle.std.specs.Thread.{IsSync};
 
-use crate::env::Env;
-use crate::fault::Fault;
-use crate::note::{Note, NoteWord, decode_note, encode_note};
-use crate::seat::EnvSeat;
 use ns_model::event::Answer;
+use ns_note::env::Env;
+use ns_note::fault::Fault;
+use ns_note::note::{Note, NoteWord, decode_note, encode_note};
+use ns_note::seat::EnvSeat;
 use std::alloc::Global;
 use std::sync::Wait;
 use std::test::Fail;

@@ -1,0 +1,156 @@
+//! The examples at the heads of ns_model, ns_queue, ns_word and ns_world. Those of ns_note and
+//! ns_replay stand beside their other tests.
+
+ghost use Rattle.std.specs.Prelude.{false};
+ghost use Rattle.ns_model.specs.Truths.{truths};
+
+use ns_model::condition::Condition;
+use ns_model::event::{Entry, Event, Exit, Mode};
+use ns_model::history::{legal, row_after};
+use ns_queue::queues::Queues;
+use ns_queue::waiter::{Waiter, Which};
+use ns_word::act::{Act, Found};
+use ns_word::codec::encode;
+use ns_word::walk::{Next, Reply, Walk};
+use ns_word::word::Word;
+use ns_world::call::Call;
+use ns_world::step::Step;
+use ns_world::world::World;
+use std::test::Fail;
+
+/// A condition that is never true, of rows of 8 cells.
+#[derive(Clone, Copy)]
+struct Never;
+
+impl Condition<8> for Never {
+    ghost use Rattle.std.proofs.Common.{rules};
+
+    ghost means = { truths (λ c row. false) (λ c d. false) (λ before after. false) };
+
+    fn test(&self, _row: &[u64; 8]) -> bool {
+        false
+    }
+
+    fn same(&self, _other: &Self) -> bool {
+        false
+    }
+
+    fn quiet(_before: &[u64; 8], _after: &[u64; 8]) -> bool {
+        false
+    }
+
+    ghost same_agrees = { λ c d row n e. absurd (Prim.cc) };
+
+    ghost quiet_keeps = { λ c before after n m quiet h. absurd (Prim.cc) };
+
+    ghost has_cells = { Prim.search rules };
+
+    ghost has_room = { Prim.search rules };
+}
+
+/// A condition that is never true, of rows of 2 cells.
+#[derive(Clone, Copy)]
+struct Plain;
+
+impl Condition<2> for Plain {
+    ghost use Rattle.std.proofs.Common.{rules};
+
+    ghost means = { truths (λ c row. false) (λ c d. false) (λ before after. false) };
+
+    fn test(&self, _row: &[u64; 2]) -> bool {
+        false
+    }
+
+    fn same(&self, _other: &Self) -> bool {
+        false
+    }
+
+    fn quiet(_before: &[u64; 2], _after: &[u64; 2]) -> bool {
+        false
+    }
+
+    ghost same_agrees = { λ c d row n e. absurd (Prim.cc) };
+
+    ghost quiet_keeps = { λ c before after n m quiet h. absurd (Prim.cc) };
+
+    ghost has_cells = { Prim.search rules };
+
+    ghost has_room = { Prim.search rules };
+}
+
+type AtLeast = Never;
+
+#[test]
+fn a_history(rt: HostRuntime) {
+    // two sections in one chain: the second begins at the row that the first one left
+    let wrote = Event::Section {
+        who: 0,
+        mode: Mode::Write,
+        entry: Entry::Plain,
+        before: [0; 8],
+        after: [5, 0, 0, 0, 0, 0, 0, 0],
+        exit: Exit::Plain,
+    };
+    let read = Event::Section {
+        who: 1,
+        mode: Mode::Read,
+        entry: Entry::Plain,
+        before: [5, 0, 0, 0, 0, 0, 0, 0],
+        after: [5, 0, 0, 0, 0, 0, 0, 0],
+        exit: Exit::Plain,
+    };
+    let happened: [Event<AtLeast, 8>; 2] = [wrote, read];
+    assert!(rt; legal(&happened)); // `AtLeast` is any `Condition<8>`
+    assert!(rt; row_after(&happened) == [5, 0, 0, 0, 0, 0, 0, 0]);
+    assert!(rt; !legal(&[read, wrote])); // a reader can't see what is written later
+}
+
+#[test]
+fn a_scan(rt: HostRuntime) {
+    let mut queues: Queues<Plain, 2> = Queues::new(); // `Plain` is any `Condition<2>`
+    for (seat, mode) in [(0, Mode::Read), (1, Mode::Write), (2, Mode::Read)] {
+        let waiter = Waiter {
+            seat,
+            mode,
+            cond: None,
+        };
+        if !queues.holds(seat) {
+            queues.push_back(Which::Lock, waiter);
+        }
+    }
+    let scan = queues.scan(&[0, 0]); // a reader is first, so every later reader goes with it
+    assert!(rt; scan.woken.as_slice() == [0, 2].as_slice());
+    assert!(rt; scan.tests == 0 && queues.holds(1) && !queues.holds(2));
+}
+
+#[test]
+fn a_walk(rt: HostRuntime) -> Result<(), Fail> {
+    // a call is a walk: a place that wants an act next, and goes on by what the act found
+    let place: Walk<bool> = Walk::TryLoad(Mode::Write);
+    assert!(rt; matches!(place.want(), Act::LoadWord));
+    let Next::On(place) = place.got::<8>(Found::Saw(Word::FREE)) else {
+        return Ok(());
+    };
+    assert!(rt; matches!(place.want(), Act::Acquire(_, _, _))); // the word may be acquired
+    let over = place.got::<8>(Found::Made);
+    assert!(rt; matches!(over, Next::Done(Reply::Succeeded)));
+
+    // the lock word after that, as a number
+    let word = Word::FREE.acquired(Mode::Write, false);
+    assert!(rt; encode(word) == 1);
+    Ok(())
+}
+
+#[test]
+fn a_world(rt: HostRuntime) -> Result<(), Fail> {
+    let mut world = World::<Never, 8>::new(rt.alloc(), 2, &[], 0)?; // `Never` is any `Condition<8>`
+    world.begin(0, Call::TryLock)?;
+    world.step(0)?; // Step::Went: the word was loaded
+    let step = world.step(0)?;
+    assert!(rt; step == Step::Finished(Reply::Succeeded)); // seat 0 has the lock
+    world.begin(1, Call::TryLock)?;
+    let step = world.step(1)?;
+    assert!(rt; step == Step::Finished(Reply::Busy));
+    assert!(rt; world.state().word.write && legal(world.history()));
+    Ok(())
+}
