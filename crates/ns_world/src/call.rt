@@ -73,7 +73,7 @@ impl<C: Copy> Clone for Call<C> {
 
 /// Where a call begins.
 #[derive(Copy)]
-pub enum Start<C> {
+pub(crate) enum Start<C> {
     /// On the lock.
     OnLock(Walk<C>),
     /// On the clock and the notes.
@@ -121,7 +121,7 @@ impl<C: Copy> Call<C> {
     /// mode, or with none, and with these notes; `None` where its need isn't met.
     ///
     /// Needs a row of at most 16 cells.
-    pub fn start<const N: usize>(
+    pub(crate) fn start<const N: usize>(
         self,
         mode: Option<Mode>,
         notes: &[NoteState; 64],

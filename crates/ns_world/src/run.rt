@@ -156,7 +156,7 @@ fn item<C: Seated<N>, const N: usize>(
 }
 
 /// The items of a word of the schedule.
-fn word<C: Seated<N>, const N: usize>(
+fn schedule_word<C: Seated<N>, const N: usize>(
     world: &mut World<C, N>,
     lists: &[Vec<Call<C>>],
     tally: &mut Tally,
@@ -206,7 +206,7 @@ impl<C: Seated<N>, const N: usize> World<C, N> {
             turns: 0,
         };
         for turn in schedule {
-            word(self, lists, &mut tally, turn, limit)?;
+            schedule_word(self, lists, &mut tally, turn, limit)?;
         }
         Ok(tally.lines)
     }

@@ -16,23 +16,23 @@ loop-turn-init g c =
       counted = start_counted (now_of g.C.Condition.means c.args.self.now) c.requires.idle;
     })
 
-pub returns-in_err-word : goal.returns-in_err-word
-returns-in_err-word g c =
+pub returns-in_err-schedule_word : goal.returns-in_err-schedule_word
+returns-in_err-schedule_word g c =
     let p = err_from_is_err_and c.from_residual.result c.from_residual.ensures.1 in
     let calls = map (λ (calls : Vec (Call _) Global). calls.items) c.args.lists.now in
     let now = progress (now_of g.C.Condition.means c.loop-turn.self) c.loop-turn.tally.over c.loop-turn.tally.lines.items in
-    rw (p.1, p.2) (stops_word calls c.args.limit (start (now_of g.C.Condition.means c.args.self.now)) now 0 c.loop-turn.tally.turns c.loop-turn.turn-index c.args.schedule.now _ (now_of g.C.Condition.means c.word.new.world) c.in_err-word.field-0.0
-    c.loop-turn-test.true c.loop-turn.invariant.advances c.in_err-word.ensures.err)
+    rw (p.1, p.2) (stops_word calls c.args.limit (start (now_of g.C.Condition.means c.args.self.now)) now 0 c.loop-turn.tally.turns c.loop-turn.turn-index c.args.schedule.now _ (now_of g.C.Condition.means c.schedule_word.new.world) c.in_err-schedule_word.field-0.0
+    c.loop-turn-test.true c.loop-turn.invariant.advances c.in_err-schedule_word.ensures.err)
 
 pub loop-turn-preserved : goal.loop-turn-preserved
 loop-turn-preserved g c =
     let calls = map (λ (calls : Vec (Call _) Global). calls.items) c.args.lists.now in
     let now = progress (now_of g.C.Condition.means c.loop-turn.self) c.loop-turn.tally.over c.loop-turn.tally.lines.items in
-    let next = progress (now_of g.C.Condition.means c.word.new.world) c.word.new.tally.over c.word.new.tally.lines.items in
+    let next = progress (now_of g.C.Condition.means c.schedule_word.new.world) c.schedule_word.new.tally.over c.schedule_word.new.tally.lines.items in
     record {
-      advances = advance_word calls c.args.limit (start (now_of g.C.Condition.means c.args.self.now)) now next 0 c.loop-turn.tally.turns c.word.new.tally.turns c.loop-turn.turn-index c.args.schedule.now _
-          c.loop-turn-test.true c.loop-turn.invariant.advances c.in_ok-word.ensures.ok;
-      counted = c.in_ok-word.ensures.counted;
+      advances = advance_word calls c.args.limit (start (now_of g.C.Condition.means c.args.self.now)) now next 0 c.loop-turn.tally.turns c.schedule_word.new.tally.turns c.loop-turn.turn-index c.args.schedule.now _
+          c.loop-turn-test.true c.loop-turn.invariant.advances c.in_ok-schedule_word.ensures.ok;
+      counted = c.in_ok-schedule_word.ensures.counted;
     }
 
 pub returns : goal.returns

@@ -1,7 +1,7 @@
 use Rattle.std.proofs.Common.{[], map, replicate}
 use Rattle.ns_world.specs.World.{now_of}
 use Rattle.ns_world.specs.Runs.{progress, Advances, IsCounted}
-use Rattle.ns_world.proofs.run.word.Given as goal
+use Rattle.ns_world.proofs.run.schedule_word.Given as goal
 
 -- the items so far
 abbrev pub invariant-loop : goal.invariant-loop

@@ -5,7 +5,7 @@ use Rattle.ns_world.specs.World.{now_of}
 use Rattle.ns_world.specs.declared.call.Call.{Call}
 use Rattle.ns_world.specs.Runs.{progress}
 use Rattle.ns_world.proofs.Schedules.{advance_none, advance_again, stops_again}
-use Rattle.ns_world.proofs.run.word.Goals as goal
+use Rattle.ns_world.proofs.run.schedule_word.Goals as goal
 
 pub loop-init : goal.loop-init
 loop-init g c =
