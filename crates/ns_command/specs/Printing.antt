@@ -4,7 +4,7 @@ use Rattle.std.specs.Io.KnownBytes.{Appends, Keeps}
 use Rattle.clap.specs.declared.error.kind.ErrorKind.{ErrorKind}
 use Rattle.clap.specs.declared.error.kind.ErrorKind.TheVariants.{DisplayHelp, DisplayVersion, OutOfMemory}
 
--- some text was printed
+-- some text was printed, or none: a clause of clap's does not tell which
 abbrev pub PrintsSome : Option (List ℕ) → Option (List ℕ) → Type 0
 PrintsSome old new = (text : List ℕ) × Appends old new text
 

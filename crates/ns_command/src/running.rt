@@ -76,7 +76,7 @@ pub fn run<S: Source, W: Sink, P: Prints>(
     ensures write_fault { result ≡ Ending.Failed Fault.Write
         → IsWriteFault (W.has_failed sink.new) (W.stuck sink.old) (W.stuck sink.new)
         ⊎ (P.has_failed_output printer.new ≡ true) }
-    // The line of a fault is printed where there is one, a text where the words are wrong, and
+    // The line of a fault is printed where there is one, at most a text where the words are wrong, and
     // nothing else.
     ensures said { let failed = P.has_failed printer.new in
         Says failed (P.errors printer.old) (P.errors printer.new) result }

@@ -5,16 +5,16 @@
 //! | `NextLoad` | load the next number | `TakeNumber`, or `NotesFull` from 64 on |
 //! | `TakeNumber` | take the next number | `MakeNote` of it, or `NotesFull` from 64 on |
 //! | `MakeNote` | store the note | its `Number` |
-//! | `Notify` | notify the note | `Ok` |
-//! | `Advance` | move the clock on | `Ok` |
+//! | `Notifying` | notify the note | `Succeeded` |
+//! | `Advancing` | move the clock on | `Succeeded` |
 //! | `ClockLoad` | load the clock | `NoteLoad` of the chain's note; with none the end of the chain |
 //! | `NoteLoad` | load the note | over at the clock loaded: the chain stops; else `NoteLoad` of its parent; with none the end of the chain |
 //! | `ExpiryLoad` | load the note | `ExpiryLoad` of its parent; with none the earliest deadline on the way |
 //!
 //! A chain goes from a note up to its root. Where it stops, `isnotified` and `notewait` answer
-//! `true`, and a look shows `Note`. At its end `isnotified` answers `false`; `notewait` answers
+//! `true`, and a look shows `Notified`. At its end `isnotified` answers `false`; `notewait` answers
 //! `false` if its own deadline has come, and else is idle and loads the clock again; a look shows
-//! `Deadline` if its own deadline has come, and else nothing. So a look judges the note before
+//! `Expired` if its own deadline has come, and else nothing. So a look judges the note before
 //! the deadline. All are judged by the clock that was loaded first.
 
 ghost use Rattle.std.specs.Prelude.{◌≡◌};
