@@ -73,7 +73,7 @@ impl<C: Copy> Clone for Call<C> {
 
 /// Where a call begins.
 #[derive(Copy)]
-pub(crate) enum Start<C> {
+pub enum Start<C> {
     /// On the lock.
     OnLock(Walk<C>),
     /// On the clock and the notes.
