@@ -28,6 +28,7 @@ bare_app = record (new_app (codes "ns_cli")) {
   top = record (new_app (codes "ns_cli")).top { has_version = true; subcommand_required = true };
 }
 
+-- the command that the program reads its words by
 abbrev pub application : App
 application = with_subcommand bare_app replay_app.top
 
