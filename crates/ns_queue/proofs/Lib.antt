@@ -1,7 +1,12 @@
+pub mod Appended
 pub mod Asking
 pub mod Inside
 pub mod Marking
 pub mod Meaning
 pub mod RunCounts
 pub mod Orders
+pub mod Parts
 pub mod Seats
+pub mod Taken
+pub mod Wakes
+pub mod Woken

@@ -4,3 +4,4 @@ pub mod Room
 pub mod Scans
 pub mod Signals
 pub mod Waiters
+pub mod Wakes

@@ -1,7 +1,9 @@
 -- Whom a signal takes from the list of a condition variable, and who stays.
 use Rattle.std.specs.Prelude.{List, [], ◌∷◌, filter, drop, if◌then◌else◌}
 use Rattle.ns_queue.specs.declared.waiter.Waiter.{Waiter}
-use Rattle.ns_queue.specs.Waiters.{reads, writes}
+use Rattle.ns_model.specs.declared.seats.Seats.{Seats}
+use Rattle.ns_model.specs.Seats.{seats_in}
+use Rattle.ns_queue.specs.Waiters.{reads, writes, seats_of}
 
 -- every reader, and the first writer
 abbrev pub readers_and_a_writer : {C : Type 0} → List (Waiter C) → List (Waiter C)
@@ -17,3 +19,7 @@ signaled_of (w ∷ ws) = w ∷ (if writes w then [] else readers_and_a_writer ws
 abbrev pub unsignaled_of : {C : Type 0} → List (Waiter C) → List (Waiter C)
 unsignaled_of [] = []
 unsignaled_of (w ∷ ws) = if writes w then ws else drop 1 (filter writes ws)
+
+-- the set of the seats of those taken
+abbrev pub taken_set : {C : Type 0} → List (Waiter C) → Seats
+taken_set ws = seats_in (seats_of ws)

@@ -1,5 +1,5 @@
 -- Waiters, one by one and in a list.
-use Rattle.std.specs.Prelude.{ℕ, ◌==◌, Bool, not, List, map, count_by, filter, is_some}
+use Rattle.std.specs.Prelude.{◌≡◌, ◌≤◌, ℕ, ◌==◌, Bool, not, List, map, count_by, filter, is_some}
 use Rattle.ns_model.specs.Phases.{is_write}
 use Rattle.ns_queue.specs.declared.waiter.Waiter.{Waiter}
 use Rattle.ns_queue.specs.declared.waiter.Shown.{Shown}
@@ -35,3 +35,7 @@ times_in seat ws = count_by (is_of seat) ws
 -- a list without a seat
 abbrev pub without_in : {C : Type 0} → ℕ → List (Waiter C) → List (Waiter C)
 without_in seat ws = filter (λ w. not (is_of seat w)) ws
+
+-- each waiter of the list has a number below 64
+abbrev pub HaveSeats : {C : Type 0} → List (Waiter C) → Type 0
+HaveSeats ws = (seat : ℕ) → 64 ≤ seat → times_in seat ws ≡ 0

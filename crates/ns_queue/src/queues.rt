@@ -1,10 +1,10 @@
 //! The lists, and what changes one waiter.
 
-ghost use Rattle.std.specs.Prelude.{◌≡◌, ◌<◌, ◌↔◌, ◌&&◌, not, [], ◌∷◌, ◌++◌, length, map, replicate, sum_by, take, IsTrue};
+ghost use Rattle.std.specs.Prelude.{◌≡◌, ℕ, ◌+◌, ◌<◌, ◌≤◌, ◌↔◌, ◌&&◌, not, [], ◌∷◌, ◌++◌, length, map, nat_lt, replicate, sum_by, take, IsTrue};
 ghost use Rattle.std.specs.Bool.{OnFalse, OnTrue};
 ghost use Rattle.std.specs.List.{list_any};
 ghost use Rattle.ns_queue.specs.Queues.{IsList, IsOrderly, times, waiters_of, with_waiters, without};
-ghost use Rattle.ns_queue.specs.Waiters.{has_condition, times_in, without_in, writes};
+ghost use Rattle.ns_queue.specs.Waiters.{HaveSeats, has_condition, times_in, without_in, writes};
 
 use crate::room::Queueable;
 use crate::waiter::{Waiter, Which};
@@ -83,6 +83,20 @@ impl<C: Queueable<N>, const N: usize> Queues<C, N> {
         stands_in(self.lock.as_slice(), seat) || stands_in_any(&self.cvs, seat)
     }
 
+    /// Whether the seat stands in that list.
+    ///
+    /// Needs a list that there is: a variable's number below 4.
+    pub fn stands(&self, list: Which, seat: u8) -> bool
+        requires { IsList list }
+        ensures stands { result ≡ nat_lt 0 (times_in seat (waiters_of self.now list)) }
+        ensures orderly { IsOrderly self.now }
+    {
+        match list {
+            Which::Lock => stands_in(self.lock.as_slice(), seat),
+            Which::Cv(k) => stands_in(self.cvs[k as usize].as_slice(), seat),
+        }
+    }
+
     /// Puts a waiter at the back of a list; the others stay as they are.
     ///
     /// Needs a list that there is, and a seat below 64 that stands in no list, which
@@ -99,6 +113,19 @@ impl<C: Queueable<N>, const N: usize> Queues<C, N> {
                 let queue = &mut self.cvs[k as usize];
                 queue.push(waiter)
             }
+        }
+    }
+
+    /// Puts these waiters at the back of the lock list, in order; the others stay as they are.
+    ///
+    /// Needs each of their seats to be below 64, and none to stand twice among them and the lists.
+    pub fn append(&mut self, waiters: &[Waiter<C>])
+        requires below { HaveSeats waiters.now }
+        requires once { (seat : ℕ) → times_in seat waiters.now + times seat self.old ≤ 1 }
+        ensures { self.new ≡ with_waiters self.old Which.Lock (self.old.lock ++ waiters.now) }
+    {
+        for waiter in waiters {
+            self.push_back(Which::Lock, *waiter);
         }
     }
 

@@ -2,8 +2,9 @@
 
 ghost use Rattle.std.specs.Prelude.{◌≡◌, ◌≤◌, ◌<◌, [], length};
 ghost use Rattle.ns_queue.specs.Marks.{is_wanted, signal_marks, wanted_after};
-ghost use Rattle.ns_queue.specs.Queues.{waiters_of, with_waiters};
-ghost use Rattle.ns_queue.specs.Signals.{signaled_of, unsignaled_of};
+ghost use Rattle.ns_queue.specs.Queues.{IsOrderly, waiters_of, with_waiters};
+ghost use Rattle.ns_queue.specs.Signals.{signaled_of, taken_set, unsignaled_of};
+ghost use Rattle.ns_queue.specs.Waiters.{HaveSeats, seats_of};
 ghost use Rattle.ns_queue.specs.declared.signal.Wanted.TheVariants.{Anybody};
 
 use crate::marks::{drop_marked, marked};
@@ -11,6 +12,7 @@ use crate::queues::{Queues, copied};
 use crate::room::Queueable;
 use crate::waiter::{Waiter, Which};
 use arrayvec::ArrayVec;
+use ns_model::seats::Seats;
 
 /// Whom a signal still takes.
 #[derive(Clone, Copy)]
@@ -78,6 +80,44 @@ fn signal_list<C: Queueable<N>, const N: usize>(
     taken
 }
 
+/// Those of the list whom a signal wakes, in order.
+fn signaled<C: Queueable<N>, const N: usize>(
+    waiters: &ArrayVec<Waiter<C>, 64>,
+) -> ArrayVec<Waiter<C>, 64>
+    ensures { result.items ≡ signaled_of waiters.now.items }
+{
+    let marks = marks_of(waiters.as_slice());
+    marked(waiters.as_slice(), marks.as_slice())
+}
+
+/// The seats of these waiters, in order.
+///
+/// Needs at most 64 of them, and no list has more.
+pub fn seats<C: Queueable<N>, const N: usize>(waiters: &[Waiter<C>]) -> ArrayVec<u8, 64>
+    requires { length waiters.now ≤ 64 }
+    ensures { result.items ≡ seats_of waiters.now }
+{
+    let mut seats = ArrayVec::new();
+    for waiter in waiters {
+        seats.push(waiter.seat);
+    }
+    seats
+}
+
+/// The set of the seats of those whom a signal or a broadcast took.
+///
+/// Needs each seat to be below 64, as every seat of the lists is.
+pub fn taken_set<C: Queueable<N>, const N: usize>(taken: &[Waiter<C>]) -> Seats
+    requires { HaveSeats taken.now }
+    ensures { result ≡ taken_set taken.now }
+{
+    let mut set = Seats::none();
+    for waiter in taken {
+        set = set.with(waiter.seat);
+    }
+    set
+}
+
 impl<C: Queueable<N>, const N: usize> Queues<C, N> {
     /// Takes those out of the list of the variable whom a signal wakes, and answers them in order:
     /// the first waiter, and if that one reads, every other reader and the first writer too. Of an
@@ -88,6 +128,7 @@ impl<C: Queueable<N>, const N: usize> Queues<C, N> {
         requires { k < 4 }
         ensures taken { result.items ≡ signaled_of (waiters_of self.old (Which.Cv k)) }
         ensures left { self.new ≡ with_waiters self.old (Which.Cv k) (unsignaled_of (waiters_of self.old (Which.Cv k))) }
+        ensures orderly { IsOrderly self.old }
     {
         let queue = &mut self.cvs[k as usize];
         signal_list(queue)
@@ -101,10 +142,33 @@ impl<C: Queueable<N>, const N: usize> Queues<C, N> {
         requires { k < 4 }
         ensures taken { result.items ≡ waiters_of self.old (Which.Cv k) }
         ensures left { self.new ≡ with_waiters self.old (Which.Cv k) [] }
+        ensures orderly { IsOrderly self.old }
     {
         let queue = &mut self.cvs[k as usize];
         let taken = copied(queue);
         queue.clear();
         taken
+    }
+
+    /// The set of the seats whom a signal of the variable would take, with the lists left as they are.
+    ///
+    /// Needs a number below 4.
+    pub fn signaled_set(&self, k: u8) -> Seats
+        requires { k < 4 }
+        ensures { result ≡ taken_set (signaled_of (waiters_of self.now (Which.Cv k))) }
+    {
+        let taken = signaled(&self.cvs[k as usize]);
+        taken_set(taken.as_slice())
+    }
+
+    /// The set of the seats whom a broadcast of the variable would take, which is everybody who waits
+    /// for it, with the lists left as they are.
+    ///
+    /// Needs a number below 4.
+    pub fn waiting_set(&self, k: u8) -> Seats
+        requires { k < 4 }
+        ensures { result ≡ taken_set (waiters_of self.now (Which.Cv k)) }
+    {
+        taken_set(self.cvs[k as usize].as_slice())
     }
 }

@@ -6,11 +6,11 @@ use Rattle.std.specs.Global.{Vec}
 use Rattle.std.proofs.lemmas.List.{length-map}
 use Rattle.std.proofs.lemmas.List.Elements.{All-nil, All-cons}
 use Rattle.serde_json.specs.Data.{Data}
-use Rattle.serde_json.specs.Find.{get, as_str, as_array}
+use Rattle.serde_json.specs.Find.{get, as_str, as_number, as_u64, as_array}
 use Rattle.ns_world.specs.declared.call.Call.{Call}
-use Rattle.ns_world.specs.declared.call.Call.TheVariants.{Lock, RLock, TryLock, TryRLock, Unlock, RUnlock, UnlockQuiet, Get, Set, Wait, NewNote, Notify, Advance, IsNotified, Expiry, NoteWait}
+use Rattle.ns_world.specs.declared.call.Call.TheVariants.{Lock, RLock, TryLock, TryRLock, Unlock, RUnlock, UnlockQuiet, Get, Set, Wait, CvWait, Signal, Broadcast, NewNote, Notify, Advance, IsNotified, Expiry, NoteWait}
 use Rattle.ns_world.specs.declared.schedule.Turn.{Turn}
-use Rattle.ns_world.specs.Calls.{CallInRange, IsNoteNumber, IsMoment}
+use Rattle.ns_world.specs.Calls.{CallInRange, IsNoteNumber, IsVariable, IsMoment}
 use Rattle.ns_replay.specs.declared.place.Place.{Place}
 use Rattle.ns_replay.specs.declared.place.Place.TheVariants as at
 use Rattle.ns_replay.specs.declared.fault.Fault.{Fault}
@@ -18,9 +18,9 @@ use Rattle.ns_replay.specs.Faults.{◌>>=◌, need, each_from}
 use Rattle.ns_replay.specs.declared.condition.ScriptCondition.{ScriptCondition}
 use Rattle.ns_word.specs.declared.limits.Limits.{Limits}
 use Rattle.ns_replay.specs.Words.{parts, number_of, below, moment_of, moment_or_none_of, note_or_none_of}
-use Rattle.ns_replay.specs.Waits.{condition_of, note_limit_of, limits_of, wait_of}
+use Rattle.ns_replay.specs.Waits.{condition_of, note_limit_of, limits_of, wait_of, variable_wait_of}
 use Rattle.ns_replay.specs.Calls.{call_of, brief_call_of, plain_call_of, short_call_of, long_call_of, actor_of, turn_of}
-use Rattle.ns_replay.specs.Script.{Plan, list_of, at_most, list_in, call_at, calls_at, threads_of, words_of, turn_at, schedule_of, members_of, version_of, plan_in, json_of, script_of}
+use Rattle.ns_replay.specs.Script.{Plan, list_of, at_most, list_in, call_at, calls_at, threads_of, words_of, turn_at, schedule_of, members_of, version_of, variables_of, plan_in, json_of, script_of}
 use Rattle.ns_replay.specs.Runnable.{IsShort, IsRunnable}
 
 -- ---- what a reading that succeeded went through
@@ -134,13 +134,18 @@ plain_fits name call =
     (named (bytes_eq name (codes "runlock")) (Some RUnlock) _ call (itself RUnlock call tt)
     (named (bytes_eq name (codes "unlockquiet")) (Some UnlockQuiet) _ call (itself UnlockQuiet call tt) (λ e. absurd cc)))))))
 
-short_fits : (name word : List ℕ) (call : Call ScriptCondition) → short_call_of name word ≡ Some call → CallInRange 8 call
-short_fits name word call =
+variable_fits : (cvs : ℕ) → cvs ≤ 4 → (word : List ℕ) (k : ℕ) → below cvs (number_of word) ≡ Some k → IsVariable k
+variable_fits cvs few word k e = let less = below_some cvs (number_of word) k e in omega (arith, few, less)
+
+short_fits : (cvs : ℕ) → cvs ≤ 4 → (name word : List ℕ) (call : Call ScriptCondition) → short_call_of cvs name word ≡ Some call → CallInRange 8 call
+short_fits cvs few name word call =
     named (bytes_eq name (codes "get")) _ _ call (of_one Get (below 8 (number_of word)) call (below_some 8 (number_of word)))
     (named (bytes_eq name (codes "notify")) _ _ call (of_one Notify (below 64 (number_of word)) call (note_fits word))
     (named (bytes_eq name (codes "advance")) _ _ call (of_one Advance (moment_of word) call (moment_fits word))
     (named (bytes_eq name (codes "isnotified")) _ _ call (of_one IsNotified (below 64 (number_of word)) call (note_fits word))
-    (named (bytes_eq name (codes "expiry")) _ _ call (of_one Expiry (below 64 (number_of word)) call (note_fits word)) (λ e. absurd cc)))))
+    (named (bytes_eq name (codes "expiry")) _ _ call (of_one Expiry (below 64 (number_of word)) call (note_fits word))
+    (named (bytes_eq name (codes "signal")) _ _ call (of_one Signal (below cvs (number_of word)) call (variable_fits cvs few word))
+    (named (bytes_eq name (codes "broadcast")) _ _ call (of_one Broadcast (below cvs (number_of word)) call (variable_fits cvs few word)) (λ e. absurd cc)))))))
 
 long_fits : (name first second : List ℕ) (call : Call ScriptCondition) → long_call_of name first second ≡ Some call → CallInRange 8 call
 long_fits name first second call =
@@ -148,13 +153,13 @@ long_fits name first second call =
     (named (bytes_eq name (codes "newnote")) _ _ call (of_two NewNote (note_or_none_of first) (moment_or_none_of second) call (λ o p parent deadline. (note_or_none_fits first o parent, moment_or_none_fits second p deadline)))
     (named (bytes_eq name (codes "notewait")) _ _ call (of_two NoteWait (below 64 (number_of first)) (moment_or_none_of second) call (λ n p note deadline. (note_fits first n note, moment_or_none_fits second p deadline))) (λ e. absurd cc)))
 
-brief_fits : (words : List (List ℕ)) (call : Call ScriptCondition) → brief_call_of words ≡ Some call → CallInRange 8 call
+brief_fits : (cvs : ℕ) → cvs ≤ 4 → (words : List (List ℕ)) (call : Call ScriptCondition) → brief_call_of cvs words ≡ Some call → CallInRange 8 call
 unfolding brief_call_of
-brief_fits [] call e = absurd cc
-brief_fits (name ∷ []) call e = plain_fits name call e
-brief_fits (name ∷ word ∷ []) call e = short_fits name word call e
-brief_fits (name ∷ first ∷ second ∷ []) call e = long_fits name first second call e
-brief_fits (name ∷ first ∷ second ∷ third ∷ words) call e = absurd cc
+brief_fits cvs few [] call e = absurd cc
+brief_fits cvs few (name ∷ []) call e = plain_fits name call e
+brief_fits cvs few (name ∷ word ∷ []) call e = short_fits cvs few name word call e
+brief_fits cvs few (name ∷ first ∷ second ∷ []) call e = long_fits name first second call e
+brief_fits cvs few (name ∷ first ∷ second ∷ third ∷ words) call e = absurd cc
 
 -- ---- the limits of waits
 
@@ -205,16 +210,31 @@ wait_call_fits words call e =
     let (w, limits, is) = map_some (λ w. Wait w.0 w.1) (wait_of words) call e in
     subst (CallInRange 8) is (wait_fits words w limits)
 
-call_fits : (words : List (List ℕ)) (call : Call ScriptCondition) → call_of words ≡ Some call → CallInRange 8 call
-unfolding call_of
-call_fits [] call e = absurd cc
-call_fits (name ∷ words) call e = named (bytes_eq name (codes "wait")) _ _ call (wait_call_fits words call) (brief_fits (name ∷ words) call) e
+variable_wait_fits : (cvs : ℕ) → cvs ≤ 4 → (words : List (List ℕ)) (w : ℕ × Limits) → variable_wait_of cvs words ≡ Some w → IsVariable w.0 × LimitsFit w.1
+unfolding variable_wait_of
+variable_wait_fits cvs few [] w e = absurd cc
+variable_wait_fits cvs few (word ∷ rest) w e =
+    let by : ℕ → Option (ℕ × Limits) = λ k. option_map (λ l. (k, l)) (limits_of rest) in
+    let (k, first, more) = then_some by (below cvs (number_of word)) w e in
+    let (l, limits, is) = map_some (λ l. (k, l)) (limits_of rest) w more in
+    subst (λ x. IsVariable x.0 × LimitsFit x.1) is (variable_fits cvs few word k first, limits_fit rest l limits)
 
-call_at_fits : (thread number : ℕ) (d : Data) (call : Call ScriptCondition) → call_at thread number d ≡ Ok call → CallInRange 8 call
+variable_call_fits : (cvs : ℕ) → cvs ≤ 4 → (words : List (List ℕ)) (call : Call ScriptCondition) → option_map (λ w. CvWait w.0 w.1) (variable_wait_of cvs words) ≡ Some call → CallInRange 8 call
+variable_call_fits cvs few words call e =
+    let (w, limits, is) = map_some (λ w. CvWait w.0 w.1) (variable_wait_of cvs words) call e in
+    let fits = variable_wait_fits cvs few words w limits in
+    subst (CallInRange 8) is (fits.0, fits.1.0, fits.1.1)
+
+call_fits : (cvs : ℕ) → cvs ≤ 4 → (words : List (List ℕ)) (call : Call ScriptCondition) → call_of cvs words ≡ Some call → CallInRange 8 call
+unfolding call_of
+call_fits cvs few [] call e = absurd cc
+call_fits cvs few (name ∷ words) call e = named (bytes_eq name (codes "wait")) _ _ call (wait_call_fits words call) (named (bytes_eq name (codes "cvwait")) _ _ call (variable_call_fits cvs few words call) (brief_fits cvs few (name ∷ words) call)) e
+
+call_at_fits : (cvs : ℕ) → cvs ≤ 4 → (thread number : ℕ) (d : Data) (call : Call ScriptCondition) → call_at cvs thread number d ≡ Ok call → CallInRange 8 call
 unfolding call_at
-call_at_fits thread number d call e =
+call_at_fits cvs few thread number d call e =
     let (text, is, more) = bind_ok (need (at.Call thread number) (as_str d)) _ call e in
-    call_fits (parts 32 text) call (need_ok _ _ call more)
+    call_fits cvs few (parts 32 text) call (need_ok _ _ call more)
 
 -- ---- the threads
 
@@ -224,32 +244,32 @@ list_few limit place d ds e =
     let (list, is, few) = bind_ok (need place (option_map list_of (option_and_then as_array d))) (at_most limit place) ds e in
     at_most_few limit place list ds few
 
-calls_short : (thread : ℕ) (d : Data) (calls : List (Call ScriptCondition)) → calls_at thread d ≡ Ok calls → IsShort calls
+calls_short : (cvs : ℕ) → cvs ≤ 4 → (thread : ℕ) (d : Data) (calls : List (Call ScriptCondition)) → calls_at cvs thread d ≡ Ok calls → IsShort calls
 unfolding calls_at
-calls_short thread d calls e =
+calls_short cvs variables thread d calls e =
     let (list, is, each) = bind_ok (list_in 256 (at.Thread thread) (Some d)) _ calls e in
     record {
-      few = rw (each_length (call_at thread) 0 list calls each) (list_few 256 _ _ list is);
-      in_range = each_all (CallInRange 8) (call_at thread) (call_at_fits thread) 0 list calls each;
+      few = rw (each_length (call_at cvs thread) 0 list calls each) (list_few 256 _ _ list is);
+      in_range = each_all (CallInRange 8) (call_at cvs thread) (call_at_fits cvs variables thread) 0 list calls each;
     }
 
-pub few_threads : (d : Data) (threads : List (List (Call ScriptCondition))) → threads_of d ≡ Ok threads → length threads ≤ 64
+pub few_threads : (cvs : ℕ) (d : Data) (threads : List (List (Call ScriptCondition))) → threads_of cvs d ≡ Ok threads → length threads ≤ 64
 unfolding threads_of
-few_threads d threads e =
+few_threads cvs d threads e =
     let (list, is, each) = bind_ok (list_in 64 at.Threads (get (codes "threads") d)) _ threads e in
-    rw (each_length calls_at 0 list threads each) (list_few 64 _ _ list is)
+    rw (each_length (calls_at cvs) 0 list threads each) (list_few 64 _ _ list is)
 
-pub few_lists : (d : Data) (threads : List (Vec (Call ScriptCondition))) → threads_of d ≡ Ok (map (λ w. w.items) threads) → length threads ≤ 64
-few_lists d threads e =
-    let few = few_threads d (map (λ w. w.items) threads) e in
+pub few_lists : (cvs : ℕ) (d : Data) (threads : List (Vec (Call ScriptCondition))) → threads_of cvs d ≡ Ok (map (λ w. w.items) threads) → length threads ≤ 64
+few_lists cvs d threads e =
+    let few = few_threads cvs d (map (λ w. w.items) threads) e in
     let same : length (map (λ (w : Vec (Call ScriptCondition)). w.items) threads) ≡ length threads = search (arith, length-map) in
     rw (← same) few
 
-threads_short : (d : Data) (threads : List (List (Call ScriptCondition))) → threads_of d ≡ Ok threads → All IsShort threads
+threads_short : (cvs : ℕ) → cvs ≤ 4 → (d : Data) (threads : List (List (Call ScriptCondition))) → threads_of cvs d ≡ Ok threads → All IsShort threads
 unfolding threads_of
-threads_short d threads e =
+threads_short cvs few d threads e =
     let (list, is, each) = bind_ok (list_in 64 at.Threads (get (codes "threads") d)) _ threads e in
-    each_all IsShort calls_at calls_short 0 list threads each
+    each_all IsShort (calls_at cvs) (calls_short cvs few) 0 list threads each
 
 -- ---- the schedule
 
@@ -292,17 +312,31 @@ schedule_below threads d schedule e =
 
 -- ---- the script
 
+most_four : (b : Bool) (n cvs : ℕ) (fault : Fault) → nat_le n 4 ≡ b → cond b (Ok n) (Err fault) ≡ Ok cvs → cvs ≤ 4
+most_four true n cvs fault small e = let is : n ≡ cvs = cc in rw (← is) (grind (arith, nat_tests))
+most_four false n cvs fault small e = absurd cc
+
+variables_few : (d : Option Data) (cvs : ℕ) → variables_of d ≡ Ok cvs → cvs ≤ 4
+unfolding variables_of
+variables_few None cvs e = let is : 0 ≡ cvs = cc in rw (← is) (omega arith)
+variables_few (Some d) cvs e =
+    let (n, is, more) = bind_ok (need at.Variables (option_and_then as_u64 (as_number d))) _ cvs e in
+    most_four (nat_le n 4) n cvs _ refl more
+
 plan_runs : (d : Data) (plan : Plan) → plan_in d ≡ Ok plan → IsRunnable plan
 unfolding plan_in
 plan_runs d plan e =
     let (ms, members, e1) = bind_ok (members_of d) _ plan e in
     let (n, version, e2) = bind_ok (version_of d) _ plan e1 in
-    let (threads, calls, e3) = bind_ok (threads_of d) _ plan e2 in
+    let (cvs, variables, e2') = bind_ok (variables_of (get (codes "cvs") d)) _ plan e2 in
+    let (threads, calls, e3) = bind_ok (threads_of cvs d) _ plan e2' in
+    let few = variables_few (get (codes "cvs") d) cvs variables in
     let (schedule, turns, made) = bind_ok (schedule_of (length threads) d) _ plan e3 in
-    let is : record { threads = threads; schedule = schedule } ≡ plan = cc in
+    let is : record { cvs = cvs; threads = threads; schedule = schedule } ≡ plan = cc in
     subst IsRunnable is (record {
-      few = few_threads d threads calls;
-      short = threads_short d threads calls;
+      variables = few;
+      few = few_threads cvs d threads calls;
+      short = threads_short cvs few d threads calls;
       in_range = schedule_below (length threads) d schedule turns;
     })
 

@@ -11,6 +11,7 @@ use Rattle.ns_replay.specs.declared.fault.Fault.TheVariants.{OutOfMemory, NotJso
 abbrev pub place_text : Place → List ℕ
 place_text at.Root = codes "/"
 place_text at.Version = codes "/version"
+place_text at.Variables = codes "/cvs"
 place_text at.Threads = codes "/threads"
 place_text (at.Thread thread) = codes "/threads/" ++ decimal thread
 place_text (at.Call thread call) = codes "/threads/" ++ decimal thread ++ codes "/" ++ decimal call

@@ -49,7 +49,7 @@ pub record IsText (options : Options) (bytes text : List ℕ) : Type 0 where
   pub world : Now ScriptCondition 8
   pub lines : List Line
   pub runs : RunsTo options.limit plan world lines
-  pub is : text ≡ text_of options plan.threads lines world
+  pub is : text ≡ text_of options plan.cvs plan.threads lines world
 
 -- the bytes give a script, and its schedule needs more turns than the limit
 pub record IsPastLimit (limit : ℕ) (bytes : List ℕ) : Type 0 where

@@ -5,13 +5,14 @@ use Rattle.ns_world.specs.Calls.{CallInRange}
 use Rattle.ns_replay.specs.declared.condition.ScriptCondition.{ScriptCondition}
 use Rattle.ns_replay.specs.Script.{Plan}
 
--- a thread has at most 256 calls, of the eight cells, of 64 notes, and of moments below 2^54
+-- a thread has at most 256 calls, of the eight cells, of four condition variables, of 64 notes, and of moments below 2^54
 pub record IsShort (calls : List (Call ScriptCondition)) : Type 0 where
   pub few : length calls ≤ 256
   pub in_range : All (CallInRange 8) calls
 
--- at most 64 threads, and only they have turns
+-- at most four condition variables and 64 threads, and only those have turns
 pub record IsRunnable (plan : Plan) : Type 0 where
+  pub variables : plan.cvs ≤ 4
   pub few : length plan.threads ≤ 64
   pub short : All IsShort plan.threads
   pub in_range : All (λ turn. turn.thread < length plan.threads) plan.schedule

@@ -16,14 +16,15 @@ use Rattle.ns_replay.specs.declared.condition.ScriptCondition.{ScriptCondition}
 use Rattle.ns_replay.specs.Words.{parts}
 use Rattle.ns_replay.specs.Calls.{call_of, turn_of}
 
--- what to run: the calls of each thread, and whose turn it is
+-- what to run: how many condition variables there are, the calls of each thread, and whose turn it is
 pub record Plan : Type 0 where
+  pub cvs : ℕ
   pub threads : List (List (Call ScriptCondition))
   pub schedule : List Turn
 
 -- what a script that was read runs
 abbrev pub plan_of : Script → Plan
-plan_of script = record { threads = map (λ v. v.items) script.threads.items; schedule = script.schedule.items }
+plan_of script = record { cvs = script.cvs; threads = map (λ v. v.items) script.threads.items; schedule = script.schedule.items }
 
 -- the values of an array, in order
 abbrev pub list_of : Items → List Data
@@ -38,23 +39,23 @@ at_most limit place xs = if nat_le (length xs) limit then Ok xs else Err (TooMan
 unfoldable pub list_in : ℕ → Place → Option Data → Result (List Data) Fault
 list_in limit place d = need place (option_map list_of (option_and_then as_array d)) >>= at_most limit place
 
--- a call: a text of words parted by one space
-unfoldable pub call_at : ℕ → ℕ → Data → Result (Call ScriptCondition) Fault
-call_at thread number d = do
+-- a call, where there are so many condition variables: a text of words parted by one space
+unfoldable pub call_at : ℕ → ℕ → ℕ → Data → Result (Call ScriptCondition) Fault
+call_at cvs thread number d = do
   text ← need (at.Call thread number) (as_str d)
-  need (at.Call thread number) (call_of (parts 32 text))
+  need (at.Call thread number) (call_of cvs (parts 32 text))
 
 -- a thread: at most 256 calls
-unfoldable pub calls_at : ℕ → Data → Result (List (Call ScriptCondition)) Fault
-calls_at thread d = do
+unfoldable pub calls_at : ℕ → ℕ → Data → Result (List (Call ScriptCondition)) Fault
+calls_at cvs thread d = do
   list ← list_in 256 (at.Thread thread) (Some d)
-  each_from (call_at thread) 0 list
+  each_from (call_at cvs thread) 0 list
 
 -- `threads`: at most 64 of them
-unfoldable pub threads_of : Data → Result (List (List (Call ScriptCondition))) Fault
-threads_of d = do
+unfoldable pub threads_of : ℕ → Data → Result (List (List (Call ScriptCondition))) Fault
+threads_of cvs d = do
   list ← list_in 64 at.Threads (get (codes "threads") d)
-  each_from calls_at 0 list
+  each_from (calls_at cvs) 0 list
 
 -- words parted by one space; the empty text has none
 abbrev pub words_of : List ℕ → List (List ℕ)
@@ -73,7 +74,7 @@ schedule_of threads d = do
 
 -- a script has a member of this name
 abbrev pub is_known : List ℕ → Bool
-is_known name = bytes_eq name (codes "version") || bytes_eq name (codes "threads") || bytes_eq name (codes "schedule")
+is_known name = bytes_eq name (codes "version") || bytes_eq name (codes "cvs") || bytes_eq name (codes "threads") || bytes_eq name (codes "schedule")
 
 -- a script has each of these members
 abbrev pub are_known : Members → Bool
@@ -88,14 +89,24 @@ members_of d = need at.Root (as_object d) >>= λ ms. if are_known ms then Ok ms 
 unfoldable pub version_of : Data → Result ℕ Fault
 version_of d = need at.Version (option_and_then (λ n. if n == 1 then Some n else None) (option_and_then as_u64 (option_and_then as_number (get (codes "version") d))))
 
+-- `cvs`: a whole number, of at most 4
+abbrev pub variables_in : Data → Result ℕ Fault
+variables_in d = need at.Variables (option_and_then as_u64 (as_number d)) >>= λ n. if nat_le n 4 then Ok n else Err (TooMany at.Variables)
+
+-- how many condition variables there are: none, where it isn't said
+unfoldable pub variables_of : Option Data → Result ℕ Fault
+variables_of None = Ok 0
+variables_of (Some d) = variables_in d
+
 -- the members in order
 unfoldable pub plan_in : Data → Result Plan Fault
 plan_in d = do
   members ← members_of d
   version ← version_of d
-  threads ← threads_of d
+  cvs ← variables_of (get (codes "cvs") d)
+  threads ← threads_of cvs d
   schedule ← schedule_of (length threads) d
-  Ok (record { threads = threads; schedule = schedule })
+  Ok (record { cvs = cvs; threads = threads; schedule = schedule })
 
 -- the value that a JSON text gives, if it is one
 abbrev pub json_read : Option Data → Result Data Fault

@@ -1,5 +1,5 @@
 -- The text of a run, by its parts.
-use Rattle.std.specs.Prelude.{ℕ, List, [], ◌∷◌, ◌++◌, Bool, true, false, ◌&&◌, ◌==◌, if◌then◌else◌, Option, Some, None, option_and_then, codes, decimal, flat_map, map, filter, count_by, slice_get, length}
+use Rattle.std.specs.Prelude.{ℕ, List, [], ◌∷◌, ◌++◌, Bool, true, false, ◌&&◌, ◌==◌, if◌then◌else◌, Option, Some, None, option_and_then, codes, decimal, flat_map, map, filter, count_by, slice_get, length, nat_lt, ◌+◌}
 use Rattle.std.specs.List.{range_with_len}
 use Rattle.ns_model.specs.declared.event.Mode.{Mode}
 use Rattle.ns_model.specs.declared.event.Mode.TheVariants as mode
@@ -24,7 +24,7 @@ use Rattle.ns_world.specs.declared.schedule.Line.{Line}
 use Rattle.ns_replay.specs.declared.condition.ScriptCondition.{ScriptCondition}
 use Rattle.ns_queue.specs.Waiters.{shown_of}
 use Rattle.ns_world.specs.World.{Now, is_busy}
-use Rattle.ns_world.specs.Shows.{lock_shown, wakes_owed}
+use Rattle.ns_world.specs.Shows.{lists_shown, wakes_owed}
 use Rattle.ns_replay.specs.Condition.{condition_text}
 use Rattle.ns_replay.specs.declared.options.Options.{Options}
 
@@ -122,6 +122,7 @@ abbrev pub numbers_text : List ℕ → List ℕ
 numbers_text [] = []
 numbers_text (n ∷ ns) = decimal n ++ flat_map after_comma ns
 
+-- a mode: `w` writes, `r` reads
 abbrev pub mode_text : Mode → List ℕ
 mode_text mode.Write = codes "w"
 mode_text mode.Read = codes "r"
@@ -207,6 +208,15 @@ waiter_text waiter = codes " " ++ decimal waiter.seat ++ codes ":" ++ mode_text 
 abbrev pub queue_text : List Shown → List ℕ
 queue_text waiters = codes "queue" ++ flat_map waiter_text waiters ++ codes "\n"
 
+-- the waiters for a condition variable, front to back, if there are so many
+abbrev pub variable_text : ℕ → ℕ → List Shown → List ℕ
+variable_text cvs k waiters = if nat_lt k cvs then codes "cv " ++ decimal k ++ flat_map waiter_text waiters ++ codes "\n" else []
+
+-- and for those from one on
+abbrev pub variables_text : ℕ → ℕ → List (List Shown) → List ℕ
+variables_text cvs k [] = []
+variables_text cvs k (waiters ∷ lists) = variable_text cvs k waiters ++ variables_text cvs (k + 1) lists
+
 -- a wake that is owed: by whom, and to whom
 abbrev pub wake_text : ℕ × ℕ → List ℕ
 wake_text wake = codes "owed " ++ decimal wake.0 ++ codes ">" ++ decimal wake.1 ++ codes "\n"
@@ -215,21 +225,21 @@ wake_text wake = codes "owed " ++ decimal wake.0 ++ codes ">" ++ decimal wake.1 
 abbrev pub wakes_text : List (ℕ × ℕ) → List ℕ
 wakes_text wakes = flat_map wake_text wakes
 
--- the lock word, the waiters and the wakes that are owed
-abbrev pub lock_text : Word → List Shown → List (ℕ × ℕ) → List ℕ
-lock_text word waiters wakes = word_text word ++ queue_text waiters ++ wakes_text wakes
+-- the lock word, the waiters for the lock and for each condition variable, and the wakes that are owed
+abbrev pub lock_text : ℕ → Word → List Shown → List (List Shown) → List (ℕ × ℕ) → List ℕ
+lock_text cvs word waiters lists wakes = word_text word ++ queue_text waiters ++ variables_text cvs 0 lists ++ wakes_text wakes
 
 -- where that is asked for
-abbrev pub state_text : Bool → Word → List Shown → List (ℕ × ℕ) → List ℕ
-state_text asked word waiters wakes = if asked then lock_text word waiters wakes else []
+abbrev pub state_text : Bool → ℕ → Word → List Shown → List (List Shown) → List (ℕ × ℕ) → List ℕ
+state_text asked cvs word waiters lists wakes = if asked then lock_text cvs word waiters lists wakes else []
 
 -- ---- a run
 
--- The text of a run with these calls: the lines that it finished, and what its world is after it.
-unfoldable pub text_of : Options → List (List (Call ScriptCondition)) → List Line → Now ScriptCondition 8 → List ℕ
-text_of options threads lines world =
+-- The text of a run with so many condition variables and these calls: the lines that it finished, and what its world is after it.
+unfoldable pub text_of : Options → ℕ → List (List (Call ScriptCondition)) → List Line → Now ScriptCondition 8 → List ℕ
+text_of options cvs threads lines world =
     lines_text options.tests threads lines
     ++ lefts_text (is_busy world.state.views world.asking) lines (length threads)
     ++ row_text world.state.row
     ++ history_text options.history world.history
-    ++ state_text options.state world.state.word (map shown_of (lock_shown world)) (wakes_owed world.state.views)
+    ++ state_text options.state cvs world.state.word (map shown_of (lists_shown world).lock) (map (map shown_of) (lists_shown world).cvs) (wakes_owed world.state.views)

@@ -1,4 +1,4 @@
--- What the words of a conditional wait write.
+-- What the words of a wait write.
 use Rattle.std.specs.Prelude.{ℕ, List, [], ◌∷◌, codes, bytes_eq, if◌then◌else◌, Option, Some, None, option_map, option_and_then}
 use Rattle.ns_word.specs.declared.limits.Limits.{Limits}
 use Rattle.ns_replay.specs.declared.condition.AtLeast.{AtLeast}
@@ -38,3 +38,8 @@ limits_of words = option_map (λ n. record { deadline = None; note = n }) (note_
 unfoldable pub wait_of : List (List ℕ) → Option (ScriptCondition × Limits)
 wait_of (condition ∷ rest) = option_and_then (λ c. option_map (λ l. (c, l)) (limits_of rest)) (condition_of (parts 38 condition))
 wait_of [] = None
+
+-- `K [deadline T] [note M]`, where there are so many condition variables
+unfoldable pub variable_wait_of : ℕ → List (List ℕ) → Option (ℕ × Limits)
+variable_wait_of cvs (word ∷ rest) = option_and_then (λ k. option_map (λ l. (k, l)) (limits_of rest)) (below cvs (number_of word))
+variable_wait_of cvs [] = None

@@ -4,7 +4,7 @@ ghost use Rattle.std.specs.Prelude.{◌≡◌, map, IfOk};
 ghost use Rattle.ns_replay.specs.Calls.{plain_call_of, short_call_of, long_call_of, brief_call_of, call_of, actor_of, turn_of, repeats_of};
 
 use crate::condition::ScriptCondition;
-use crate::waits::wait;
+use crate::waits::{variable_wait, wait};
 use crate::words::{
     CELLS, NOTES, moment, moment_or_none, note_or_none, number, number_below, parts_at,
 };
@@ -28,9 +28,9 @@ fn plain_call(name: &str) -> Option<Call<ScriptCondition>>
     }
 }
 
-/// The call that a name and a word write.
-fn short_call(name: &str, word: &str) -> Option<Call<ScriptCondition>>
-    ensures { result ≡ short_call_of name.now word.now }
+/// The call that a name and a word write, where there are so many condition variables.
+fn short_call(name: &str, word: &str, cvs: u8) -> Option<Call<ScriptCondition>>
+    ensures { result ≡ short_call_of cvs name.now word.now }
 {
     match name {
         "get" => {
@@ -52,6 +52,14 @@ fn short_call(name: &str, word: &str) -> Option<Call<ScriptCondition>>
         "expiry" => {
             let note = number_below(word, NOTES)?;
             Some(Call::Expiry(note))
+        }
+        "signal" => {
+            let variable = number_below(word, cvs)?;
+            Some(Call::Signal(variable))
+        }
+        "broadcast" => {
+            let variable = number_below(word, cvs)?;
+            Some(Call::Broadcast(variable))
         }
         _ => None,
     }
@@ -83,21 +91,25 @@ fn long_call(name: &str, first: &str, second: &str) -> Option<Call<ScriptConditi
 
 /// The call that a name and at most two words after it write.
 #[tactic(auto, unfolding(crate::specs::Calls::brief_call_of))]
-fn brief_call(words: &[&str]) -> Option<Call<ScriptCondition>>
-    ensures { result ≡ brief_call_of (map (λ x. x.now) words.now) }
+fn brief_call(words: &[&str], cvs: u8) -> Option<Call<ScriptCondition>>
+    ensures { result ≡ brief_call_of cvs (map (λ x. x.now) words.now) }
 {
     match words {
         [name] => plain_call(name),
-        [name, word] => short_call(name, word),
+        [name, word] => short_call(name, word, cvs),
         [name, first, second] => long_call(name, first, second),
         _ => None,
     }
 }
 
-/// The call that words write.
+/// The call that words write, where there are so many condition variables.
 #[tactic(auto, unfolding(crate::specs::Calls::call_of))]
-pub fn call(alloc: Global, words: &[&str]) -> Result<Option<Call<ScriptCondition>>, AllocError>
-    ensures { IfOk result (λ o. o ≡ call_of (map (λ x. x.now) words.now)) }
+pub fn call(
+    alloc: Global,
+    words: &[&str],
+    cvs: u8,
+) -> Result<Option<Call<ScriptCondition>>, AllocError>
+    ensures { IfOk result (λ o. o ≡ call_of cvs (map (λ x. x.now) words.now)) }
 {
     match words {
         [name, rest @ ..] => {
@@ -106,8 +118,13 @@ pub fn call(alloc: Global, words: &[&str]) -> Result<Option<Call<ScriptCondition
                     Some((condition, limits)) => Ok(Some(Call::Wait(condition, limits))),
                     None => Ok(None),
                 }
+            } else if *name == "cvwait" {
+                match variable_wait(rest, cvs) {
+                    Some((variable, limits)) => Ok(Some(Call::CvWait(variable, limits))),
+                    None => Ok(None),
+                }
             } else {
-                Ok(brief_call(words))
+                Ok(brief_call(words, cvs))
             }
         }
         _ => Ok(None),

@@ -12,6 +12,8 @@ pub enum Place {
     Root,
     /// The member `version`.
     Version,
+    /// The member `cvs`.
+    Variables,
     /// The member `threads`.
     Threads,
     /// The calls of a thread.
@@ -34,6 +36,7 @@ impl fmt::Display for Place {
         match self {
             Place::Root => write!(f, "/"),
             Place::Version => write!(f, "/version"),
+            Place::Variables => write!(f, "/cvs"),
             Place::Threads => write!(f, "/threads"),
             Place::Thread(thread) => write!(f, "/threads/{thread}"),
             Place::Call(thread, call) => write!(f, "/threads/{thread}/{call}"),

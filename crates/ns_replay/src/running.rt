@@ -46,7 +46,7 @@ pub fn run_text(
     options: Options,
 ) -> Result<String, AllocError>
     requires { length script.now.threads.items ≤ 64 }
-    ensures { IfOk result (λ text. string_bytes text ≡ text_of options (plan_of script.now).threads run.now.lines.items (now_of script_truths run.now.world)) }
+    ensures { IfOk result (λ text. string_bytes text ≡ text_of options (plan_of script.now).cvs (plan_of script.now).threads run.now.lines.items (now_of script_truths run.now.world)) }
 {
     let state = run.world.state();
     let threads = script.threads.as_slice();
@@ -55,12 +55,6 @@ pub fn run_text(
     push_lefts(&mut out, state.busy, &run.lines, threads.len() as u8)?;
     push_row(&mut out, &state.row)?;
     push_history(&mut out, options.history, run.world.history())?;
-    push_state(
-        &mut out,
-        options.state,
-        state.word,
-        state.lock.as_slice(),
-        state.owed.as_slice(),
-    )?;
+    push_state(&mut out, options.state, script.cvs, &state)?;
     Ok(out)
 }

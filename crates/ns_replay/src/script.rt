@@ -1,6 +1,6 @@
 //! Scripts, read from JSON.
 //!
-//! A script is an object with the members `version`, `threads` and `schedule`, checked in this
+//! A script is an object with the members `version`, `cvs`, `threads` and `schedule`, checked in this
 //! order; each member for its kind, then for its size, then element by element in the same way.
 //! `specs/Script.antt` says the same by cases, with a definition for each function here.
 
@@ -9,7 +9,7 @@ ghost use Rattle.std.specs.List.{list_all};
 ghost use Rattle.std.specs.BTreeMap.{keys};
 ghost use Rattle.serde_json.specs.View.{view, members_view};
 ghost use Rattle.ns_replay.specs.Faults.{Gives, each_from};
-ghost use Rattle.ns_replay.specs.Script.{is_known, list_in, call_at, calls_at, threads_of, words_of, turn_at, schedule_of, members_of, version_of, plan_in, plan_of, json_of, script_of};
+ghost use Rattle.ns_replay.specs.Script.{is_known, list_in, call_at, calls_at, threads_of, words_of, turn_at, schedule_of, members_of, version_of, variables_of, plan_in, plan_of, json_of, script_of};
 
 use crate::calls;
 use crate::condition::ScriptCondition;
@@ -21,9 +21,12 @@ use ns_world::schedule::Turn;
 use serde_json::{Map, Value};
 use std::alloc::{AllocError, Global};
 
-/// What to run: the calls of each thread, and whose turn it is.
+/// What to run: how many condition variables there are, the calls of each thread, and whose turn
+/// it is.
 #[derive(Drop)]
 pub struct Script {
+    /// How many condition variables there are.
+    pub cvs: u8,
     /// The calls of each thread, in order.
     pub threads: Vec<Vec<Call<ScriptCondition>>>,
     /// Whose turn it is, item by item.
@@ -52,17 +55,18 @@ fn list<'a>(value: Option<&'a Value>, place: Place, limit: usize) -> Result<&'a 
 fn call_in(
     alloc: Global,
     value: &Value,
+    cvs: u8,
     thread: usize,
     number: usize,
 ) -> Result<Call<ScriptCondition>, Fault>
-    ensures { Gives (λ c. c) result (call_at thread number (view value.now)) }
+    ensures { Gives (λ c. c) result (call_at cvs thread number (view value.now)) }
 {
     let place = Place::Call(thread, number);
     let Some(text) = value.as_str() else {
         return Err(Fault::BadScript(place));
     };
     let words = parts_at(alloc, text, ' ')?;
-    match calls::call(alloc, &words)? {
+    match calls::call(alloc, &words, cvs)? {
         Some(call) => Ok(call),
         None => Err(Fault::BadScript(place)),
     }
@@ -72,13 +76,14 @@ fn call_in(
 fn each_call(
     alloc: Global,
     values: &[Value],
+    cvs: u8,
     thread: usize,
 ) -> Result<Vec<Call<ScriptCondition>>, Fault>
-    ensures { Gives (λ v. v.items) result (each_from (call_at thread) 0 (map view values.now)) }
+    ensures { Gives (λ v. v.items) result (each_from (call_at cvs thread) 0 (map view values.now)) }
 {
     let mut calls = Vec::new(alloc);
     for (number, value) in values.iter().enumerate() {
-        let call = call_in(alloc, value, thread, number)?;
+        let call = call_in(alloc, value, cvs, thread, number)?;
         calls.push(call)?;
     }
     Ok(calls)
@@ -86,20 +91,29 @@ fn each_call(
 
 /// The calls of a thread.
 #[tactic(auto, unfolding(crate::specs::Script::calls_at))]
-fn calls(alloc: Global, value: &Value, thread: usize) -> Result<Vec<Call<ScriptCondition>>, Fault>
-    ensures { Gives (λ v. v.items) result (calls_at thread (view value.now)) }
+fn calls(
+    alloc: Global,
+    value: &Value,
+    cvs: u8,
+    thread: usize,
+) -> Result<Vec<Call<ScriptCondition>>, Fault>
+    ensures { Gives (λ v. v.items) result (calls_at cvs thread (view value.now)) }
 {
     let values = list(Some(value), Place::Thread(thread), 256)?;
-    each_call(alloc, values, thread)
+    each_call(alloc, values, cvs, thread)
 }
 
 /// The threads, one by one.
-fn each_thread(alloc: Global, values: &[Value]) -> Result<Vec<Vec<Call<ScriptCondition>>>, Fault>
-    ensures { Gives (λ v. map (λ w. w.items) v.items) result (each_from calls_at 0 (map view values.now)) }
+fn each_thread(
+    alloc: Global,
+    values: &[Value],
+    cvs: u8,
+) -> Result<Vec<Vec<Call<ScriptCondition>>>, Fault>
+    ensures { Gives (λ v. map (λ w. w.items) v.items) result (each_from (calls_at cvs) 0 (map view values.now)) }
 {
     let mut threads = Vec::new(alloc);
     for (thread, value) in values.iter().enumerate() {
-        let calls = calls(alloc, value, thread)?;
+        let calls = calls(alloc, value, cvs, thread)?;
         threads.push(calls)?;
     }
     Ok(threads)
@@ -107,11 +121,11 @@ fn each_thread(alloc: Global, values: &[Value]) -> Result<Vec<Vec<Call<ScriptCon
 
 /// The threads of a script.
 #[tactic(auto, unfolding(crate::specs::Script::threads_of))]
-fn threads(alloc: Global, value: &Value) -> Result<Vec<Vec<Call<ScriptCondition>>>, Fault>
-    ensures { Gives (λ v. map (λ w. w.items) v.items) result (threads_of (view value.now)) }
+fn threads(alloc: Global, value: &Value, cvs: u8) -> Result<Vec<Vec<Call<ScriptCondition>>>, Fault>
+    ensures { Gives (λ v. map (λ w. w.items) v.items) result (threads_of cvs (view value.now)) }
 {
     let values = list(value.get("threads"), Place::Threads, 64)?;
-    each_thread(alloc, values)
+    each_thread(alloc, values, cvs)
 }
 
 /// The words of a schedule.
@@ -166,7 +180,7 @@ fn schedule(alloc: Global, value: &Value, threads: u8) -> Result<Vec<Turn>, Faul
 fn known(name: &str) -> bool
     ensures { result ≡ is_known name.now }
 {
-    name == "version" || name == "threads" || name == "schedule"
+    name == "version" || name == "cvs" || name == "threads" || name == "schedule"
 }
 
 fn all_known(members: &Map<String, Value>) -> bool
@@ -200,6 +214,23 @@ fn version(value: &Value) -> Result<u64, Fault>
     }
 }
 
+/// How many condition variables there are: none, where the script doesn't say.
+#[tactic(auto, unfolding(crate::specs::Script::variables_of))]
+fn variables(value: Option<&Value>) -> Result<u8, Fault>
+    ensures { Gives (λ n. n) result (variables_of (option_map (λ v. view v.now) value.entry)) }
+{
+    let Some(value) = value else {
+        return Ok(0);
+    };
+    let Some(count) = value.as_u64() else {
+        return Err(Fault::BadScript(Place::Variables));
+    };
+    if count > 4 {
+        return Err(Fault::TooMany(Place::Variables));
+    }
+    Ok(count as u8)
+}
+
 /// The script that a JSON value gives.
 #[tactic(auto, unfolding(crate::specs::Script::plan_in))]
 fn script_in(alloc: Global, value: &Value) -> Result<Script, Fault>
@@ -207,9 +238,14 @@ fn script_in(alloc: Global, value: &Value) -> Result<Script, Fault>
 {
     let _ = members(value)?;
     let _ = version(value)?;
-    let threads = threads(alloc, value)?;
+    let cvs = variables(value.get("cvs"))?;
+    let threads = threads(alloc, value, cvs)?;
     let schedule = schedule(alloc, value, threads.len() as u8)?;
-    Ok(Script { threads, schedule })
+    Ok(Script {
+        cvs,
+        threads,
+        schedule,
+    })
 }
 
 /// The JSON value that bytes give.

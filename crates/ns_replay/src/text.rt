@@ -5,9 +5,10 @@
 
 ghost use Rattle.std.specs.Prelude.{◌≡◌, ◌≤◌, ◌<◌, ◌++◌, ◌||◌, map, flat_map, string_bytes, OnOk, IfOk};
 ghost use Rattle.ns_model.specs.Seats.{is_in};
-ghost use Rattle.ns_replay.specs.Text.{truth_text, expiry_text, reply_text, is_release, tests_text, line_text, lines_text, finished_calls, left_text, lefts_text, row_text, after_comma, numbers_text, mode_text, answer_text, entry_text, exit_text, section_text, rows_text, seat_text, seats_text, event_words, event_text, events_text, history_text, bit_text, bits_text, word_text, waiter_text, queue_text, wake_text, wakes_text, lock_text, state_text};
+ghost use Rattle.ns_replay.specs.Text.{truth_text, expiry_text, reply_text, is_release, tests_text, line_text, lines_text, finished_calls, left_text, lefts_text, row_text, after_comma, numbers_text, mode_text, answer_text, entry_text, exit_text, section_text, rows_text, seat_text, seats_text, event_words, event_text, events_text, history_text, bit_text, bits_text, word_text, waiter_text, queue_text, variable_text, variables_text, wake_text, wakes_text, lock_text, state_text};
 
 use crate::condition::ScriptCondition;
+use arrayvec::ArrayVec;
 use ns_model::event::{Answer, Entry, Event, Exit, Mode};
 use ns_model::seats::Seats;
 use ns_queue::waiter::Shown;
@@ -15,6 +16,7 @@ use ns_word::walk::Reply;
 use ns_word::word::Word;
 use ns_world::call::Call;
 use ns_world::schedule::Line;
+use ns_world::world::State;
 use std::alloc::AllocError;
 
 /// How a wait ended.
@@ -409,6 +411,33 @@ fn push_queue(out: &mut String, waiters: &[Shown]) -> Result<(), AllocError>
     out.push_str("\n")
 }
 
+/// The line of the waiters for a condition variable, if there are so many.
+fn push_variable(out: &mut String, cvs: u8, k: usize, waiters: &[Shown]) -> Result<(), AllocError>
+    ensures { OnOk result (string_bytes out.new ≡ string_bytes out.old ++ variable_text cvs k waiters.now) }
+{
+    if k < cvs as usize {
+        write!(out, "cv {k}")?;
+        push_waiters(out, waiters)?;
+        out.push_str("\n")
+    } else {
+        Ok(())
+    }
+}
+
+/// The lines of the waiters for the condition variables.
+fn push_variables(
+    out: &mut String,
+    cvs: u8,
+    lists: &[ArrayVec<Shown, 64>; 4],
+) -> Result<(), AllocError>
+    ensures { OnOk result (string_bytes out.new ≡ string_bytes out.old ++ variables_text cvs 0 (map (λ list. list.items) lists.now)) }
+{
+    for (k, list) in lists.iter().enumerate() {
+        push_variable(out, cvs, k, list.as_slice())?;
+    }
+    Ok(())
+}
+
 /// The line of a wake that is owed.
 fn push_wake(out: &mut String, wake: (u8, u8)) -> Result<(), AllocError>
     ensures { OnOk result (string_bytes out.new ≡ string_bytes out.old ++ wake_text wake) }
@@ -427,32 +456,28 @@ fn push_wakes(out: &mut String, wakes: &[(u8, u8)]) -> Result<(), AllocError>
     Ok(())
 }
 
-/// The lines of the lock word, of its waiters, and of the wakes that are owed.
-fn push_lock(
-    out: &mut String,
-    word: Word,
-    waiters: &[Shown],
-    wakes: &[(u8, u8)],
-) -> Result<(), AllocError>
-    ensures { OnOk result (string_bytes out.new ≡ string_bytes out.old ++ lock_text word waiters.now wakes.now) }
+/// The lines of the lock word, of its waiters and those of the condition variables, and of the wakes
+/// that are owed.
+fn push_lock<const N: usize>(out: &mut String, cvs: u8, state: &State<N>) -> Result<(), AllocError>
+    ensures { OnOk result (string_bytes out.new ≡ string_bytes out.old ++ lock_text cvs state.now.word state.now.lock.items (map (λ list. list.items) state.now.cvs) state.now.owed.items) }
 {
-    push_word(out, word)?;
-    push_queue(out, waiters)?;
-    push_wakes(out, wakes)
+    push_word(out, state.word)?;
+    push_queue(out, state.lock.as_slice())?;
+    push_variables(out, cvs, &state.cvs)?;
+    push_wakes(out, state.owed.as_slice())
 }
 
-/// The lines of the lock, where that is asked for.
-pub fn push_state(
+/// The lines of the lock, with so many condition variables, where that is asked for.
+pub fn push_state<const N: usize>(
     out: &mut String,
     asked: bool,
-    word: Word,
-    waiters: &[Shown],
-    wakes: &[(u8, u8)],
+    cvs: u8,
+    state: &State<N>,
 ) -> Result<(), AllocError>
-    ensures { OnOk result (string_bytes out.new ≡ string_bytes out.old ++ state_text asked word waiters.now wakes.now) }
+    ensures { OnOk result (string_bytes out.new ≡ string_bytes out.old ++ state_text asked cvs state.now.word state.now.lock.items (map (λ list. list.items) state.now.cvs) state.now.owed.items) }
 {
     if asked {
-        push_lock(out, word, waiters, wakes)
+        push_lock(out, cvs, state)
     } else {
         Ok(())
     }

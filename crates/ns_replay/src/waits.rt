@@ -1,8 +1,8 @@
-//! What the words of a conditional wait write.
+//! What the words of a wait write.
 
 ghost use Rattle.std.specs.Prelude.{◌≡◌, map, IfOk};
 ghost use Rattle.ns_replay.specs.Words.{parts};
-ghost use Rattle.ns_replay.specs.Waits.{bounded_cell_of, at_least_of, condition_of, note_limit_of, limits_of, wait_of};
+ghost use Rattle.ns_replay.specs.Waits.{bounded_cell_of, at_least_of, condition_of, note_limit_of, limits_of, wait_of, variable_wait_of};
 
 use crate::condition::{AtLeast, ScriptCondition};
 use crate::words::{CELLS, NOTES, moment, number, number_below, parts_at};
@@ -126,7 +126,7 @@ fn limits(words: &[&str]) -> Option<Limits>
     }
 }
 
-/// What the words of a wait after its name write: `COND [deadline T] [note M]`.
+/// What the words of a conditional wait after its name write: `COND [deadline T] [note M]`.
 #[tactic(auto, unfolding(crate::specs::Waits::wait_of))]
 pub fn wait(alloc: Global, words: &[&str]) -> Result<Option<(ScriptCondition, Limits)>, AllocError>
     ensures { IfOk result (λ o. o ≡ wait_of (map (λ x. x.now) words.now)) }
@@ -140,5 +140,21 @@ pub fn wait(alloc: Global, words: &[&str]) -> Result<Option<(ScriptCondition, Li
             }
         }
         _ => Ok(None),
+    }
+}
+
+/// What the words of a wait for a condition variable after its name write, where there are so many
+/// variables: `K [deadline T] [note M]`.
+#[tactic(auto, unfolding(crate::specs::Waits::variable_wait_of))]
+pub fn variable_wait(words: &[&str], cvs: u8) -> Option<(u8, Limits)>
+    ensures { result ≡ variable_wait_of cvs (map (λ x. x.now) words.now) }
+{
+    match words {
+        [word, rest @ ..] => {
+            let variable = number_below(word, cvs)?;
+            let limits = limits(rest)?;
+            Some((variable, limits))
+        }
+        _ => None,
     }
 }

@@ -12,7 +12,7 @@ use ns_queue::waiter::{Waiter, Which};
 use ns_word::act::{Act, Found};
 use ns_word::codec::encode;
 use ns_word::walk::{Next, Reply, Walk};
-use ns_word::word::Word;
+use ns_word::word::{Arrival, Word};
 use ns_world::call::Call;
 use ns_world::step::Step;
 use ns_world::world::World;
@@ -126,7 +126,7 @@ fn a_scan(rt: HostRuntime) {
 #[test]
 fn a_walk(rt: HostRuntime) -> Result<(), Fail> {
     // a call is a walk: a place that wants an act next, and goes on by what the act found
-    let place: Walk<bool> = Walk::TryLoad(Mode::Write);
+    let place: Walk<bool> = Walk::try_lock(Mode::Write);
     assert!(rt; matches!(place.want(), Act::LoadWord));
     let Next::On(place) = place.got::<8>(Found::Saw(Word::FREE)) else {
         return Ok(());
@@ -136,7 +136,7 @@ fn a_walk(rt: HostRuntime) -> Result<(), Fail> {
     assert!(rt; matches!(over, Next::Done(Reply::Succeeded)));
 
     // the lock word after that, as a number
-    let word = Word::FREE.acquired(Mode::Write, false);
+    let word = Word::FREE.acquired(Mode::Write, Arrival::AsFresh);
     assert!(rt; encode(word) == 1);
     Ok(())
 }

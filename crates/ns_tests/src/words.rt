@@ -2,7 +2,7 @@
 
 use ns_model::event::Mode;
 use ns_word::codec::{BadWord, decode, encode};
-use ns_word::word::{Bits, Releasing, Word};
+use ns_word::word::{Arrival, Bits, Releasing, Word};
 
 const WRITING: Word = Word {
     write: true,
@@ -48,13 +48,13 @@ fn new_words(rt: HostRuntime) {
         conditional: false,
         writer_waits: false,
     };
-    assert_eq!(rt; Word::FREE.acquired(Mode::Write, false), WRITING);
+    assert_eq!(rt; Word::FREE.acquired(Mode::Write, Arrival::AsFresh), WRITING);
     assert_eq!(rt;
         Word {
             desig: true,
             ..Word::FREE
         }
-        .acquired(Mode::Read, true),
+        .acquired(Mode::Read, Arrival::AsWoken),
         Word {
             readers: 1,
             ..Word::FREE
@@ -125,7 +125,7 @@ fn new_words(rt: HostRuntime) {
         }
     );
     assert_eq!(rt;
-        word.returned(idle),
+        word.returned(false, idle),
         Word {
             waiting: true,
             cond: true,

@@ -1,27 +1,78 @@
 -- The act that a lawful place wants may be made.
-use Rattle.std.proofs.Common.{◌≡◌, ℕ, ◌+◌, ◌≤◌, Bool, true, false, List, [], ◌∷◌, ◌++◌, Some, refl, ap, ◌∙◌, subst, arith, eq-eqb}
+use Rattle.std.proofs.Common.{◌≡◌, ℕ, ◌+◌, ◌<◌, ◌≤◌, Bool, true, false, List, [], ◌∷◌, ◌++◌, sum_by, Option, None, Some, IsSome, refl, ap, ◌∙◌, subst, arith, eq-eqb}
 use Rattle.ns_model.specs.declared.event.Event.{Event}
 use Rattle.ns_model.specs.Histories.{standing_after}
+use Rattle.ns_queue.specs.Queues.{IsList, times}
 use Rattle.ns_queue.specs.Waiters.{times_in}
 use Rattle.ns_queue.specs.Scans.{left_of}
+use Rattle.ns_word.specs.declared.view.Held.{Held}
 use Rattle.ns_word.specs.declared.view.SeatView.{SeatView}
-use Rattle.ns_word.specs.declared.walk.Walk.{Walk}
-use Rattle.ns_word.specs.declared.walk.Walk.TheVariants.{TryLoad, TryAcquire, AcquireLoad, AcquireExchange, TakeToQueue, Arm, Queue, AwaitWake, QuietCells, QuietLast, ReleaseLoad, ReleaseExchange, TakeToScan, ScanCells, ScanAndRelease, Pay, GetLoad, SetLoad, SetStore, InWait}
+use Rattle.ns_word.specs.declared.wait.Subject.{Subject}
+use Rattle.ns_word.specs.declared.wait.Subject.TheVariants.{OnCondition, OnVariable}
 use Rattle.ns_word.specs.declared.wait.Wait.{Wait}
 use Rattle.ns_word.specs.declared.wait.WaitPlace.{WaitPlace}
-use Rattle.ns_word.specs.declared.wait.WaitPlace.TheVariants.{TestCells, TestLast, LookIn, Load, Take, ArmToWait, QueueToWait, PayInWait, AwaitWakeInWait, LookOut, LeaveLoad, TakeToLeave, Leave, AwaitWakeToLeave}
+use Rattle.ns_word.specs.declared.wait.WaitPlace.TheVariants.{TestCells, TestLast, InQueuing, PayInWait, AwaitWakeInWait, LookOut, InLeaving}
+use Rattle.ns_word.specs.declared.wait.QueuePlace.TheVariants.{LookIn, Load, Take, ArmToWait, LoadToScan, QueueToWait}
+use Rattle.ns_word.specs.declared.wait.LeavePlace.TheVariants.{LeaveLoad, TakeToLeave, Leave, AwaitWakeToLeave}
+use Rattle.ns_word.specs.declared.try_walk.TryPlace.TheVariants.{TryLoad, TryAcquire}
+use Rattle.ns_word.specs.declared.acquire_walk.AcquirePlace.TheVariants.{AcquireLoad, AcquireExchange, TakeToQueue, Arm, Queue, AwaitWake}
+use Rattle.ns_word.specs.declared.release_walk.ReleasePlace.TheVariants.{ReleaseLoad, ReleaseExchange, TakeToScan, ScanCells, ScanAndRelease, Pay}
+use Rattle.ns_word.specs.declared.cell_walk.CellPlace.TheVariants.{GetLoad, SetLoad, SetStore, QuietCells, QuietLast}
+use Rattle.ns_word.specs.declared.signal_walk.SignalPlace.TheVariants.{SignalLoad, TakeToWake, WakeAndReturn, PayTheWoken}
+use Rattle.ns_word.specs.declared.walk.Walk.{Walk}
+use Rattle.ns_word.specs.declared.walk.Walk.TheVariants.{InTry, InAcquire, InRelease, InCells, InWait, InSignal}
 use Rattle.ns_word.specs.Lists.{has_some, times_among}
-use Rattle.ns_word.specs.Walks.{want_waiting, want_of, place_pays, awaits, pays}
+use Rattle.ns_word.specs.Waits.{home_of}
+use Rattle.ns_word.specs.Walks.{judge_of, want_waiting, want_of, awaits, pays}
 use Rattle.ns_word.specs.Views.{walk_at, AreApart}
 use Rattle.ns_model.specs.Truths.{Truths}
-use Rattle.ns_word.specs.Steps.{State, part_of}
-use Rattle.ns_word.specs.Places.{WaitFits, PlaceFits, ActFits, OwesOne}
+use Rattle.ns_word.specs.Steps.{State, part_of, with_lock}
+use Rattle.ns_word.specs.Places.{IsForCondition, IsUnmet, IsInRange, CanWait, WaitFits, PlaceFits, HasList, ActFits, OwesOne}
 use Rattle.ns_word.specs.Lawful.{EachFits, ViewFits, IsLawful}
 use Rattle.ns_word.proofs.Views.{walk_here, apart_parts, each_parts}
 use Rattle.ns_word.proofs.Scans.{times_scan}
 use Rattle.ns_word.proofs.Keeps.{none_of}
 use Rattle.ns_word.proofs.Leads.{tests_some}
 use Rattle.ns_word.proofs.Ranges.{else_not, owed_below, readers_fewer}
+
+-- ---- the list of a wait is one that there is
+
+module _ {C : Type 0} where
+  condition_in_range : (on : Subject C) → IsForCondition on → IsInRange on
+  condition_in_range (OnCondition c) p = tt
+  condition_in_range (OnVariable k) p = absurd p
+
+  unmet_in_range : (truths : Truths C) (on : Subject C) (row : List ℕ) → IsUnmet truths on row → IsInRange on
+  unmet_in_range truths (OnCondition c) row p = tt
+  unmet_in_range truths (OnVariable k) row p = p
+
+  home_is_list : (on : Subject C) → IsInRange on → IsList (home_of on)
+  home_is_list (OnCondition c) p = tt
+  home_is_list (OnVariable k) p = p
+
+module _ {C : Type 0} {N : ℕ} (truths : Truths C) where
+  can_in_range : (wait : Wait C) (again : Bool) (held : Option (Held C N)) → CanWait truths wait again held → IsInRange wait.on
+  can_in_range wait again None p = absurd p
+  can_in_range wait again (Some held) p = unmet_in_range truths wait.on held.row p.unmet
+
+  wait_in_range : (wait : Wait C) (at_place : WaitPlace) (held : Option (Held C N)) → WaitFits truths wait at_place held → IsInRange wait.on
+  wait_in_range wait (TestCells visit i) held p = condition_in_range wait.on p.2
+  wait_in_range wait (TestLast visit i) held p = condition_in_range wait.on p.2
+  wait_in_range wait (InQueuing again place) held p = can_in_range wait again held p.0
+  wait_in_range wait PayInWait held p = p.1
+  wait_in_range wait AwaitWakeInWait held p = p.1
+  wait_in_range wait LookOut held p = p.1
+  wait_in_range wait (InLeaving cause place) held p = p.2
+
+  list_there : (walk : Walk C) (held : Option (Held C N)) → PlaceFits truths (Some walk) held → HasList walk
+  list_there (InTry mode place) held p = tt
+  list_there (InAcquire aim place) held p = tt
+  list_there (InRelease releasing place) held p = tt
+  list_there (InCells place) held p = tt
+  list_there (InWait wait place) held p = wait_in_range wait place held p.0
+  list_there (InSignal waking k place) held p = p.1
+
+-- ---- each act
 
 module _ {C : Type 0} {N : ℕ} (truths : Truths C) (seats : ℕ) (few : seats ≤ 64) (h : List (Event C N)) (s : State C N) (front : List (SeatView C N)) (view : SeatView C N) (back : List (SeatView C N)) (split : s.views ≡ front ++ view ∷ back) (p : IsLawful truths seats h s) where
   -- what the law says of a seat's view
@@ -32,12 +83,12 @@ module _ {C : Type 0} {N : ℕ} (truths : Truths C) (seats : ℕ) (few : seats �
   walk_is = ap (walk_at view.seat) split ∙ walk_here front view back (apart_parts front view back (subst (λ vs. AreApart vs) split p.apart)).0
 
   -- a seat that doesn't wait stands nowhere
-  pub stands_nowhere : awaits view.walk ≡ false → times_in view.seat s.lock ≡ 0
-  stands_nowhere a = (else_not s.lock s.flags s.views view.seat p.waiters_placed (ap awaits walk_is ∙ a)).0
+  pub stands_nowhere : awaits view.walk ≡ false → times view.seat s.lists ≡ 0
+  stands_nowhere a = (else_not s.lists s.flags s.views view.seat p.waiters_placed (ap awaits walk_is ∙ a)).0
 
-  -- nor in what a scan leaves
-  pub stays_nowhere : (meets : C → Bool) → awaits view.walk ≡ false → times_in view.seat (left_of meets s.lock) ≡ 0
-  stays_nowhere meets a = omega (arith, times_scan view.seat meets s.lock, stands_nowhere a)
+  -- nor where the lock list is what a scan leaves of it
+  pub stays_nowhere : (meets : C → Bool) → awaits view.walk ≡ false → times view.seat (with_lock s.lists (left_of meets s.lists.lock)) ≡ 0
+  stays_nowhere meets a = let none : times_in view.seat s.lists.lock + sum_by (times_in view.seat) s.lists.cvs ≡ 0 = stands_nowhere a in omega (arith, times_scan view.seat meets s.lists.lock, none)
 
   -- a seat that pays owes a wake, to a seat
   owes_one : (owed : List ℕ) → view.owed ≡ owed → has_some owed ≡ true → OwesOne seats owed
@@ -46,44 +97,57 @@ module _ {C : Type 0} {N : ℕ} (truths : Truths C) (seats : ℕ) (few : seats �
       let one : times_among x view.owed ≡ 1 + times_among x xs = ap (times_among x) e ∙ rw (eq-eqb x x refl) refl in
       owed_below truths seats h s p front view back split x (omega (arith, one))
 
-  waiting_at : (wait : Wait C) (at_place : WaitPlace) → view.walk ≡ Some (InWait wait at_place) → WaitFits truths wait at_place view.held → has_some view.owed ≡ place_pays at_place → ActFits truths seats view.seat (want_waiting wait at_place) (part_of s view.held view.owed)
+  judges : (on : Subject C) (i : ℕ) → IsSome view.held → i < N → ActFits truths seats view.seat (judge_of on i) (part_of s view.held view.owed)
+  judges (OnCondition c) i some less = (some, less)
+  judges (OnVariable k) i some less = less
+
+  waiting_at : (wait : Wait C) (at_place : WaitPlace) → view.walk ≡ Some (InWait wait at_place) → WaitFits truths wait at_place view.held → has_some view.owed ≡ pays (Some (InWait wait at_place)) → ActFits truths seats view.seat (want_waiting wait at_place) (part_of s view.held view.owed)
   waiting_at wait (TestCells visit i) e place owes = omega (arith, place.1)
-  waiting_at wait (TestLast visit i) e place owes = (tests_some truths wait visit view.held place.0, omega (arith, place.1))
-  waiting_at wait (LookIn again) e place owes = tt
-  waiting_at wait (Load again) e place owes = tt
-  waiting_at wait (Take again last) e place owes = place.1
-  waiting_at wait (ArmToWait again last) e place owes = view_fits.in_range
-  waiting_at wait (QueueToWait again last) e place owes = (place, none_of view.owed owes, view_fits.in_range, stands_nowhere (ap awaits e))
+  waiting_at wait (TestLast visit i) e place owes = judges wait.on i (tests_some truths wait visit view.held place.0) (omega (arith, place.1))
+  waiting_at wait (InQueuing again LookIn) e place owes = tt
+  waiting_at wait (InQueuing again Load) e place owes = tt
+  waiting_at wait (InQueuing again (Take last)) e place owes = place.1
+  waiting_at wait (InQueuing again (ArmToWait last)) e place owes = view_fits.in_range
+  waiting_at wait (InQueuing again (LoadToScan last i)) e place owes = place.1
+  waiting_at wait (InQueuing again (QueueToWait last)) e place owes = (place.0, none_of view.owed owes, view_fits.in_range, stands_nowhere (ap awaits e))
   waiting_at wait PayInWait e place owes = owes_one view.owed refl owes
   waiting_at wait AwaitWakeInWait e place owes = view_fits.in_range
   waiting_at wait LookOut e place owes = tt
-  waiting_at wait (LeaveLoad cause) e place owes = tt
-  waiting_at wait (TakeToLeave cause last) e place owes = place.1
-  waiting_at wait (Leave cause last) e place owes = (view_fits.in_range, tt)
-  waiting_at wait (AwaitWakeToLeave cause) e place owes = view_fits.in_range
+  waiting_at wait (InLeaving cause LeaveLoad) e place owes = tt
+  waiting_at wait (InLeaving cause (TakeToLeave last)) e place owes = place.1
+  waiting_at wait (InLeaving cause (Leave last)) e place owes = (view_fits.in_range, home_is_list wait.on place.2)
+  waiting_at wait (InLeaving cause AwaitWakeToLeave) e place owes = view_fits.in_range
 
   fits_at : (walk : Walk C) → view.walk ≡ Some walk → PlaceFits truths (Some walk) view.held → has_some view.owed ≡ pays (Some walk) → ActFits truths seats view.seat (want_of walk) (part_of s view.held view.owed)
-  fits_at (TryLoad mode) e place owes = tt
-  fits_at (TryAcquire mode last) e place owes = (place.0, place.1, omega (arith, readers_fewer truths seats h s p front view back split place.0, few))
-  fits_at (AcquireLoad aim woken) e place owes = tt
-  fits_at (AcquireExchange aim woken last) e place owes = (place.0, place.1, omega (arith, readers_fewer truths seats h s p front view back split place.0, few))
-  fits_at (TakeToQueue aim woken last) e place owes = place.1
-  fits_at (Arm aim woken last) e place owes = view_fits.in_range
-  fits_at (Queue aim woken last) e place owes = (view_fits.in_range, stands_nowhere (ap awaits e))
-  fits_at (AwaitWake aim) e place owes = view_fits.in_range
-  fits_at (QuietCells i) e place owes = omega (arith, place.1)
-  fits_at (QuietLast i) e place owes = (place.0, omega (arith, place.1))
-  fits_at (ReleaseLoad releasing) e place owes = tt
-  fits_at (ReleaseExchange releasing last) e place owes = place.0
-  fits_at (TakeToScan releasing last) e place owes = place.1
-  fits_at (ScanCells releasing last i) e place owes = place.1
-  fits_at (ScanAndRelease releasing last) e place owes = (place, none_of view.owed owes)
-  fits_at Pay e place owes = owes_one view.owed refl owes
-  fits_at (GetLoad i) e place owes = place.1
-  fits_at (SetLoad i v) e place owes = place.1
-  fits_at (SetStore i v) e place owes = place
-  fits_at (InWait wait at_place) e place owes = waiting_at wait at_place e place owes
+  fits_at (InTry mode TryLoad) e place owes = tt
+  fits_at (InTry mode (TryAcquire last)) e place owes = (place.0, place.1, omega (arith, readers_fewer truths seats h s p front view back split place.0, few))
+  fits_at (InAcquire aim (AcquireLoad arrival)) e place owes = tt
+  fits_at (InAcquire aim (AcquireExchange arrival last)) e place owes = (place.0, place.1, omega (arith, readers_fewer truths seats h s p front view back split place.0, few))
+  fits_at (InAcquire aim (TakeToQueue arrival last)) e place owes = place.1.0
+  fits_at (InAcquire aim (Arm arrival last)) e place owes = view_fits.in_range
+  fits_at (InAcquire aim (Queue arrival last)) e place owes = (view_fits.in_range, stands_nowhere (ap awaits e))
+  fits_at (InAcquire aim AwaitWake) e place owes = view_fits.in_range
+  fits_at (InCells (QuietCells i)) e place owes = omega (arith, place.0.1)
+  fits_at (InCells (QuietLast i)) e place owes = (place.0.0, omega (arith, place.0.1))
+  fits_at (InRelease releasing ReleaseLoad) e place owes = tt
+  fits_at (InRelease releasing (ReleaseExchange last)) e place owes = place.0
+  fits_at (InRelease releasing (TakeToScan last)) e place owes = place.1
+  fits_at (InRelease releasing (ScanCells last i)) e place owes = place.1
+  fits_at (InRelease releasing (ScanAndRelease last)) e place owes = (place, none_of view.owed owes)
+  fits_at (InRelease releasing Pay) e place owes = owes_one view.owed refl owes
+  fits_at (InCells (GetLoad i)) e place owes = place.0.1
+  fits_at (InCells (SetLoad i v)) e place owes = place.0.1
+  fits_at (InCells (SetStore i v)) e place owes = place.0
+  fits_at (InWait wait at_place) e place owes = waiting_at wait at_place e place.0 owes
+  fits_at (InSignal waking k SignalLoad) e place owes = tt
+  fits_at (InSignal waking k (TakeToWake last)) e place owes = place.0
+  fits_at (InSignal waking k (WakeAndReturn last)) e place owes = (view_fits.in_range, place.1)
+  fits_at (InSignal waking k PayTheWoken) e place owes = owes_one view.owed refl owes
 
   -- The act that the seat's walk wants may be made.
   pub act_fits : (walk : Walk C) → view.walk ≡ Some walk → ActFits truths seats view.seat (want_of walk) (part_of s view.held view.owed)
   act_fits walk e = fits_at walk e (subst (λ w. PlaceFits truths w view.held) e view_fits.place) (view_fits.owes ∙ ap pays e)
+
+  -- The list that it names is one that there is.
+  pub has_list : (walk : Walk C) → view.walk ≡ Some walk → HasList walk
+  has_list walk e = list_there truths walk view.held (subst (λ w. PlaceFits truths w view.held) e view_fits.place)

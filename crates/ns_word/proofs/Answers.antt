@@ -1,35 +1,60 @@
 -- What a wait answers is what its section is committed with.
 use Rattle.std.proofs.Common.{◌≡◌, ℕ, Bool, true, false, cond, eqb, List, Option, None, Some, slice_set, refl, ap, sym, ◌∙◌, subst}
+use Rattle.ns_model.specs.declared.event.Mode.{Mode}
 use Rattle.ns_model.specs.declared.event.Answer.{Answer}
 use Rattle.ns_model.specs.declared.event.Answer.TheVariants.{Met}
-use Rattle.ns_model.specs.declared.event.Entry.TheVariants.{Waited}
+use Rattle.ns_model.specs.declared.event.Entry.TheVariants.{Waited, AfterCv}
 use Rattle.ns_model.specs.declared.event.Event.{Event}
 use Rattle.ns_model.specs.Sections.{is_met}
 use Rattle.ns_model.specs.Histories.{standing_after}
+use Rattle.ns_word.specs.declared.limits.Limits.{Limits}
 use Rattle.ns_word.specs.declared.limits.Cause.{Cause}
 use Rattle.ns_word.specs.declared.limits.Cause.TheVariants.{Expired, Notified}
+use Rattle.ns_word.specs.declared.word.Releasing.{Releasing}
+use Rattle.ns_word.specs.declared.word.Arrival.{Arrival}
+use Rattle.ns_word.specs.declared.word.Word.{Word}
+use Rattle.ns_word.specs.declared.wait.Aim.{Aim}
+use Rattle.ns_word.specs.declared.wait.Aim.TheVariants.{ForWait}
+use Rattle.ns_word.specs.declared.wait.Subject.{Subject}
+use Rattle.ns_word.specs.declared.wait.Subject.TheVariants.{OnCondition, OnVariable}
 use Rattle.ns_word.specs.declared.wait.Wait.{Wait}
 use Rattle.ns_word.specs.declared.wait.Visit.{Visit}
 use Rattle.ns_word.specs.declared.wait.Visit.TheVariants.{OnEntry, OnReturn}
-use Rattle.ns_word.specs.declared.wait.WaitPlace.{WaitPlace}
-use Rattle.ns_word.specs.declared.wait.WaitPlace.TheVariants.{TestCells, TestLast, LookIn, Load, Take, ArmToWait, QueueToWait, PayInWait, AwaitWakeInWait, LookOut, LeaveLoad, TakeToLeave, Leave, AwaitWakeToLeave}
+use Rattle.ns_word.specs.declared.view.Opening.TheVariants.{CameBack}
 use Rattle.ns_word.specs.declared.view.Held.{Held}
 use Rattle.ns_word.specs.declared.view.SeatView.{SeatView}
+use Rattle.ns_word.specs.declared.wait.WaitPlace.{WaitPlace}
+use Rattle.ns_word.specs.declared.wait.WaitPlace.TheVariants.{TestCells, TestLast, InQueuing, PayInWait, AwaitWakeInWait, LookOut, InLeaving}
+use Rattle.ns_word.specs.declared.wait.QueuePlace.TheVariants.{LookIn, Load, Take, ArmToWait, LoadToScan, QueueToWait}
+use Rattle.ns_word.specs.declared.wait.LeavePlace.TheVariants.{LeaveLoad, TakeToLeave, Leave, AwaitWakeToLeave}
+use Rattle.ns_word.specs.declared.wait.LeavePlace.{LeavePlace}
+use Rattle.ns_word.specs.declared.try_walk.TryPlace.{TryPlace}
+use Rattle.ns_word.specs.declared.try_walk.TryPlace.TheVariants.{TryLoad, TryAcquire}
+use Rattle.ns_word.specs.declared.acquire_walk.AcquirePlace.{AcquirePlace}
+use Rattle.ns_word.specs.declared.acquire_walk.AcquirePlace.TheVariants.{AcquireLoad, AcquireExchange, TakeToQueue, Arm, Queue, AwaitWake}
+use Rattle.ns_word.specs.declared.release_walk.ReleasePlace.{ReleasePlace}
+use Rattle.ns_word.specs.declared.release_walk.ReleasePlace.TheVariants.{ReleaseLoad, ReleaseExchange, TakeToScan, ScanCells, ScanAndRelease, Pay}
+use Rattle.ns_word.specs.declared.cell_walk.CellPlace.{CellPlace}
+use Rattle.ns_word.specs.declared.cell_walk.CellPlace.TheVariants.{GetLoad, SetLoad, SetStore, QuietCells, QuietLast}
+use Rattle.ns_word.specs.declared.signal_walk.SignalPlace.{SignalPlace}
+use Rattle.ns_word.specs.declared.signal_walk.SignalPlace.TheVariants.{SignalLoad, TakeToWake, WakeAndReturn, PayTheWoken}
+use Rattle.ns_word.specs.declared.act.Waking.{Waking}
 use Rattle.ns_word.specs.declared.walk.Walk.{Walk}
-use Rattle.ns_word.specs.declared.walk.Walk.TheVariants.{InWait}
+use Rattle.ns_word.specs.declared.walk.Walk.TheVariants.{InTry, InAcquire, InRelease, InCells, InWait, InSignal}
 use Rattle.ns_word.specs.declared.act.Act.{Act}
 use Rattle.ns_word.specs.declared.act.Act.TheVariants.{LoadWord, Acquire, TakeQueues, ReturnQueues, Release, ReleaseReturning, WaitReturning, LoadCell, JudgeQuiet, JudgeMet, StoreCell, ArmFlag, PayWake, LoadFlag, Look}
 use Rattle.ns_word.specs.declared.act.Found.{Found}
-use Rattle.ns_word.specs.declared.act.Found.TheVariants.{Saw, Made, Cell, Quiet, Tested, Scanned, Paid, Left, Flag, Looked}
+use Rattle.ns_word.specs.declared.act.Found.TheVariants.{Saw, Made, Cell, Quiet, Tested, Scanned, Paid, Left, Woke, Flag, Looked}
 use Rattle.ns_word.specs.declared.walk.Reply.{Reply}
 use Rattle.ns_word.specs.declared.walk.Reply.TheVariants.{Answered}
 use Rattle.ns_word.specs.declared.walk.Next.{Next}
 use Rattle.ns_word.specs.declared.walk.Next.TheVariants.{On, Done}
-use Rattle.ns_word.specs.Waits.{answer_of, is_limited, cause_or}
-use Rattle.ns_word.specs.Walks.{want_waiting, want_of, got_waiting, got_of, reply_of, unmet_by, look_or_queue}
+use Rattle.ns_word.specs.Waits.{answer_of, answer_kept, is_limited, mode_for}
+use Rattle.ns_word.specs.Walks.{judge_of, want_waiting, want_trying, want_acquiring, want_releasing, want_in_cells, want_leaving, want_signaling, want_of, got_waiting, got_acquiring, got_of, reply_of, acquire_by, back_with, unmet_by, look_or_queue}
+use Rattle.ns_word.specs.Words.{may_acquire}
 use Rattle.ns_model.specs.Truths.{Truths}
-use Rattle.ns_word.specs.Steps.{State, Part, Effect, Step, part_of, entry_of, opening_by, held_after}
-use Rattle.ns_word.specs.Places.{PlaceFits, WaitFits, Tests, MayWait, CanWait, ComesBack}
+use Rattle.ns_word.specs.Steps.{State, Part, Effect, Step, part_of, newly_held, entry_of, opening_by, held_after}
+use Rattle.ns_word.specs.Places.{PlaceFits, WaitFits, Tests, IsUnmet, MayWait, CanWait, ComesBack}
 use Rattle.ns_word.specs.Lawful.{EachFits, IsLawful}
 use Rattle.ns_word.specs.Answers.{comes_back, place_has_come_back, has_come_back}
 use Rattle.ns_word.proofs.Views.{each_parts}
@@ -50,28 +75,29 @@ either_on false one other p q = q
 -- the place is one where a wait may answer
 abbrev may_answer : WaitPlace → Bool
 may_answer (TestLast visit i) = true
-may_answer (LookIn again) = true
+may_answer (InQueuing again LookIn) = true
 may_answer place = false
 
 module _ {C : Type 0} (N : ℕ) (wait : Wait C) where
   looks_on : (again : Bool) → GoesOn (look_or_queue wait again)
-  looks_on again = either_on (is_limited wait.limits) (On (InWait wait (LookIn again))) (On (InWait wait (Load again))) refl refl
+  looks_on again = either_on (is_limited wait.limits) (On (InWait wait (InQueuing again LookIn))) (On (InWait wait (InQueuing again Load))) refl refl
 
   -- at any other place the wait goes on
   others_on : (place : WaitPlace) (found : Found) → may_answer place ≡ false → GoesOn (got_waiting N wait place found)
   others_on (TestLast visit i) found e = absurd (cc)
-  others_on (LookIn again) found e = absurd (cc)
+  others_on (InQueuing again LookIn) found e = absurd (cc)
   others_on (TestCells visit i) (Cell v) e = refl
-  others_on (ArmToWait again last) Made e = refl
-  others_on (Load again) (Saw word) e = either_on word.spin _ _ refl refl
-  others_on (Take again last) (Saw word) e = either_on word.spin _ _ refl refl
-  others_on (QueueToWait again last) (Scanned owes tests) e = either_on owes _ _ refl refl
+  others_on (InQueuing again (ArmToWait last)) Made e = refl
+  others_on (InQueuing again Load) (Saw word) e = either_on word.spin _ _ refl refl
+  others_on (InQueuing again (Take last)) (Saw word) e = either_on word.spin _ _ refl refl
+  others_on (InQueuing again (LoadToScan last i)) (Cell v) e = refl
+  others_on (InQueuing again (QueueToWait last)) (Scanned owes tests) e = either_on owes _ _ refl refl
   others_on PayInWait (Paid owes) e = either_on owes _ _ refl refl
-  others_on AwaitWakeInWait (Flag v) e = either_on (eqb v 0) _ _ refl (either_on (is_limited wait.limits) _ _ refl refl)
-  others_on (LeaveLoad cause) (Saw word) e = either_on word.spin _ _ refl refl
-  others_on (TakeToLeave cause last) (Saw word) e = either_on word.spin _ _ refl refl
-  others_on (Leave cause last) (Left stood) e = either_on stood _ _ refl refl
-  others_on (AwaitWakeToLeave cause) (Flag v) e = either_on (eqb v 0) _ _ refl refl
+  others_on AwaitWakeInWait (Flag v) e = either_on (eqb v 1) _ _ (either_on (is_limited wait.limits) _ _ refl refl) refl
+  others_on (InLeaving cause LeaveLoad) (Saw word) e = either_on word.spin _ _ refl refl
+  others_on (InLeaving cause (TakeToLeave last)) (Saw word) e = either_on word.spin _ _ refl refl
+  others_on (InLeaving cause (Leave last)) (Left stood) e = either_on stood _ _ refl refl
+  others_on (InLeaving cause AwaitWakeToLeave) (Flag v) e = either_on (eqb v 1) _ _ refl refl
   others_on LookOut (Looked None) e = refl
   others_on LookOut (Looked (Some cause)) e = refl
   others_on _ _ e = refl
@@ -83,88 +109,217 @@ unmet_cause : (cause : Cause) → is_met (answer_of cause) ≡ false
 unmet_cause Expired = refl
 unmet_cause Notified = refl
 
-module _ {C : Type 0} {N : ℕ} (truths : Truths C) (wait : Wait C) where
+module _ {C : Type 0} {N : ℕ} (truths : Truths C) (wait : Wait C) (c : C) where
   -- The wait answers rightly of the section that is left in hand; one that has come back says the same of itself.
   abbrev AnswersOf : Bool → Option (Held C N) → Answer → Type 0
   AnswersOf back left answer =
-      (held : Held C N) × (left ≡ Some held) × (held.mode ≡ wait.mode) × (is_met answer ≡ truths.holds wait.cond held.row)
-      × (back ≡ true → entry_of truths.holds held.before held.entry ≡ Waited wait.cond answer)
+      (held : Held C N) × (left ≡ Some held) × (held.mode ≡ wait.mode) × (is_met answer ≡ truths.holds c held.row)
+      × (back ≡ true → entry_of truths.holds held.before held.entry ≡ Waited c answer)
+
+  -- how such a section says that it began, where the wait is for this condition
+  opens : (on : Subject C) (kept : Option Cause) (held : Held C N) → on ≡ OnCondition c → held.entry ≡ CameBack on kept → entry_of truths.holds held.before held.entry ≡ entry_of truths.holds held.before (CameBack (OnCondition c) kept)
+  opens on kept held for entry = ap (entry_of truths.holds held.before) (entry ∙ ap (λ (z : Subject C). CameBack z kept) for)
 
   -- how a section is said to begin that has come back by this cause, by whether the condition holds
-  begins_so : (cause : Cause) (held : Held C N) (b : Bool) → ComesBack wait cause held → truths.holds wait.cond held.row ≡ b →
-      entry_of truths.holds held.before held.entry ≡ Waited wait.cond (cond b Met (answer_of cause))
-  begins_so cause held b back e =
-      ap (entry_of truths.holds held.before) back.entry
-      ∙ ap (λ (z : Bool). Waited wait.cond (cond z Met (answer_of cause))) (ap (truths.holds wait.cond) (sym back.cells) ∙ e)
+  begins_so : (cause : Cause) (held : Held C N) (b : Bool) → wait.on ≡ OnCondition c → ComesBack wait (Some cause) held → truths.holds c held.row ≡ b →
+      entry_of truths.holds held.before held.entry ≡ Waited c (cond b Met (answer_of cause))
+  begins_so cause held b for back e =
+      opens wait.on (Some cause) held for back.entry
+      ∙ ap (λ (z : Bool). Waited c (cond z Met (answer_of cause))) (ap (truths.holds c) (sym back.cells) ∙ e)
+
+  -- and where nothing has ended it
+  begins_met : (held : Held C N) → wait.on ≡ OnCondition c → ComesBack wait None held → entry_of truths.holds held.before held.entry ≡ Waited c Met
+  begins_met held for back = opens wait.on None held for back.entry
 
   -- a test that finds the condition true
-  met_answers : (visit : Visit) (held : Held C N) → Tests wait visit (Some held) → truths.holds wait.cond held.row ≡ true → AnswersOf (comes_back visit) (Some held) Met
-  met_answers OnEntry held p e = (held, refl, p, sym e, λ b. absurd (cc))
-  met_answers (OnReturn kept) held p e = (held, refl, p.0, sym e, λ _. begins_so (cause_or kept) held true p.1 e)
+  met_answers : (visit : Visit) (held : Held C N) → wait.on ≡ OnCondition c → Tests truths wait visit (Some held) → truths.holds c held.row ≡ true → AnswersOf (comes_back visit) (Some held) Met
+  met_answers OnEntry held for p e = (held, refl, p.0, sym e, λ b. absurd (cc))
+  met_answers (OnReturn None) held for p e = (held, refl, p.0, sym e, λ _. begins_met held for p.1)
+  met_answers (OnReturn (Some cause)) held for p e = (held, refl, p.0, sym e, λ _. begins_so cause held true for p.1 e)
 
   -- and one that finds it false
-  unmet_answers : (visit : Visit) (held : Held C N) (answer : Answer) → Tests wait visit (Some held) → truths.holds wait.cond held.row ≡ false → unmet_by wait visit ≡ Done (Answered answer) →
+  unmet_answers : (visit : Visit) (held : Held C N) (answer : Answer) → wait.on ≡ OnCondition c → Tests truths wait visit (Some held) → truths.holds c held.row ≡ false → unmet_by wait visit ≡ Done (Answered answer) →
       AnswersOf (comes_back visit) (Some held) answer
-  unmet_answers OnEntry held answer p e is = absurd (goes_on_not (look_or_queue wait false) (Answered answer) (looks_on N wait false) is)
-  unmet_answers (OnReturn None) held answer p e is = absurd (goes_on_not (look_or_queue wait true) (Answered answer) (looks_on N wait true) is)
-  unmet_answers (OnReturn (Some cause)) held answer p e is =
+  unmet_answers OnEntry held answer for p e is = absurd (goes_on_not (look_or_queue wait false) (Answered answer) (looks_on N wait false) is)
+  unmet_answers (OnReturn None) held answer for p e is = absurd (goes_on_not (look_or_queue wait true) (Answered answer) (looks_on N wait true) is)
+  unmet_answers (OnReturn (Some cause)) held answer for p e is =
       let same : answer_of cause ≡ answer = cc in
-      subst (AnswersOf true (Some held)) same (held, refl, p.0, unmet_cause cause ∙ sym e, λ _. begins_so cause held false p.1 e)
+      subst (AnswersOf true (Some held)) same (held, refl, p.0, unmet_cause cause ∙ sym e, λ _. begins_so cause held false for p.1 e)
 
-  test_answers : (visit : Visit) (held : Held C N) (b : Bool) (answer : Answer) → Tests wait visit (Some held) → truths.holds wait.cond held.row ≡ b →
+  test_answers : (visit : Visit) (held : Held C N) (b : Bool) (answer : Answer) → wait.on ≡ OnCondition c → Tests truths wait visit (Some held) → truths.holds c held.row ≡ b →
       cond b (Done (Answered Met)) (unmet_by wait visit) ≡ Done (Answered answer) → AnswersOf (comes_back visit) (Some held) answer
-  test_answers visit held true answer p e is = let same : Met ≡ answer = cc in subst (AnswersOf (comes_back visit) (Some held)) same (met_answers visit held p e)
-  test_answers visit held false answer p e is = unmet_answers visit held answer p e is
+  test_answers visit held true answer for p e is = let same : Met ≡ answer = cc in subst (AnswersOf (comes_back visit) (Some held)) same (met_answers visit held for p e)
+  test_answers visit held false answer for p e is = unmet_answers visit held answer for p e is
+
+  unmet_held : (again : Bool) (held : Held C N) → wait.on ≡ OnCondition c → MayWait truths wait again held → truths.holds c held.row ≡ false
+  unmet_held again held for p = subst (λ on. IsUnmet truths on held.row) for p.unmet
 
   -- a look that shows something: the condition was false, and a section that has come back goes by what is shown
-  look_answers : (again : Bool) (cause : Cause) (held : Held C N) → MayWait truths wait again held → AnswersOf again (held_after again (Some cause) (Some held)) (answer_of cause)
-  look_answers false cause held p = (held, refl, p.mode, unmet_cause cause ∙ sym p.unmet, λ b. absurd (cc))
-  look_answers true cause held p =
+  look_answers : (again : Bool) (cause : Cause) (held : Held C N) → wait.on ≡ OnCondition c → MayWait truths wait again held → AnswersOf again (held_after again (Some cause) (Some held)) (answer_of cause)
+  look_answers false cause held for p = (held, refl, p.mode, unmet_cause cause ∙ sym (unmet_held false held for p), λ b. absurd (cc))
+  look_answers true cause held for p =
       let shown : Held C N = record held { entry = opening_by cause held.entry } in
-      let back : ComesBack wait cause shown = record { entry = ap (opening_by cause) (p.back refl).entry; cells = (p.back refl).cells } in
-      (shown, refl, p.mode, unmet_cause cause ∙ sym p.unmet, λ _. begins_so cause shown false back p.unmet)
+      let back : ComesBack wait (Some cause) shown = record { entry = ap (opening_by cause) (p.back refl).1.entry; cells = (p.back refl).1.cells } in
+      let unmet = unmet_held true held for p in
+      (shown, refl, p.mode, unmet_cause cause ∙ sym unmet, λ _. begins_so cause shown false for back unmet)
 
-  looked_answers : (again : Bool) (cause : Cause) (held : Option (Held C N)) → CanWait truths wait again held → AnswersOf again (held_after again (Some cause) held) (answer_of cause)
-  looked_answers again cause None p = absurd p
-  looked_answers again cause (Some held) p = look_answers again cause held p
+  looked_answers : (again : Bool) (cause : Cause) (held : Option (Held C N)) → wait.on ≡ OnCondition c → CanWait truths wait again held → AnswersOf again (held_after again (Some cause) held) (answer_of cause)
+  looked_answers again cause None for p = absurd p
+  looked_answers again cause (Some held) for p = look_answers again cause held for p
 
-  answers_at : (seat : ℕ) (place : WaitPlace) (old : Part C N) (found : Found) (new : Part C N) (commits : List (Event C N)) (answer : Answer) → WaitFits truths wait place old.held →
+  answers_at : (seat : ℕ) (place : WaitPlace) (old : Part C N) (found : Found) (new : Part C N) (commits : List (Event C N)) (answer : Answer) → wait.on ≡ OnCondition c → WaitFits truths wait place old.held →
       Effect truths seat (want_waiting wait place) old found new commits → got_waiting N wait place found ≡ Done (Answered answer) → AnswersOf (place_has_come_back place) new.held answer
-  answers_at seat (TestLast visit i) old (Tested b) new commits answer p e is =
-      subst (λ left. AnswersOf (comes_back visit) left answer) (sym (ap (λ (part : Part C N). part.held) e.3 ∙ e.1))
-      (test_answers visit e.0 b answer (subst (λ held. Tests wait visit held) e.1 p.0) (sym e.2) is)
-  answers_at seat (TestLast visit i) old _ new commits answer p e is = absurd e
-  answers_at seat (LookIn again) old (Looked None) new commits answer p e is = absurd (cc)
-  answers_at seat (LookIn again) old (Looked (Some cause)) new commits answer p e is =
+  answers_at seat (TestLast visit i) old (Tested b) new commits answer for p e is =
+      let judged : Effect truths seat (JudgeMet i c) old (Tested b) new commits = subst (λ on. Effect truths seat (judge_of on i) old (Tested b) new commits) for e in
+      subst (λ left. AnswersOf (comes_back visit) left answer) (sym (ap (λ (part : Part C N). part.held) judged.3 ∙ judged.1))
+      (test_answers visit judged.0 b answer for (subst (λ held. Tests truths wait visit held) judged.1 p.0) (sym judged.2) is)
+  answers_at seat (TestLast visit i) old _ new commits answer for p e is = absurd (cc)
+  answers_at seat (InQueuing again LookIn) old (Looked None) new commits answer for p e is = absurd (cc)
+  answers_at seat (InQueuing again LookIn) old (Looked (Some cause)) new commits answer for p e is =
       let same : answer_of cause ≡ answer = cc in
-      subst (λ left. AnswersOf again left answer) (sym (ap (λ (part : Part C N). part.held) e.1)) (subst (AnswersOf again (held_after again (Some cause) old.held)) same (looked_answers again cause old.held p))
-  answers_at seat (LookIn again) old _ new commits answer p e is = absurd e
-  answers_at seat place old found new commits answer p e is = absurd (goes_on_not (got_waiting N wait place found) (Answered answer) (others_on N wait place found refl) is)
+      subst (λ left. AnswersOf again left answer) (sym (ap (λ (part : Part C N). part.held) e.1)) (subst (AnswersOf again (held_after again (Some cause) old.held)) same (looked_answers again cause old.held for p.0))
+  answers_at seat (InQueuing again LookIn) old _ new commits answer for p e is = absurd e
+  answers_at seat place old found new commits answer for p e is = absurd (goes_on_not (got_waiting N wait place found) (Answered answer) (others_on N wait place found refl) is)
 
--- A wait answers what its section is committed with.
-pub answers_rightly : {C : Type 0} {N : ℕ} (truths : Truths C) (seats : ℕ) (h : List (Event C N)) (old new : State C N) (view : SeatView C N) (found : Found) (commits : List (Event C N)) (wait : Wait C) (place : WaitPlace) (answer : Answer) →
-    (step : Step truths old view found new commits) → IsLawful truths seats h old → step.walk ≡ InWait wait place → got_of N step.walk found ≡ Done (Answered answer) → AnswersOf truths wait (has_come_back step.walk) step.held answer
-answers_rightly {C} {N} truths seats h old new view found commits wait place answer step lawful walks is =
+-- A wait for a condition answers what its section is committed with.
+pub answers_rightly : {C : Type 0} {N : ℕ} (truths : Truths C) (seats : ℕ) (h : List (Event C N)) (old new : State C N) (view : SeatView C N) (found : Found) (commits : List (Event C N)) (wait : Wait C) (c : C) (place : WaitPlace) (answer : Answer) →
+    (step : Step truths old view found new commits) → IsLawful truths seats h old → step.walk ≡ InWait wait place → wait.on ≡ OnCondition c → got_of N step.walk found ≡ Done (Answered answer) → AnswersOf truths wait c (has_come_back step.walk) step.held answer
+answers_rightly {C} {N} truths seats h old new view found commits wait c place answer step lawful walks for is =
     let fits = (each_parts truths seats (standing_after h) old.row step.front view step.back (subst (λ vs. EachFits truths seats (standing_after h) old.row vs) step.was lawful.one_history.each)).1 in
-    let here : WaitFits truths wait place view.held = subst (λ walk. PlaceFits truths walk view.held) (step.walks ∙ ap Some walks) fits.place in
-    subst (λ back. AnswersOf truths wait back step.held answer) (ap has_come_back (sym walks))
-    (answers_at truths wait view.seat place (part_of old view.held view.owed) found (part_of new step.held step.owed) commits answer here
+    let here : PlaceFits truths (Some (InWait wait place)) view.held = subst (λ walk. PlaceFits truths walk view.held) (step.walks ∙ ap Some walks) fits.place in
+    subst (λ back. AnswersOf truths wait c back step.held answer) (ap has_come_back (sym walks))
+    (answers_at truths wait c view.seat place (part_of old view.held view.owed) found (part_of new step.held step.owed) commits answer for here.0
     (subst (λ walk. Effect truths view.seat (want_of walk) (part_of old view.held view.owed) found (part_of new step.held step.owed) commits) walks step.effect) (ap (λ walk. got_of N walk found) (sym walks) ∙ is))
 
+-- ---- what a wait for a variable answers
+
+-- the step acquires the lock
+abbrev is_acquired : AcquirePlace → Found → Bool
+is_acquired (AcquireExchange arrival last) Made = true
+is_acquired place found = false
+
+module _ {C : Type 0} (N : ℕ) (aim : Aim C) where
+  decides_on : (arrival : Arrival) (word : Word) → GoesOn (acquire_by aim arrival word)
+  decides_on arrival word = either_on (may_acquire (mode_for aim) arrival word) _ _ refl (either_on word.spin _ _ refl refl)
+
+  -- at any other step the acquire goes on
+  acquires_on : (place : AcquirePlace) (found : Found) → is_acquired place found ≡ false → GoesOn (got_acquiring N aim place found)
+  acquires_on (AcquireExchange arrival last) Made e = absurd (cc)
+  acquires_on (AcquireLoad arrival) (Saw word) e = decides_on arrival word
+  acquires_on (AcquireExchange arrival last) (Saw word) e = decides_on arrival word
+  acquires_on (TakeToQueue arrival last) (Saw word) e = decides_on arrival word
+  acquires_on (TakeToQueue arrival last) Made e = refl
+  acquires_on (Arm arrival last) Made e = refl
+  acquires_on (Queue arrival last) (Saw word) e = refl
+  acquires_on (Queue arrival last) Made e = refl
+  acquires_on AwaitWake (Flag v) e = either_on (eqb v 1) _ _ refl refl
+  acquires_on _ _ e = refl
+
+module _ {C : Type 0} {N : ℕ} (truths : Truths C) (wait : Wait C) (kept : Option Cause) (k : ℕ) where
+  -- The section that is in hand then says just that answer of how it began.
+  abbrev AnswersAfter : Option (Held C N) → Answer → Type 0
+  AnswersAfter left answer = (held : Held C N) × (left ≡ Some held) × (held.mode ≡ wait.mode) × (entry_of truths.holds held.before held.entry ≡ AfterCv k answer)
+
+  after_at : (seat : ℕ) (place : AcquirePlace) (old : Part C N) (found : Found) (new : Part C N) (commits : List (Event C N)) (answer : Answer) → wait.on ≡ OnVariable k →
+      Effect truths seat (want_acquiring (ForWait wait kept) place) old found new commits → got_acquiring N (ForWait wait kept) place found ≡ Done (Answered answer) → AnswersAfter new.held answer
+  after_at seat (AcquireExchange arrival last) old Made new commits answer for e is =
+      let over : Done (Answered (answer_kept kept)) ≡ Done (Answered answer) = sym (ap (λ on. back_with N on wait kept) for) ∙ is in
+      let same : answer_kept kept ≡ answer = cc in (
+        newly_held (ForWait wait kept) old.row,
+        ap (λ (part : Part C N). part.held) e.3,
+        refl,
+        ap (λ (on : Subject C). entry_of truths.holds old.row (CameBack on kept)) for ∙ ap (λ (a : Answer). AfterCv k a) same,
+      )
+  after_at seat place old found new commits answer for e is = absurd (goes_on_not (got_acquiring N (ForWait wait kept) place found) (Answered answer) (acquires_on N (ForWait wait kept) place found refl) is)
+
+-- A wait for a variable answers what its section says of how it began.
+pub variable_answers_rightly : {C : Type 0} {N : ℕ} (truths : Truths C) (old new : State C N) (view : SeatView C N) (found : Found) (commits : List (Event C N)) (wait : Wait C) (kept : Option Cause) (place : AcquirePlace) (k : ℕ) (answer : Answer) →
+    (step : Step truths old view found new commits) → step.walk ≡ InAcquire (ForWait wait kept) place → wait.on ≡ OnVariable k → got_of N step.walk found ≡ Done (Answered answer) → AnswersAfter truths wait kept k step.held answer
+variable_answers_rightly {C} {N} truths old new view found commits wait kept place k answer step walks for is =
+    after_at truths wait kept k view.seat place (part_of old view.held view.owed) found (part_of new step.held step.owed) commits answer for
+    (subst (λ walk. Effect truths view.seat (want_of walk) (part_of old view.held view.owed) found (part_of new step.held step.owed) commits) walks step.effect) (ap (λ walk. got_of N walk found) (sym walks) ∙ is)
+
 -- ---- from the answer to the commit
+
+-- what a look goes by, where the act is one, and whether its wait has come back
+abbrev pub look_of_act : {C : Type 0} → Act C → Option (Limits × Bool)
+look_of_act (Look limits again) = Some (limits, again)
+look_of_act act = None
 
 -- a look with the section in hand of a wait that has come back
 abbrev looks_again : {C : Type 0} → Act C → Bool
 looks_again (Look limits again) = again
 looks_again act = false
 
+-- only waits look
+pub try_looks_not : (C : Type 0) (mode : Mode) (place : TryPlace) → look_of_act {C = C} (want_trying mode place) ≡ None
+try_looks_not C mode TryLoad = refl
+try_looks_not C mode (TryAcquire last) = refl
+
+pub acquire_looks_not : {C : Type 0} (aim : Aim C) (place : AcquirePlace) → look_of_act (want_acquiring aim place) ≡ None
+acquire_looks_not aim (AcquireLoad arrival) = refl
+acquire_looks_not aim (AcquireExchange arrival last) = refl
+acquire_looks_not aim (TakeToQueue arrival last) = refl
+acquire_looks_not aim (Arm arrival last) = refl
+acquire_looks_not aim (Queue arrival last) = refl
+acquire_looks_not aim AwaitWake = refl
+
+pub release_looks_not : (C : Type 0) (releasing : Releasing) (place : ReleasePlace) → look_of_act {C = C} (want_releasing releasing place) ≡ None
+release_looks_not C releasing ReleaseLoad = refl
+release_looks_not C releasing (ReleaseExchange last) = refl
+release_looks_not C releasing (TakeToScan last) = refl
+release_looks_not C releasing (ScanCells last i) = refl
+release_looks_not C releasing (ScanAndRelease last) = refl
+release_looks_not C releasing Pay = refl
+
+pub cells_look_not : (C : Type 0) (place : CellPlace) → look_of_act {C = C} (want_in_cells place) ≡ None
+cells_look_not C (GetLoad i) = refl
+cells_look_not C (SetLoad i v) = refl
+cells_look_not C (SetStore i v) = refl
+cells_look_not C (QuietCells i) = refl
+cells_look_not C (QuietLast i) = refl
+
+pub leaver_looks_not : {C : Type 0} (wait : Wait C) (place : LeavePlace) → look_of_act (want_leaving wait place) ≡ None
+leaver_looks_not wait LeaveLoad = refl
+leaver_looks_not wait (TakeToLeave last) = refl
+leaver_looks_not wait (Leave last) = refl
+leaver_looks_not wait AwaitWakeToLeave = refl
+
+pub judge_looks_not : {C : Type 0} (on : Subject C) (i : ℕ) → look_of_act (judge_of on i) ≡ None
+judge_looks_not (OnCondition c) i = refl
+judge_looks_not (OnVariable k) i = refl
+
+pub signal_looks_not : (C : Type 0) (waking : Waking) (k : ℕ) (place : SignalPlace) → look_of_act {C = C} (want_signaling waking k place) ≡ None
+signal_looks_not C waking k SignalLoad = refl
+signal_looks_not C waking k (TakeToWake last) = refl
+signal_looks_not C waking k (WakeAndReturn last) = refl
+signal_looks_not C waking k PayTheWoken = refl
+
+looks_none : {C : Type 0} (act : Act C) → look_of_act act ≡ None → looks_again act ≡ false
+looks_none (Look limits again) e = absurd (cc)
+looks_none act e = refl
+
 looks_at : {C : Type 0} (wait : Wait C) (place : WaitPlace) → place_has_come_back place ≡ false → looks_again (want_waiting wait place) ≡ false
-looks_at wait (LookIn again) e = e
-looks_at wait _ e = refl
+looks_at wait (TestCells visit i) e = refl
+looks_at wait (TestLast visit i) e = looks_none (judge_of wait.on i) (judge_looks_not wait.on i)
+looks_at wait (InQueuing again LookIn) e = e
+looks_at wait (InQueuing again Load) e = refl
+looks_at wait (InQueuing again (Take last)) e = refl
+looks_at wait (InQueuing again (ArmToWait last)) e = refl
+looks_at wait (InQueuing again (LoadToScan last i)) e = refl
+looks_at wait (InQueuing again (QueueToWait last)) e = refl
+looks_at wait PayInWait e = refl
+looks_at wait AwaitWakeInWait e = refl
+looks_at wait LookOut e = refl
+looks_at wait (InLeaving cause place) e = looks_none (want_leaving wait place) (leaver_looks_not wait place)
 
 looks_by : {C : Type 0} (walk : Walk C) → has_come_back walk ≡ false → looks_again (want_of walk) ≡ false
+looks_by {C} (InTry mode place) e = looks_none (want_trying mode place) (try_looks_not C mode place)
+looks_by (InAcquire aim place) e = looks_none (want_acquiring aim place) (acquire_looks_not aim place)
+looks_by {C} (InRelease releasing place) e = looks_none (want_releasing releasing place) (release_looks_not C releasing place)
+looks_by {C} (InCells place) e = looks_none (want_in_cells place) (cells_look_not C place)
 looks_by (InWait wait place) e = looks_at wait place e
-looks_by _ e = refl
+looks_by {C} (InSignal waking k place) e = looks_none (want_signaling waking k place) (signal_looks_not C waking k place)
 
 module _ {C : Type 0} {N : ℕ} where
   -- what a section says of how it began is the same
@@ -192,16 +347,17 @@ module _ {C : Type 0} {N : ℕ} where
   effect_so : (truths : Truths C) (seat : ℕ) (act : Act C) (old : Part C N) (found : Found) (new : Part C N) (commits : List (Event C N)) (was held : Held C N) → looks_again act ≡ false →
       Effect truths seat act old found new commits → old.held ≡ Some was → new.held ≡ Some held → BeganSo was held
   effect_so truths seat LoadWord old (Saw word) new commits was held n e p q = stays_so was held old.held new.held p q (ap (λ (x : Part C N). x.held) e.1)
-  effect_so truths seat (Acquire aim woken last) old (Saw word) new commits was held n e p q = stays_so was held old.held new.held p q (ap (λ (x : Part C N). x.held) e.2)
+  effect_so truths seat (Acquire aim arrival last) old (Saw word) new commits was held n e p q = stays_so was held old.held new.held p q (ap (λ (x : Part C N). x.held) e.2)
   effect_so truths seat (TakeQueues taking last) old (Saw word) new commits was held n e p q = stays_so was held old.held new.held p q (ap (λ (x : Part C N). x.held) e.2)
   effect_so truths seat (ReturnQueues change last) old (Saw word) new commits was held n e p q = stays_so was held old.held new.held p q (ap (λ (x : Part C N). x.held) e.2)
   effect_so truths seat (Release releasing last) old (Saw word) new commits was held n e p q = stays_so was held old.held new.held p q (ap (λ (x : Part C N). x.held) e.2)
   effect_so truths seat (ReleaseReturning releasing last) old (Saw word) new commits was held n e p q = stays_so was held old.held new.held p q (ap (λ (x : Part C N). x.held) e.2)
   effect_so truths seat (WaitReturning wait again last) old (Saw word) new commits was held n e p q = stays_so was held old.held new.held p q (ap (λ (x : Part C N). x.held) e.2)
-  effect_so truths seat (Acquire aim woken last) old Made new commits was held n e p q = none_so was held was old.held p e.2
+  effect_so truths seat (Acquire aim arrival last) old Made new commits was held n e p q = none_so was held was old.held p e.2
   effect_so truths seat (TakeQueues taking last) old Made new commits was held n e p q = stays_so was held old.held new.held p q (ap (λ (x : Part C N). x.held) e.2)
   effect_so truths seat (ReturnQueues change last) old Made new commits was held n e p q = stays_so was held old.held new.held p q (ap (λ (x : Part C N). x.held) e.2)
   effect_so truths seat (ReturnQueues change last) old (Left stood) new commits was held n e p q = stays_so was held old.held new.held p q (ap (λ (x : Part C N). x.held) e.2)
+  effect_so truths seat (ReturnQueues change last) old (Woke owes) new commits was held n e p q = stays_so was held old.held new.held p q (ap (λ (x : Part C N). x.held) e.2)
   effect_so truths seat (Release releasing last) old Made new commits was held n e p q = none_so was held held new.held q (ap (λ (x : Part C N). x.held) e.4)
   effect_so truths seat (ReleaseReturning releasing last) old (Scanned owes tests) new commits was held n e p q = none_so was held held new.held q (ap (λ (x : Part C N). x.held) e.4)
   effect_so truths seat (WaitReturning wait again last) old (Scanned owes tests) new commits was held n e p q = none_so was held held new.held q (ap (λ (x : Part C N). x.held) e.4)
@@ -210,7 +366,7 @@ module _ {C : Type 0} {N : ℕ} where
   effect_so truths seat (JudgeMet i c) old (Tested met) new commits was held n e p q = stays_so was held old.held new.held p q (ap (λ (x : Part C N). x.held) e.3)
   effect_so truths seat (StoreCell i v) old Made new commits was held n e p q = stored_so was held e.0 (slice_set e.0.row i v) old.held new.held p q e.1 (ap (λ (x : Part C N). x.held) e.3)
   effect_so truths seat ArmFlag old Made new commits was held n e p q = stays_so was held old.held new.held p q (ap (λ (x : Part C N). x.held) e.0)
-  effect_so truths seat PayWake old (Paid owes) new commits was held n e p q = stays_so was held old.held new.held p q (ap (λ (x : Part C N). x.held) e.3)
+  effect_so truths seat (PayWake value) old (Paid owes) new commits was held n e p q = stays_so was held old.held new.held p q (ap (λ (x : Part C N). x.held) e.3)
   effect_so truths seat LoadFlag old (Flag v) new commits was held n e p q = stays_so was held old.held new.held p q (ap (λ (x : Part C N). x.held) e.1)
   effect_so truths seat (Look limits false) old (Looked None) new commits was held n e p q = stays_so was held old.held new.held p q (ap (λ (x : Part C N). x.held) e.1)
   effect_so truths seat (Look limits false) old (Looked (Some cause)) new commits was held n e p q = stays_so was held old.held new.held p q (ap (λ (x : Part C N). x.held) e.1)

@@ -1,48 +1,81 @@
 -- A step keeps the law: which kind of step it is, by the place in the walk and what was found.
-use Rattle.std.proofs.Common.{◌≡◌, ℕ, ◌+◌, ◌<◌, ◌≤◌, Bool, true, false, cond, eqb, ltb, List, [], ◌∷◌, ◌++◌, Option, None, Some, is_some, slice_set, refl, ap, sym, ◌∙◌, subst, arith}
-use Rattle.std.proofs.lemmas.Bool.{eqb-true, ltb-true, ltb-false, both_ways}
-use Rattle.std.proofs.lemmas.List.{append-nil}
+use Rattle.std.proofs.Common.{◌≡◌, ◌⊎◌, inl, inr, ℕ, ◌+◌, ◌<◌, ◌≤◌, Bool, true, false, not, cond, eqb, ltb, ◌&&◌, ◌||◌, List, [], ◌∷◌, ◌++◌, length, Option, None, Some, is_some, slice_set, refl, ap, sym, ◌∙◌, subst, arith, eq-eqb}
+use Rattle.std.proofs.lemmas.Bool.{ltb-true, ltb-false, both_ways}
+use Rattle.std.proofs.lemmas.List.{append-nil, set-get_or}
 use Rattle.ns_model.specs.declared.event.Mode.{Mode}
 use Rattle.ns_model.specs.declared.event.Mode.TheVariants.{Write, Read}
-use Rattle.ns_model.specs.declared.event.Exit.TheVariants.{Plain, CondWait}
+use Rattle.ns_model.specs.declared.event.Exit.TheVariants.{Plain, CondWait, CvWait}
 use Rattle.ns_model.specs.declared.event.Event.{Event}
-use Rattle.ns_model.specs.Histories.{standing_after}
+use Rattle.ns_model.specs.declared.event.Event.TheVariants as TheEvent
+use Rattle.ns_model.specs.declared.phase.Phase.{Phase}
+use Rattle.ns_model.specs.declared.phase.Phase.TheVariants.{Cond, Waiting}
+use Rattle.ns_model.specs.Histories.{standing_after, standing_next, IsLegalEvent, who_of}
+use Rattle.ns_model.specs.Tallies.{Every}
+use Rattle.ns_queue.specs.declared.waiter.Waiter.{Waiter}
+use Rattle.ns_queue.specs.declared.waiter.Which.{Which}
+use Rattle.ns_queue.specs.declared.waiter.Which.TheVariants.{Lock, Cv}
+use Rattle.ns_queue.specs.Queues.{Lists, IsList, waiters_of, with_waiters}
 use Rattle.ns_queue.specs.Waiters.{seats_of, times_in, without_in}
 use Rattle.ns_queue.specs.Scans.{woken_of, left_of}
+use Rattle.ns_queue.specs.Signals.{taken_set}
+use Rattle.ns_queue.specs.Wakes.{AreWaiting, woken_phases}
+use Rattle.ns_queue.proofs.Parts.{none_without}
+use Rattle.ns_queue.proofs.Taken.{times_signaled, every_signaled, every_unsignaled}
+use Rattle.ns_queue.proofs.Wakes.{signal_legal, broadcast_legal}
 use Rattle.ns_word.specs.declared.word.Word.{Word}
 use Rattle.ns_word.specs.declared.word.Releasing.{Releasing}
+use Rattle.ns_word.specs.declared.word.Arrival.{Arrival}
+use Rattle.ns_word.specs.declared.word.Arrival.TheVariants.{AsFresh}
 use Rattle.ns_word.specs.declared.word.Releasing.TheVariants.{QuietWriter}
 use Rattle.ns_word.specs.declared.word.Taking.{Taking}
 use Rattle.ns_word.specs.declared.word.Taking.TheVariants.{ToChange, ToQueue}
+use Rattle.ns_word.specs.declared.limits.Limits.{Limits}
 use Rattle.ns_word.specs.declared.limits.Cause.{Cause}
+use Rattle.ns_word.specs.declared.wait.Subject.{Subject}
+use Rattle.ns_word.specs.declared.wait.Subject.TheVariants.{OnCondition, OnVariable}
+use Rattle.ns_word.specs.declared.wait.Visit.{Visit}
 use Rattle.ns_word.specs.declared.wait.Wait.{Wait}
 use Rattle.ns_word.specs.declared.wait.Aim.{Aim}
 use Rattle.ns_word.specs.declared.wait.Aim.TheVariants.{ForLock, ForWait}
-use Rattle.ns_word.specs.declared.wait.WaitPlace.{WaitPlace}
-use Rattle.ns_word.specs.declared.wait.WaitPlace.TheVariants.{TestCells, TestLast, LookIn, Load, Take, ArmToWait, QueueToWait, PayInWait, AwaitWakeInWait, LookOut, LeaveLoad, TakeToLeave, Leave, AwaitWakeToLeave}
 use Rattle.ns_word.specs.declared.view.Held.{Held}
 use Rattle.ns_word.specs.declared.view.SeatView.{SeatView}
+use Rattle.ns_word.specs.declared.wait.WaitPlace.{WaitPlace}
+use Rattle.ns_word.specs.declared.wait.WaitPlace.TheVariants.{TestCells, TestLast, InQueuing, PayInWait, AwaitWakeInWait, LookOut, InLeaving}
+use Rattle.ns_word.specs.declared.wait.QueuePlace.TheVariants.{LookIn, Load, Take, ArmToWait, LoadToScan, QueueToWait}
+use Rattle.ns_word.specs.declared.wait.LeavePlace.TheVariants.{LeaveLoad, TakeToLeave, Leave, AwaitWakeToLeave}
+use Rattle.ns_word.specs.declared.try_walk.TryPlace.TheVariants.{TryLoad, TryAcquire}
+use Rattle.ns_word.specs.declared.acquire_walk.AcquirePlace.TheVariants.{AcquireLoad, AcquireExchange, TakeToQueue, Arm, Queue, AwaitWake}
+use Rattle.ns_word.specs.declared.release_walk.ReleasePlace.TheVariants.{ReleaseLoad, ReleaseExchange, TakeToScan, ScanCells, ScanAndRelease, Pay}
+use Rattle.ns_word.specs.declared.cell_walk.CellPlace.TheVariants.{GetLoad, SetLoad, SetStore, QuietCells, QuietLast}
+use Rattle.ns_word.specs.declared.signal_walk.SignalPlace.{SignalPlace}
+use Rattle.ns_word.specs.declared.signal_walk.SignalPlace.TheVariants.{SignalLoad, TakeToWake, WakeAndReturn, PayTheWoken}
 use Rattle.ns_word.specs.declared.walk.Walk.{Walk}
-use Rattle.ns_word.specs.declared.walk.Walk.TheVariants.{TryLoad, TryAcquire, AcquireLoad, AcquireExchange, TakeToQueue, Arm, Queue, AwaitWake, QuietCells, QuietLast, ReleaseLoad, ReleaseExchange, TakeToScan, ScanCells, ScanAndRelease, Pay, GetLoad, SetLoad, SetStore, InWait}
+use Rattle.ns_word.specs.declared.walk.Walk.TheVariants.{InTry, InAcquire, InRelease, InCells, InWait, InSignal}
+use Rattle.ns_word.specs.declared.act.Act.TheVariants.{ReturnQueues, WaitReturning}
+use Rattle.ns_word.specs.declared.act.Change.TheVariants.{WakeWaiters}
+use Rattle.ns_word.specs.declared.act.Waking.{Waking}
+use Rattle.ns_word.specs.declared.act.Waking.TheVariants.{Signaling, Broadcasting}
 use Rattle.ns_word.specs.declared.act.Found.{Found}
-use Rattle.ns_word.specs.declared.act.Found.TheVariants.{Saw, Made, Cell, Quiet, Tested, Scanned, Paid, Left, Flag, Looked}
+use Rattle.ns_word.specs.declared.act.Found.TheVariants.{Saw, Made, Cell, Quiet, Tested, Scanned, Paid, Left, Woke, Flag, Looked}
 use Rattle.ns_word.specs.declared.walk.Next.{Next}
 use Rattle.ns_word.specs.declared.walk.Next.TheVariants.{On, Idle}
-use Rattle.ns_word.specs.Words.{mode_released, releasing_of, may_acquire, needs_scan, word_acquired, word_released, word_taken, word_returned, word_released_returning}
-use Rattle.ns_word.specs.Lists.{has_some, bits_of, queued}
-use Rattle.ns_word.specs.Waits.{mode_for, phase_for}
-use Rattle.ns_word.specs.Walks.{want_waiting, want_of, got_waiting, got_of, walk_after, acquired_for, pay_waiting, rest_or_look, place_has_queues, place_has_armed, place_awaits, place_pays, has_queues, is_queuing, has_armed, waits_in, pays, is_on_way, phase_by}
+use Rattle.ns_word.specs.Words.{is_held, is_woken, mode_released, releasing_of, may_acquire, needs_scan, word_acquired, word_released, word_taken, word_returned, word_released_returning}
+use Rattle.ns_word.specs.Lists.{has_some, bits_of, queued, times_among}
+use Rattle.ns_word.specs.Waits.{mode_for, phase_for, phase_kept, arrival_of, home_of, kept_in}
+use Rattle.ns_word.specs.Walks.{want_waiting, want_signaling, judge_of, want_of, got_waiting, got_leaving, got_signaling, got_of, walk_after, acquired_for, armed_place, pay_waiting, pay_woken, rest_or_look, pay_releasing, wait_has_queues, place_awaits, has_queues, is_queuing, has_armed, waits_in, awaits, was_woken, calls_from_lock, pays, is_on_way, phase_by, expected_for}
 use Rattle.ns_word.specs.Views.{NoneIs}
 use Rattle.ns_model.specs.Truths.{Truths, QuietKeeps}
-use Rattle.ns_word.specs.Steps.{State, Part, Effect, Step, section_of, opening_for, newly_held, held_after, flags_with, meets_at, waited_in}
-use Rattle.ns_word.specs.Places.{WaitFits, PlaceFits, HasMode, CanLeave, IsLeft, MayWait, CanWait}
-use Rattle.ns_word.specs.Lawful.{IsLawful, phase_before}
+use Rattle.ns_word.specs.Steps.{State, Part, Effect, Step, MayShow, section_of, opening_for, newly_held, held_after, flags_with, meets_at, with_lock, waited_in, taken_by, kept_by, moved_to, changed, moves, owed_after, change_found, wake_of, leave_of}
+use Rattle.ns_word.specs.Places.{PlaceFits, IsInRange, HasMode, IsSettledBy, IsSettled, CanLeave, IsLeft, MayWait, CanWait, AimFits}
+use Rattle.ns_word.specs.Lawful.{IsExpected, VariableWaiterFits, IsLawful, phase_before}
 use Rattle.ns_word.proofs.Groups.{Homed, Known, Groups, groups_of, lawful_by}
-use Rattle.ns_word.proofs.Knows.{rests as known_rests, takes as known_takes}
+use Rattle.ns_word.proofs.Knows.{nothing_called, rests as known_rests, takes as known_takes}
 use Rattle.ns_word.proofs.Views.{view_of, each_parts}
+use Rattle.ns_word.proofs.Variables.{are_waiting}
+use Rattle.ns_word.proofs.Ranges.{lists_orderly}
 use Rattle.ns_word.proofs.Safes.{section, same_section}
-use Rattle.ns_word.proofs.Keeps.{Same, Stays, rests, acquires, stores, releases, takes, arms, enqueues, withdraws, scans, waits, waits_on, wakes, sees}
-use Rattle.ns_word.proofs.Leads.{row_in, Leads, try_leads, acquire_leads, acquired_leads, test_leads, met_leads, shown_section, queue_leads, leave_leads, rest_leads, pay_waiting_leads, release_leads, scan_leads, taken_leads, quiet_leads, judged_leads, pay_leads, calm_release}
+use Rattle.ns_word.proofs.Keeps.{Same, Stays, none_of, rests, acquires, stores, releases, takes, arms, enqueues, withdraws, returns, leaves as leaves_variable, scans, waits, waits_on, waits_for, wakes, sees, wakes_waiters}
+use Rattle.ns_word.proofs.Leads.{row_in, Leads, none_settled, shown_settled, try_leads, acquire_leads, acquired_leads, test_leads, met_leads, shown_section, queue_leads, leave_leads, rest_leads, pay_waiting_leads, release_leads, scan_leads, taken_leads, quiet_leads, judged_leads, pay_leads, calm_release, load_leads, armed_leads, signal_leads, pay_woken_leads}
 
 -- whether one that leaves found itself in the list
 abbrev stood_in : Found → Bool
@@ -57,10 +90,79 @@ left_mode : (mode : Mode) → mode_released (releasing_of mode) ≡ mode
 left_mode Write = refl
 left_mode Read = refl
 
+-- what one that put the queues back owes
+abbrev owes_in : Found → Bool
+owes_in (Woke owes) = owes
+owes_in _ = false
+
+some_seats : {C : Type 0} (ws : List (Waiter C)) → has_some (seats_of ws) ≡ has_some ws
+some_seats [] = refl
+some_seats (w ∷ ws) = refl
+
+is_list : {C : Type 0} (on : Subject C) → IsInRange on → IsList (home_of on)
+is_list (OnCondition c) range = tt
+is_list (OnVariable k) range = range
+
+not_left : {C : Type 0} {N : ℕ} (who : ℕ) (which : Which) → leave_of {C = C} {N = N} who which false ≡ []
+not_left who Lock = refl
+not_left who (Cv k) = refl
+
+-- lists without one who stands not in the list that it leaves
+same_lists : {C : Type 0} (who : ℕ) (lists : Lists C) (which : Which) → length lists.cvs ≡ 4 → IsList which → times_in who (waiters_of lists which) ≡ 0 → with_waiters lists which (without_in who (waiters_of lists which)) ≡ lists
+same_lists who lists Lock four low none = ap (λ ws. record lists { lock = ws }) (none_without who lists.lock none)
+same_lists who lists (Cv k) four low none = ap (λ ws. record lists { cvs = slice_set lists.cvs k ws }) (none_without who (waiters_of lists (Cv k)) none) ∙ ap (λ cvs. record lists { cvs = cvs }) (set-get_or lists.cvs k [])
+
+-- what a call takes and what it leaves is all
+parts_of : {C : Type 0} (waking : Waking) (ws : List (Waiter C)) (seat : ℕ) → times_in seat (taken_by waking ws) + times_in seat (kept_by waking ws) ≡ times_in seat ws
+parts_of Signaling ws seat = times_signaled ws seat
+parts_of Broadcasting ws seat = omega arith
+
+-- those whom a call that wakes owes wakes were not taken from the lock list
+from_by : (C : Type 0) (waking : Waking) (k : ℕ) (owes : Bool) (owed : List ℕ) → owes ≡ has_some owed → (calls_from_lock {C = C} (walk_after (pay_woken waking k owes)) ≡ false) ⊎ (owed ≡ [])
+from_by C waking k true owed e = inl refl
+from_by C waking k false owed e = inr (none_of owed (sym e))
+
+from_others : (C : Type 0) (waking : Waking) (k : ℕ) (owes : Bool) (owed : List ℕ) → owes ≡ has_some owed → (seat : ℕ) → ◌≡◌ {A = ℕ} (cond (calls_from_lock {C = C} (walk_after (pay_woken waking k owes))) (times_among seat owed) 0) 0
+from_others C waking k owes owed e seat = elim (from_by C waking k owes owed e) [
+  | inl other ↦ ap (λ b. cond b (times_among seat owed) 0) other
+  | inr none ↦ nothing_called (walk_after (pay_woken {C = C} waking k owes)) owed seat none
+]
+
+paid_phase : {C : Type 0} (releasing : Releasing) (b : Bool) → phase_by (walk_after (pay_releasing {C = C} releasing b)) ≡ phase_by {C = C} None
+paid_phase releasing true = refl
+paid_phase releasing false = refl
+
+-- one that waits and was not woken from the lock list is on its way with no wake owed only where its flag is 0
+not_way : (w a z : Bool) → w ≡ false → z ≡ false → (w || (a && (z || ltb 0 0))) ≡ true → ⊥
+not_way true a z p q e = absurd (cc)
+not_way false false z p q e = absurd (cc)
+not_way false true true p q e = absurd (cc)
+not_way false true false p q e = absurd (cc)
+
+way_seen : {C : Type 0} (walk : Option (Walk C)) (aim : Aim C) (v : ℕ) → was_woken walk ≡ false → is_on_way walk v 0 ≡ true → is_on_way (Some (InAcquire aim (AcquireLoad (arrival_of v)))) v 0 ≡ true
+way_seen walk aim v none e = go (eqb v 0) refl where
+  go : (b : Bool) → eqb v 0 ≡ b → is_on_way (Some (InAcquire aim (AcquireLoad (arrival_of v)))) v 0 ≡ true
+  go true z = rw z refl
+  go false z = absurd (not_way (was_woken walk) (awaits walk) (eqb v 0) none z e)
+
+-- the phase of a wait whose flag was seen cleared: one for a variable has been woken, if it waits no more
+seen_phase : {C : Type 0} (on : Subject C) (mode : Mode) (ph : Phase C) → ((k : ℕ) (m : Mode) → ph ≡ Waiting k m → ⊥) → IsExpected (expected_for on mode) ph → ph ≡ phase_kept on mode None
+seen_phase (OnCondition c) mode ph waits is = is
+seen_phase (OnVariable k) mode ph waits (inl is) = absurd (waits k mode is)
+seen_phase (OnVariable k) mode ph waits (inr is) = is
+
+kept_phase : {C : Type 0} (on : Subject C) (mode : Mode) (cause : Cause) (ph : Phase C) → ((k : ℕ) (m : Mode) → ph ≡ Waiting k m → ⊥) → IsExpected (expected_for on mode) ph → ph ≡ phase_kept on mode (kept_in on cause)
+kept_phase (OnCondition c) mode cause ph waits is = is
+kept_phase (OnVariable k) mode cause ph waits is = seen_phase (OnVariable k) mode ph waits is
+
+kept_given : {C : Type 0} (on : Subject C) (limits : Limits) (cause : Cause) → MayShow limits (Some cause) → MayShow limits (kept_in on cause)
+kept_given (OnCondition c) limits cause given = given
+kept_given (OnVariable k) limits cause given = tt
+
 module _ {C : Type 0} {N : ℕ} (truths : Truths C) (seats : ℕ) (h : List (Event C N)) (front : List (SeatView C N)) (who : ℕ) (back : List (SeatView C N)) where
   -- the state with this part of a seat's
   abbrev at : Part C N → Option (Walk C) → State C N
-  at part walk = record { word = part.word; row = part.row; lock = part.lock; flags = part.flags; views = front ++ view_of who walk part.held part.owed ∷ back }
+  at part walk = record { word = part.word; row = part.row; lists = part.lists; flags = part.flags; views = front ++ view_of who walk part.held part.owed ∷ back }
 
   abbrev Kept : List (Event C N) → Part C N → Option (Walk C) → Type 0
   Kept commits part walk = Groups truths seats (h ++ commits) (at part walk)
@@ -75,262 +177,435 @@ module _ {C : Type 0} {N : ℕ} (truths : Truths C) (seats : ℕ) (h : List (Eve
   place walk part p = (each_parts truths seats (standing_after h) part.row front (view_of who (Some walk) part.held part.owed) back p.safe.one_history.each).1.place
 
   -- a step that finds something and changes nothing
-  finds : (walk : Walk C) (next : Option (Walk C)) (part part' : Part C N) (commits : List (Event C N)) → part' ≡ part → commits ≡ [] → Leads truths (Some walk) next part.held →
+  finds : (walk : Walk C) (next : Option (Walk C)) (part part' : Part C N) (commits : List (Event C N)) → part' ≡ part → commits ≡ [] → pays (Some walk) ≡ false → Leads truths (Some walk) next part.held →
       Groups truths seats h (at part (Some walk)) → Kept commits part' next
-  finds walk next part part' commits e f fits p =
-      moved next part part' [] commits e f (none_more (at part next) (rests truths seats h front who (Some walk) next back part.word part.row part.lock part.flags part.held part.held part.owed fits.0 fits.1 fits.2 fits.3 (same_section (Some walk) next part.held fits.4) p))
+  finds walk next part part' commits e f idle fits p =
+      moved next part part' [] commits e f (none_more (at part next) (rests truths seats h front who (Some walk) next back part.word part.row part.lists part.flags part.held part.held part.owed idle fits.0 fits.1 fits.2 fits.3 (same_section (Some walk) next part.held fits.4) p))
 
   -- the part with another section
   with_held : (walk : Walk C) (part : Part C N) (held : Option (Held C N)) → part.held ≡ held → Groups truths seats h (at part (Some walk)) → Groups truths seats h (at (record part { held = held }) (Some walk))
   with_held walk part held e p = subst (λ x. Groups truths seats h (at (record part { held = x }) (Some walk))) e p
 
-  acquired : (walk : Walk C) (to : Option (Walk C)) (aim : Aim C) (woken : Bool) (last : Word) (part next : Part C N) (commits : List (Event C N)) →
-      last ≡ part.word → may_acquire (mode_for aim) woken last ≡ true → part.held ≡ None →
-      next ≡ record part { word = word_acquired (mode_for aim) woken last; held = Some (newly_held aim part.row) } → commits ≡ [] →
-      phase_by (Some walk) ≡ phase_for aim → PlaceFits {N = N} truths to (Some (newly_held aim part.row)) → Same (Some walk) to → is_queuing to ≡ is_queuing (Some walk) →
-      ((n : ℕ) → woken ≡ false → is_on_way (Some walk) n ≡ true → is_on_way to n ≡ true) →
+  acquired : (walk : Walk C) (to : Option (Walk C)) (aim : Aim C) (arrival : Arrival) (last : Word) (part next : Part C N) (commits : List (Event C N)) →
+      last ≡ part.word → may_acquire (mode_for aim) arrival last ≡ true → part.held ≡ None →
+      next ≡ record part { word = word_acquired (mode_for aim) arrival last; held = Some (newly_held aim part.row) } → commits ≡ [] →
+      pays (Some walk) ≡ false → ((ph : Phase C) → IsExpected (phase_by (Some walk)) ph → ph ≡ phase_for aim) → PlaceFits {N = N} truths to (Some (newly_held aim part.row)) → Same (Some walk) to → is_queuing to ≡ is_queuing (Some walk) →
+      ((flag n : ℕ) → is_woken arrival ≡ false → is_on_way (Some walk) flag n ≡ true → is_on_way to flag n ≡ true) →
       Groups truths seats h (at part (Some walk)) → Kept commits next to
-  acquired walk to aim woken last part next commits same may none e f phase fits tags q o p =
-      moved to (record part { word = word_acquired (mode_for aim) woken part.word; held = Some (newly_held aim part.row) }) next [] commits
-      (e ∙ ap (λ word. record part { word = word_acquired (mode_for aim) woken word; held = Some (newly_held aim part.row) }) same) f
-      (none_more _ (acquires truths seats h front who (Some walk) to back (mode_for aim) (opening_for aim) woken part.word part.row part.lock part.flags part.owed
-      (subst (λ word. may_acquire (mode_for aim) woken word ≡ true) same may) (phase ∙ phase_opened aim) fits tags q o (with_held walk part None none p)))
+  acquired walk to aim arrival last part next commits same may none e f idle phase fits tags q o p =
+      moved to (record part { word = word_acquired (mode_for aim) arrival part.word; held = Some (newly_held aim part.row) }) next [] commits
+      (e ∙ ap (λ word. record part { word = word_acquired (mode_for aim) arrival word; held = Some (newly_held aim part.row) }) same) f
+      (none_more _ (acquires truths seats h front who (Some walk) to back (mode_for aim) (opening_for aim) arrival part.word part.row part.lists part.flags part.owed idle
+      (subst (λ word. may_acquire (mode_for aim) arrival word ≡ true) same may) (λ ph is. phase ph is ∙ phase_opened aim) fits tags q o (with_held walk part None none p)))
 
   took : (walk walk' : Walk C) (taking : Taking) (last : Word) (part next : Part C N) (commits : List (Event C N)) →
       last ≡ part.word → last.spin ≡ false → next ≡ record part { word = word_taken taking last } → commits ≡ [] →
       PlaceFits truths (Some walk') part.held → pays (Some walk') ≡ pays (Some walk) → has_queues (Some walk) ≡ false → has_queues (Some walk') ≡ true → waits_in (Some walk') ≡ waits_in (Some walk) → has_armed (Some walk') ≡ false → Stays (Some walk) (Some walk') part.held →
-      (NoneIs who front → Homed part.word part.lock (front ++ view_of who (Some walk) part.held part.owed ∷ back) →
-      Known truths.holds part.word (standing_after h).row part.lock (front ++ view_of who (Some walk) part.held part.owed ∷ back) →
-      Known truths.holds (word_taken taking part.word) (standing_after h).row part.lock (front ++ view_of who (Some walk') part.held part.owed ∷ back)) →
+      (NoneIs who front → Homed part.word part.lists.lock (front ++ view_of who (Some walk) part.held part.owed ∷ back) →
+      Known truths.holds part.word (standing_after h).row part.lists.lock part.flags (front ++ view_of who (Some walk) part.held part.owed ∷ back) →
+      Known truths.holds (word_taken taking part.word) (standing_after h).row part.lists.lock part.flags (front ++ view_of who (Some walk') part.held part.owed ∷ back)) →
       Groups truths seats h (at part (Some walk)) → Kept commits next (Some walk')
   took walk walk' taking last part next commits same none e f fits pay s s' a set stays knows p =
       moved (Some walk') (record part { word = word_taken taking part.word }) next [] commits (e ∙ ap (λ word. record part { word = word_taken taking word }) same) f
-      (none_more _ (takes truths seats h front who (Some walk) (Some walk') back taking part.word part.row part.lock part.flags part.held part.owed (ap (λ word. word.spin) (sym same) ∙ none) fits pay s s' a set stays knows p))
+      (none_more _ (takes truths seats h front who (Some walk) (Some walk') back taking part.word part.row part.lists part.flags part.held part.owed (ap (λ word. word.spin) (sym same) ∙ none) fits pay s s' a set stays knows p))
 
-  -- a seat looks at its flag: cleared, it goes on to acquire; else where it waits on
-  checks : (walk : Walk C) (aim : Aim C) (other : Next C) (v : ℕ) (b : Bool) (part next : Part C N) (commits : List (Event C N)) → eqb v 0 ≡ b → v ≡ part.flags who → next ≡ part → commits ≡ [] → part.held ≡ None →
-      pays (Some walk) ≡ false → has_queues (Some walk) ≡ false → is_queuing (Some walk) ≡ false → phase_by (Some walk) ≡ phase_for aim → Leads truths (Some walk) (walk_after other) part.held →
-      Groups truths seats h (at part (Some walk)) → Kept commits next (walk_after (cond b (On (AcquireLoad aim true)) other))
-  checks walk aim other v true part next commits z same e f none pay s q phase leads p =
-      moved (Some (AcquireLoad aim true)) part next [] commits e f (none_more _
-      (sees truths seats h front who (Some walk) (Some (AcquireLoad aim true)) back part.word part.row part.lock part.flags part.held part.owed (sym same ∙ eqb-true v 0 z) none (sym pay) (sym s) refl refl (sym q) (λ n f. refl) (λ n. sym phase) p))
-  checks walk aim other v false part next commits z same e f none pay s q phase leads p = finds walk (walk_after other) part next commits e f leads p
+  -- a seat looks at its flag: cleared, it goes on to acquire, as woken where it was taken from the lock list; else where it waits on
+  checks : (walk : Walk C) (aim : Aim C) (other : Next C) (v : ℕ) (b : Bool) (part next : Part C N) (commits : List (Event C N)) → eqb v 1 ≡ b → v ≡ part.flags who → next ≡ part → commits ≡ [] → part.held ≡ None →
+      pays (Some walk) ≡ false → has_queues (Some walk) ≡ false → was_woken (Some walk) ≡ false → is_queuing (Some walk) ≡ false →
+      ((ph : Phase C) → ((k : ℕ) (mode : Mode) → ph ≡ Waiting k mode → ⊥) → IsExpected (phase_by (Some walk)) ph → ph ≡ phase_for aim) → AimFits aim → Leads truths (Some walk) (walk_after other) part.held →
+      Groups truths seats h (at part (Some walk)) → Kept commits next (walk_after (cond b other (On (InAcquire aim (AcquireLoad (arrival_of v))))))
+  checks walk aim other v true part next commits z same e f none pay s w q phase given leads p = finds walk (walk_after other) part next commits e f pay leads p
+  checks walk aim other v false part next commits z same e f none pay s w q phase given leads p =
+      let to : Option (Walk C) = Some (InAcquire aim (AcquireLoad (arrival_of v))) in
+      moved to part next [] commits e f (subst (λ x. Groups truths seats (h ++ []) (at (record part { held = x }) to)) (sym none) (none_more _
+      (sees truths seats h front who (Some walk) to back part.word part.row part.lists part.flags part.owed (λ one. absurd (both_ways (eqb v 1) z (eq-eqb v 1 (same ∙ one)))) pay
+      (refl, tt, given) (sym pay) (sym s) refl refl refl (sym q) (subst (λ flag. is_on_way (Some walk) flag 0 ≡ true → is_on_way to flag 0 ≡ true) same (way_seen (Some walk) aim v w)) phase (with_held walk part None none p))))
 
   -- the section in hand, in the mode that it is left in
   leaves : (walk : Walk C) (releasing : Releasing) (part : Part C N) (held : Held C N) → part.held ≡ Some held → held.mode ≡ mode_released releasing → CanLeave truths releasing part.held →
       Groups truths seats h (at part (Some walk)) →
-      Groups truths seats h (at (record part { held = Some (section (mode_released releasing) held.entry held.before held.row) }) (Some walk)) × IsLeft {N = N} truths releasing (section held.mode held.entry held.before held.row)
+      Groups truths seats h (at (record part { held = Some (section (mode_released releasing) held.entry held.before held.row) }) (Some walk)) × IsLeft {N = N} truths releasing (section held.mode held.entry held.before held.row) × IsSettledBy truths.holds held.before held.entry
   leaves walk releasing part held e m can p = (
     with_held walk part (Some (section (mode_released releasing) held.entry held.before held.row)) (e ∙ ap (λ x. Some (section x held.entry held.before held.row)) m) p,
     (subst (λ x. CanLeave truths releasing x) e can).1,
+    (subst (λ x. CanLeave truths releasing x) e can).2,
   )
 
-  -- a wait with the queues takes itself from the list
-  withdrawn : (wait : Wait C) (cause : Cause) (last : Word) (stood : Bool) (part next : Part C N) (commits : List (Event C N)) → ltb 0 (times_in who part.lock) ≡ stood → last ≡ part.word →
-      let lock = without_in who part.lock in
-      next ≡ record part { word = word_returned (bits_of lock) last; lock = lock } → commits ≡ [] → part.held ≡ None →
-      Groups truths seats h (at part (Some (InWait wait (Leave cause last)))) → Kept commits next (walk_after (got_waiting N wait (Leave cause last) (Left stood)))
-  withdrawn wait cause last true part next commits stands same e f none p =
-      let lock = without_in who part.lock in
-      let some = ltb-true 0 (times_in who part.lock) stands in
-      moved (Some (AcquireLoad (ForWait wait (Some cause)) false)) (record part { word = word_returned (bits_of lock) part.word; lock = lock }) next [] commits (e ∙ ap (λ word. record part { word = word_returned (bits_of lock) word; lock = lock }) same) f
-      (none_more _ (withdraws truths seats h front who (Some (InWait wait (Leave cause last))) (Some (AcquireLoad (ForWait wait (Some cause)) false)) back part.word part.row part.lock part.flags part.held part.owed none refl refl refl refl refl refl (λ n. refl)
-      (λ once. refl) (λ z. absurd (omega (arith, some, z))) (λ g. let z = eqb-true (times_in who part.lock) 0 g in absurd (omega (arith, some, z))) p))
-  withdrawn wait cause last false part next commits stands same e f none p =
-      let lock = without_in who part.lock in
-      let few = ltb-false 0 (times_in who part.lock) stands in
-      moved (Some (InWait wait (AwaitWakeToLeave cause))) (record part { word = word_returned (bits_of lock) part.word; lock = lock }) next [] commits (e ∙ ap (λ word. record part { word = word_returned (bits_of lock) word; lock = lock }) same) f
-      (none_more _ (withdraws truths seats h front who (Some (InWait wait (Leave cause last))) (Some (InWait wait (AwaitWakeToLeave cause))) back part.word part.row part.lock part.flags part.held part.owed none refl refl refl refl refl refl (λ n. refl)
-      (λ once. absurd (omega (arith, few, once))) (λ z. refl) (λ g. refl) p))
+  -- a wait with the queues takes itself from its list
+  withdrawn : (mode : Mode) (on : Subject C) (limits : Limits) (cause : Cause) (last : Word) (stood : Bool) (part next : Part C N) (commits : List (Event C N)) → ltb 0 (times_in who (waiters_of part.lists (home_of on))) ≡ stood → last ≡ part.word →
+      let wait : Wait C = record { mode = mode; on = on; limits = limits } in
+      let lists = with_waiters part.lists (home_of on) (without_in who (waiters_of part.lists (home_of on))) in
+      next ≡ record part { word = word_returned false (bits_of lists.lock) last; lists = lists } → commits ≡ leave_of who (home_of on) (ltb 0 (times_in who (waiters_of part.lists (home_of on)))) → part.held ≡ None → MayShow limits (Some cause) → IsInRange on → seats ≤ 64 →
+      Groups truths seats h (at part (Some (InWait wait (InLeaving cause (Leave last))))) → Kept commits next (walk_after (got_leaving wait cause (Leave last) (Left stood)))
+  withdrawn mode (OnCondition c) limits cause last true part next commits stands same e f none given range few p =
+      let wait : Wait C = record { mode = mode; on = OnCondition c; limits = limits } in
+      let lock = without_in who part.lists.lock in
+      moved (Some (InAcquire (ForWait wait (Some cause)) (AcquireLoad AsFresh))) (record part { word = word_returned false (bits_of lock) part.word; lists = with_lock part.lists lock; held = None }) next [] commits
+      (e ∙ ap (λ word. record part { word = word_returned false (bits_of lock) word; lists = with_lock part.lists lock }) same ∙ ap (λ x. record part { word = word_returned false (bits_of lock) part.word; lists = with_lock part.lists lock; held = x }) none) f
+      (none_more _ (withdraws truths seats h front who (Some (InWait wait (InLeaving cause (Leave last)))) (Some (InAcquire (ForWait wait (Some cause)) (AcquireLoad AsFresh))) back part.word part.row part.lists part.flags part.owed refl
+      (ltb-true 0 (times_in who part.lists.lock) stands) (refl, tt, given) refl refl refl refl refl refl refl refl refl (with_held (InWait wait (InLeaving cause (Leave last))) part None none p)))
+  withdrawn mode (OnVariable k) limits cause last true part next commits stands same e f none given range few p =
+      let wait : Wait C = record { mode = mode; on = OnVariable k; limits = limits } in
+      let lists = with_waiters part.lists (Cv k) (without_in who (waiters_of part.lists (Cv k))) in
+      moved (Some (InAcquire (ForWait wait (Some cause)) (AcquireLoad AsFresh))) (record part { word = word_returned false (bits_of part.lists.lock) part.word; lists = lists; held = None }) next (TheEvent.Leave who k ∷ []) commits
+      (e ∙ ap (λ word. record part { word = word_returned false (bits_of part.lists.lock) word; lists = lists }) same ∙ ap (λ x. record part { word = word_returned false (bits_of part.lists.lock) part.word; lists = lists; held = x }) none)
+      (f ∙ ap (leave_of who (Cv k)) stands)
+      (leaves_variable truths seats h front who (Some (InWait wait (InLeaving cause (Leave last)))) (Some (InAcquire (ForWait wait (Some cause)) (AcquireLoad AsFresh))) back k mode part.word part.row part.lists part.flags part.owed few range refl
+      (ltb-true 0 (times_in who (waiters_of part.lists (Cv k))) stands) refl (refl, tt, given) refl refl refl refl refl refl refl refl refl (with_held (InWait wait (InLeaving cause (Leave last))) part None none p))
+  withdrawn mode on limits cause last false part next commits stands same e f none given range few p =
+      let wait : Wait C = record { mode = mode; on = on; limits = limits } in
+      let lists = with_waiters part.lists (home_of on) (without_in who (waiters_of part.lists (home_of on))) in
+      let absent = ltb-false 0 (times_in who (waiters_of part.lists (home_of on))) stands in
+      let unchanged : lists ≡ part.lists = same_lists who part.lists (home_of on) p.placed.four (is_list on range) (omega (arith, absent)) in
+      moved (Some (InWait wait (InLeaving cause AwaitWakeToLeave))) (record part { word = word_returned false (bits_of part.lists.lock) part.word }) next [] commits
+      (e ∙ ap (λ word. record part { word = word_returned false (bits_of lists.lock) word; lists = lists }) same ∙ ap (λ x. record part { word = word_returned false (bits_of x.lock) part.word; lists = x }) unchanged)
+      (f ∙ ap (leave_of who (home_of on)) stands ∙ not_left who (home_of on))
+      (none_more _ (returns truths seats h front who (Some (InWait wait (InLeaving cause (Leave last)))) (Some (InWait wait (InLeaving cause AwaitWakeToLeave))) back part.word part.row part.lists part.flags part.held part.owed refl
+      ((none, tt, range), given) refl refl refl refl refl refl refl (λ flag n g. g) (λ n. refl) p))
 
   -- a wait takes the queues
   wait_took : (wait : Wait C) (from to : WaitPlace) (last : Word) (part next : Part C N) (commits : List (Event C N)) →
-      last ≡ part.word → last.spin ≡ false → next ≡ record part { word = word_taken ToChange last } → commits ≡ [] → WaitFits truths wait to part.held →
-      place_pays to ≡ place_pays from → place_has_queues from ≡ false → place_has_queues to ≡ true → place_awaits to ≡ place_awaits from → place_has_armed to ≡ false →
+      last ≡ part.word → last.spin ≡ false → next ≡ record part { word = word_taken ToChange last } → commits ≡ [] → PlaceFits truths (Some (InWait wait to)) part.held →
+      pays (Some (InWait wait to)) ≡ pays (Some (InWait wait from)) → wait_has_queues from ≡ false → wait_has_queues to ≡ true → place_awaits to ≡ place_awaits from → has_armed (Some (InWait wait to)) ≡ false →
       Groups truths seats h (at part (Some (InWait wait from))) → Kept commits next (Some (InWait wait to))
   wait_took wait from to last part next commits same none e f fits pay s s' a set p =
-      let waits = ap (λ b. cond b (Some (record { mode = wait.mode; cond = Some wait.cond })) None) a in
+      let waits = ap (λ b. cond b (Some (record { mode = wait.mode; on = Some wait.on })) None) a in
       took (InWait wait from) (InWait wait to) ToChange last part next commits same none e f fits pay s s' waits set (λ n. refl)
-      (λ apart homed known. known_rests truths.holds front who (Some (InWait wait from)) part.held part.owed (Some (InWait wait to)) part.held part.owed back part.word (word_taken ToChange part.word) (standing_after h).row part.lock apart refl refl refl refl refl refl
-      (λ n g. ap (λ w. cond (is_some w) (eqb n 0) false) waits ∙ g) known) p
+      (λ apart homed known. known_rests truths.holds front who (Some (InWait wait from)) part.held part.owed (Some (InWait wait to)) part.held part.owed back part.word (word_taken ToChange part.word) (standing_after h).row part.lists.lock part.flags apart (λ seat. refl) refl refl refl refl refl refl
+      (λ flag n g. subst (λ x. x ≡ true) (ap (λ w. is_some w && (eqb flag 0 || ltb 0 n)) (sym waits)) g) known) p
+
+  -- a wait for a condition tests it
+  tested : (mode : Mode) (on : Subject C) (limits : Limits) (visit : Visit) (i : ℕ) (found : Found) (part next : Part C N) (commits : List (Event C N)) → let wait : Wait C = record { mode = mode; on = on; limits = limits } in
+      Effect truths who (judge_of on i) part found next commits → Groups truths seats h (at part (Some (InWait wait (TestLast visit i)))) → Kept commits next (walk_after (got_waiting N wait (TestLast visit i) found))
+  tested mode (OnCondition c) limits visit i (Tested is_met) part next commits e p =
+      let wait : Wait C = record { mode = mode; on = OnCondition c; limits = limits } in
+      finds (InWait wait (TestLast visit i)) _ part next commits e.3 e.4 refl (met_leads truths wait c visit part.held is_met refl (place (InWait wait (TestLast visit i)) part p).0.0 (ap (λ x. truths.holds c (row_in x)) e.1 ∙ sym e.2)) p
+  tested mode (OnCondition c) limits visit i _ part next commits e p = absurd e
+  tested mode (OnVariable k) limits visit i found part next commits e p =
+      absurd ((place (InWait (record { mode = mode; on = OnVariable k; limits = limits }) (TestLast visit i)) part p).0.2)
+
+  -- a wait queues, and leaves its section; one that queues again says nothing of it
+  queued_up : (mode : Mode) (on : Subject C) (limits : Limits) (again : Bool) (last : Word) (owes : Bool) (tests : ℕ) (part next : Part C N) (commits : List (Event C N)) → seats ≤ 64 → let wait : Wait C = record { mode = mode; on = on; limits = limits } in
+      Effect truths who (WaitReturning wait again last) part (Scanned owes tests) next commits → Groups truths seats h (at part (Some (InWait wait (InQueuing again (QueueToWait last))))) → Kept commits next (walk_after (pay_waiting wait owes))
+  queued_up mode (OnCondition c) limits false last owes tests part next commits few e p =
+      let wait : Wait C = record { mode = mode; on = OnCondition c; limits = limits } in
+      let held = e.0 in
+      let releasing = releasing_of mode in
+      let took = has_some (woken_of (meets_at truths part.row) part.lists.lock) in
+      let owed = seats_of (woken_of (meets_at truths part.row) part.lists.lock) in
+      let lists = waited_in truths who wait false part.row part.lists in
+      let walk = InWait wait (InQueuing false (QueueToWait last)) in
+      let to = pay_waiting_leads {C = C} {N = N} truths wait None owes in
+      let may : MayWait truths wait false held = subst (λ x. CanWait truths wait false x) e.1 (place walk part p).0.0 in
+      moved (walk_after (pay_waiting wait owes)) (record part { word = word_released_returning releasing took (bits_of lists.lock) part.word; lists = lists; held = None; owed = owed }) next
+      (section_of truths.holds who (section mode held.entry held.before held.row) (CondWait c) ∷ []) commits
+      (e.4 ∙ ap (λ word. record part { word = word_released_returning releasing took (bits_of lists.lock) word; lists = lists; held = None; owed = owed }) e.3)
+      (e.7 ∙ ap (λ m. section_of truths.holds who (section m held.entry held.before held.row) (CondWait c) ∷ []) e.2)
+      (waits truths seats h front who (Some walk) (walk_after (pay_waiting wait owes)) back releasing mode c false part.word part.row part.lists part.flags held.entry held.before held.row part.owed few (may.settled refl)
+      may.unmet (left_mode mode) (subst (λ x. IsExpected x (Cond c mode)) (sym to.7) refl) (to.0 refl tt) refl (to.1 ∙ e.5) to.6 refl to.2 refl to.3 refl to.4 to.5 (λ flag n. refl)
+      (with_held walk part (Some (section mode held.entry held.before held.row)) (e.1 ∙ ap (λ m. Some (section m held.entry held.before held.row)) e.2) p))
+  queued_up mode (OnCondition c) limits true last owes tests part next commits few e p =
+      let wait : Wait C = record { mode = mode; on = OnCondition c; limits = limits } in
+      let held = e.0 in
+      let releasing = releasing_of mode in
+      let took = has_some (woken_of (meets_at truths part.row) part.lists.lock) in
+      let owed = seats_of (woken_of (meets_at truths part.row) part.lists.lock) in
+      let lists = waited_in truths who wait true part.row part.lists in
+      let walk = InWait wait (InQueuing true (QueueToWait last)) in
+      let to = pay_waiting_leads {C = C} {N = N} truths wait None owes in
+      let may : MayWait truths wait true held = subst (λ x. CanWait truths wait true x) e.1 (place walk part p).0.0 in
+      let back_from = (may.back refl).1 in
+      moved (walk_after (pay_waiting wait owes)) (record part { word = word_released_returning releasing took (bits_of lists.lock) part.word; lists = lists; held = None; owed = owed }) next [] commits
+      (e.4 ∙ ap (λ word. record part { word = word_released_returning releasing took (bits_of lists.lock) word; lists = lists; held = None; owed = owed }) e.3) e.7
+      (none_more _ (waits_on truths seats h front who (Some walk) (walk_after (pay_waiting wait owes)) back releasing mode c true part.word part.row part.lists part.flags held.entry held.before held.row part.owed
+      may.unmet (left_mode mode) back_from.cells (ap (λ entry. phase_before mode entry) back_from.entry) (subst (λ x. IsExpected x (Cond c mode)) (sym to.7) refl) (to.0 refl tt) refl (to.1 ∙ e.5) to.6 refl to.2 refl to.3 refl to.4 to.5 (λ flag n. refl)
+      (with_held walk part (Some (section mode held.entry held.before held.row)) (e.1 ∙ ap (λ m. Some (section m held.entry held.before held.row)) e.2) p)))
+  queued_up mode (OnVariable k) limits false last owes tests part next commits few e p =
+      let wait : Wait C = record { mode = mode; on = OnVariable k; limits = limits } in
+      let held = e.0 in
+      let releasing = releasing_of mode in
+      let took = has_some (woken_of (meets_at truths part.row) part.lists.lock) in
+      let owed = seats_of (woken_of (meets_at truths part.row) part.lists.lock) in
+      let lists = waited_in truths who wait false part.row part.lists in
+      let walk = InWait wait (InQueuing false (QueueToWait last)) in
+      let to = pay_waiting_leads {C = C} {N = N} truths wait None owes in
+      let may : MayWait truths wait false held = subst (λ x. CanWait truths wait false x) e.1 (place walk part p).0.0 in
+      moved (walk_after (pay_waiting wait owes)) (record part { word = word_released_returning releasing took (bits_of lists.lock) part.word; lists = lists; held = None; owed = owed }) next
+      (section_of truths.holds who (section mode held.entry held.before held.row) (CvWait k) ∷ []) commits
+      (e.4 ∙ ap (λ word. record part { word = word_released_returning releasing took (bits_of lists.lock) word; lists = lists; held = None; owed = owed }) e.3)
+      (e.7 ∙ ap (λ m. section_of truths.holds who (section m held.entry held.before held.row) (CvWait k) ∷ []) e.2)
+      (waits_for truths seats h front who (Some walk) (walk_after (pay_waiting wait owes)) back releasing mode k part.word part.row part.lists part.flags held.entry held.before held.row part.owed few may.unmet (may.settled refl)
+      (left_mode mode) (subst (λ x. IsExpected x (Waiting k mode)) (sym to.7) (inl refl)) (to.0 refl may.unmet) refl (to.1 ∙ e.5) to.6 refl to.2 refl to.3 refl to.4 to.5 (λ flag n. refl)
+      (with_held walk part (Some (section mode held.entry held.before held.row)) (e.1 ∙ ap (λ m. Some (section m held.entry held.before held.row)) e.2) p))
+  queued_up mode (OnVariable k) limits true last owes tests part next commits few e p =
+      let wait : Wait C = record { mode = mode; on = OnVariable k; limits = limits } in
+      let walk = InWait wait (InQueuing true (QueueToWait last)) in
+      let may : MayWait truths wait true e.0 = subst (λ x. CanWait truths wait true x) e.1 (place walk part p).0.0 in
+      absurd ((may.back refl).0)
+
+  -- what a call takes from its variable's list
+  abbrev Fitting : Part C N → Option (Walk C) → ℕ → Waiter C → Type 0
+  Fitting part walk k = VariableWaiterFits (standing_after h).phases (front ++ view_of who walk part.held part.owed ∷ back) k
+
+  taken_fit : (waking : Waking) (part : Part C N) (walk : Option (Walk C)) (k : ℕ) (ws : List (Waiter C)) → Every (Fitting part walk k) ws → Every (Fitting part walk k) (taken_by waking ws)
+  taken_fit Signaling part walk k ws all = every_signaled (Fitting part walk k) ws all
+  taken_fit Broadcasting part walk k ws all = all
+
+  kept_fit : (waking : Waking) (part : Part C N) (walk : Option (Walk C)) (k : ℕ) (ws : List (Waiter C)) → Every (Fitting part walk k) ws → Every (Fitting part walk k) (kept_by waking ws)
+  kept_fit Signaling part walk k ws all = every_unsignaled (Fitting part walk k) ws all
+  kept_fit Broadcasting part walk k ws all = tt
+
+  -- the event of a call that wakes is legal, and wakes just those
+  wake_legal : (waking : Waking) (k : ℕ) (ws : List (Waiter C)) → who < 64 → AreWaiting k (standing_after h).phases ws → IsLegalEvent truths.holds (standing_after h) (wake_of {C = C} {N = N} who waking k (taken_by waking ws))
+  wake_legal Signaling k ws low are = (low, signal_legal k (standing_after h).phases ws are)
+  wake_legal Broadcasting k ws low are = (low, broadcast_legal k (standing_after h).phases ws are)
+
+  wake_leaves : (waking : Waking) (k : ℕ) (took : List (Waiter C)) → standing_next {N = N} (standing_after h) (wake_of who waking k took) ≡ record { row = (standing_after h).row; phases = woken_phases (taken_set took) (standing_after h).phases }
+  wake_leaves Signaling k took = refl
+  wake_leaves Broadcasting k took = refl
+
+  wake_by : (waking : Waking) (k : ℕ) (took : List (Waiter C)) → who_of (wake_of {C = C} {N = N} who waking k took) ≡ who
+  wake_by Signaling k took = refl
+  wake_by Broadcasting k took = refl
+
+  -- where those go who were taken: to the back of the lock list, or they are owed their wakes
+  woken_to : (waking : Waking) (k : ℕ) (last : Word) (owes : Bool) (part : Part C N) (moved : Bool) (lock' : List (Waiter C)) (owed' : List ℕ) → seats ≤ 64 →
+      let took = taken_by waking (waiters_of part.lists (Cv k)) in let put = with_waiters part.lists (Cv k) (kept_by waking (waiters_of part.lists (Cv k))) in
+      ((moved ≡ true) × (is_held part.word ≡ true) × (has_some took ≡ true) × (lock' ≡ part.lists.lock ++ took) × (owed' ≡ [])) ⊎ ((moved ≡ false) × (lock' ≡ part.lists.lock) × (owed' ≡ seats_of took)) → owes ≡ has_some owed' →
+      Groups truths seats h (at part (Some (InSignal waking k (WakeAndReturn last)))) →
+      Kept (wake_of who waking k took ∷ []) (record part { word = word_returned moved (bits_of lock') part.word; lists = with_lock put lock'; owed = owed' }) (walk_after (pay_woken waking k owes))
+  woken_to waking k last owes part moved lock' owed' few ways is p =
+      let walk = InSignal waking k (WakeAndReturn last) in
+      let ws = waiters_of part.lists (Cv k) in
+      let here = place walk part p in
+      let fit = (each_parts truths seats (standing_after h) part.row front (view_of who (Some walk) part.held part.owed) back p.safe.one_history.each).1 in
+      let to = pay_woken_leads truths waking k part.held owes in
+      let orderly = lists_orderly truths seats h (at part (Some walk)) (lawful_by truths seats h _ p) few in
+      let fits = p.told.own k here.1 in
+      wakes_waiters truths seats h front who (Some walk) (walk_after (pay_woken waking k owes)) back (wake_of who waking k (taken_by waking ws)) k (taken_by waking ws) (kept_by waking ws) part.word part.row part.lists part.flags part.held part.owed owed' lock' moved few here.1
+      (wake_by waking k (taken_by waking ws)) (wake_legal waking k ws (omega (arith, few, fit.in_range)) (are_waiting (standing_after h).phases part.lists _ k orderly here.1 p.told)) (wake_leaves waking k (taken_by waking ws))
+      (λ seat. parts_of waking ws seat) (taken_fit waking part (Some walk) k ws fits) (kept_fit waking part (Some walk) k ws fits) orderly refl ways (to.0 here.1 here.2) (to.1 ∙ is) (from_by C waking k owes owed' is) refl to.2 refl to.3 to.4 refl to.5 to.6 (λ none. to.7) p
+
+  woken_at : (waking : Waking) (k : ℕ) (last : Word) (owes : Bool) (part : Part C N) (held some : Bool) → seats ≤ 64 →
+      let took = taken_by waking (waiters_of part.lists (Cv k)) in let put = with_waiters part.lists (Cv k) (kept_by waking (waiters_of part.lists (Cv k))) in
+      is_held part.word ≡ held → has_some took ≡ some → (not held && some) ≡ owes →
+      Groups truths seats h (at part (Some (InSignal waking k (WakeAndReturn last)))) →
+      Kept (wake_of who waking k took ∷ []) (record part { word = word_returned (held && some) (bits_of (moved_to held took put).lock) part.word; lists = moved_to held took put; owed = cond held [] (seats_of took) }) (walk_after (pay_woken waking k owes))
+  woken_at waking k last owes part true true few is some owing p = woken_to waking k last owes part true (part.lists.lock ++ taken_by waking (waiters_of part.lists (Cv k))) [] few (inl (refl, is, some, refl, refl)) (sym owing) p
+  woken_at waking k last owes part true false few is some owing p =
+      let took = taken_by waking (waiters_of part.lists (Cv k)) in
+      let none = none_of took some in
+      woken_to waking k last owes part false (part.lists.lock ++ took) [] few (inr (refl, ap (λ xs. part.lists.lock ++ xs) none ∙ append-nil part.lists.lock, sym (ap seats_of none))) (sym owing) p
+  woken_at waking k last owes part false some few is held owing p =
+      woken_to waking k last owes part false part.lists.lock (seats_of (taken_by waking (waiters_of part.lists (Cv k)))) few (inr (refl, refl, refl)) (sym owing ∙ sym held ∙ sym (some_seats (taken_by waking (waiters_of part.lists (Cv k))))) p
+
+  woken_up : (waking : Waking) (k : ℕ) (last : Word) (owes : Bool) (part next : Part C N) (commits : List (Event C N)) → seats ≤ 64 →
+      Effect truths who (ReturnQueues (WakeWaiters waking k) last) part (Woke owes) next commits → Groups truths seats h (at part (Some (InSignal waking k (WakeAndReturn last)))) → Kept commits next (walk_after (pay_woken waking k owes))
+  woken_up waking k last owes part next commits few e p =
+      let took = taken_by waking (waiters_of part.lists (Cv k)) in
+      let change = WakeWaiters waking k in
+      let same = subst (λ word. (change_found who change word part.lists ≡ Woke owes) × (next ≡ record part { word = word_returned (moves change word part.lists) (bits_of (changed who change word part.lists).lock) word; lists = changed who change word part.lists; owed = owed_after change word part.lists part.owed })) e.1 (e.0, e.2) in
+      moved (walk_after (pay_woken waking k owes)) (record part { word = word_returned (moves change part.word part.lists) (bits_of (changed who change part.word part.lists).lock) part.word; lists = changed who change part.word part.lists; owed = owed_after change part.word part.lists part.owed }) next
+      (wake_of who waking k took ∷ []) commits same.1 e.3
+      (woken_at waking k last owes part (is_held part.word) (has_some took) few refl refl (ap owes_in same.0) p)
 
   by_wait : (wait : Wait C) (at_place : WaitPlace) (found : Found) (part next : Part C N) (commits : List (Event C N)) → seats ≤ 64 → 0 < N →
       Effect truths who (want_waiting wait at_place) part found next commits → Groups truths seats h (at part (Some (InWait wait at_place))) → Kept commits next (walk_after (got_waiting N wait at_place found))
   -- it tests its condition
-  by_wait wait (TestCells visit i) (Cell v) part next commits few some e p = finds (InWait wait (TestCells visit i)) _ part next commits e.1 e.2 (test_leads truths wait visit part.held (i + 1) some (place (InWait wait (TestCells visit i)) part p).0) p
-  by_wait wait (TestLast visit i) (Tested is_met) part next commits few some e p =
-      finds (InWait wait (TestLast visit i)) _ part next commits e.3 e.4 (met_leads truths wait visit part.held is_met (place (InWait wait (TestLast visit i)) part p).0 (ap (λ x. truths.holds wait.cond (row_in x)) e.1 ∙ sym e.2)) p
+  by_wait wait (TestCells visit i) (Cell v) part next commits few some e p = finds (InWait wait (TestCells visit i)) _ part next commits e.1 e.2 refl (test_leads truths wait visit part.held (i + 1) some (place (InWait wait (TestCells visit i)) part p).0.0 (place (InWait wait (TestCells visit i)) part p).1 (place (InWait wait (TestCells visit i)) part p).0.2) p
+  by_wait wait (TestLast visit i) found part next commits few some e p = tested wait.mode wait.on wait.limits visit i found part next commits e p
   -- it looks
-  by_wait wait (LookIn again) (Looked None) part next commits few some e p = finds (InWait wait (LookIn again)) _ part next commits e.1 e.2 (place (InWait wait (LookIn again)) part p, (refl, refl, refl, refl), refl, λ n f. f, λ none. refl) p
-  by_wait wait (LookIn again) (Looked (Some cause)) part next commits few some e p =
+  by_wait wait (InQueuing again LookIn) (Looked None) part next commits few some e p = finds (InWait wait (InQueuing again LookIn)) _ part next commits e.1 e.2 refl (place (InWait wait (InQueuing again LookIn)) part p, (refl, refl, refl, refl), refl, λ flag n f. f, λ none. refl) p
+  by_wait wait (InQueuing again LookIn) (Looked (Some cause)) part next commits few some e p =
       moved None (record part { held = held_after again (Some cause) part.held }) next [] commits e.1 e.2
-      (none_more _ (rests truths seats h front who (Some (InWait wait (LookIn again))) None back part.word part.row part.lock part.flags part.held (held_after again (Some cause) part.held) part.owed tt (refl, refl, refl, refl) refl (λ n f. f)
-      (shown_section truths wait again cause part.held (place (InWait wait (LookIn again)) part p)) p))
-  by_wait wait LookOut (Looked None) part next commits few some e p = finds (InWait wait LookOut) _ part next commits e.1 e.2 (place (InWait wait LookOut) part p, (refl, refl, refl, refl), refl, λ n f. f, λ none. refl) p
-  by_wait wait LookOut (Looked (Some cause)) part next commits few some e p = finds (InWait wait LookOut) _ part next commits e.1 e.2 (place (InWait wait LookOut) part p, (refl, refl, refl, refl), refl, λ n f. f, λ none. refl) p
+      (none_more _ (rests truths seats h front who (Some (InWait wait (InQueuing again LookIn))) None back part.word part.row part.lists part.flags part.held (held_after again (Some cause) part.held) part.owed refl (shown_settled truths wait again cause part.held (place (InWait wait (InQueuing again LookIn)) part p).0.0) (refl, refl, refl, refl) refl (λ flag n f. f)
+      (shown_section truths wait again cause part.held (place (InWait wait (InQueuing again LookIn)) part p).0.0) p))
+  by_wait wait LookOut (Looked None) part next commits few some e p = finds (InWait wait LookOut) _ part next commits e.1 e.2 refl (place (InWait wait LookOut) part p, (refl, refl, refl, refl), refl, λ flag n f. f, λ none. refl) p
+  by_wait wait LookOut (Looked (Some cause)) part next commits few some e p =
+      let here = (place (InWait wait LookOut) part p).0 in
+      finds (InWait wait LookOut) _ part next commits e.1 e.2 refl (((here.0, tt, here.1), e.0), (refl, refl, refl, refl), refl, λ flag n f. f, λ none. refl) p
   -- it sees the word
-  by_wait wait (Load again) (Saw word) part next commits few some e p = finds (InWait wait (Load again)) _ part next commits e.1 e.2 (queue_leads truths wait again word part.held (place (InWait wait (Load again)) part p)) p
-  by_wait wait (Take again last) (Saw word) part next commits few some e p = finds (InWait wait (Take again last)) _ part next commits e.2 e.3 (queue_leads truths wait again word part.held (place (InWait wait (Take again last)) part p).0) p
-  by_wait wait (QueueToWait again last) (Saw word) part next commits few some e p = finds (InWait wait (QueueToWait again last)) _ part next commits e.2 e.3 (place (InWait wait (QueueToWait again last)) part p, (refl, refl, refl, refl), refl, λ n f. f, λ none. refl) p
-  by_wait wait (LeaveLoad cause) (Saw word) part next commits few some e p = finds (InWait wait (LeaveLoad cause)) _ part next commits e.1 e.2 (leave_leads truths wait cause word part.held (place (InWait wait (LeaveLoad cause)) part p)) p
-  by_wait wait (TakeToLeave cause last) (Saw word) part next commits few some e p = finds (InWait wait (TakeToLeave cause last)) _ part next commits e.2 e.3 (leave_leads truths wait cause word part.held (place (InWait wait (TakeToLeave cause last)) part p).0) p
-  by_wait wait (Leave cause last) (Saw word) part next commits few some e p = finds (InWait wait (Leave cause last)) _ part next commits e.2 e.3 (place (InWait wait (Leave cause last)) part p, (refl, refl, refl, refl), refl, λ n f. f, λ none. refl) p
+  by_wait wait (InQueuing again Load) (Saw word) part next commits few some e p = finds (InWait wait (InQueuing again Load)) _ part next commits e.1 e.2 refl (queue_leads truths wait again word part.held (place (InWait wait (InQueuing again Load)) part p).0.0) p
+  by_wait wait (InQueuing again (Take last)) (Saw word) part next commits few some e p = finds (InWait wait (InQueuing again (Take last))) _ part next commits e.2 e.3 refl (queue_leads truths wait again word part.held (place (InWait wait (InQueuing again (Take last))) part p).0.0) p
+  by_wait wait (InQueuing again (QueueToWait last)) (Saw word) part next commits few some e p = finds (InWait wait (InQueuing again (QueueToWait last))) _ part next commits e.2 e.3 refl (place (InWait wait (InQueuing again (QueueToWait last))) part p, (refl, refl, refl, refl), refl, λ flag n f. f, λ none. refl) p
+  by_wait wait (InLeaving cause LeaveLoad) (Saw word) part next commits few some e p = finds (InWait wait (InLeaving cause LeaveLoad)) _ part next commits e.1 e.2 refl (leave_leads truths wait cause word part.held (place (InWait wait (InLeaving cause LeaveLoad)) part p).0.0 (place (InWait wait (InLeaving cause LeaveLoad)) part p).0.2 (place (InWait wait (InLeaving cause LeaveLoad)) part p).1) p
+  by_wait wait (InLeaving cause (TakeToLeave last)) (Saw word) part next commits few some e p = finds (InWait wait (InLeaving cause (TakeToLeave last))) _ part next commits e.2 e.3 refl (leave_leads truths wait cause word part.held (place (InWait wait (InLeaving cause (TakeToLeave last))) part p).0.0 (place (InWait wait (InLeaving cause (TakeToLeave last))) part p).0.2 (place (InWait wait (InLeaving cause (TakeToLeave last))) part p).1) p
+  by_wait wait (InLeaving cause (Leave last)) (Saw word) part next commits few some e p = finds (InWait wait (InLeaving cause (Leave last))) _ part next commits e.2 e.3 refl (place (InWait wait (InLeaving cause (Leave last))) part p, (refl, refl, refl, refl), refl, λ flag n f. f, λ none. refl) p
   -- it takes the queues, and sets its flag
-  by_wait wait (Take again last) Made part next commits few some e p = wait_took wait (Take again last) (ArmToWait again (word_taken ToChange last)) last part next commits e.0 e.1 e.2 e.3 (place (InWait wait (Take again last)) part p).0 refl refl refl refl refl p
-  by_wait wait (TakeToLeave cause last) Made part next commits few some e p = wait_took wait (TakeToLeave cause last) (Leave cause (word_taken ToChange last)) last part next commits e.0 e.1 e.2 e.3 (place (InWait wait (TakeToLeave cause last)) part p).0 refl refl refl refl refl p
-  by_wait wait (ArmToWait again last) Made part next commits few some e p =
-      moved (Some (InWait wait (QueueToWait again last))) (record part { flags = flags_with part.flags who 1 }) next [] commits e.0 e.1
-      (none_more _ (arms truths seats h front who (Some (InWait wait (ArmToWait again last))) (Some (InWait wait (QueueToWait again last))) back part.word part.row part.lock part.flags part.held part.owed (place (InWait wait (ArmToWait again last)) part p) refl refl refl refl refl (λ n f. f) (λ none. refl) p))
+  by_wait wait (InQueuing again (Take last)) Made part next commits few some e p = wait_took wait (InQueuing again (Take last)) (InQueuing again (ArmToWait (word_taken ToChange last))) last part next commits e.0 e.1 e.2 e.3 (((place (InWait wait (InQueuing again (Take last))) part p).0.0, tt), tt) refl refl refl refl refl p
+  by_wait wait (InLeaving cause (TakeToLeave last)) Made part next commits few some e p = wait_took wait (InLeaving cause (TakeToLeave last)) (InLeaving cause (Leave (word_taken ToChange last))) last part next commits e.0 e.1 e.2 e.3 (((place (InWait wait (InLeaving cause (TakeToLeave last))) part p).0.0, tt, (place (InWait wait (InLeaving cause (TakeToLeave last))) part p).0.2), (place (InWait wait (InLeaving cause (TakeToLeave last))) part p).1) refl refl refl refl refl p
+  by_wait wait (InQueuing again (ArmToWait last)) Made part next commits few some e p =
+      let walk = InWait wait (InQueuing again (ArmToWait last)) in
+      let to = armed_leads truths wait wait.on again last part.held (place walk part p).0.0 in
+      moved (Some (InWait wait (InQueuing again (armed_place N wait.on last)))) (record part { flags = flags_with part.flags who 1 }) next [] commits e.0 e.1
+      (none_more _ (arms truths seats h front who (Some walk) (Some (InWait wait (InQueuing again (armed_place N wait.on last)))) back part.word part.row part.lists part.flags part.held part.owed refl to.0 to.1.0 to.1.1 refl to.1.2 to.2 (λ flag n. refl) to.4 p))
+  by_wait wait (InQueuing again (LoadToScan last i)) (Cell v) part next commits few some e p =
+      finds (InWait wait (InQueuing again (LoadToScan last i))) _ part next commits e.1 e.2 refl (load_leads truths wait again last part.held (i + 1) (place (InWait wait (InQueuing again (LoadToScan last i))) part p).0.0) p
   -- it queues, and leaves its section
-  by_wait wait (QueueToWait false last) (Scanned owes tests) part next commits few some e p =
-      let held = e.0 in
-      let releasing = releasing_of wait.mode in
-      let took = has_some (woken_of (meets_at truths part.row) part.lock) in
-      let owed = seats_of (woken_of (meets_at truths part.row) part.lock) in
-      let lock = waited_in truths who wait false part.row part.lock in
-      let walk = InWait wait (QueueToWait false last) in
-      let to = pay_waiting_leads {C = C} {N = N} truths wait None owes in
-      let may : MayWait truths wait false held = subst (λ x. CanWait truths wait false x) e.1 (place walk part p) in
-      moved (walk_after (pay_waiting wait owes)) (record part { word = word_released_returning releasing took (bits_of lock) part.word; lock = lock; held = None; owed = owed }) next
-      (section_of truths.holds who (section wait.mode held.entry held.before held.row) (CondWait wait.cond) ∷ []) commits
-      (e.4 ∙ ap (λ word. record part { word = word_released_returning releasing took (bits_of lock) word; lock = lock; held = None; owed = owed }) e.3)
-      (e.7 ∙ ap (λ m. section_of truths.holds who (section m held.entry held.before held.row) (CondWait wait.cond) ∷ []) e.2)
-      (waits truths seats h front who (Some walk) (walk_after (pay_waiting wait owes)) back releasing wait.mode wait.cond false part.word part.row part.lock part.flags held.entry held.before held.row part.owed few
-      may.unmet (left_mode wait.mode) (sym to.7) (to.0 refl) refl (to.1 ∙ e.5) refl to.2 refl to.3 refl to.4 to.5 (λ n. refl)
-      (with_held walk part (Some (section wait.mode held.entry held.before held.row)) (e.1 ∙ ap (λ m. Some (section m held.entry held.before held.row)) e.2) p))
-  by_wait wait (QueueToWait true last) (Scanned owes tests) part next commits few some e p =
-      let held = e.0 in
-      let releasing = releasing_of wait.mode in
-      let took = has_some (woken_of (meets_at truths part.row) part.lock) in
-      let owed = seats_of (woken_of (meets_at truths part.row) part.lock) in
-      let lock = waited_in truths who wait true part.row part.lock in
-      let walk = InWait wait (QueueToWait true last) in
-      let to = pay_waiting_leads {C = C} {N = N} truths wait None owes in
-      let may : MayWait truths wait true held = subst (λ x. CanWait truths wait true x) e.1 (place walk part p) in
-      let back_from = may.back refl in
-      moved (walk_after (pay_waiting wait owes)) (record part { word = word_released_returning releasing took (bits_of lock) part.word; lock = lock; held = None; owed = owed }) next [] commits
-      (e.4 ∙ ap (λ word. record part { word = word_released_returning releasing took (bits_of lock) word; lock = lock; held = None; owed = owed }) e.3) e.7
-      (none_more _ (waits_on truths seats h front who (Some walk) (walk_after (pay_waiting wait owes)) back releasing wait.mode wait.cond true part.word part.row part.lock part.flags held.entry held.before held.row part.owed
-      may.unmet (left_mode wait.mode) back_from.cells (ap (λ entry. phase_before wait.mode entry) back_from.entry ∙ sym to.7) (to.0 refl) refl (to.1 ∙ e.5) refl to.2 refl to.3 refl to.4 to.5 (λ n. refl)
-      (with_held walk part (Some (section wait.mode held.entry held.before held.row)) (e.1 ∙ ap (λ m. Some (section m held.entry held.before held.row)) e.2) p)))
+  by_wait wait (InQueuing again (QueueToWait last)) (Scanned owes tests) part next commits few some e p = queued_up wait.mode wait.on wait.limits again last owes tests part next commits few e p
   -- it pays a wake
   by_wait wait PayInWait (Paid owes) part next commits few some e p =
       let to = pay_waiting_leads truths wait part.held owes in
-      let none : part.held ≡ None = place (InWait wait PayInWait) part p in
+      let here = (place (InWait wait PayInWait) part p).0 in
       moved (walk_after (pay_waiting wait owes)) (record part { flags = flags_with part.flags e.0 0; owed = e.1 }) next [] commits e.3 e.5
-      (none_more _ (wakes truths seats h front who (Some (InWait wait PayInWait)) (walk_after (pay_waiting wait owes)) back part.word part.row part.lock part.flags part.held e.0 e.1
-      (to.0 none) (to.1 ∙ e.4) to.2 to.3 to.4 to.5 to.6 (λ n. to.7)
+      (none_more _ (wakes truths seats h front who (Some (InWait wait PayInWait)) (walk_after (pay_waiting wait owes)) back part.word part.row part.lists part.flags part.held e.0 0 e.1
+      refl (inl refl) (λ seat. ap (λ b. cond b (times_among seat e.1) 0) to.6) (to.0 here.0 here.1) (to.1 ∙ e.4) to.2 to.3 to.8 to.4 to.5 (λ n. to.7)
       (subst (λ owed. Groups truths seats h (at (record part { owed = owed }) (Some (InWait wait PayInWait)))) e.2 p)))
   -- it looks at its flag
   by_wait wait AwaitWakeInWait (Flag v) part next commits few some e p =
-      let none : part.held ≡ None = place (InWait wait AwaitWakeInWait) part p in
-      checks (InWait wait AwaitWakeInWait) (ForWait wait None) (rest_or_look wait) v (eqb v 0) part next commits refl e.0 e.1 e.2 none refl refl refl refl (rest_leads truths wait part.held none) p
-  by_wait wait (AwaitWakeToLeave cause) (Flag v) part next commits few some e p =
-      let none : part.held ≡ None = place (InWait wait (AwaitWakeToLeave cause)) part p in
-      checks (InWait wait (AwaitWakeToLeave cause)) (ForWait wait (Some cause)) (Idle (InWait wait (AwaitWakeToLeave cause))) v (eqb v 0) part next commits refl e.0 e.1 e.2 none refl refl refl refl (none, (refl, refl, refl, refl), refl, λ n f. f, λ none. refl) p
+      let here = (place (InWait wait AwaitWakeInWait) part p).0 in
+      checks (InWait wait AwaitWakeInWait) (ForWait wait None) (rest_or_look wait) v (eqb v 1) part next commits refl e.0 e.1 e.2 here.0 refl refl refl refl (seen_phase wait.on wait.mode) tt (rest_leads truths wait part.held here.0 here.1) p
+  by_wait wait (InLeaving cause AwaitWakeToLeave) (Flag v) part next commits few some e p =
+      let here = place (InWait wait (InLeaving cause AwaitWakeToLeave)) part p in
+      checks (InWait wait (InLeaving cause AwaitWakeToLeave)) (ForWait wait (kept_in wait.on cause)) (Idle (InWait wait (InLeaving cause AwaitWakeToLeave))) v (eqb v 1) part next commits refl e.0 e.1 e.2 here.0.0 refl refl refl refl
+      (kept_phase wait.on wait.mode cause) (kept_given wait.on wait.limits cause here.1) (here, (refl, refl, refl, refl), refl, λ flag n f. f, λ none. refl) p
   -- it leaves
-  by_wait wait (Leave cause last) (Left stood) part next commits few some e p = withdrawn wait cause last stood part next commits (ap stood_in e.0) e.1 e.2 e.3 (place (InWait wait (Leave cause last)) part p) p
-  by_wait wait (Leave cause last) Made part next commits few some e p = let never : Left (ltb 0 (times_in who part.lock)) ≡ Made = e.0 in absurd (cc)
+  by_wait wait (InLeaving cause (Leave last)) (Left stood) part next commits few some e p =
+      let here = place (InWait wait (InLeaving cause (Leave last))) part p in
+      withdrawn wait.mode wait.on wait.limits cause last stood part next commits (ap stood_in e.0) e.1 e.2 e.3 here.0.0 here.1 here.0.2 few p
+  by_wait wait (InLeaving cause (Leave last)) Made part next commits few some e p = let never : Left (ltb 0 (times_in who (waiters_of part.lists (home_of wait.on)))) ≡ Made = e.0 in absurd (cc)
+  by_wait wait (InLeaving cause (Leave last)) (Woke owes) part next commits few some e p = let never : Left (ltb 0 (times_in who (waiters_of part.lists (home_of wait.on)))) ≡ Woke owes = e.0 in absurd (cc)
   by_wait wait _ _ part next commits few some e p = absurd e
+
+  not_made : (waking : Waking) (k : ℕ) (last : Word) (part : Part C N) → change_found who (WakeWaiters waking k) last part.lists ≡ Made → ⊥
+  not_made waking k last part e = let never : Woke (not (is_held last) && has_some (taken_by waking (waiters_of part.lists (Cv k)))) ≡ Made = e in absurd (cc)
+
+  not_left_so : (waking : Waking) (k : ℕ) (last : Word) (stood : Bool) (part : Part C N) → change_found who (WakeWaiters waking k) last part.lists ≡ Left stood → ⊥
+  not_left_so waking k last stood part e = let never : Woke (not (is_held last) && has_some (taken_by waking (waiters_of part.lists (Cv k)))) ≡ Left stood = e in absurd (cc)
+
+  -- ---- calls that wake
+
+  by_signal : (waking : Waking) (k : ℕ) (at_place : SignalPlace) (found : Found) (part next : Part C N) (commits : List (Event C N)) → seats ≤ 64 →
+      Effect truths who (want_signaling waking k at_place) part found next commits → Groups truths seats h (at part (Some (InSignal waking k at_place))) → Kept commits next (walk_after (got_signaling waking k at_place found))
+  by_signal waking k SignalLoad (Saw word) part next commits few e p =
+      let here = place (InSignal waking k SignalLoad) part p in
+      finds (InSignal waking k SignalLoad) _ part next commits e.1 e.2 refl (signal_leads truths waking k word part.held here.1 here.2) p
+  by_signal waking k (TakeToWake last) (Saw word) part next commits few e p =
+      let here = place (InSignal waking k (TakeToWake last)) part p in
+      finds (InSignal waking k (TakeToWake last)) _ part next commits e.2 e.3 refl (signal_leads truths waking k word part.held here.1 here.2) p
+  by_signal waking k (WakeAndReturn last) (Saw word) part next commits few e p =
+      finds (InSignal waking k (WakeAndReturn last)) _ part next commits e.2 e.3 refl (place (InSignal waking k (WakeAndReturn last)) part p, (refl, refl, refl, refl), refl, λ flag n f. f, λ none. refl) p
+  by_signal waking k (TakeToWake last) Made part next commits few e p =
+      let walk = InSignal waking k (TakeToWake last) in
+      let to = InSignal waking k (WakeAndReturn (word_taken ToChange last)) in
+      let here = place walk part p in
+      took walk to ToChange last part next commits e.0 e.1 e.2 e.3 (tt, here.1, here.2) refl refl refl refl refl (λ none. refl)
+      (λ apart homed known. known_rests truths.holds front who (Some walk) part.held part.owed (Some to) part.held part.owed back part.word (word_taken ToChange part.word) (standing_after h).row part.lists.lock part.flags apart (λ seat. refl) refl refl refl refl refl refl (λ flag n f. f) known) p
+  by_signal waking k (WakeAndReturn last) (Woke owes) part next commits few e p = woken_up waking k last owes part next commits few e p
+  by_signal waking k (WakeAndReturn last) Made part next commits few e p = absurd (not_made waking k last part e.0)
+  by_signal waking k (WakeAndReturn last) (Left stood) part next commits few e p = absurd (not_left_so waking k last stood part e.0)
+  by_signal waking k PayTheWoken (Paid owes) part next commits few e p =
+      let walk = InSignal waking k PayTheWoken in
+      let here = place walk part p in
+      let to = pay_woken_leads truths waking k part.held owes in
+      moved (walk_after (pay_woken waking k owes)) (record part { flags = flags_with part.flags e.0 2; owed = e.1 }) next [] commits e.3 e.5
+      (none_more _ (wakes truths seats h front who (Some walk) (walk_after (pay_woken waking k owes)) back part.word part.row part.lists part.flags part.held e.0 2 e.1
+      refl (inr refl) (λ seat. from_others C waking k owes e.1 e.4 seat) (to.0 here.1 here.2) (to.1 ∙ e.4) to.2 to.3 to.8 to.4 to.5 (λ n. to.7)
+      (subst (λ owed. Groups truths seats h (at (record part { owed = owed }) (Some walk))) e.2 p)))
+  by_signal waking k _ _ part next commits few e p = absurd e
 
   by_walk : (walk : Walk C) (found : Found) (part next : Part C N) (commits : List (Event C N)) → seats ≤ 64 → 0 < N → QuietKeeps N truths →
       Effect truths who (want_of walk) part found next commits → Groups truths seats h (at part (Some walk)) → Kept commits next (walk_after (got_of N walk found))
   -- found and no more
-  by_walk (TryLoad mode) (Saw word) part next commits few some quiet e p = finds (TryLoad mode) _ part next commits e.1 e.2 (try_leads truths mode word part.held (may_acquire mode false word) refl (place (TryLoad mode) part p)) p
-  by_walk (TryAcquire mode last) (Saw word) part next commits few some quiet e p = finds (TryAcquire mode last) _ part next commits e.2 e.3 (tt, (refl, refl, refl, refl), refl, λ n f. f, λ none. refl) p
-  by_walk (AcquireLoad aim woken) (Saw word) part next commits few some quiet e p = finds (AcquireLoad aim woken) _ part next commits e.1 e.2 (acquire_leads truths aim woken word part.held (place (AcquireLoad aim woken) part p)) p
-  by_walk (AcquireExchange aim woken last) (Saw word) part next commits few some quiet e p = finds (AcquireExchange aim woken last) _ part next commits e.2 e.3 (acquire_leads truths aim woken word part.held (place (AcquireExchange aim woken last) part p).0) p
-  by_walk (TakeToQueue aim woken last) (Saw word) part next commits few some quiet e p = finds (TakeToQueue aim woken last) _ part next commits e.2 e.3 (acquire_leads truths aim woken word part.held (place (TakeToQueue aim woken last) part p).0) p
-  by_walk (Queue aim woken last) (Saw word) part next commits few some quiet e p = finds (Queue aim woken last) _ part next commits e.2 e.3 (place (Queue aim woken last) part p, (refl, refl, refl, refl), refl, λ n f. f, λ none. refl) p
-  by_walk (ReleaseLoad releasing) (Saw word) part next commits few some quiet e p = finds (ReleaseLoad releasing) _ part next commits e.1 e.2 (release_leads truths releasing word part.held (place (ReleaseLoad releasing) part p)) p
-  by_walk (ReleaseExchange releasing last) (Saw word) part next commits few some quiet e p = finds (ReleaseExchange releasing last) _ part next commits e.2 e.3 (release_leads truths releasing word part.held (place (ReleaseExchange releasing last) part p).0) p
-  by_walk (TakeToScan releasing last) (Saw word) part next commits few some quiet e p = finds (TakeToScan releasing last) _ part next commits e.2 e.3 (release_leads truths releasing word part.held (place (TakeToScan releasing last) part p).0) p
-  by_walk (ScanAndRelease releasing last) (Saw word) part next commits few some quiet e p = finds (ScanAndRelease releasing last) _ part next commits e.2 e.3 (place (ScanAndRelease releasing last) part p, (refl, refl, refl, refl), refl, λ n f. f, λ none. refl) p
-  by_walk (GetLoad i) (Cell v) part next commits few some quiet e p = finds (GetLoad i) _ part next commits e.1 e.2 (tt, (refl, refl, refl, refl), refl, λ n f. f, λ none. refl) p
-  by_walk (SetLoad i v) (Cell w) part next commits few some quiet e p = finds (SetLoad i v) _ part next commits e.1 e.2 (place (SetLoad i v) part p, (refl, refl, refl, refl), refl, λ n f. f, λ none. refl) p
-  by_walk (ScanCells releasing last i) (Cell v) part next commits few some quiet e p = finds (ScanCells releasing last i) _ part next commits e.1 e.2 (scan_leads truths releasing last part.held (i + 1) (place (ScanCells releasing last i) part p).0) p
-  by_walk (QuietCells i) (Cell v) part next commits few some quiet e p =
-      let at_cell = place (QuietCells i) part p in
-      finds (QuietCells i) _ part next commits e.1 e.2 (quiet_leads truths part.held (i + 1) (omega (arith, at_cell.1)) at_cell.0) p
-  by_walk (QuietLast i) (Quiet is_quiet) part next commits few some quiet e p =
-      let writes : HasMode Write (Some e.0) = subst (λ x. HasMode Write x) e.1 (place (QuietLast i) part p).0 in
-      finds (QuietLast i) _ part next commits e.3 e.4 (judged_leads truths part.held is_quiet (λ f. subst (λ x. CanLeave truths QuietWriter x) (sym e.1) (writes, sym e.2 ∙ f))) p
+  by_walk (InTry mode TryLoad) (Saw word) part next commits few some quiet e p = finds (InTry mode TryLoad) _ part next commits e.1 e.2 refl (try_leads truths mode word part.held (may_acquire mode AsFresh word) refl (place (InTry mode TryLoad) part p).0) p
+  by_walk (InTry mode (TryAcquire last)) (Saw word) part next commits few some quiet e p = finds (InTry mode (TryAcquire last)) _ part next commits e.2 e.3 refl (none_settled truths part.held (place (InTry mode (TryAcquire last)) part p).0, (refl, refl, refl, refl), refl, λ flag n f. f, λ none. refl) p
+  by_walk (InAcquire aim (AcquireLoad arrival)) (Saw word) part next commits few some quiet e p = finds (InAcquire aim (AcquireLoad arrival)) _ part next commits e.1 e.2 refl (acquire_leads truths aim arrival word part.held (place (InAcquire aim (AcquireLoad arrival)) part p).0 (place (InAcquire aim (AcquireLoad arrival)) part p).2) p
+  by_walk (InAcquire aim (AcquireExchange arrival last)) (Saw word) part next commits few some quiet e p = finds (InAcquire aim (AcquireExchange arrival last)) _ part next commits e.2 e.3 refl (acquire_leads truths aim arrival word part.held (place (InAcquire aim (AcquireExchange arrival last)) part p).0 (place (InAcquire aim (AcquireExchange arrival last)) part p).2) p
+  by_walk (InAcquire aim (TakeToQueue arrival last)) (Saw word) part next commits few some quiet e p = finds (InAcquire aim (TakeToQueue arrival last)) _ part next commits e.2 e.3 refl (acquire_leads truths aim arrival word part.held (place (InAcquire aim (TakeToQueue arrival last)) part p).0 (place (InAcquire aim (TakeToQueue arrival last)) part p).2) p
+  by_walk (InAcquire aim (Queue arrival last)) (Saw word) part next commits few some quiet e p = finds (InAcquire aim (Queue arrival last)) _ part next commits e.2 e.3 refl (place (InAcquire aim (Queue arrival last)) part p, (refl, refl, refl, refl), refl, λ flag n f. f, λ none. refl) p
+  by_walk (InRelease releasing ReleaseLoad) (Saw word) part next commits few some quiet e p = finds (InRelease releasing ReleaseLoad) _ part next commits e.1 e.2 refl (release_leads truths releasing word part.held (place (InRelease releasing ReleaseLoad) part p)) p
+  by_walk (InRelease releasing (ReleaseExchange last)) (Saw word) part next commits few some quiet e p = finds (InRelease releasing (ReleaseExchange last)) _ part next commits e.2 e.3 refl (release_leads truths releasing word part.held (place (InRelease releasing (ReleaseExchange last)) part p).0) p
+  by_walk (InRelease releasing (TakeToScan last)) (Saw word) part next commits few some quiet e p = finds (InRelease releasing (TakeToScan last)) _ part next commits e.2 e.3 refl (release_leads truths releasing word part.held (place (InRelease releasing (TakeToScan last)) part p).0) p
+  by_walk (InRelease releasing (ScanAndRelease last)) (Saw word) part next commits few some quiet e p = finds (InRelease releasing (ScanAndRelease last)) _ part next commits e.2 e.3 refl (place (InRelease releasing (ScanAndRelease last)) part p, (refl, refl, refl, refl), refl, λ flag n f. f, λ none. refl) p
+  by_walk (InCells (GetLoad i)) (Cell v) part next commits few some quiet e p = finds (InCells (GetLoad i)) _ part next commits e.1 e.2 refl ((place (InCells (GetLoad i)) part p).1, (refl, refl, refl, refl), refl, λ flag n f. f, λ none. refl) p
+  by_walk (InCells (SetLoad i v)) (Cell w) part next commits few some quiet e p = finds (InCells (SetLoad i v)) _ part next commits e.1 e.2 refl (place (InCells (SetLoad i v)) part p, (refl, refl, refl, refl), refl, λ flag n f. f, λ none. refl) p
+  by_walk (InRelease releasing (ScanCells last i)) (Cell v) part next commits few some quiet e p = finds (InRelease releasing (ScanCells last i)) _ part next commits e.1 e.2 refl (scan_leads truths releasing last part.held (i + 1) (place (InRelease releasing (ScanCells last i)) part p).0) p
+  by_walk (InCells (QuietCells i)) (Cell v) part next commits few some quiet e p =
+      let at_cell = place (InCells (QuietCells i)) part p in
+      finds (InCells (QuietCells i)) _ part next commits e.1 e.2 refl (quiet_leads truths part.held (i + 1) (omega (arith, at_cell.0.1)) at_cell.0.0 at_cell.1) p
+  by_walk (InCells (QuietLast i)) (Quiet is_quiet) part next commits few some quiet e p =
+      let at_cell = place (InCells (QuietLast i)) part p in
+      let writes : HasMode Write (Some e.0) = subst (λ x. HasMode Write x) e.1 at_cell.0.0 in
+      let settled : IsSettled truths (Some e.0) = subst (λ x. IsSettled truths x) e.1 at_cell.1 in
+      finds (InCells (QuietLast i)) _ part next commits e.3 e.4 refl (judged_leads truths part.held is_quiet (λ f. subst (λ x. CanLeave truths QuietWriter x) (sym e.1) (writes, sym e.2 ∙ f, settled)) at_cell.1) p
   -- acquires
-  by_walk (TryAcquire mode last) Made part next commits few some quiet e p = acquired (TryAcquire mode last) None (ForLock mode) false last part next commits e.0 e.1 e.2 e.3 e.4 refl tt (refl, refl, refl, refl) refl (λ n w f. f) p
-  by_walk (AcquireExchange aim woken last) Made part next commits few some quiet e p =
-      let to = acquired_leads truths aim part.row some in
-      acquired (AcquireExchange aim woken last) (walk_after (acquired_for N aim)) aim woken last part next commits e.0 e.1 e.2 e.3 e.4 refl to.0 to.1 to.2 (λ n w f. absurd (both_ways woken w f)) p
+  by_walk (InTry mode (TryAcquire last)) Made part next commits few some quiet e p = acquired (InTry mode (TryAcquire last)) None (ForLock mode) AsFresh last part next commits e.0 e.1 e.2 e.3 e.4 refl (λ ph is. is) tt (refl, refl, refl, refl) refl (λ flag n w f. f) p
+  by_walk (InAcquire aim (AcquireExchange arrival last)) Made part next commits few some quiet e p =
+      let to = acquired_leads truths aim part.row some (place (InAcquire aim (AcquireExchange arrival last)) part p).2 in
+      acquired (InAcquire aim (AcquireExchange arrival last)) (walk_after (acquired_for N aim)) aim arrival last part next commits e.0 e.1 e.2 e.3 e.4 refl (λ ph is. is) to.0 to.1 to.2 (λ flag n w f. absurd (not_way (is_woken arrival) false false w refl f)) p
   -- a store
-  by_walk (SetStore i v) Made part next commits few some quiet e p =
+  by_walk (InCells (SetStore i v)) Made part next commits few some quiet e p =
       let held = e.0 in
-      let as_writer = subst (λ m. Groups truths seats h (at (record part { held = Some (section m held.entry held.before held.row) }) (Some (SetStore i v)))) e.2 (with_held (SetStore i v) part (Some held) e.1 p) in
+      let as_writer = subst (λ m. Groups truths seats h (at (record part { held = Some (section m held.entry held.before held.row) }) (Some (InCells (SetStore i v))))) e.2 (with_held (InCells (SetStore i v)) part (Some held) e.1 p) in
       moved None (record part { row = slice_set part.row i v; held = Some (section Write held.entry held.before (slice_set held.row i v)) }) next [] commits
       (e.3 ∙ ap (λ m. record part { row = slice_set part.row i v; held = Some (section m held.entry held.before (slice_set held.row i v)) }) e.2) e.4
-      (none_more _ (stores truths seats h front who (Some (SetStore i v)) None back part.word part.row part.lock part.flags held.entry held.before held.row part.owed i v tt (refl, refl, refl, refl) refl (λ n f. f) as_writer))
+      (none_more _ (stores truths seats h front who (Some (InCells (SetStore i v))) None back part.word part.row part.lists part.flags held.entry held.before held.row part.owed i v refl (subst (λ x. IsSettled truths x) e.1 (place (InCells (SetStore i v)) part p).1) (refl, refl, refl, refl) refl (λ flag n f. f) as_writer))
   -- a release without a scan
-  by_walk (ReleaseExchange releasing last) Made part next commits few some quiet e p =
+  by_walk (InRelease releasing (ReleaseExchange last)) Made part next commits few some quiet e p =
       let held = e.0 in
-      let fits = place (ReleaseExchange releasing last) part p in
-      let start = leaves (ReleaseExchange releasing last) releasing part held e.1 e.2 fits.0 p in
+      let fits = place (InRelease releasing (ReleaseExchange last)) part p in
+      let start = leaves (InRelease releasing (ReleaseExchange last)) releasing part held e.1 e.2 fits.0 p in
       moved None (record part { word = word_released releasing part.word; held = None }) next (section_of truths.holds who (section (mode_released releasing) held.entry held.before held.row) Plain ∷ []) commits
       (e.4 ∙ ap (λ word. record part { word = word_released releasing word; held = None }) e.3)
       (e.5 ∙ ap (λ m. section_of truths.holds who (section m held.entry held.before held.row) Plain ∷ []) e.2)
-      (releases truths seats h front who (Some (ReleaseExchange releasing last)) None back releasing Plain part.word part.row part.lock part.flags held.entry held.before held.row part.owed few tt refl tt (refl, refl, refl, refl)
-      (subst (λ word. needs_scan releasing word ≡ false) e.3 fits.1) refl (λ n f. f)
+      (releases truths seats h front who (Some (InRelease releasing (ReleaseExchange last))) None back releasing part.word part.row part.lists part.flags held.entry held.before held.row part.owed refl refl few start.2 refl tt (refl, refl, refl, refl)
+      (subst (λ word. needs_scan releasing word ≡ false) e.3 fits.1) refl (λ flag n f. f)
       (calm_release truths quiet releasing held.mode held.entry held.before held.row start.1) start.0)
   -- the queues are taken
-  by_walk (TakeToQueue aim woken last) Made part next commits few some quiet e p =
-      took (TakeToQueue aim woken last) _ (ToQueue (mode_for aim) woken) last part next commits e.0 e.1 e.2 e.3 (place (TakeToQueue aim woken last) part p).0 refl refl refl refl refl (λ none. refl)
-      (λ apart homed known. known_takes truths.holds front who (Some (TakeToQueue aim woken last)) part.held part.owed (Some (Arm aim woken (word_taken (ToQueue (mode_for aim) woken) last))) part.held part.owed back (mode_for aim) woken part.word (standing_after h).row part.lock apart
-      (subst (λ word. may_acquire (mode_for aim) woken word ≡ false) e.0 (place (TakeToQueue aim woken last) part p).2) (ap (λ word. word.spin) (sym e.0) ∙ e.1) homed (λ n w f. absurd (both_ways woken w f)) known) p
-  by_walk (TakeToScan releasing last) Made part next commits few some quiet e p =
-      let fits = taken_leads truths releasing (word_taken ToChange last) part.held last.cond (place (TakeToScan releasing last) part p).0 in
-      took (TakeToScan releasing last) _ ToChange last part next commits e.0 e.1 e.2 e.3 fits.0 fits.1.0 refl fits.1.1 fits.1.2 fits.1.3 fits.4
-      (λ apart homed known. known_rests truths.holds front who (Some (TakeToScan releasing last)) part.held part.owed (walk_after (got_of N (TakeToScan releasing last) Made)) part.held part.owed back part.word (word_taken ToChange part.word) (standing_after h).row part.lock apart refl refl refl refl refl fits.2 fits.3 known) p
+  by_walk (InAcquire aim (TakeToQueue arrival last)) Made part next commits few some quiet e p =
+      took (InAcquire aim (TakeToQueue arrival last)) _ (ToQueue (mode_for aim) arrival) last part next commits e.0 e.1 e.2 e.3 ((place (InAcquire aim (TakeToQueue arrival last)) part p).0, tt, (place (InAcquire aim (TakeToQueue arrival last)) part p).2) refl refl refl refl refl (λ none. refl)
+      (λ apart homed known. known_takes truths.holds front who (Some (InAcquire aim (TakeToQueue arrival last))) part.held part.owed (Some (InAcquire aim (Arm arrival (word_taken (ToQueue (mode_for aim) arrival) last)))) part.held part.owed back (mode_for aim) arrival part.word (standing_after h).row part.lists.lock part.flags apart (λ seat. refl)
+      (subst (λ word. may_acquire (mode_for aim) arrival word ≡ false) e.0 (place (InAcquire aim (TakeToQueue arrival last)) part p).1.1) (ap (λ word. word.spin) (sym e.0) ∙ e.1) homed (λ flag n w f. absurd (not_way (is_woken arrival) false false w refl f)) known) p
+  by_walk (InRelease releasing (TakeToScan last)) Made part next commits few some quiet e p =
+      let fits = taken_leads truths releasing (word_taken ToChange last) part.held last.cond (place (InRelease releasing (TakeToScan last)) part p).0 in
+      took (InRelease releasing (TakeToScan last)) _ ToChange last part next commits e.0 e.1 e.2 e.3 fits.0 fits.1.0 refl fits.1.1 fits.1.2 fits.1.3 fits.4
+      (λ apart homed known. known_rests truths.holds front who (Some (InRelease releasing (TakeToScan last))) part.held part.owed (walk_after (got_of N (InRelease releasing (TakeToScan last)) Made)) part.held part.owed back part.word (word_taken ToChange part.word) (standing_after h).row part.lists.lock part.flags apart (λ seat. refl) refl refl refl refl refl fits.2 fits.3 known) p
   -- a flag is set, a seat queues
-  by_walk (Arm aim woken last) Made part next commits few some quiet e p =
-      moved (Some (Queue aim woken last)) (record part { flags = flags_with part.flags who 1 }) next [] commits e.0 e.1
-      (none_more _ (arms truths seats h front who (Some (Arm aim woken last)) (Some (Queue aim woken last)) back part.word part.row part.lock part.flags part.held part.owed (place (Arm aim woken last) part p) refl refl refl refl refl (λ n f. f) (λ none. refl) p))
-  by_walk (Queue aim woken last) Made part next commits few some quiet e p =
-      let lock = queued who (mode_for aim) None woken part.lock in
-      moved (Some (AwaitWake aim)) (record part { word = word_returned (bits_of lock) part.word; lock = lock }) next [] commits (e.2 ∙ ap (λ word. record part { word = word_returned (bits_of lock) word; lock = lock }) e.1) e.3
-      (none_more _ (enqueues truths seats h front who (Some (Queue aim woken last)) (Some (AwaitWake aim)) back (mode_for aim) None woken part.word part.row part.lock part.flags part.held part.owed (place (Queue aim woken last) part p) refl refl refl refl refl refl refl refl (λ n. refl) (λ none. refl) p))
-  by_walk (Queue aim woken last) (Left stood) part next commits few some quiet e p = let never : Made ≡ Left stood = e.0 in absurd (cc)
-  by_walk (AwaitWake aim) (Flag v) part next commits few some quiet e p =
-      let none : part.held ≡ None = place (AwaitWake aim) part p in
-      checks (AwaitWake aim) aim (Idle (AwaitWake aim)) v (eqb v 0) part next commits refl e.0 e.1 e.2 none refl refl refl refl (none, (refl, refl, refl, refl), refl, λ n f. f, λ none. refl) p
+  by_walk (InAcquire aim (Arm arrival last)) Made part next commits few some quiet e p =
+      moved (Some (InAcquire aim (Queue arrival last))) (record part { flags = flags_with part.flags who 1 }) next [] commits e.0 e.1
+      (none_more _ (arms truths seats h front who (Some (InAcquire aim (Arm arrival last))) (Some (InAcquire aim (Queue arrival last))) back part.word part.row part.lists part.flags part.held part.owed refl (place (InAcquire aim (Arm arrival last)) part p) refl refl refl refl refl (λ flag n. refl) (λ none. refl) p))
+  by_walk (InAcquire aim (Queue arrival last)) Made part next commits few some quiet e p =
+      let lock = queued who (mode_for aim) None (is_woken arrival) part.lists.lock in
+      moved (Some (InAcquire aim AwaitWake)) (record part { word = word_returned false (bits_of lock) part.word; lists = with_lock part.lists lock }) next [] commits (e.2 ∙ ap (λ word. record part { word = word_returned false (bits_of lock) word; lists = with_lock part.lists lock }) e.1) e.3
+      (none_more _ (enqueues truths seats h front who (Some (InAcquire aim (Queue arrival last))) (Some (InAcquire aim AwaitWake)) back (mode_for aim) arrival part.word part.row part.lists part.flags part.held part.owed refl (place (InAcquire aim (Queue arrival last)) part p) refl refl refl refl refl refl refl refl (λ flag n. refl) (λ none. refl) p))
+  by_walk (InAcquire aim (Queue arrival last)) (Left stood) part next commits few some quiet e p = let never : Made ≡ Left stood = e.0 in absurd (cc)
+  by_walk (InAcquire aim (Queue arrival last)) (Woke owes) part next commits few some quiet e p = let never : Made ≡ Woke owes = e.0 in absurd (cc)
+  by_walk (InAcquire aim AwaitWake) (Flag v) part next commits few some quiet e p =
+      let here = place (InAcquire aim AwaitWake) part p in
+      checks (InAcquire aim AwaitWake) aim (Idle (InAcquire aim AwaitWake)) v (eqb v 1) part next commits refl e.0 e.1 e.2 here.0 refl refl refl refl (λ ph n is. is) here.2 (here, (refl, refl, refl, refl), refl, λ flag n f. f, λ none. refl) p
   -- a release with a scan
-  by_walk (ScanAndRelease releasing last) (Scanned owes tests) part next commits few some quiet e p =
+  by_walk (InRelease releasing (ScanAndRelease last)) (Scanned owes tests) part next commits few some quiet e p =
       let held = e.0 in
       let meets : C → Bool = meets_at truths part.row in
-      let some = has_some (woken_of meets part.lock) in
-      let stay = left_of meets part.lock in
-      let owed = seats_of (woken_of meets part.lock) in
-      let to = pay_leads {C = C} {N = N} truths None owes in
-      let start = leaves (ScanAndRelease releasing last) releasing part held e.1 e.2 (place (ScanAndRelease releasing last) part p) p in
-      moved (walk_after (got_of N (ScanAndRelease releasing last) (Scanned owes tests))) (record part { word = word_released_returning releasing some (bits_of stay) part.word; lock = stay; held = None; owed = owed }) next
+      let some = has_some (woken_of meets part.lists.lock) in
+      let stay = left_of meets part.lists.lock in
+      let owed = seats_of (woken_of meets part.lists.lock) in
+      let to = pay_leads {C = C} {N = N} truths releasing None owes in
+      let start = leaves (InRelease releasing (ScanAndRelease last)) releasing part held e.1 e.2 (place (InRelease releasing (ScanAndRelease last)) part p) p in
+      moved (walk_after (got_of N (InRelease releasing (ScanAndRelease last)) (Scanned owes tests))) (record part { word = word_released_returning releasing some (bits_of stay) part.word; lists = with_lock part.lists stay; held = None; owed = owed }) next
       (section_of truths.holds who (section (mode_released releasing) held.entry held.before held.row) Plain ∷ []) commits
-      (e.4 ∙ ap (λ word. record part { word = word_released_returning releasing some (bits_of stay) word; lock = stay; held = None; owed = owed }) e.3)
+      (e.4 ∙ ap (λ word. record part { word = word_released_returning releasing some (bits_of stay) word; lists = with_lock part.lists stay; held = None; owed = owed }) e.3)
       (e.7 ∙ ap (λ m. section_of truths.holds who (section m held.entry held.before held.row) Plain ∷ []) e.2)
-      (scans truths seats h front who (Some (ScanAndRelease releasing last)) (walk_after (got_of N (ScanAndRelease releasing last) (Scanned owes tests))) back releasing Plain part.word part.row part.lock part.flags held.entry held.before held.row part.owed few tt (sym to.7)
-      (to.0 refl) refl (to.1 ∙ e.5) refl to.2 refl (ap is_some to.3) to.4 to.5 (λ n. refl) start.0)
+      (scans truths seats h front who (Some (InRelease releasing (ScanAndRelease last))) (walk_after (got_of N (InRelease releasing (ScanAndRelease last)) (Scanned owes tests))) back releasing part.word part.row part.lists part.flags held.entry held.before held.row part.owed few start.2 to.8 to.7
+      (to.0 refl) refl (to.1 ∙ e.5) refl to.2 refl (ap is_some to.3) to.4 to.5 (λ flag n. refl) start.0)
   -- a wake
-  by_walk Pay (Paid owes) part next commits few some quiet e p =
-      let to = pay_leads truths part.held owes in
-      let none : part.held ≡ None = place Pay part p in
-      moved (walk_after (got_of N Pay (Paid owes))) (record part { flags = flags_with part.flags e.0 0; owed = e.1 }) next [] commits e.3 e.5
-      (none_more _ (wakes truths seats h front who (Some Pay) (walk_after (got_of N Pay (Paid owes))) back part.word part.row part.lock part.flags part.held e.0 e.1
-      (to.0 none) (to.1 ∙ e.4) to.2 to.3 to.4 to.5 to.6 (λ n. to.7)
-      (subst (λ owed. Groups truths seats h (at (record part { owed = owed }) (Some Pay))) e.2 p)))
+  by_walk (InRelease releasing Pay) (Paid owes) part next commits few some quiet e p =
+      let to = pay_leads truths releasing part.held owes in
+      let none : part.held ≡ None = place (InRelease releasing Pay) part p in
+      moved (walk_after (got_of N (InRelease releasing Pay) (Paid owes))) (record part { flags = flags_with part.flags e.0 0; owed = e.1 }) next [] commits e.3 e.5
+      (none_more _ (wakes truths seats h front who (Some (InRelease releasing Pay)) (walk_after (got_of N (InRelease releasing Pay) (Paid owes))) back part.word part.row part.lists part.flags part.held e.0 0 e.1
+      refl (inl refl) (λ seat. ap (λ b. cond b (times_among seat e.1) 0) to.7) (to.0 none) (to.1 ∙ e.4) to.2 to.3 to.9 to.4 to.5 (λ n. paid_phase releasing owes)
+      (subst (λ owed. Groups truths seats h (at (record part { owed = owed }) (Some (InRelease releasing Pay)))) e.2 p)))
   by_walk (InWait wait at_place) found part next commits few some quiet e p = by_wait wait at_place found part next commits few some e p
+  by_walk (InSignal waking k at_place) found part next commits few some quiet e p = by_signal waking k at_place found part next commits few e p
   by_walk _ _ part next commits few some quiet e p = absurd e
 
 pub keeps : {C : Type 0} {N : ℕ} (truths : Truths C) → 0 < N → QuietKeeps N truths → (seats : ℕ) (h : List (Event C N)) (old : State C N) (view : SeatView C N) (found : Found) (new : State C N) (commits : List (Event C N)) → seats ≤ 64 →
     Step truths old view found new commits → IsLawful truths seats h old → IsLawful truths seats (h ++ commits) new
 keeps truths some quiet seats h old view found new commits few step p =
-    let start = subst (λ views. IsLawful truths seats h (record { word = old.word; row = old.row; lock = old.lock; flags = old.flags; views = views })) step.was p in
-    let here = subst (λ walk. IsLawful truths seats h (record { word = old.word; row = old.row; lock = old.lock; flags = old.flags; views = step.front ++ view_of view.seat walk view.held view.owed ∷ step.back })) step.walks start in
+    let start = subst (λ views. IsLawful truths seats h (record { word = old.word; row = old.row; lists = old.lists; flags = old.flags; views = views })) step.was p in
+    let here = subst (λ walk. IsLawful truths seats h (record { word = old.word; row = old.row; lists = old.lists; flags = old.flags; views = step.front ++ view_of view.seat walk view.held view.owed ∷ step.back })) step.walks start in
     let after_all = by_walk truths seats h step.front view.seat step.back step.walk found
-    (record { word = old.word; row = old.row; lock = old.lock; flags = old.flags; held = view.held; owed = view.owed })
-    (record { word = new.word; row = new.row; lock = new.lock; flags = new.flags; held = step.held; owed = step.owed }) commits few some quiet step.effect (groups_of truths seats h _ here) in
-    subst (λ views. IsLawful truths seats (h ++ commits) (record { word = new.word; row = new.row; lock = new.lock; flags = new.flags; views = views })) (sym step.becomes) (lawful_by truths seats (h ++ commits) _ after_all)
+    (record { word = old.word; row = old.row; lists = old.lists; flags = old.flags; held = view.held; owed = view.owed })
+    (record { word = new.word; row = new.row; lists = new.lists; flags = new.flags; held = step.held; owed = step.owed }) commits few some quiet step.effect (groups_of truths seats h _ here) in
+    subst (λ views. IsLawful truths seats (h ++ commits) (record { word = new.word; row = new.row; lists = new.lists; flags = new.flags; views = views })) (sym step.becomes) (lawful_by truths seats (h ++ commits) _ after_all)

@@ -9,7 +9,7 @@ use Rattle.ns_word.specs.Lists.{has_some, bits_of}
 use Rattle.ns_word.specs.Views.{queuers, AreApart}
 use Rattle.ns_model.specs.Truths.{Truths}
 use Rattle.ns_word.specs.Steps.{State}
-use Rattle.ns_word.specs.Lawful.{OneWriter, ReadersCounted, OneHistory, SpinHeldOnce, bits_in, WaitersPlaced, WaitersOwn, DesigOnItsWay, IdleWaitersFalse, AllfalseTrue, IsLawful}
+use Rattle.ns_word.specs.Lawful.{OneWriter, ReadersCounted, OneHistory, SpinHeldOnce, bits_in, WaitersPlaced, WaitersOwn, VariablesTell, DesigOnItsWay, IdleWaitersFalse, AllfalseTrue, IsLawful}
 
 -- the sections
 pub record Safe {C : Type 0} {N : ℕ} (truths : Truths C) (seats : ℕ) (history : List (Event C N)) (word : Word) (row : List ℕ) (views : List (SeatView C N)) : Type 0 where
@@ -24,18 +24,19 @@ pub record Homed {C : Type 0} {N : ℕ} (word : Word) (lock : List (Waiter C)) (
   pub bits : word.spin ≡ false → bits_in word ≡ bits_of lock
 
 -- that nobody is forgotten; `now` is the row after the history
-pub record Known {C : Type 0} {N : ℕ} (holds : C → List ℕ → Bool) (word : Word) (now : List ℕ) (lock : List (Waiter C)) (views : List (SeatView C N)) : Type 0 where
-  pub on_way : DesigOnItsWay word lock views
+pub record Known {C : Type 0} {N : ℕ} (holds : C → List ℕ → Bool) (word : Word) (now : List ℕ) (lock : List (Waiter C)) (flags : ℕ → ℕ) (views : List (SeatView C N)) : Type 0 where
+  pub on_way : DesigOnItsWay word flags views
   pub idle : AllfalseTrue holds now word lock views
   pub free : IdleWaitersFalse holds now word lock views
   pub empty : word.waiting ≡ false → (has_some lock ≡ false) × (queuers views ≡ 0)
 
 pub record Groups {C : Type 0} {N : ℕ} (truths : Truths C) (seats : ℕ) (history : List (Event C N)) (s : State C N) : Type 0 where
   pub safe : Safe truths seats history s.word s.row s.views
-  pub homed : Homed s.word s.lock s.views
-  pub placed : WaitersPlaced s.lock s.flags s.views
-  pub own : WaitersOwn s.lock s.views
-  pub known : Known truths.holds s.word (standing_after history).row s.lock s.views
+  pub homed : Homed s.word s.lists.lock s.views
+  pub placed : WaitersPlaced s.lists s.flags s.views
+  pub own : WaitersOwn s.lists.lock s.views
+  pub told : VariablesTell (standing_after history).phases s.lists s.views
+  pub known : Known truths.holds s.word (standing_after history).row s.lists.lock s.flags s.views
 
 module _ {C : Type 0} {N : ℕ} (truths : Truths C) (seats : ℕ) (history : List (Event C N)) (s : State C N) where
   pub groups_of : IsLawful truths seats history s → Groups truths seats history s
@@ -44,6 +45,7 @@ module _ {C : Type 0} {N : ℕ} (truths : Truths C) (seats : ℕ) (history : Lis
     homed = record { spin = p.spin_held_once; bits = p.bits_tell.at_home };
     placed = p.waiters_placed;
     own = p.waiters_own;
+    told = p.variables_tell;
     known = record { on_way = p.desig_on_its_way; idle = p.allfalse_true; free = p.idle_waiters_false; empty = p.bits_tell.nobody };
   }
 
@@ -56,6 +58,7 @@ module _ {C : Type 0} {N : ℕ} (truths : Truths C) (seats : ℕ) (history : Lis
     bits_tell = record { at_home = p.homed.bits; nobody = p.known.empty };
     waiters_placed = p.placed;
     waiters_own = p.own;
+    variables_tell = p.told;
     desig_on_its_way = p.known.on_way;
     idle_waiters_false = p.known.free;
     allfalse_true = p.known.idle;

@@ -1,43 +1,57 @@
 -- Each kind of step keeps what holds of a lock and its seats.
-use Rattle.std.proofs.Common.{◌≡◌, ℕ, ◌-◌, ◌≤◌, Bool, true, false, ◌&&◌, List, [], ◌∷◌, ◌++◌, length, Option, None, Some, is_some, slice_set, refl, ap, sym, ◌∙◌, subst, arith}
-use Rattle.std.proofs.lemmas.Bool.{ne_eqb, eqb-true, and_parts, not-true}
+use Rattle.std.proofs.Common.{◌≡◌, ◌≢◌, ◌⊎◌, inl, inr, ℕ, ◌+◌, ◌-◌, ◌<◌, ◌≤◌, Bool, true, false, not, cond, eqb, ◌&&◌, List, [], ◌∷◌, ◌++◌, length, Option, None, Some, is_some, slice_set, refl, ap, sym, ◌∙◌, subst, arith, eq-eqb}
+use Rattle.std.proofs.lemmas.Bool.{ne_eqb, eqb-true, and_parts, not-true, both_ways}
 use Rattle.ns_model.specs.declared.event.Mode.{Mode}
 use Rattle.ns_model.specs.declared.event.Mode.TheVariants.{Write, Read}
 use Rattle.ns_model.specs.declared.event.Exit.{Exit}
-use Rattle.ns_model.specs.declared.event.Exit.TheVariants.{CondWait}
+use Rattle.ns_model.specs.declared.event.Exit.TheVariants.{Plain, CondWait, CvWait}
 use Rattle.ns_model.specs.declared.event.Event.{Event}
-use Rattle.ns_model.specs.declared.phase.Phase.TheVariants.{Cond}
-use Rattle.ns_model.specs.Sections.{ExitFits, phase_after}
-use Rattle.ns_model.specs.Histories.{standing_after}
+use Rattle.ns_model.specs.declared.event.Event.TheVariants.{Leave}
+use Rattle.ns_model.specs.declared.phase.Phase.{Phase}
+use Rattle.ns_model.specs.declared.phase.Phase.TheVariants.{Idle, Cond, Waiting, Left}
+use Rattle.ns_model.specs.Phases.{woken_phase, left_phase}
+use Rattle.ns_model.specs.Seats.{is_in}
+use Rattle.ns_model.specs.Sections.{phase_after}
+use Rattle.ns_model.specs.Histories.{Standing, first_standing, standing_after, standing_next, IsLegalEvent, who_of}
+use Rattle.ns_model.specs.Tallies.{one_if, Every}
+use Rattle.ns_model.specs.Truths.{Truths}
+use Rattle.ns_model.proofs.Histories.{standing_from-append}
 use Rattle.ns_queue.specs.declared.waiter.Waiter.{Waiter}
-use Rattle.ns_queue.specs.Waiters.{seats_of, times_in, without_in}
+use Rattle.ns_queue.specs.declared.waiter.Which.TheVariants.{Cv}
+use Rattle.ns_queue.specs.Queues.{Lists, IsOrderly, times, waiters_of, with_waiters}
+use Rattle.ns_queue.specs.Waiters.{seats_of, times_in, without_in, is_of}
 use Rattle.ns_queue.specs.Scans.{woken_of, left_of}
+use Rattle.ns_queue.specs.Signals.{taken_set}
+use Rattle.ns_queue.specs.Wakes.{woken_phases}
+use Rattle.ns_queue.proofs.Seats.{times_in-cons, times_in-append}
+use Rattle.ns_queue.proofs.Parts.{four_kept, times_with, times_at_most}
 use Rattle.ns_word.specs.declared.word.Word.{Word}
 use Rattle.ns_word.specs.declared.word.Releasing.{Releasing}
 use Rattle.ns_word.specs.declared.word.Releasing.TheVariants.{Writer, QuietWriter, Reader}
+use Rattle.ns_word.specs.declared.word.Arrival.{Arrival}
 use Rattle.ns_word.specs.declared.word.Taking.{Taking}
 use Rattle.ns_word.specs.declared.word.Taking.TheVariants.{ToChange, ToQueue}
+use Rattle.ns_word.specs.declared.wait.Subject.TheVariants.{OnCondition, OnVariable}
 use Rattle.ns_word.specs.declared.view.Opening.{Opening}
 use Rattle.ns_word.specs.declared.view.Held.{Held}
 use Rattle.ns_word.specs.declared.view.SeatView.{SeatView}
 use Rattle.ns_word.specs.declared.walk.Walk.{Walk}
-use Rattle.ns_word.specs.Words.{mode_released, may_acquire, needs_scan, word_acquired, word_released, word_taken, word_returned, word_released_returning}
-use Rattle.ns_word.specs.Lists.{has_some, has_eligible, bits_of, queued}
-use Rattle.ns_word.specs.Walks.{has_queues, is_queuing, has_armed, waits_in, awaits, pays, is_on_way, phase_by}
-use Rattle.ns_word.specs.Views.{NoneIs}
-use Rattle.ns_model.specs.Truths.{Truths}
-use Rattle.ns_word.specs.Steps.{State, section_of, flags_with, meets_at}
-use Rattle.ns_word.specs.Places.{PlaceFits}
-use Rattle.ns_word.specs.Lawful.{is_armed, is_unwoken, ViewFits, bits_in, phase_before}
+use Rattle.ns_word.specs.Words.{is_held, is_woken, mode_released, may_acquire, needs_scan, word_acquired, word_released, word_taken, word_returned, word_released_returning}
+use Rattle.ns_word.specs.Lists.{has_some, has_eligible, bits_of, queued, times_among}
+use Rattle.ns_word.specs.Walks.{Stance, has_queues, is_queuing, has_armed, waits_in, awaits, pays, was_woken, calls_from_lock, is_on_way, phase_by}
+use Rattle.ns_word.specs.Views.{called_to, walk_at, NoneIs}
+use Rattle.ns_word.specs.Steps.{State, section_of, flags_with, meets_at, with_lock}
+use Rattle.ns_word.specs.Places.{IsSettledBy, PlaceFits}
+use Rattle.ns_word.specs.Lawful.{IsExpected, is_armed, is_unwoken, ViewFits, WaitersOwn, VariableWaiterFits, VariablesTell, lock_stance, bits_in, phase_before}
 use Rattle.ns_word.proofs.Groups.{Safe, Homed, Known, Groups}
-use Rattle.ns_word.proofs.Knows.{is_loud, rests as known_rests, acquires as known_acquires, puts, withdraws as known_withdraws, releases as known_releases, scans as known_scans}
-use Rattle.ns_model.specs.Tallies.{one_if}
-use Rattle.ns_word.proofs.Views.{view_of, apart_parts, each_parts}
-use Rattle.ns_word.proofs.Waits.{not_due, cleared, rested, armed, queues, withdraws as withdrawn, scanned, waited, woke, seen}
-use Rattle.ns_word.proofs.Owns.{own_stays, own_same, nowhere, own_queued, own_scanned, own_waited, own_without}
-use Rattle.ns_word.proofs.Scans.{times_queued, queued_eligible}
+use Rattle.ns_word.proofs.Knows.{is_loud, due_flag, nothing_called, rests as known_rests, acquires as known_acquires, arms as known_arms, puts, withdraws as known_withdraws, moves_in as known_moves, releases as known_releases, scans as known_scans, pays_one as known_pays, sees_wake as known_sees}
+use Rattle.ns_word.proofs.Views.{one_most, view_of, apart_parts, each_parts, called_most, walk_here}
+use Rattle.ns_word.proofs.Waits.{not_due, cleared, placed_here, rested, armed, taken, entered, withdraws as withdrawn, woke, seen}
+use Rattle.ns_word.proofs.Owns.{own_stays, own_same, nowhere, own_queued, own_scanned, own_waited, own_without, own_moved}
+use Rattle.ns_word.proofs.Variables.{one_of, tell_same, tell_moves, tell_enters, tell_leaves, tell_lists, tell_taken}
+use Rattle.ns_word.proofs.Scans.{times_queued, times_seats, times_scan, times_without, times_others, filter_eligible, queued_eligible}
 use Rattle.ns_word.proofs.Homes.{at_home, away, back_home}
-use Rattle.ns_word.proofs.Safes.{section, SameSection, same_section, unchanged, acquired_write, acquired_read, stored, released, dropped, left_by}
+use Rattle.ns_word.proofs.Safes.{section, SameSection, same_section, unchanged, unchanged_by, woken, left_variable, acquired_write, acquired_read, stored, released, dropped, left_by}
 
 -- the places tell the same
 abbrev pub Same : {C : Type 0} → Option (Walk C) → Option (Walk C) → Type 0
@@ -45,7 +59,11 @@ Same walk walk' = (pays walk' ≡ pays walk) × (has_queues walk' ≡ has_queues
 
 -- one on its way stays so
 abbrev pub Way : {C : Type 0} → Option (Walk C) → Option (Walk C) → Type 0
-Way walk walk' = (n : ℕ) → is_on_way walk n ≡ true → is_on_way walk' n ≡ true
+Way walk walk' = (flag n : ℕ) → is_on_way walk flag n ≡ true → is_on_way walk' flag n ≡ true
+
+-- it isn't
+abbrev pub NoWay : {C : Type 0} → Option (Walk C) → Type 0
+NoWay walk = (flag n : ℕ) → is_on_way walk flag n ≡ false
 
 -- without a section in hand, the phase that the place tells of stays
 abbrev pub Stays : {C : Type 0} {N : ℕ} → Option (Walk C) → Option (Walk C) → Option (Held C N) → Type 0
@@ -55,19 +73,19 @@ Stays walk walk' held = held ≡ None → phase_by walk' ≡ phase_by walk
 abbrev pub SameHolders : Word → Word → Type 0
 SameHolders word word' = (word'.write ≡ word.write) × (word'.readers ≡ word.readers)
 
-open_write : (woken : Bool) (word : Word) → may_acquire Write woken word ≡ true → (word.write ≡ false) × (word.readers ≡ 0)
-open_write woken word e = let parts = and_parts _ _ e in (not-true word.write parts.0, eqb-true word.readers 0 parts.1)
+open_write : (arrival : Arrival) (word : Word) → may_acquire Write arrival word ≡ true → (word.write ≡ false) × (word.readers ≡ 0)
+open_write arrival word e = let parts = and_parts _ _ e in (not-true word.write parts.0, eqb-true word.readers 0 parts.1)
 
-open_read : (woken : Bool) (word : Word) → may_acquire Read woken word ≡ true → word.write ≡ false
-open_read woken word e = not-true word.write (and_parts _ _ e).0
+open_read : (arrival : Arrival) (word : Word) → may_acquire Read arrival word ≡ true → word.write ≡ false
+open_read arrival word e = not-true word.write (and_parts _ _ e).0
 
 taken_holders : (taking : Taking) (word : Word) → SameHolders word (word_taken taking word)
 taken_holders ToChange word = (refl, refl)
-taken_holders (ToQueue mode woken) word = (refl, refl)
+taken_holders (ToQueue mode arrival) word = (refl, refl)
 
 taken_spin : (taking : Taking) (word : Word) → (word_taken taking word).spin ≡ true
 taken_spin ToChange word = refl
-taken_spin (ToQueue mode woken) word = refl
+taken_spin (ToQueue mode arrival) word = refl
 
 released_queues : (releasing : Releasing) (word : Word) → ((word_released releasing word).spin ≡ word.spin) × (bits_in (word_released releasing word) ≡ bits_in word)
 released_queues Writer word = (refl, refl)
@@ -94,13 +112,35 @@ released_readers Writer word e = absurd (cc)
 released_readers QuietWriter word e = absurd (cc)
 released_readers Reader word e = refl
 
+-- a wake is by another value than 1, and at most 2
+wake_clears : (value : ℕ) → (value ≡ 0) ⊎ (value ≡ 2) → value ≢ 1
+wake_clears value (inl e) f = absurd (omega (arith, e, f))
+wake_clears value (inr e) f = absurd (omega (arith, e, f))
+
+wake_few : (value : ℕ) → (value ≡ 0) ⊎ (value ≡ 2) → value ≤ 2
+wake_few value (inl e) = omega (arith, e)
+wake_few value (inr e) = omega (arith, e)
+
+bool_cases : (b : Bool) → (b ≡ true) ⊎ (b ≡ false)
+bool_cases true = inl refl
+bool_cases false = inr refl
+
+-- the mode in which one waits
+abbrev stance_mode : {C : Type 0} → Option (Stance C) → Mode
+stance_mode None = Write
+stance_mode (Some stance) = stance.mode
+
 pub none_of : {A : Type 0} (xs : List A) → has_some xs ≡ false → xs ≡ []
 none_of [] e = refl
 none_of (x ∷ xs) e = absurd (cc)
 
+-- how often a seat stands in lists with another lock list
+times_lock : {C : Type 0} (lists : Lists C) (lock : List (Waiter C)) (seat : ℕ) → times seat (with_lock lists lock) + times_in seat lists.lock ≡ times seat lists + times_in seat lock
+times_lock lists lock seat = omega arith
+
 module _ {C : Type 0} {N : ℕ} (truths : Truths C) (seats : ℕ) (h : List (Event C N)) (front : List (SeatView C N)) (who : ℕ) (walk walk' : Option (Walk C)) (back : List (SeatView C N)) where
-  abbrev st : Option (Walk C) → Word → List ℕ → List (Waiter C) → (ℕ → ℕ) → Option (Held C N) → List ℕ → State C N
-  st walk word row lock flags held owed = record { word = word; row = row; lock = lock; flags = flags; views = front ++ view_of who walk held owed ∷ back }
+  abbrev st : Option (Walk C) → Word → List ℕ → Lists C → (ℕ → ℕ) → Option (Held C N) → List ℕ → State C N
+  st walk word row lists flags held owed = record { word = word; row = row; lists = lists; flags = flags; views = front ++ view_of who walk held owed ∷ back }
 
   fits : (word : Word) (row : List ℕ) (held : Option (Held C N)) (owed : List ℕ) → Safe truths seats h word row (front ++ view_of who walk held owed ∷ back) →
       ViewFits truths seats (standing_after h) row (view_of who walk held owed)
@@ -112,275 +152,506 @@ module _ {C : Type 0} {N : ℕ} (truths : Truths C) (seats : ℕ) (h : List (Eve
   due : waits_in walk' ≡ waits_in walk → (flag : ℕ) → one_if (awaits walk' && is_armed flag) ≡ one_if (awaits walk && is_armed flag)
   due e flag = ap (λ w. one_if (is_some w && is_armed flag)) e
 
+  -- one that isn't about to pay owes nothing
+  owes_none : (word : Word) (row : List ℕ) (held : Option (Held C N)) (owed : List ℕ) → pays walk ≡ false → Safe truths seats h word row (front ++ view_of who walk held owed ∷ back) → owed ≡ []
+  owes_none word row held owed idle p = none_of owed ((fits word row held owed p).owes ∙ idle)
+
+  calls : (word : Word) (row : List ℕ) (held : Option (Held C N)) (owed : List ℕ) → pays walk ≡ false → Safe truths seats h word row (front ++ view_of who walk held owed ∷ back) →
+      (seat : ℕ) → cond (calls_from_lock walk') (times_among seat owed) 0 ≡ cond (calls_from_lock walk) (times_among seat owed) 0
+  calls word row held owed idle p seat = let none = owes_none word row held owed idle p in nothing_called walk' owed seat none ∙ sym (nothing_called walk owed seat none)
+
+  -- one that doesn't wait stands nowhere, and so waits for no variable
+  stands_not : (word : Word) (row : List ℕ) (lists : Lists C) (flags : ℕ → ℕ) (held : Option (Held C N)) (owed : List ℕ) → awaits walk ≡ false → Groups truths seats h (st walk word row lists flags held owed) → times who lists ≡ 0
+  stands_not word row lists flags held owed a p = nowhere front who walk held owed walk' held owed back lists flags (others word row held owed p.safe) (not_due walk (flags who) a) p.placed
+
+  waits_not : (lists : Lists C) (views : List (SeatView C N)) → length lists.cvs ≡ 4 → times who lists ≡ 0 → VariablesTell (standing_after h).phases lists views → (k : ℕ) (mode : Mode) → (standing_after h).phases who ≡ Waiting k mode → ⊥
+  waits_not lists views four none p k mode e = let stood = p.all k who mode e in let most = times_at_most lists (Cv k) who four stood.0 in absurd (omega (arith, stood.1, most, none))
+
+  lock_nowhere : (lists : Lists C) → times who lists ≡ 0 → times_in who lists.lock ≡ 0
+  lock_nowhere lists none = omega (arith, none)
+
   -- the place in the call changes, and no more of the section in hand than how it is said to have begun
-  pub rests : (word : Word) (row : List ℕ) (lock : List (Waiter C)) (flags : ℕ → ℕ) (held held' : Option (Held C N)) (owed : List ℕ) → PlaceFits truths walk' held' → Same walk walk' → is_queuing walk' ≡ is_queuing walk → Way walk walk' → SameSection walk held walk' held' →
-      Groups truths seats h (st walk word row lock flags held owed) → Groups truths seats h (st walk' word row lock flags held' owed)
-  rests word row lock flags held held' owed place same q o section p =
+  pub rests : (word : Word) (row : List ℕ) (lists : Lists C) (flags : ℕ → ℕ) (held held' : Option (Held C N)) (owed : List ℕ) → pays walk ≡ false → PlaceFits truths walk' held' → Same walk walk' → is_queuing walk' ≡ is_queuing walk → Way walk walk' → SameSection walk held walk' held' →
+      Groups truths seats h (st walk word row lists flags held owed) → Groups truths seats h (st walk' word row lists flags held' owed)
+  rests word row lists flags held held' owed idle place same q o section p =
       let fit = fits word row held owed p.safe in
       let apart = others word row held owed p.safe in
       record {
         safe = unchanged truths seats h front who walk owed walk' owed back word word row held held' refl refl place (fit.owes ∙ sym same.0) section p.safe;
-        homed = at_home front who walk held owed walk' held' owed back word word lock refl refl same.1 p.homed;
-        placed = rested front who walk held owed walk' held' owed back lock flags apart refl (due same.2 (flags who)) (λ f. sym same.3 ∙ f) p.placed;
-        own = own_same front who walk held owed walk' held' owed back lock apart same.2 p.own;
-        known = known_rests truths.holds front who walk held owed walk' held' owed back word word (standing_after h).row lock apart refl refl refl refl refl q o p.known;
+        homed = at_home front who walk held owed walk' held' owed back word word lists.lock refl refl same.1 p.homed;
+        placed = rested front who walk held owed walk' held' owed back lists flags apart refl (due same.2 (flags who)) (λ f. sym same.3 ∙ f) p.placed;
+        own = own_same front who walk held owed walk' held' owed back lists.lock apart same.2 p.own;
+        told = tell_same front who walk held owed walk' held' owed back (standing_after h).phases lists lists apart refl same.2 p.told;
+        known = known_rests truths.holds front who walk held owed walk' held' owed back word word (standing_after h).row lists.lock flags apart (calls word row held owed idle p.safe) refl refl refl refl refl q o p.known;
       }
 
   -- an acquire
-  pub acquires : (mode : Mode) (entry : Opening C) (woken : Bool) (word : Word) (row : List ℕ) (lock : List (Waiter C)) (flags : ℕ → ℕ) (owed : List ℕ) → may_acquire mode woken word ≡ true → phase_by walk ≡ phase_before mode entry →
-      PlaceFits truths walk' (Some (section {C = C} {N = N} mode entry row row)) → Same walk walk' → is_queuing walk' ≡ is_queuing walk → ((n : ℕ) → woken ≡ false → is_on_way walk n ≡ true → is_on_way walk' n ≡ true) →
-      Groups truths seats h (st walk word row lock flags None owed) → Groups truths seats h (st walk' (word_acquired mode woken word) row lock flags (Some (section mode entry row row)) owed)
-  acquires Write entry woken word row lock flags owed may phase place same q o p =
+  pub acquires : (mode : Mode) (entry : Opening C) (arrival : Arrival) (word : Word) (row : List ℕ) (lists : Lists C) (flags : ℕ → ℕ) (owed : List ℕ) → pays walk ≡ false → may_acquire mode arrival word ≡ true → ((ph : Phase C) → IsExpected (phase_by walk) ph → ph ≡ phase_before mode entry) →
+      PlaceFits truths walk' (Some (section {C = C} {N = N} mode entry row row)) → Same walk walk' → is_queuing walk' ≡ is_queuing walk → ((flag n : ℕ) → is_woken arrival ≡ false → is_on_way walk flag n ≡ true → is_on_way walk' flag n ≡ true) →
+      Groups truths seats h (st walk word row lists flags None owed) → Groups truths seats h (st walk' (word_acquired mode arrival word) row lists flags (Some (section mode entry row row)) owed)
+  acquires Write entry arrival word row lists flags owed idle may phase place same q o p =
       let fit = fits word row None owed p.safe in
       let apart = others word row None owed p.safe in
-      let free = open_write woken word may in
+      let free = open_write arrival word may in
       let held' = Some (section {C = C} {N = N} Write entry row row) in
       record {
-        safe = acquired_write truths seats h front who walk owed walk' owed back word (word_acquired Write woken word) row entry phase free.0 free.1 refl refl place (fit.owes ∙ sym same.0) p.safe;
-        homed = at_home front who walk None owed walk' held' owed back word (word_acquired Write woken word) lock refl refl same.1 p.homed;
-        placed = rested front who walk None owed walk' held' owed back lock flags apart refl (due same.2 (flags who)) (λ f. sym same.3 ∙ f) p.placed;
-        own = own_same front who walk None owed walk' held' owed back lock apart same.2 p.own;
-        known = known_acquires truths.holds front who walk None owed walk' held' owed back Write woken word (standing_after h).row lock apart q o p.known;
+        safe = acquired_write truths seats h front who walk owed walk' owed back word (word_acquired Write arrival word) row entry phase free.0 free.1 refl refl place (fit.owes ∙ sym same.0) p.safe;
+        homed = at_home front who walk None owed walk' held' owed back word (word_acquired Write arrival word) lists.lock refl refl same.1 p.homed;
+        placed = rested front who walk None owed walk' held' owed back lists flags apart refl (due same.2 (flags who)) (λ f. sym same.3 ∙ f) p.placed;
+        own = own_same front who walk None owed walk' held' owed back lists.lock apart same.2 p.own;
+        told = tell_same front who walk None owed walk' held' owed back (standing_after h).phases lists lists apart refl same.2 p.told;
+        known = known_acquires truths.holds front who walk None owed walk' held' owed back Write arrival word (standing_after h).row lists.lock flags apart (calls word row None owed idle p.safe) q o p.known;
       }
-  acquires Read entry woken word row lock flags owed may phase place same q o p =
+  acquires Read entry arrival word row lists flags owed idle may phase place same q o p =
       let fit = fits word row None owed p.safe in
       let apart = others word row None owed p.safe in
-      let free = open_read woken word may in
+      let free = open_read arrival word may in
       let held' = Some (section {C = C} {N = N} Read entry row row) in
       record {
-        safe = acquired_read truths seats h front who walk owed walk' owed back word (word_acquired Read woken word) row entry phase free free refl place (fit.owes ∙ sym same.0) p.safe;
-        homed = at_home front who walk None owed walk' held' owed back word (word_acquired Read woken word) lock refl refl same.1 p.homed;
-        placed = rested front who walk None owed walk' held' owed back lock flags apart refl (due same.2 (flags who)) (λ f. sym same.3 ∙ f) p.placed;
-        own = own_same front who walk None owed walk' held' owed back lock apart same.2 p.own;
-        known = known_acquires truths.holds front who walk None owed walk' held' owed back Read woken word (standing_after h).row lock apart q o p.known;
+        safe = acquired_read truths seats h front who walk owed walk' owed back word (word_acquired Read arrival word) row entry phase free free refl place (fit.owes ∙ sym same.0) p.safe;
+        homed = at_home front who walk None owed walk' held' owed back word (word_acquired Read arrival word) lists.lock refl refl same.1 p.homed;
+        placed = rested front who walk None owed walk' held' owed back lists flags apart refl (due same.2 (flags who)) (λ f. sym same.3 ∙ f) p.placed;
+        own = own_same front who walk None owed walk' held' owed back lists.lock apart same.2 p.own;
+        told = tell_same front who walk None owed walk' held' owed back (standing_after h).phases lists lists apart refl same.2 p.told;
+        known = known_acquires truths.holds front who walk None owed walk' held' owed back Read arrival word (standing_after h).row lists.lock flags apart (calls word row None owed idle p.safe) q o p.known;
       }
 
   -- a store into a cell
-  pub stores : (word : Word) (row : List ℕ) (lock : List (Waiter C)) (flags : ℕ → ℕ) (entry : Opening C) (before cells : List ℕ) (owed : List ℕ) (i v : ℕ) →
+  pub stores : (word : Word) (row : List ℕ) (lists : Lists C) (flags : ℕ → ℕ) (entry : Opening C) (before cells : List ℕ) (owed : List ℕ) (i v : ℕ) → pays walk ≡ false →
       PlaceFits truths walk' (Some (section {C = C} {N = N} Write entry before (slice_set cells i v))) → Same walk walk' → is_queuing walk' ≡ is_queuing walk → Way walk walk' →
-      Groups truths seats h (st walk word row lock flags (Some (section Write entry before cells)) owed) →
-      Groups truths seats h (st walk' word (slice_set row i v) lock flags (Some (section Write entry before (slice_set cells i v))) owed)
-  stores word row lock flags entry before cells owed i v place same q o p =
+      Groups truths seats h (st walk word row lists flags (Some (section Write entry before cells)) owed) →
+      Groups truths seats h (st walk' word (slice_set row i v) lists flags (Some (section Write entry before (slice_set cells i v))) owed)
+  stores word row lists flags entry before cells owed i v idle place same q o p =
       let held = Some (section {C = C} {N = N} Write entry before cells) in
       let held' = Some (section {C = C} {N = N} Write entry before (slice_set cells i v)) in
       let fit = fits word row held owed p.safe in
       let apart = others word row held owed p.safe in
       record {
         safe = stored truths seats h front who walk owed walk' owed back word row entry before cells i v place (fit.owes ∙ sym same.0) p.safe;
-        homed = at_home front who walk held owed walk' held' owed back word word lock refl refl same.1 p.homed;
-        placed = rested front who walk held owed walk' held' owed back lock flags apart refl (due same.2 (flags who)) (λ f. sym same.3 ∙ f) p.placed;
-        own = own_same front who walk held owed walk' held' owed back lock apart same.2 p.own;
-        known = known_rests truths.holds front who walk held owed walk' held' owed back word word (standing_after h).row lock apart refl refl refl refl refl q o p.known;
+        homed = at_home front who walk held owed walk' held' owed back word word lists.lock refl refl same.1 p.homed;
+        placed = rested front who walk held owed walk' held' owed back lists flags apart refl (due same.2 (flags who)) (λ f. sym same.3 ∙ f) p.placed;
+        own = own_same front who walk held owed walk' held' owed back lists.lock apart same.2 p.own;
+        told = tell_same front who walk held owed walk' held' owed back (standing_after h).phases lists lists apart refl same.2 p.told;
+        known = known_rests truths.holds front who walk held owed walk' held' owed back word word (standing_after h).row lists.lock flags apart (calls word row held owed idle p.safe) refl refl refl refl refl q o p.known;
       }
 
+  -- the phases after a section of the seat
+  phases_there : (held : Held C N) (exit : Exit C) (seat : ℕ) → who ≢ seat → (standing_after (h ++ section_of truths.holds who held exit ∷ [])).phases seat ≡ (standing_after h).phases seat
+  phases_there held exit seat ne = ap (λ (s : Standing C). s.phases seat) (left_by truths seats h who held exit) ∙ rw (ne_eqb who seat ne) refl
+
+  phases_here : (held : Held C N) (exit : Exit C) → (standing_after (h ++ section_of truths.holds who held exit ∷ [])).phases who ≡ phase_after held.mode exit
+  phases_here held exit = ap (λ (s : Standing C). s.phases who) (left_by truths seats h who held exit) ∙ rw (eq-eqb who who refl) refl
+
+  -- the phases after the seat has left a variable
+  left_there : (k seat : ℕ) → who ≢ seat → (standing_after (h ++ Leave who k ∷ [])).phases seat ≡ (standing_after h).phases seat
+  left_there k seat ne = ap (λ (s : Standing C). s.phases seat) (standing_from-append (first_standing N) h (Leave who k ∷ [])) ∙ ap (λ b. cond b (left_phase ((standing_after h).phases seat)) ((standing_after h).phases seat)) (ne_eqb who seat ne)
+
+  left_here : (k : ℕ) (mode : Mode) → (standing_after h).phases who ≡ Waiting k mode → (standing_after (h ++ Leave who k ∷ [])).phases who ≡ Left k mode
+  left_here k mode was = ap (λ (s : Standing C). s.phases who) (standing_from-append (first_standing N) h (Leave who k ∷ [])) ∙ ap (λ b. cond b (left_phase ((standing_after h).phases who)) ((standing_after h).phases who)) (eq-eqb who who refl) ∙ ap left_phase was
+
   -- a release without a scan
-  pub releases : (releasing : Releasing) (exit : Exit C) (word : Word) (row : List ℕ) (lock : List (Waiter C)) (flags : ℕ → ℕ) (entry : Opening C) (before cells : List ℕ) (owed : List ℕ) → seats ≤ 64 → ExitFits truths.holds cells exit → phase_after (mode_released releasing) exit ≡ phase_by walk' →
+  pub releases : (releasing : Releasing) (word : Word) (row : List ℕ) (lists : Lists C) (flags : ℕ → ℕ) (entry : Opening C) (before cells : List ℕ) (owed : List ℕ) → pays walk ≡ false → awaits walk ≡ false → seats ≤ 64 → IsSettledBy truths.holds before entry → IsExpected (phase_by walk') Idle →
       PlaceFits {C = C} {N = N} truths walk' None → Same walk walk' → needs_scan releasing word ≡ false → is_queuing walk' ≡ is_queuing walk → Way walk walk' →
       -- no condition becomes true where the release is a reader's or quiet
       (length before ≡ N → length cells ≡ N → (mode_released releasing ≡ Read → cells ≡ before) → is_loud releasing ≡ false → (ws : List (Waiter C)) →
       has_eligible (meets_at truths before) ws ≡ false → has_eligible (meets_at truths cells) ws ≡ false) →
-      Groups truths seats h (st walk word row lock flags (Some (section (mode_released releasing) entry before cells)) owed) →
-      Groups truths seats (h ++ section_of truths.holds who (section (mode_released releasing) entry before cells) exit ∷ []) (st walk' (word_released releasing word) row lock flags None owed)
-  releases releasing exit word row lock flags entry before cells owed few ends phase place same calm q o quiet p =
+      Groups truths seats h (st walk word row lists flags (Some (section (mode_released releasing) entry before cells)) owed) →
+      Groups truths seats (h ++ section_of truths.holds who (section (mode_released releasing) entry before cells) Plain ∷ []) (st walk' (word_released releasing word) row lists flags None owed)
+  releases releasing word row lists flags entry before cells owed idle a few settled phase place same calm q o quiet p =
       let mode = mode_released releasing in
-      let held = Some (section {C = C} {N = N} mode entry before cells) in
+      let section_is = section {C = C} {N = N} mode entry before cells in
+      let held = Some section_is in
       let fit = fits word row held owed p.safe in
       let apart = others word row held owed p.safe in
       let queues = released_queues releasing word in
       let starts : before ≡ (standing_after h).row = fit.section.starts in
-      let left : (standing_after (h ++ section_of truths.holds who (section mode entry before cells) exit ∷ [])).row ≡ cells = ap (λ s. s.row) (left_by truths seats h who (section mode entry before cells) exit) in
+      let left : (standing_after (h ++ section_of truths.holds who section_is Plain ∷ [])).row ≡ cells = ap (λ s. s.row) (left_by truths seats h who section_is Plain) in
       record {
-        safe = released truths seats h front who walk owed walk' owed back mode exit word (word_released releasing word) row entry before cells few ends phase
+        safe = released truths seats h front who walk owed walk' owed back mode Plain word (word_released releasing word) row entry before cells few settled tt phase
             (released_write releasing word) (kept_write releasing word) (kept_readers releasing word) (released_readers releasing word) place (fit.owes ∙ sym same.0) p.safe;
-        homed = at_home front who walk held owed walk' None owed back word (word_released releasing word) lock queues.0 queues.1 same.1 p.homed;
-        placed = rested front who walk held owed walk' None owed back lock flags apart refl (due same.2 (flags who)) (λ f. sym same.3 ∙ f) p.placed;
-        own = own_same front who walk held owed walk' None owed back lock apart same.2 p.own;
-        known = known_releases truths.holds front who walk held owed walk' None owed back releasing word (standing_after h).row (standing_after (h ++ section_of truths.holds who (section mode entry before cells) exit ∷ [])).row lock apart calm
-            (λ soft e. subst (λ r. has_eligible (meets_at truths r) lock ≡ false) (sym left)
-            (quiet (ap length starts ∙ p.safe.one_history.cells_after) (ap length fit.section.cells ∙ p.safe.one_history.cells) fit.section.reads soft lock
-            (subst (λ r. has_eligible (meets_at truths r) lock ≡ false) (sym starts) e))) q o p.known;
+        homed = at_home front who walk held owed walk' None owed back word (word_released releasing word) lists.lock queues.0 queues.1 same.1 p.homed;
+        placed = rested front who walk held owed walk' None owed back lists flags apart refl (due same.2 (flags who)) (λ f. sym same.3 ∙ f) p.placed;
+        own = own_same front who walk held owed walk' None owed back lists.lock apart same.2 p.own;
+        told = tell_moves front who walk held owed walk' None owed back (standing_after h).phases (standing_after (h ++ section_of truths.holds who section_is Plain ∷ [])).phases lists lists p.placed.four refl (stands_not word row lists flags held owed a p)
+            (phases_there section_is Plain) (λ k m e. let clash : Idle ≡ Waiting k m = sym (phases_here section_is Plain) ∙ e in absurd (cc)) p.told;
+        known = known_releases truths.holds front who walk held owed walk' None owed back releasing word (standing_after h).row (standing_after (h ++ section_of truths.holds who section_is Plain ∷ [])).row lists.lock flags apart (calls word row held owed idle p.safe) calm
+            (λ soft e. subst (λ r. has_eligible (meets_at truths r) lists.lock ≡ false) (sym left)
+            (quiet (ap length starts ∙ p.safe.one_history.cells_after) (ap length fit.section.cells ∙ p.safe.one_history.cells) fit.section.reads soft lists.lock
+            (subst (λ r. has_eligible (meets_at truths r) lists.lock ≡ false) (sym starts) e))) q o p.known;
       }
 
   -- the queues are taken
-  pub takes : (taking : Taking) (word : Word) (row : List ℕ) (lock : List (Waiter C)) (flags : ℕ → ℕ) (held : Option (Held C N)) (owed : List ℕ) → word.spin ≡ false →
+  pub takes : (taking : Taking) (word : Word) (row : List ℕ) (lists : Lists C) (flags : ℕ → ℕ) (held : Option (Held C N)) (owed : List ℕ) → word.spin ≡ false →
       PlaceFits truths walk' held → pays walk' ≡ pays walk → has_queues walk ≡ false → has_queues walk' ≡ true → waits_in walk' ≡ waits_in walk → has_armed walk' ≡ false → Stays walk walk' held →
-      (NoneIs who front → Homed word lock (front ++ view_of who walk held owed ∷ back) → Known truths.holds word (standing_after h).row lock (front ++ view_of who walk held owed ∷ back) → Known truths.holds (word_taken taking word) (standing_after h).row lock (front ++ view_of who walk' held owed ∷ back)) →
-      Groups truths seats h (st walk word row lock flags held owed) → Groups truths seats h (st walk' (word_taken taking word) row lock flags held owed)
-  takes taking word row lock flags held owed none place pay a a' wait set stays knows p =
+      (NoneIs who front → Homed word lists.lock (front ++ view_of who walk held owed ∷ back) → Known truths.holds word (standing_after h).row lists.lock flags (front ++ view_of who walk held owed ∷ back) → Known truths.holds (word_taken taking word) (standing_after h).row lists.lock flags (front ++ view_of who walk' held owed ∷ back)) →
+      Groups truths seats h (st walk word row lists flags held owed) → Groups truths seats h (st walk' (word_taken taking word) row lists flags held owed)
+  takes taking word row lists flags held owed none place pay a a' wait set stays knows p =
       let fit = fits word row held owed p.safe in
       let apart = others word row held owed p.safe in
       let same = taken_holders taking word in
       record {
         safe = unchanged truths seats h front who walk owed walk' owed back word (word_taken taking word) row held held same.0 same.1 place (fit.owes ∙ sym pay) (same_section walk walk' held stays) p.safe;
-        homed = away front who walk held owed walk' held owed back word (word_taken taking word) lock none (taken_spin taking word) a a' p.homed;
-        placed = rested front who walk held owed walk' held owed back lock flags apart refl (due wait (flags who)) (λ f. absurd (cc)) p.placed;
-        own = own_same front who walk held owed walk' held owed back lock apart wait p.own;
+        homed = away front who walk held owed walk' held owed back word (word_taken taking word) lists.lock none (taken_spin taking word) a a' p.homed;
+        placed = rested front who walk held owed walk' held owed back lists flags apart refl (due wait (flags who)) (λ f. absurd (cc)) p.placed;
+        own = own_same front who walk held owed walk' held owed back lists.lock apart wait p.own;
+        told = tell_same front who walk held owed walk' held owed back (standing_after h).phases lists lists apart refl wait p.told;
         known = knows apart p.homed p.known;
       }
 
   -- a seat sets its flag
-  pub arms : (word : Word) (row : List ℕ) (lock : List (Waiter C)) (flags : ℕ → ℕ) (held : Option (Held C N)) (owed : List ℕ) →
-      PlaceFits truths walk' held → pays walk' ≡ pays walk → has_queues walk' ≡ has_queues walk → awaits walk ≡ false → awaits walk' ≡ false → is_queuing walk' ≡ is_queuing walk → Way walk walk' → Stays walk walk' held →
-      Groups truths seats h (st walk word row lock flags held owed) → Groups truths seats h (st walk' word row lock (flags_with flags who 1) held owed)
-  arms word row lock flags held owed place pay spin a a' q o stays p =
+  pub arms : (word : Word) (row : List ℕ) (lists : Lists C) (flags : ℕ → ℕ) (held : Option (Held C N)) (owed : List ℕ) → pays walk ≡ false →
+      PlaceFits truths walk' held → pays walk' ≡ pays walk → has_queues walk' ≡ has_queues walk → awaits walk ≡ false → waits_in walk' ≡ waits_in walk → is_queuing walk' ≡ is_queuing walk → NoWay walk → Stays walk walk' held →
+      Groups truths seats h (st walk word row lists flags held owed) → Groups truths seats h (st walk' word row lists (flags_with flags who 1) held owed)
+  arms word row lists flags held owed idle place pay spin a wait q o stays p =
       let fit = fits word row held owed p.safe in
       let apart = others word row held owed p.safe in
       record {
         safe = unchanged truths seats h front who walk owed walk' owed back word word row held held refl refl place (fit.owes ∙ sym pay) (same_section walk walk' held stays) p.safe;
-        homed = at_home front who walk held owed walk' held owed back word word lock refl refl spin p.homed;
-        placed = armed front who walk held owed walk' held owed back lock flags apart refl a a' p.placed;
-        own = own_stays front who walk held owed walk' held owed back lock (nowhere front who walk held owed walk' held owed back lock flags apart (not_due walk (flags who) a) p.placed) p.own;
-        known = known_rests truths.holds front who walk held owed walk' held owed back word word (standing_after h).row lock apart refl refl refl refl refl q o p.known;
+        homed = at_home front who walk held owed walk' held owed back word word lists.lock refl refl spin p.homed;
+        placed = armed front who walk held owed walk' held owed back lists flags apart refl a (ap is_some wait ∙ a) p.placed;
+        own = own_same front who walk held owed walk' held owed back lists.lock apart wait p.own;
+        told = tell_same front who walk held owed walk' held owed back (standing_after h).phases lists lists apart refl wait p.told;
+        known = known_arms truths.holds front who walk held owed walk' held owed back word (standing_after h).row lists.lock flags apart (calls word row held owed idle p.safe) q o p.known;
       }
 
-  -- a seat puts itself in, and puts the queues back
-  pub enqueues : (mode : Mode) (c : Option C) (woken : Bool) (word : Word) (row : List ℕ) (lock : List (Waiter C)) (flags : ℕ → ℕ) (held : Option (Held C N)) (owed : List ℕ) →
-      PlaceFits truths walk' held → pays walk' ≡ pays walk → has_queues walk ≡ true → has_queues walk' ≡ false → awaits walk ≡ false → waits_in walk' ≡ Some (record { mode = mode; cond = c }) → has_armed walk ≡ true → has_armed walk' ≡ false → is_queuing walk ≡ true → ((n : ℕ) → is_on_way walk n ≡ false) → Stays walk walk' held →
-      Groups truths seats h (st walk word row lock flags held owed) → Groups truths seats h (st walk' (word_returned (bits_of (queued who mode c woken lock)) word) row (queued who mode c woken lock) flags held owed)
-  enqueues mode c woken word row lock flags held owed place pay s s' a a' set set' q o stays p =
+  -- a seat puts itself into the lock list, and puts the queues back
+  pub enqueues : (mode : Mode) (arrival : Arrival) (word : Word) (row : List ℕ) (lists : Lists C) (flags : ℕ → ℕ) (held : Option (Held C N)) (owed : List ℕ) → pays walk ≡ false →
+      PlaceFits truths walk' held → pays walk' ≡ pays walk → has_queues walk ≡ true → has_queues walk' ≡ false → awaits walk ≡ false → waits_in walk' ≡ Some (record { mode = mode; on = None }) → has_armed walk ≡ true → has_armed walk' ≡ false → is_queuing walk ≡ true → NoWay walk → Stays walk walk' held →
+      let lock' = queued who mode None (is_woken arrival) lists.lock in
+      Groups truths seats h (st walk word row lists flags held owed) → Groups truths seats h (st walk' (word_returned false (bits_of lock') word) row (with_lock lists lock') flags held owed)
+  enqueues mode arrival word row lists flags held owed idle place pay s s' a a' set set' q o stays p =
       let fit = fits word row held owed p.safe in
       let apart = others word row held owed p.safe in
-      let lock' = queued who mode c woken lock in
+      let lock' = queued who mode None (is_woken arrival) lists.lock in
+      let none = stands_not word row lists flags held owed a p in
+      let owing = owes_none word row held owed idle p.safe in
       record {
-        safe = unchanged truths seats h front who walk owed walk' owed back word (word_returned (bits_of lock') word) row held held refl refl place (fit.owes ∙ sym pay) (same_section walk walk' held stays) p.safe;
-        homed = back_home front who walk held owed walk' held owed back word (word_returned (bits_of lock') word) lock lock' refl refl s s' p.homed;
-        placed = queues front who walk held owed walk' held owed back mode c woken lock flags apart refl set a (ap is_some a') set' p.placed;
-        own = own_queued front who walk held owed walk' held owed back mode c woken lock apart (nowhere front who walk held owed walk' held owed back lock flags apart (not_due walk (flags who) a) p.placed) a' p.own;
-        known = puts truths.holds front who walk held owed walk' held owed back mode c woken word (standing_after h).row lock apart q o p.known;
+        safe = unchanged truths seats h front who walk owed walk' owed back word (word_returned false (bits_of lock') word) row held held refl refl place (fit.owes ∙ sym pay) (same_section walk walk' held stays) p.safe;
+        homed = back_home front who walk held owed walk' held owed back word (word_returned false (bits_of lock') word) lists.lock lock' refl refl s s' p.homed;
+        placed = entered front who walk held owed walk' held owed back lists (with_lock lists lock') flags apart p.placed.four owing
+            (λ seat. let more = times_queued seat who mode None (is_woken arrival) lists.lock in let nothing : times_among seat owed ≡ 0 = rw owing refl in omega (arith, times_lock lists lock' seat, more, nothing)) set a (ap is_some a') set' p.placed;
+        own = own_queued front who walk held owed walk' held owed back mode None (is_woken arrival) lists.lock apart (lock_nowhere lists none) (ap lock_stance a') p.own;
+        told = tell_moves front who walk held owed walk' held owed back (standing_after h).phases (standing_after h).phases lists (with_lock lists lock') p.placed.four refl none (λ seat ne. refl) (waits_not lists _ p.placed.four none p.told) p.told;
+        known = puts truths.holds front who walk held owed walk' held owed back mode None (is_woken arrival) word (standing_after h).row lists.lock flags apart (calls word row held owed idle p.safe) q o p.known;
       }
 
-  -- a seat takes itself out where it stands there, and puts the queues back
-  pub withdraws : (word : Word) (row : List ℕ) (lock : List (Waiter C)) (flags : ℕ → ℕ) (held : Option (Held C N)) (owed : List ℕ) →
-      PlaceFits truths walk' held → pays walk' ≡ pays walk → has_queues walk ≡ true → has_queues walk' ≡ false → has_armed walk' ≡ false → is_queuing walk ≡ false → is_queuing walk' ≡ false → Stays walk walk' held →
-      (1 ≤ times_in who lock → awaits walk' ≡ false) → (times_in who lock ≡ 0 → awaits walk' ≡ awaits walk) → (is_on_way walk (times_in who lock) ≡ true → is_on_way walk' 0 ≡ true) →
-      Groups truths seats h (st walk word row lock flags held owed) → Groups truths seats h (st walk' (word_returned (bits_of (without_in who lock)) word) row (without_in who lock) flags held owed)
-  withdraws word row lock flags held owed place pay s s' set' q q' stays goes remains o p =
+  -- a seat that leaves takes itself out of the lock list
+  pub withdraws : (word : Word) (row : List ℕ) (lists : Lists C) (flags : ℕ → ℕ) (owed : List ℕ) → pays walk ≡ false → 1 ≤ times_in who lists.lock →
+      PlaceFits {C = C} {N = N} truths walk' None → pays walk' ≡ pays walk → has_queues walk ≡ true → has_queues walk' ≡ false → has_armed walk' ≡ false → is_queuing walk ≡ false → is_queuing walk' ≡ false → awaits walk' ≡ false → is_on_way walk 1 0 ≡ false → phase_by walk' ≡ phase_by walk →
+      let lock' = without_in who lists.lock in
+      Groups truths seats h (st walk word row lists flags None owed) → Groups truths seats h (st walk' (word_returned false (bits_of lock') word) row (with_lock lists lock') flags None owed)
+  withdraws word row lists flags owed idle stood place pay s s' set' q q' a' o stays p =
+      let fit = fits word row None owed p.safe in
+      let apart = others word row None owed p.safe in
+      let lock' = without_in who lists.lock in
+      let gone : times_in who lock' ≡ 0 = times_without who lists.lock in
+      let here = placed_here front who walk None owed walk' None owed back lists flags apart p.placed in
+      let most = one_most (is_unwoken walk (flags who)) in
+      let flag : flags who ≡ 1 = due_flag walk (flags who) (omega (arith, here, most, stood)) in
+      let unowed : called_to who (front ++ view_of who walk None owed ∷ back) ≡ 0 = let few = called_most who (front ++ view_of who walk None owed ∷ back) in omega (arith, here, most, stood, few) in
+      let placed = withdrawn front who walk None owed walk' None owed back lists (with_lock lists lock') (times_in who lists.lock) flags apart p.placed.four refl set'
+      (omega (arith, times_lock lists lock' who, gone)) (λ seat ne. let same = times_others seat who lists.lock ne in omega (arith, times_lock lists lock' seat, same)) (λ some. a') (λ z. absurd (omega (arith, stood, z))) p.placed in
+      let nowhere_now : times who (with_lock lists lock') ≡ 0 = omega (arith, times_lock lists lock' who, gone, here, most, stood) in
+      record {
+        safe = unchanged truths seats h front who walk owed walk' owed back word (word_returned false (bits_of lock') word) row None None refl refl place (fit.owes ∙ sym pay) (same_section walk walk' None (λ none. stays)) p.safe;
+        homed = back_home front who walk None owed walk' None owed back word (word_returned false (bits_of lock') word) lists.lock lock' refl refl s s' p.homed;
+        placed = placed;
+        own = own_without front who walk None owed walk' None owed back lists.lock p.own;
+        told = let as_put = tell_lists (standing_after h).phases lists (with_lock lists lock') (front ++ view_of who walk None owed ∷ back) refl p.told in
+            tell_moves front who walk None owed walk' None owed back (standing_after h).phases (standing_after h).phases (with_lock lists lock') (with_lock lists lock') p.placed.four refl nowhere_now (λ seat ne. refl) (waits_not (with_lock lists lock') _ p.placed.four nowhere_now as_put) as_put;
+        known = known_withdraws truths.holds front who walk None owed walk' None owed back word (standing_after h).row lists.lock lock' flags apart (calls word row None owed idle p.safe) s q q'
+            (λ f. absurd (both_ways (is_on_way walk 1 0) o (subst (λ n. is_on_way walk 1 n ≡ true) unowed (subst (λ n. is_on_way walk n (called_to who (front ++ view_of who walk None owed ∷ back)) ≡ true) flag f))))
+            (filter_eligible (meets_at truths (standing_after h).row) (λ w. not (is_of who w)) lists.lock) p.homed p.known;
+      }
+
+  -- The queues are put back as they were.
+  pub returns : (word : Word) (row : List ℕ) (lists : Lists C) (flags : ℕ → ℕ) (held : Option (Held C N)) (owed : List ℕ) → pays walk ≡ false →
+      PlaceFits truths walk' held → pays walk' ≡ pays walk → has_queues walk ≡ true → has_queues walk' ≡ false → waits_in walk' ≡ waits_in walk → has_armed walk' ≡ false → is_queuing walk ≡ false → is_queuing walk' ≡ false → Way walk walk' → Stays walk walk' held →
+      Groups truths seats h (st walk word row lists flags held owed) → Groups truths seats h (st walk' (word_returned false (bits_of lists.lock) word) row lists flags held owed)
+  returns word row lists flags held owed idle place pay s s' wait set' q q' o stays p =
       let fit = fits word row held owed p.safe in
       let apart = others word row held owed p.safe in
-      let lock' = without_in who lock in
       record {
-        safe = unchanged truths seats h front who walk owed walk' owed back word (word_returned (bits_of lock') word) row held held refl refl place (fit.owes ∙ sym pay) (same_section walk walk' held stays) p.safe;
-        homed = back_home front who walk held owed walk' held owed back word (word_returned (bits_of lock') word) lock lock' refl refl s s' p.homed;
-        placed = withdrawn front who walk held owed walk' held owed back lock flags apart refl set' goes remains p.placed;
-        own = own_without front who walk held owed walk' held owed back lock p.own;
-        known = known_withdraws truths.holds front who walk held owed walk' held owed back word (standing_after h).row lock apart s q q' o p.homed p.known;
+        safe = unchanged truths seats h front who walk owed walk' owed back word (word_returned false (bits_of lists.lock) word) row held held refl refl place (fit.owes ∙ sym pay) (same_section walk walk' held stays) p.safe;
+        homed = back_home front who walk held owed walk' held owed back word (word_returned false (bits_of lists.lock) word) lists.lock lists.lock refl refl s s' p.homed;
+        placed = rested front who walk held owed walk' held owed back lists flags apart refl (due wait (flags who)) (λ f. absurd (cc)) p.placed;
+        own = own_same front who walk held owed walk' held owed back lists.lock apart wait p.own;
+        told = tell_same front who walk held owed walk' held owed back (standing_after h).phases lists lists apart refl wait p.told;
+        known = known_withdraws truths.holds front who walk held owed walk' held owed back word (standing_after h).row lists.lock lists.lock flags apart (calls word row held owed idle p.safe) s q q' (λ f. o (flags who) (called_to who (front ++ view_of who walk held owed ∷ back)) f) (λ e. e) p.homed p.known;
       }
+
+  -- a seat that leaves takes itself out of the list of its variable, and commits that
+  pub leaves : (k : ℕ) (mode : Mode) (word : Word) (row : List ℕ) (lists : Lists C) (flags : ℕ → ℕ) (owed : List ℕ) → seats ≤ 64 → k < 4 → pays walk ≡ false → 1 ≤ times_in who (waiters_of lists (Cv k)) → waits_in walk ≡ Some (record { mode = mode; on = Some (OnVariable k) }) →
+      PlaceFits {C = C} {N = N} truths walk' None → pays walk' ≡ pays walk → has_queues walk ≡ true → has_queues walk' ≡ false → has_armed walk' ≡ false → is_queuing walk ≡ false → is_queuing walk' ≡ false → awaits walk' ≡ false → is_on_way walk 1 0 ≡ false → IsExpected (phase_by walk') (Left k mode) →
+      let lists' = with_waiters lists (Cv k) (without_in who (waiters_of lists (Cv k))) in
+      Groups truths seats h (st walk word row lists flags None owed) → Groups truths seats (h ++ Leave who k ∷ []) (st walk' (word_returned false (bits_of lists.lock) word) row lists' flags None owed)
+  leaves k mode word row lists flags owed few low idle stood wait place pay s s' set' q q' a' o phase p =
+      let fit = fits word row None owed p.safe in
+      let apart = others word row None owed p.safe in
+      let cv = waiters_of lists (Cv k) in
+      let lists' = with_waiters lists (Cv k) (without_in who cv) in
+      let gone : times_in who (without_in who cv) ≡ 0 = times_without who cv in
+      let four = p.placed.four in
+      let here = placed_here front who walk None owed walk' None owed back lists flags apart p.placed in
+      let within = times_at_most lists (Cv k) who four low in
+      let most = one_most (is_unwoken walk (flags who)) in
+      let flag : flags who ≡ 1 = due_flag walk (flags who) (omega (arith, here, most, stood, within)) in
+      let unowed : called_to who (front ++ view_of who walk None owed ∷ back) ≡ 0 = let less = called_most who (front ++ view_of who walk None owed ∷ back) in omega (arith, here, most, stood, within, less) in
+      let waiter = one_of (VariableWaiterFits (standing_after h).phases (front ++ view_of who walk None owed ∷ back) k) who cv stood (p.told.own k low) in
+      let same_mode : waiter.0.mode ≡ mode = sym (ap stance_mode waiter.2.stands) ∙ ap (λ seat. stance_mode (waits_in (walk_at seat (front ++ view_of who walk None owed ∷ back)))) waiter.1 ∙ ap (λ w. stance_mode (waits_in w)) (walk_here front (view_of who walk None owed) back apart) ∙ ap stance_mode wait in
+      let was : (standing_after h).phases who ≡ Waiting k mode = subst (λ seat. (standing_after h).phases seat ≡ Waiting k waiter.0.mode) waiter.1 waiter.2.waits ∙ ap (Waiting k) same_mode in
+      let row_same : (standing_after (h ++ Leave who k ∷ [])).row ≡ (standing_after h).row = ap (λ (s : Standing C). s.row) (standing_from-append (first_standing N) h (Leave who k ∷ [])) in
+      record {
+        safe = left_variable truths seats h front who walk owed walk' owed back k mode word (word_returned false (bits_of lists.lock) word) row few was phase refl refl place (fit.owes ∙ sym pay) p.safe;
+        homed = back_home front who walk None owed walk' None owed back word (word_returned false (bits_of lists.lock) word) lists.lock lists.lock refl refl s s' p.homed;
+        placed = withdrawn front who walk None owed walk' None owed back lists lists' (times_in who cv) flags apart (four_kept lists (Cv k) (without_in who cv) ∙ four) refl set'
+            (omega (arith, times_with lists (Cv k) (without_in who cv) who four low, gone)) (λ seat ne. let same = times_others seat who cv ne in omega (arith, times_with lists (Cv k) (without_in who cv) seat four low, same)) (λ some. a') (λ z. absurd (omega (arith, stood, z))) p.placed;
+        own = own_stays front who walk None owed walk' None owed back lists.lock (let other = times_with lists (Cv k) (without_in who cv) who four low in omega (arith, other, gone, here, most, stood, within)) p.own;
+        told = tell_leaves front who walk None owed walk' None owed back (standing_after h).phases (standing_after (h ++ Leave who k ∷ [])).phases lists k four low (omega (arith, here, most)) stood
+            (left_there k) (λ j m e. let now_is : Left k mode ≡ Waiting j m = sym (left_here k mode was) ∙ e in absurd (cc)) p.told;
+        known = subst (λ r. Known truths.holds (word_returned false (bits_of lists.lock) word) r lists.lock flags (front ++ view_of who walk' None owed ∷ back)) (sym row_same)
+            (known_withdraws truths.holds front who walk None owed walk' None owed back word (standing_after h).row lists.lock lists.lock flags apart (calls word row None owed idle p.safe) s q q'
+            (λ f. absurd (both_ways (is_on_way walk 1 0) o (subst (λ n. is_on_way walk 1 n ≡ true) unowed (subst (λ n. is_on_way walk n (called_to who (front ++ view_of who walk None owed ∷ back)) ≡ true) flag f))))
+            (λ e. e) p.homed p.known);
+      }
+
+  -- ---- with a scan
+
+  -- what a scan takes and leaves
+  scan_parts : (meets : C → Bool) (lists : Lists C) (seat : ℕ) → times seat (with_lock lists (left_of meets lists.lock)) + times_among seat (seats_of (woken_of meets lists.lock)) ≡ times seat lists
+  scan_parts meets lists seat = omega (arith, times_scan seat meets lists.lock, times_seats seat (woken_of meets lists.lock), times_lock lists (left_of meets lists.lock) seat)
 
   -- a seat puts the queues back as a scan leaves them, and releases its section
-  pub scans : (releasing : Releasing) (exit : Exit C) (word : Word) (row : List ℕ) (lock : List (Waiter C)) (flags : ℕ → ℕ) (entry : Opening C) (before cells : List ℕ) (owed : List ℕ) → seats ≤ 64 → let meets : C → Bool = meets_at truths row in
-      ExitFits truths.holds cells exit → phase_after (mode_released releasing) exit ≡ phase_by walk' →
-      PlaceFits {C = C} {N = N} truths walk' None → pays walk ≡ false → pays walk' ≡ has_some (seats_of (woken_of meets lock)) → has_queues walk ≡ true → has_queues walk' ≡ false → awaits walk ≡ false → awaits walk' ≡ false → has_armed walk' ≡ false → is_queuing walk' ≡ false → ((n : ℕ) → is_on_way walk n ≡ false) →
-      Groups truths seats h (st walk word row lock flags (Some (section (mode_released releasing) entry before cells)) owed) →
-      Groups truths seats (h ++ section_of truths.holds who (section (mode_released releasing) entry before cells) exit ∷ [])
-      (st walk' (word_released_returning releasing (has_some (woken_of meets lock)) (bits_of (left_of meets lock)) word) row (left_of meets lock) flags None (seats_of (woken_of meets lock)))
-  scans releasing exit word row lock flags entry before cells owed few ends phase place pay pay' s s' a a' set' q' o p =
+  pub scans : (releasing : Releasing) (word : Word) (row : List ℕ) (lists : Lists C) (flags : ℕ → ℕ) (entry : Opening C) (before cells : List ℕ) (owed : List ℕ) → seats ≤ 64 → IsSettledBy truths.holds before entry → let meets : C → Bool = meets_at truths row in
+      IsExpected (phase_by walk') Idle → calls_from_lock walk' ≡ true →
+      PlaceFits {C = C} {N = N} truths walk' None → pays walk ≡ false → pays walk' ≡ has_some (seats_of (woken_of meets lists.lock)) → has_queues walk ≡ true → has_queues walk' ≡ false → awaits walk ≡ false → awaits walk' ≡ false → has_armed walk' ≡ false → is_queuing walk' ≡ false → NoWay walk →
+      Groups truths seats h (st walk word row lists flags (Some (section (mode_released releasing) entry before cells)) owed) →
+      Groups truths seats (h ++ section_of truths.holds who (section (mode_released releasing) entry before cells) Plain ∷ [])
+      (st walk' (word_released_returning releasing (has_some (woken_of meets lists.lock)) (bits_of (left_of meets lists.lock)) word) row (with_lock lists (left_of meets lists.lock)) flags None (seats_of (woken_of meets lists.lock)))
+  scans releasing word row lists flags entry before cells owed few settled phase from place idle pay' s s' a a' set' q' o p =
       let meets : C → Bool = meets_at truths row in
-      let held = Some (section {C = C} {N = N} (mode_released releasing) entry before cells) in
+      let section_is = section {C = C} {N = N} (mode_released releasing) entry before cells in
+      let held = Some section_is in
       let fit = fits word row held owed p.safe in
       let apart = others word row held owed p.safe in
-      let took = seats_of (woken_of meets lock) in
-      let stay = left_of meets lock in
-      let word' = word_released_returning releasing (has_some (woken_of meets lock)) (bits_of stay) word in
+      let took = seats_of (woken_of meets lists.lock) in
+      let stay = left_of meets lists.lock in
+      let owing = owes_none word row held owed idle p.safe in
+      let none = stands_not word row lists flags held owed a p in
+      let word' = word_released_returning releasing (has_some (woken_of meets lists.lock)) (bits_of stay) word in
       record {
-        safe = released truths seats h front who walk owed walk' took back (mode_released releasing) exit word word' row entry before cells few ends phase
+        safe = released truths seats h front who walk owed walk' took back (mode_released releasing) Plain word word' row entry before cells few settled tt phase
             (released_write releasing word) (kept_write releasing word) (kept_readers releasing word) (released_readers releasing word) place (sym pay') p.safe;
-        homed = back_home front who walk held owed walk' None took back word word' lock stay refl refl s s' p.homed;
-        placed = scanned front who walk held owed walk' None took back meets lock flags apart (none_of owed (fit.owes ∙ pay)) refl a a' set' p.placed;
-        own = own_scanned front who walk held owed walk' None took back meets lock (nowhere front who walk held owed walk' None took back lock flags apart (not_due walk (flags who) a) p.placed) p.own;
-        known = subst (λ r. Known truths.holds word' r stay (front ++ view_of who walk' None took ∷ back)) (sym fit.section.cells ∙ sym (ap (λ s. s.row) (left_by truths seats h who (section (mode_released releasing) entry before cells) exit)))
-            (known_scans truths.holds front who walk held owed walk' None took back releasing word (standing_after h).row row lock stay flags apart s q' a o (λ e. e) (λ seat ne. refl) p.homed p.placed p.known);
+        homed = back_home front who walk held owed walk' None took back word word' lists.lock stay refl refl s s' p.homed;
+        placed = taken front who walk held owed walk' None took back lists (with_lock lists stay) flags apart p.placed.four owing (scan_parts meets lists) a a' set' p.placed;
+        own = own_scanned front who walk held owed walk' None took back meets lists.lock (lock_nowhere lists none) p.own;
+        told = tell_moves front who walk held owed walk' None took back (standing_after h).phases (standing_after (h ++ section_of truths.holds who section_is Plain ∷ [])).phases lists (with_lock lists stay) p.placed.four refl none
+            (phases_there section_is Plain) (λ k m e. let clash : Idle ≡ Waiting k m = sym (phases_here section_is Plain) ∙ e in absurd (cc)) p.told;
+        known = subst (λ r. Known truths.holds word' r stay flags (front ++ view_of who walk' None took ∷ back)) (sym fit.section.cells ∙ sym (ap (λ s. s.row) (left_by truths seats h who section_is Plain)))
+            (known_scans truths.holds front who walk held owed walk' None took back releasing word (standing_after h).row row lists stay flags apart s q' a o owing refl from (λ e. e) p.homed p.placed p.known);
       }
 
-  -- The same with itself in the list, for a condition that is false. What it leaves of the sections is told, and the history after that.
-  pub queues_scanned : (releasing : Releasing) (mode : Mode) (c : C) (again : Bool) (h' : List (Event C N)) (word : Word) (row : List ℕ) (lock : List (Waiter C)) (flags : ℕ → ℕ) (held : Option (Held C N)) (owed : List ℕ) →
-      let meets : C → Bool = meets_at truths row in let took = seats_of (woken_of meets lock) in let lock' = queued who mode (Some c) again (left_of meets lock) in let word' = word_released_returning releasing (has_some (woken_of meets lock)) (bits_of lock') word in
+  -- The same with itself in the lock list, for a condition that is false. What it leaves of the sections is told, and the history after that.
+  pub queues_scanned : (releasing : Releasing) (mode : Mode) (c : C) (again : Bool) (h' : List (Event C N)) (word : Word) (row : List ℕ) (lists : Lists C) (flags : ℕ → ℕ) (held : Option (Held C N)) (owed : List ℕ) →
+      let meets : C → Bool = meets_at truths row in let took = seats_of (woken_of meets lists.lock) in let lock' = queued who mode (Some c) again (left_of meets lists.lock) in let word' = word_released_returning releasing (has_some (woken_of meets lists.lock)) (bits_of lock') word in
       truths.holds c row ≡ false → row ≡ (standing_after h').row → Safe truths seats h' word' row (front ++ view_of who walk' None took ∷ back) →
-      pays walk ≡ false → has_queues walk ≡ true → has_queues walk' ≡ false → awaits walk ≡ false → waits_in walk' ≡ Some (record { mode = mode; cond = Some c }) → has_armed walk ≡ true → has_armed walk' ≡ false → is_queuing walk' ≡ false → ((n : ℕ) → is_on_way walk n ≡ false) →
-      Groups truths seats h (st walk word row lock flags held owed) → Groups truths seats h' (st walk' word' row lock' flags None took)
-  queues_scanned releasing mode c again h' word row lock flags held owed unmet now safe pay s s' a a' set set' q' o p =
+      ((seat : ℕ) → who ≢ seat → (standing_after h').phases seat ≡ (standing_after h).phases seat) → ((k : ℕ) (m : Mode) → (standing_after h').phases who ≡ Waiting k m → ⊥) →
+      pays walk ≡ false → calls_from_lock walk' ≡ true → has_queues walk ≡ true → has_queues walk' ≡ false → awaits walk ≡ false → waits_in walk' ≡ Some (record { mode = mode; on = Some (OnCondition c) }) → has_armed walk ≡ true → has_armed walk' ≡ false → is_queuing walk' ≡ false → NoWay walk →
+      Groups truths seats h (st walk word row lists flags held owed) → Groups truths seats h' (st walk' word' row (with_lock lists lock') flags None took)
+  queues_scanned releasing mode c again h' word row lists flags held owed unmet now safe there idles idle from s s' a a' set set' q' o p =
       let meets : C → Bool = meets_at truths row in
-      let fit = fits word row held owed p.safe in
       let apart = others word row held owed p.safe in
-      let took = seats_of (woken_of meets lock) in
-      let lock' = queued who mode (Some c) again (left_of meets lock) in
-      let word' = word_released_returning releasing (has_some (woken_of meets lock)) (bits_of lock') word in
+      let took = seats_of (woken_of meets lists.lock) in
+      let lock' = queued who mode (Some c) again (left_of meets lists.lock) in
+      let owing = owes_none word row held owed idle p.safe in
+      let none = stands_not word row lists flags held owed a p in
+      let word' = word_released_returning releasing (has_some (woken_of meets lists.lock)) (bits_of lock') word in
       record {
         safe = safe;
-        homed = back_home front who walk held owed walk' None took back word word' lock lock' refl refl s s' p.homed;
-        placed = waited front who walk held owed walk' None took back meets mode (Some c) again lock flags apart (none_of owed (fit.owes ∙ pay)) refl set a (ap is_some a') set' p.placed;
-        own = own_waited front who walk held owed walk' None took back meets mode (Some c) again lock apart (nowhere front who walk held owed walk' None took back lock flags apart (not_due walk (flags who) a) p.placed) a' p.own;
-        known = subst (λ r. Known truths.holds word' r lock' (front ++ view_of who walk' None took ∷ back)) now
-            (known_scans truths.holds front who walk held owed walk' None took back releasing word (standing_after h).row row lock lock' flags apart s q' a o
-            (λ e. queued_eligible meets who mode c again (left_of meets lock) unmet e)
-            (λ seat ne. times_queued seat who mode (Some c) again (left_of meets lock) ∙ rw (ne_eqb who seat ne) (omega arith)) p.homed p.placed p.known);
+        homed = back_home front who walk held owed walk' None took back word word' lists.lock lock' refl refl s s' p.homed;
+        placed = entered front who walk held owed walk' None took back lists (with_lock lists lock') flags apart p.placed.four owing
+            (λ seat. omega (arith, times_scan seat meets lists.lock, times_seats seat (woken_of meets lists.lock), times_lock lists lock' seat, times_queued seat who mode (Some c) again (left_of meets lists.lock))) set a (ap is_some a') set' p.placed;
+        own = own_waited front who walk held owed walk' None took back meets mode (Some c) again lists.lock apart (lock_nowhere lists none) (ap lock_stance a') p.own;
+        told = tell_moves front who walk held owed walk' None took back (standing_after h).phases (standing_after h').phases lists (with_lock lists lock') p.placed.four refl none there idles p.told;
+        known = subst (λ r. Known truths.holds word' r lock' flags (front ++ view_of who walk' None took ∷ back)) now
+            (known_scans truths.holds front who walk held owed walk' None took back releasing word (standing_after h).row row lists lock' flags apart s q' a o owing refl from
+            (λ e. queued_eligible meets who mode c again (left_of meets lists.lock) unmet e) p.homed p.placed p.known);
       }
 
-  -- a wait leaves its section, and commits it
-  pub waits : (releasing : Releasing) (mode : Mode) (c : C) (again : Bool) (word : Word) (row : List ℕ) (lock : List (Waiter C)) (flags : ℕ → ℕ) (entry : Opening C) (before cells : List ℕ) (owed : List ℕ) → seats ≤ 64 →
-      let meets : C → Bool = meets_at truths row in let lock' = queued who mode (Some c) again (left_of meets lock) in
-      truths.holds c cells ≡ false → mode_released releasing ≡ mode → Cond c mode ≡ phase_by walk' →
-      PlaceFits {C = C} {N = N} truths walk' None → pays walk ≡ false → pays walk' ≡ has_some (seats_of (woken_of meets lock)) → has_queues walk ≡ true → has_queues walk' ≡ false → awaits walk ≡ false → waits_in walk' ≡ Some (record { mode = mode; cond = Some c }) → has_armed walk ≡ true → has_armed walk' ≡ false → is_queuing walk' ≡ false → ((n : ℕ) → is_on_way walk n ≡ false) →
-      Groups truths seats h (st walk word row lock flags (Some (section mode entry before cells)) owed) →
+  -- a wait for a condition leaves its section, and commits it
+  pub waits : (releasing : Releasing) (mode : Mode) (c : C) (again : Bool) (word : Word) (row : List ℕ) (lists : Lists C) (flags : ℕ → ℕ) (entry : Opening C) (before cells : List ℕ) (owed : List ℕ) → seats ≤ 64 → IsSettledBy truths.holds before entry →
+      let meets : C → Bool = meets_at truths row in let lock' = queued who mode (Some c) again (left_of meets lists.lock) in
+      truths.holds c cells ≡ false → mode_released releasing ≡ mode → IsExpected (phase_by walk') (Cond c mode) →
+      PlaceFits {C = C} {N = N} truths walk' None → pays walk ≡ false → pays walk' ≡ has_some (seats_of (woken_of meets lists.lock)) → calls_from_lock walk' ≡ true → has_queues walk ≡ true → has_queues walk' ≡ false → awaits walk ≡ false → waits_in walk' ≡ Some (record { mode = mode; on = Some (OnCondition c) }) → has_armed walk ≡ true → has_armed walk' ≡ false → is_queuing walk' ≡ false → NoWay walk →
+      Groups truths seats h (st walk word row lists flags (Some (section mode entry before cells)) owed) →
       Groups truths seats (h ++ section_of truths.holds who (section mode entry before cells) (CondWait c) ∷ [])
-      (st walk' (word_released_returning releasing (has_some (woken_of meets lock)) (bits_of lock') word) row lock' flags None (seats_of (woken_of meets lock)))
-  waits releasing mode c again word row lock flags entry before cells owed few unmet is phase place pay pay' s s' a a' set set' q' o p =
+      (st walk' (word_released_returning releasing (has_some (woken_of meets lists.lock)) (bits_of lock') word) row (with_lock lists lock') flags None (seats_of (woken_of meets lists.lock)))
+  waits releasing mode c again word row lists flags entry before cells owed few settled unmet is phase place idle pay' from s s' a a' set set' q' o p =
       let meets : C → Bool = meets_at truths row in
       let held = section {C = C} {N = N} mode entry before cells in
       let fit = fits word row (Some held) owed p.safe in
-      let took = seats_of (woken_of meets lock) in
-      let lock' = queued who mode (Some c) again (left_of meets lock) in
-      let word' = word_released_returning releasing (has_some (woken_of meets lock)) (bits_of lock') word in
-      queues_scanned releasing mode c again (h ++ section_of truths.holds who held (CondWait c) ∷ []) word row lock flags (Some held) owed
+      let took = seats_of (woken_of meets lists.lock) in
+      let lock' = queued who mode (Some c) again (left_of meets lists.lock) in
+      let word' = word_released_returning releasing (has_some (woken_of meets lists.lock)) (bits_of lock') word in
+      queues_scanned releasing mode c again (h ++ section_of truths.holds who held (CondWait c) ∷ []) word row lists flags (Some held) owed
       (subst (λ r. truths.holds c r ≡ false) fit.section.cells unmet) (sym fit.section.cells ∙ sym (ap (λ s. s.row) (left_by truths seats h who held (CondWait c))))
-      (released truths seats h front who walk owed walk' took back mode (CondWait c) word word' row entry before cells few unmet phase
+      (released truths seats h front who walk owed walk' took back mode (CondWait c) word word' row entry before cells few settled unmet phase
       (λ m. released_write releasing word (is ∙ m)) (λ m. kept_write releasing word (is ∙ m)) (λ m. kept_readers releasing word (is ∙ m)) (λ m. released_readers releasing word (is ∙ m)) place (sym pay') p.safe)
-      pay s s' a a' set set' q' o p
+      (phases_there held (CondWait c)) (λ k m e. let clash : Cond c mode ≡ Waiting k m = sym (phases_here held (CondWait c)) ∙ e in absurd (cc))
+      idle from s s' a a' set set' q' o p
 
-  -- a wait that came back gives its section up, and commits nothing
-  pub waits_on : (releasing : Releasing) (mode : Mode) (c : C) (again : Bool) (word : Word) (row : List ℕ) (lock : List (Waiter C)) (flags : ℕ → ℕ) (entry : Opening C) (before cells : List ℕ) (owed : List ℕ) →
-      let meets : C → Bool = meets_at truths row in let lock' = queued who mode (Some c) again (left_of meets lock) in
-      truths.holds c cells ≡ false → mode_released releasing ≡ mode → cells ≡ before → phase_before mode entry ≡ phase_by walk' →
-      PlaceFits {C = C} {N = N} truths walk' None → pays walk ≡ false → pays walk' ≡ has_some (seats_of (woken_of meets lock)) → has_queues walk ≡ true → has_queues walk' ≡ false → awaits walk ≡ false → waits_in walk' ≡ Some (record { mode = mode; cond = Some c }) → has_armed walk ≡ true → has_armed walk' ≡ false → is_queuing walk' ≡ false → ((n : ℕ) → is_on_way walk n ≡ false) →
-      Groups truths seats h (st walk word row lock flags (Some (section mode entry before cells)) owed) →
-      Groups truths seats h (st walk' (word_released_returning releasing (has_some (woken_of meets lock)) (bits_of lock') word) row lock' flags None (seats_of (woken_of meets lock)))
-  waits_on releasing mode c again word row lock flags entry before cells owed unmet is same phase place pay pay' s s' a a' set set' q' o p =
+  -- a wait for a condition that came back gives its section up, and commits nothing
+  pub waits_on : (releasing : Releasing) (mode : Mode) (c : C) (again : Bool) (word : Word) (row : List ℕ) (lists : Lists C) (flags : ℕ → ℕ) (entry : Opening C) (before cells : List ℕ) (owed : List ℕ) →
+      let meets : C → Bool = meets_at truths row in let lock' = queued who mode (Some c) again (left_of meets lists.lock) in
+      truths.holds c cells ≡ false → mode_released releasing ≡ mode → cells ≡ before → phase_before mode entry ≡ Cond c mode → IsExpected (phase_by walk') (Cond c mode) →
+      PlaceFits {C = C} {N = N} truths walk' None → pays walk ≡ false → pays walk' ≡ has_some (seats_of (woken_of meets lists.lock)) → calls_from_lock walk' ≡ true → has_queues walk ≡ true → has_queues walk' ≡ false → awaits walk ≡ false → waits_in walk' ≡ Some (record { mode = mode; on = Some (OnCondition c) }) → has_armed walk ≡ true → has_armed walk' ≡ false → is_queuing walk' ≡ false → NoWay walk →
+      Groups truths seats h (st walk word row lists flags (Some (section mode entry before cells)) owed) →
+      Groups truths seats h (st walk' (word_released_returning releasing (has_some (woken_of meets lists.lock)) (bits_of lock') word) row (with_lock lists lock') flags None (seats_of (woken_of meets lists.lock)))
+  waits_on releasing mode c again word row lists flags entry before cells owed unmet is same comes phase place idle pay' from s s' a a' set set' q' o p =
       let meets : C → Bool = meets_at truths row in
       let held = section {C = C} {N = N} mode entry before cells in
       let fit = fits word row (Some held) owed p.safe in
-      let took = seats_of (woken_of meets lock) in
-      let lock' = queued who mode (Some c) again (left_of meets lock) in
-      let word' = word_released_returning releasing (has_some (woken_of meets lock)) (bits_of lock') word in
-      queues_scanned releasing mode c again h word row lock flags (Some held) owed
+      let took = seats_of (woken_of meets lists.lock) in
+      let lock' = queued who mode (Some c) again (left_of meets lists.lock) in
+      let word' = word_released_returning releasing (has_some (woken_of meets lists.lock)) (bits_of lock') word in
+      queues_scanned releasing mode c again h word row lists flags (Some held) owed
       (subst (λ r. truths.holds c r ≡ false) fit.section.cells unmet) (sym fit.section.cells ∙ same ∙ fit.section.starts)
-      (dropped truths seats h front who walk owed walk' took back mode word word' row entry before cells same phase
+      (dropped truths seats h front who walk owed walk' took back mode word word' row entry before cells same (subst (λ ph. IsExpected (phase_by walk') ph) (sym comes) phase)
       (λ m. released_write releasing word (is ∙ m)) (λ m. kept_write releasing word (is ∙ m)) (λ m. kept_readers releasing word (is ∙ m)) (λ m. released_readers releasing word (is ∙ m)) place (sym pay') p.safe)
-      pay s s' a a' set set' q' o p
+      (λ seat ne. refl) (λ k m e. let clash : Cond c mode ≡ Waiting k m = sym (fit.section.enters ∙ comes) ∙ e in absurd (cc))
+      idle from s s' a a' set set' q' o p
 
-  -- a seat clears the flag of one that it owes a wake
-  pub wakes : (word : Word) (row : List ℕ) (lock : List (Waiter C)) (flags : ℕ → ℕ) (held : Option (Held C N)) (target : ℕ) (rest : List ℕ) →
-      PlaceFits truths walk' held → pays walk' ≡ has_some rest → has_queues walk' ≡ has_queues walk → waits_in walk' ≡ waits_in walk → has_armed walk' ≡ false → is_queuing walk' ≡ is_queuing walk → Way walk walk' → Stays walk walk' held →
-      Groups truths seats h (st walk word row lock flags held (target ∷ rest)) → Groups truths seats h (st walk' word row lock (flags_with flags target 0) held rest)
-  wakes word row lock flags held target rest place pay spin a set' q o stays p =
+  -- a wait for a variable leaves its section, commits it, and goes to the back of the variable's list
+  pub waits_for : (releasing : Releasing) (mode : Mode) (j : ℕ) (word : Word) (row : List ℕ) (lists : Lists C) (flags : ℕ → ℕ) (entry : Opening C) (before cells : List ℕ) (owed : List ℕ) → seats ≤ 64 → j < 4 → IsSettledBy truths.holds before entry →
+      let meets : C → Bool = meets_at truths row in let stay = with_lock lists (left_of meets lists.lock) in
+      let lists' = with_waiters stay (Cv j) (waiters_of lists (Cv j) ++ record { seat = who; mode = mode; cond = None } ∷ []) in
+      mode_released releasing ≡ mode → IsExpected (phase_by walk') (Waiting j mode) →
+      PlaceFits {C = C} {N = N} truths walk' None → pays walk ≡ false → pays walk' ≡ has_some (seats_of (woken_of meets lists.lock)) → calls_from_lock walk' ≡ true → has_queues walk ≡ true → has_queues walk' ≡ false → awaits walk ≡ false → waits_in walk' ≡ Some (record { mode = mode; on = Some (OnVariable j) }) → has_armed walk ≡ true → has_armed walk' ≡ false → is_queuing walk' ≡ false → NoWay walk →
+      Groups truths seats h (st walk word row lists flags (Some (section mode entry before cells)) owed) →
+      Groups truths seats (h ++ section_of truths.holds who (section mode entry before cells) (CvWait j) ∷ [])
+      (st walk' (word_released_returning releasing (has_some (woken_of meets lists.lock)) (bits_of (left_of meets lists.lock)) word) row lists' flags None (seats_of (woken_of meets lists.lock)))
+  waits_for releasing mode j word row lists flags entry before cells owed few low settled is phase place idle pay' from s s' a a' set set' q' o p =
+      let meets : C → Bool = meets_at truths row in
+      let held = section {C = C} {N = N} mode entry before cells in
+      let fit = fits word row (Some held) owed p.safe in
+      let apart = others word row (Some held) owed p.safe in
+      let took = seats_of (woken_of meets lists.lock) in
+      let stay = with_lock lists (left_of meets lists.lock) in
+      let one : Waiter C = record { seat = who; mode = mode; cond = None } in
+      let queue = waiters_of lists (Cv j) ++ one ∷ [] in
+      let lists' = with_waiters stay (Cv j) queue in
+      let owing = owes_none word row (Some held) owed idle p.safe in
+      let none = stands_not word row lists flags (Some held) owed a p in
+      let word' = word_released_returning releasing (has_some (woken_of meets lists.lock)) (bits_of (left_of meets lists.lock)) word in
+      record {
+        safe = released truths seats h front who walk owed walk' took back mode (CvWait j) word word' row entry before cells few settled tt phase
+            (λ m. released_write releasing word (is ∙ m)) (λ m. kept_write releasing word (is ∙ m)) (λ m. kept_readers releasing word (is ∙ m)) (λ m. released_readers releasing word (is ∙ m)) place (sym pay') p.safe;
+        homed = back_home front who walk (Some held) owed walk' None took back word word' lists.lock (left_of meets lists.lock) refl refl s s' p.homed;
+        placed = entered front who walk (Some held) owed walk' None took back lists lists' flags apart (four_kept stay (Cv j) queue ∙ p.placed.four) owing
+            (λ seat. omega (arith, scan_parts meets lists seat, times_with stay (Cv j) queue seat p.placed.four low, times_in-append seat (waiters_of lists (Cv j)) (one ∷ []), times_in-cons seat one [])) set a (ap is_some a') set' p.placed;
+        own = own_scanned front who walk (Some held) owed walk' None took back meets lists.lock (lock_nowhere lists none) p.own;
+        told = tell_enters front who walk (Some held) owed walk' None took back (standing_after h).phases (standing_after (h ++ section_of truths.holds who held (CvWait j) ∷ [])).phases lists lists' j mode apart p.placed.four (four_kept stay (Cv j) queue ∙ p.placed.four) low none refl a'
+            (phases_here held (CvWait j)) (phases_there held (CvWait j)) p.told;
+        known = subst (λ r. Known truths.holds word' r (left_of meets lists.lock) flags (front ++ view_of who walk' None took ∷ back)) (sym fit.section.cells ∙ sym (ap (λ s. s.row) (left_by truths seats h who held (CvWait j))))
+            (known_scans truths.holds front who walk (Some held) owed walk' None took back releasing word (standing_after h).row row lists (left_of meets lists.lock) flags apart s q' a o owing refl from (λ e. e) p.homed p.placed p.known);
+      }
+
+  -- ---- wakes
+
+  -- a seat clears the flag of one that it owes a wake: one taken from the lock list by 0, any other by 2
+  pub wakes : (word : Word) (row : List ℕ) (lists : Lists C) (flags : ℕ → ℕ) (held : Option (Held C N)) (target value : ℕ) (rest : List ℕ) → calls_from_lock walk ≡ eqb value 0 → (value ≡ 0) ⊎ (value ≡ 2) → ((seat : ℕ) → ◌≡◌ {A = ℕ} (cond (calls_from_lock walk') (times_among seat rest) 0) (cond (eqb value 0) (times_among seat rest) 0)) →
+      PlaceFits truths walk' held → pays walk' ≡ has_some rest → has_queues walk' ≡ has_queues walk → waits_in walk' ≡ waits_in walk → was_woken walk' ≡ was_woken walk → has_armed walk' ≡ false → is_queuing walk' ≡ is_queuing walk → Stays walk walk' held →
+      Groups truths seats h (st walk word row lists flags held (target ∷ rest)) → Groups truths seats h (st walk' word row lists (flags_with flags target value) held rest)
+  wakes word row lists flags held target value rest from is after_all place pay spin a w set' q stays p =
       let apart = others word row held (target ∷ rest) p.safe in
       record {
         safe = unchanged truths seats h front who walk (target ∷ rest) walk' rest back word word row held held refl refl place (sym pay) (same_section walk walk' held stays) p.safe;
-        homed = at_home front who walk held (target ∷ rest) walk' held rest back word word lock refl refl spin p.homed;
-        placed = woke front who walk held (target ∷ rest) walk' held rest back target lock flags apart refl (ap is_some a) set' p.placed;
-        own = own_same front who walk held (target ∷ rest) walk' held rest back lock apart a p.own;
-        known = known_rests truths.holds front who walk held (target ∷ rest) walk' held rest back word word (standing_after h).row lock apart refl refl refl refl refl q o p.known;
+        homed = at_home front who walk held (target ∷ rest) walk' held rest back word word lists.lock refl refl spin p.homed;
+        placed = woke front who walk held (target ∷ rest) walk' held rest back target value lists flags apart refl (wake_clears value is) (wake_few value is) (ap is_some a) set' p.placed;
+        own = own_same front who walk held (target ∷ rest) walk' held rest back lists.lock apart a p.own;
+        told = tell_same front who walk held (target ∷ rest) walk' held rest back (standing_after h).phases lists lists apart refl a p.told;
+        known = known_pays truths.holds front who walk held (target ∷ rest) walk' held rest back word (standing_after h).row lists flags target value apart refl from is after_all q (ap is_some a) w p.placed p.known;
       }
 
-  -- a seat sees its flag cleared
-  pub sees : (word : Word) (row : List ℕ) (lock : List (Waiter C)) (flags : ℕ → ℕ) (held : Option (Held C N)) (owed : List ℕ) → flags who ≡ 0 →
-      PlaceFits truths walk' held → pays walk' ≡ pays walk → has_queues walk' ≡ has_queues walk → awaits walk' ≡ false → has_armed walk' ≡ false → is_queuing walk' ≡ is_queuing walk → Way walk walk' → Stays walk walk' held →
-      Groups truths seats h (st walk word row lock flags held owed) → Groups truths seats h (st walk' word row lock flags held owed)
-  sees word row lock flags held owed zero place pay spin a' set' q o stays p =
+  -- a seat sees its flag cleared: it stands nowhere then, and so has been woken if it waits for a variable
+  pub sees : (word : Word) (row : List ℕ) (lists : Lists C) (flags : ℕ → ℕ) (owed : List ℕ) → flags who ≢ 1 → pays walk ≡ false →
+      PlaceFits {C = C} {N = N} truths walk' None → pays walk' ≡ pays walk → has_queues walk' ≡ has_queues walk → awaits walk' ≡ false → waits_in walk' ≡ None → has_armed walk' ≡ false → is_queuing walk' ≡ is_queuing walk → (is_on_way walk (flags who) 0 ≡ true → is_on_way walk' (flags who) 0 ≡ true) →
+      ((ph : Phase C) → ((k : ℕ) (mode : Mode) → ph ≡ Waiting k mode → ⊥) → IsExpected (phase_by walk) ph → IsExpected (phase_by walk') ph) →
+      Groups truths seats h (st walk word row lists flags None owed) → Groups truths seats h (st walk' word row lists flags None owed)
+  sees word row lists flags owed clear idle place pay spin a' gone set' q o phase p =
+      let fit = fits word row None owed p.safe in
+      let apart = others word row None owed p.safe in
+      let none = nowhere front who walk None owed walk' None owed back lists flags apart (cleared walk (flags who) clear) p.placed in
+      let waits = waits_not lists _ p.placed.four none p.told in
+      record {
+        safe = unchanged_by truths seats h front who walk owed walk' owed back word word row None None refl refl place (fit.owes ∙ sym pay) refl refl (λ section. phase ((standing_after h).phases who) waits section) p.safe;
+        homed = at_home front who walk None owed walk' None owed back word word lists.lock refl refl spin p.homed;
+        placed = seen front who walk None owed walk' None owed back lists flags apart refl clear a' set' p.placed;
+        own = own_stays front who walk None owed walk' None owed back lists.lock (lock_nowhere lists none) p.own;
+        told = tell_moves front who walk None owed walk' None owed back (standing_after h).phases (standing_after h).phases lists lists p.placed.four refl none (λ seat ne. refl) waits p.told;
+        known = known_sees truths.holds front who walk None owed walk' None owed back word (standing_after h).row lists flags apart (calls word row None owed idle p.safe) q clear o p.placed p.known;
+      }
+
+  -- A call takes waiters from the list of a variable and puts the queues back: they are owed wakes, or stand at the back of the lock list, if the lock is held. What it takes, and that its event is legal, is told.
+  pub wakes_waiters : (e : Event C N) (k : ℕ) (took left : List (Waiter C)) (word : Word) (row : List ℕ) (lists : Lists C) (flags : ℕ → ℕ) (held : Option (Held C N)) (owed owed' : List ℕ) (lock' : List (Waiter C)) (moved : Bool) → seats ≤ 64 → k < 4 → who_of e ≡ who →
+      IsLegalEvent truths.holds (standing_after h) e → standing_next (standing_after h) e ≡ record { row = (standing_after h).row; phases = woken_phases (taken_set took) (standing_after h).phases } →
+      ((seat : ℕ) → times_in seat took + times_in seat left ≡ times_in seat (waiters_of lists (Cv k))) →
+      Every (VariableWaiterFits (standing_after h).phases (front ++ view_of who walk held owed ∷ back) k) took → Every (VariableWaiterFits (standing_after h).phases (front ++ view_of who walk held owed ∷ back) k) left →
+      IsOrderly lists → pays walk ≡ false →
+      -- moved, or owed
+      ((moved ≡ true) × (is_held word ≡ true) × (has_some took ≡ true) × (lock' ≡ lists.lock ++ took) × (owed' ≡ [])) ⊎ ((moved ≡ false) × (lock' ≡ lists.lock) × (owed' ≡ seats_of took)) →
+      PlaceFits truths walk' held → pays walk' ≡ has_some owed' → calls_from_lock walk' ≡ false ⊎ (owed' ≡ []) → has_queues walk ≡ true → has_queues walk' ≡ false → waits_in walk ≡ None → waits_in walk' ≡ None → has_armed walk' ≡ false → is_queuing walk ≡ false → is_queuing walk' ≡ false → Way walk walk' → Stays walk walk' held →
+      Groups truths seats h (st walk word row lists flags held owed) →
+      Groups truths seats (h ++ e ∷ []) (st walk' (word_returned moved (bits_of lock') word) row (with_lock (with_waiters lists (Cv k) left) lock') flags held owed')
+  wakes_waiters e k took left word row lists flags held owed owed' lock' moved few low by legal after_it parts takes keeps orderly idle ways place pay from s s' a a' set' q q' o stays p =
       let fit = fits word row held owed p.safe in
       let apart = others word row held owed p.safe in
+      let owing = owes_none word row held owed idle p.safe in
+      let none = stands_not word row lists flags held owed (ap is_some a) p in
+      let put = with_waiters lists (Cv k) left in
+      let lists' = with_lock put lock' in
+      let word' = word_returned moved (bits_of lock') word in
+      let standing : standing_after (h ++ e ∷ []) ≡ standing_next (standing_after h) e = standing_from-append (first_standing N) h (e ∷ []) in
+      let phases : (standing_after (h ++ e ∷ [])).phases ≡ woken_phases (taken_set took) (standing_after h).phases = ap (λ (x : Standing C). x.phases) (standing ∙ after_it) in
+      let row_same : (standing_after (h ++ e ∷ [])).row ≡ (standing_after h).row = ap (λ (x : Standing C). x.row) (standing ∙ after_it) in
+      let no_calls : (seat : ℕ) → ◌≡◌ {A = ℕ} (cond (calls_from_lock walk') (times_among seat owed') 0) (cond (calls_from_lock walk) (times_among seat owed) 0) = λ seat. elim from [
+        | inl other ↦ ap (λ b. cond b (times_among seat owed') 0) other ∙ sym (nothing_called walk owed seat owing)
+        | inr empty ↦ nothing_called walk' owed' seat empty ∙ sym (nothing_called walk owed seat owing)
+      ] in
+      let counts : (seat : ℕ) → times seat lists' + times_among seat owed' ≡ times seat lists = λ seat.
+      let at_cv = times_with lists (Cv k) left seat orderly.four low in let at_lock = times_lock put lock' seat in let sum = parts seat in
+      elim ways [
+        | inl move ↦
+            let more : times_in seat lock' ≡ times_in seat lists.lock + times_in seat took = ap (times_in seat) move.3 ∙ times_in-append seat lists.lock took in
+            let nothing : times_among seat owed' ≡ 0 = ap (times_among seat) move.4 in
+            omega (arith, at_cv, at_lock, sum, more, nothing)
+        | inr owe ↦
+            let same : times_in seat lock' ≡ times_in seat lists.lock = ap (times_in seat) owe.1 in
+            let due_now : times_among seat owed' ≡ times_in seat took = ap (times_among seat) owe.2 ∙ times_seats seat took in
+            omega (arith, at_cv, at_lock, sum, same, due_now)
+      ] in
       record {
-        safe = unchanged truths seats h front who walk owed walk' owed back word word row held held refl refl place (fit.owes ∙ sym pay) (same_section walk walk' held stays) p.safe;
-        homed = at_home front who walk held owed walk' held owed back word word lock refl refl spin p.homed;
-        placed = seen front who walk held owed walk' held owed back lock flags apart refl zero a' set' p.placed;
-        own = own_stays front who walk held owed walk' held owed back lock (nowhere front who walk held owed walk' held owed back lock flags apart (subst (λ flag. is_unwoken walk flag ≡ false) (sym zero) (cleared walk)) p.placed) p.own;
-        known = known_rests truths.holds front who walk held owed walk' held owed back word word (standing_after h).row lock apart refl refl refl refl refl q o p.known;
+        safe = woken truths seats h front who walk owed walk' owed' back e word word' row held by legal (ap (λ (x : Standing C). x.row) after_it)
+            (λ seat. elim (bool_cases (is_in (taken_set took) seat)) [
+              | inl in_it ↦ inr (ap (λ (x : Standing C). x.phases seat) after_it ∙ ap (λ b. cond b (woken_phase ((standing_after h).phases seat)) ((standing_after h).phases seat)) in_it)
+              | inr out_of_it ↦ inl (ap (λ (x : Standing C). x.phases seat) after_it ∙ ap (λ b. cond b (woken_phase ((standing_after h).phases seat)) ((standing_after h).phases seat)) out_of_it)
+            ])
+            refl refl place (sym pay) ((same_section walk walk' held stays).fits (standing_after h) row who) p.safe;
+        homed = back_home front who walk held owed walk' held owed' back word word' lists.lock lock' refl refl s s' p.homed;
+        placed = taken front who walk held owed walk' held owed' back lists lists' flags apart (four_kept lists (Cv k) left ∙ orderly.four) owing counts (ap is_some a) (ap is_some a') set' p.placed;
+        own = elim ways [
+          | inl move ↦ subst (λ ws. WaitersOwn ws (front ++ view_of who walk' held owed' ∷ back)) (sym move.3)
+              (own_same front who walk held owed walk' held owed' back (lists.lock ++ took) apart (a' ∙ sym a) (own_moved (standing_after h).phases (front ++ view_of who walk held owed ∷ back) k lists.lock took p.own takes))
+          | inr owe ↦ subst (λ ws. WaitersOwn ws (front ++ view_of who walk' held owed' ∷ back)) (sym owe.1) (own_same front who walk held owed walk' held owed' back lists.lock apart (a' ∙ sym a) p.own)
+        ];
+        told = subst (λ ph. VariablesTell ph lists' (front ++ view_of who walk' held owed' ∷ back)) (sym phases)
+            (tell_taken front who walk held owed walk' held owed' back (standing_after h).phases lists lists' k took left orderly low none refl parts takes keeps p.told);
+        known = subst (λ r. Known truths.holds word' r lock' flags (front ++ view_of who walk' held owed' ∷ back)) (sym row_same) (elim ways [
+          | inl move ↦ subst (λ b. Known truths.holds (word_returned b (bits_of lock') word) (standing_after h).row lock' flags (front ++ view_of who walk' held owed' ∷ back)) (sym move.0)
+              (subst (λ ws. Known truths.holds (word_returned true (bits_of ws) word) (standing_after h).row ws flags (front ++ view_of who walk' held owed' ∷ back)) (sym move.3)
+              (known_moves truths.holds front who walk held owed walk' held owed' back word (standing_after h).row lists.lock took flags apart no_calls s q q' o move.1 move.2 p.homed p.known))
+          | inr owe ↦ subst (λ b. Known truths.holds (word_returned b (bits_of lock') word) (standing_after h).row lock' flags (front ++ view_of who walk' held owed' ∷ back)) (sym owe.0)
+              (subst (λ ws. Known truths.holds (word_returned false (bits_of ws) word) (standing_after h).row ws flags (front ++ view_of who walk' held owed' ∷ back)) (sym owe.1)
+              (known_withdraws truths.holds front who walk held owed walk' held owed' back word (standing_after h).row lists.lock lists.lock flags apart no_calls s q q' (λ f. o (flags who) (called_to who (front ++ view_of who walk held owed ∷ back)) f) (λ x. x) p.homed p.known))
+        ]);
       }

@@ -7,26 +7,40 @@ use Rattle.ns_word.specs.declared.limits.Cause.{Cause}
 use Rattle.ns_word.specs.declared.limits.Cause.TheVariants.{Expired, Notified}
 use Rattle.ns_word.specs.declared.word.Word.{Word}
 use Rattle.ns_word.specs.declared.word.Releasing.{Releasing}
+use Rattle.ns_word.specs.declared.word.Arrival.{Arrival}
+use Rattle.ns_word.specs.declared.word.Arrival.TheVariants.{AsFresh}
+use Rattle.ns_word.specs.declared.wait.Subject.{Subject}
+use Rattle.ns_word.specs.declared.wait.Subject.TheVariants.{OnCondition, OnVariable}
 use Rattle.ns_word.specs.declared.wait.Wait.{Wait}
 use Rattle.ns_word.specs.declared.wait.Aim.{Aim}
 use Rattle.ns_word.specs.declared.wait.Aim.TheVariants.{ForLock, ForWait}
 use Rattle.ns_word.specs.declared.wait.Visit.{Visit}
 use Rattle.ns_word.specs.declared.wait.Visit.TheVariants.{OnEntry, OnReturn}
-use Rattle.ns_word.specs.declared.wait.WaitPlace.{WaitPlace}
-use Rattle.ns_word.specs.declared.wait.WaitPlace.TheVariants.{TestCells, TestLast, LookIn, Load, Take, ArmToWait, QueueToWait, PayInWait, AwaitWakeInWait, LookOut, LeaveLoad, TakeToLeave, Leave, AwaitWakeToLeave}
 use Rattle.ns_word.specs.declared.view.Held.{Held}
 use Rattle.ns_word.specs.declared.view.SeatView.{SeatView}
+use Rattle.ns_word.specs.declared.wait.WaitPlace.{WaitPlace}
+use Rattle.ns_word.specs.declared.wait.WaitPlace.TheVariants.{TestCells, TestLast, InQueuing, PayInWait, AwaitWakeInWait, LookOut, InLeaving}
+use Rattle.ns_word.specs.declared.wait.QueuePlace.{QueuePlace}
+use Rattle.ns_word.specs.declared.wait.QueuePlace.TheVariants.{LookIn, Load, Take, ArmToWait, LoadToScan, QueueToWait}
+use Rattle.ns_word.specs.declared.wait.LeavePlace.TheVariants.{LeaveLoad, TakeToLeave, Leave, AwaitWakeToLeave}
+use Rattle.ns_word.specs.declared.try_walk.TryPlace.TheVariants.{TryLoad, TryAcquire}
+use Rattle.ns_word.specs.declared.acquire_walk.AcquirePlace.TheVariants.{AcquireLoad, AcquireExchange, TakeToQueue, Arm, Queue, AwaitWake}
+use Rattle.ns_word.specs.declared.release_walk.ReleasePlace.TheVariants.{ReleaseLoad, ReleaseExchange, TakeToScan, ScanCells, ScanAndRelease, Pay}
+use Rattle.ns_word.specs.declared.cell_walk.CellPlace.TheVariants.{GetLoad, SetLoad, SetStore, QuietCells, QuietLast}
+use Rattle.ns_word.specs.declared.signal_walk.SignalPlace.{SignalPlace}
+use Rattle.ns_word.specs.declared.signal_walk.SignalPlace.TheVariants.{SignalLoad, TakeToWake, WakeAndReturn, PayTheWoken}
+use Rattle.ns_word.specs.declared.act.Waking.{Waking}
 use Rattle.ns_word.specs.declared.walk.Walk.{Walk}
-use Rattle.ns_word.specs.declared.walk.Walk.TheVariants.{TryLoad, TryAcquire, AcquireLoad, AcquireExchange, TakeToQueue, Arm, Queue, AwaitWake, QuietCells, QuietLast, ReleaseLoad, ReleaseExchange, TakeToScan, ScanCells, ScanAndRelease, Pay, GetLoad, SetLoad, SetStore, InWait}
+use Rattle.ns_word.specs.declared.walk.Walk.TheVariants.{InTry, InAcquire, InRelease, InCells, InWait, InSignal}
 use Rattle.ns_word.specs.declared.act.Found.{Found}
-use Rattle.ns_word.specs.declared.act.Found.TheVariants.{Saw, Made, Cell, Quiet, Tested, Scanned, Paid, Left, Flag, Looked}
+use Rattle.ns_word.specs.declared.act.Found.TheVariants.{Saw, Made, Cell, Quiet, Tested, Scanned, Paid, Left, Woke, Flag, Looked}
 use Rattle.ns_word.specs.declared.walk.Reply.{Reply}
 use Rattle.ns_word.specs.declared.walk.Reply.TheVariants.{Answered}
 use Rattle.ns_word.specs.declared.walk.Next.{Next}
 use Rattle.ns_word.specs.declared.walk.Next.TheVariants.{On, Idle, Done}
 use Rattle.ns_word.specs.Words.{may_acquire, needs_scan}
-use Rattle.ns_word.specs.Waits.{answer_of, is_limited, mode_for}
-use Rattle.ns_word.specs.Walks.{want_of, got_waiting, got_of, walk_after, unmet_by, look_or_queue, test_place, quiet_place, scan_place, acquire_by, acquired_for, release_by}
+use Rattle.ns_word.specs.Waits.{answer_of, is_limited, kept_in, mode_for}
+use Rattle.ns_word.specs.Walks.{want_of, got_waiting, got_signaling, got_of, walk_after, unmet_by, look_or_queue, test_place, load_place, armed_place, acquire_by, back_with, acquired_for, release_by}
 use Rattle.ns_word.specs.Begins.{IsFirst}
 use Rattle.ns_model.specs.Truths.{Truths}
 use Rattle.ns_word.specs.Steps.{State, Part, Effect, Step, part_of}
@@ -85,11 +99,15 @@ module _ {C : Type 0} (kept : Option Cause) (found : Found) where
 release_shown : (C : Type 0) (found : Found) (releasing : Releasing) (word : Word) → ShownNext None found (release_by {C = C} releasing word)
 release_shown C found releasing word = either_shown None found (not (needs_scan releasing word)) _ _ (none_shown _ _) (either_shown None found word.spin _ _ (none_shown _ _) (none_shown _ _))
 
-quiet_shown : (C : Type 0) (N : ℕ) (found : Found) (loaded : ℕ) → Shown None found (cause_kept (quiet_place {C = C} N loaded))
-quiet_shown C N found loaded = either_walk_shown None found (ltb loaded (N - 1)) _ _ (none_shown _ _) (none_shown _ _)
-
-scan_shown : (C : Type 0) (N : ℕ) (found : Found) (releasing : Releasing) (last : Word) (loaded : ℕ) → Shown None found (cause_kept (scan_place {C = C} N releasing last loaded))
-scan_shown C N found releasing last loaded = either_walk_shown None found (ltb loaded N) _ _ (none_shown _ _) (none_shown _ _)
+-- a call that wakes keeps none
+signaling_shown : (C : Type 0) (waking : Waking) (k : ℕ) (place : SignalPlace) (found : Found) → ShownNext None found (got_signaling {C = C} waking k place found)
+signaling_shown C waking k SignalLoad (Saw word) = either_shown None _ word.spin _ _ (none_shown _ _) (none_shown _ _)
+signaling_shown C waking k (TakeToWake last) (Saw word) = either_shown None _ word.spin _ _ (none_shown _ _) (none_shown _ _)
+signaling_shown C waking k (TakeToWake last) Made = none_shown _ _
+signaling_shown C waking k (WakeAndReturn last) (Saw word) = none_shown _ _
+signaling_shown C waking k (WakeAndReturn last) (Woke owes) = either_shown None _ owes _ _ (none_shown _ _) (none_shown _ _)
+signaling_shown C waking k PayTheWoken (Paid owes) = either_shown None _ owes _ _ (none_shown _ _) (none_shown _ _)
+signaling_shown C waking k place found = none_shown None found
 
 module _ {C : Type 0} (N : ℕ) where
   -- the tests keep the cause that they were begun with
@@ -97,8 +115,13 @@ module _ {C : Type 0} (N : ℕ) where
   test_shown found wait visit loaded =
       either_walk_shown (cause_by visit) found (ltb loaded (N - 1)) (InWait wait (TestCells visit loaded)) (InWait wait (TestLast visit (N - 1))) (stays_shown (cause_by visit) found) (stays_shown (cause_by visit) found)
 
+  -- a wait for a variable keeps no cause that was woken before it left
+  woken_shown : (found : Found) (on : Subject C) (cause : Cause) → Shown (Some cause) found (kept_in on cause)
+  woken_shown found (OnCondition c) cause = stays_shown (Some cause) found
+  woken_shown found (OnVariable k) cause = none_shown (Some cause) found
+
   looks_shown : (kept : Option Cause) (found : Found) (wait : Wait C) (again : Bool) → ShownNext kept found (look_or_queue wait again)
-  looks_shown kept found wait again = either_shown kept found (is_limited wait.limits) (On (InWait wait (LookIn again))) (On (InWait wait (Load again))) (none_shown kept found) (none_shown kept found)
+  looks_shown kept found wait again = either_shown kept found (is_limited wait.limits) (On (InWait wait (InQueuing again LookIn))) (On (InWait wait (InQueuing again Load))) (none_shown kept found) (none_shown kept found)
 
   unmet_shown : (found : Found) (wait : Wait C) (visit : Visit) → ShownNext (cause_by visit) found (unmet_by wait visit)
   unmet_shown found wait OnEntry = looks_shown None found wait false
@@ -108,62 +131,70 @@ module _ {C : Type 0} (N : ℕ) where
   waiting_shown : (wait : Wait C) (place : WaitPlace) (found : Found) → ShownNext (place_cause_kept place) found (got_waiting N wait place found)
   waiting_shown wait (TestCells visit i) (Cell v) = test_shown (Cell v) wait visit (i + 1)
   waiting_shown wait (TestLast visit i) (Tested met) = either_shown _ _ met _ _ (none_shown _ _) (unmet_shown (Tested met) wait visit)
-  waiting_shown wait (LookIn again) (Looked None) = none_shown _ _
-  waiting_shown wait (LookIn again) (Looked (Some cause)) = answer_shown None _ cause (now_shown None cause)
-  waiting_shown wait (Load again) (Saw word) = either_shown _ _ word.spin _ _ (none_shown _ _) (none_shown _ _)
-  waiting_shown wait (Take again last) (Saw word) = either_shown _ _ word.spin _ _ (none_shown _ _) (none_shown _ _)
-  waiting_shown wait (Take again last) Made = none_shown _ _
-  waiting_shown wait (ArmToWait again last) Made = none_shown _ _
-  waiting_shown wait (QueueToWait again last) (Saw word) = none_shown _ _
-  waiting_shown wait (QueueToWait again last) (Scanned owes tests) = either_shown _ _ owes _ _ (none_shown _ _) (none_shown _ _)
+  waiting_shown wait (InQueuing again LookIn) (Looked None) = none_shown _ _
+  waiting_shown wait (InQueuing again LookIn) (Looked (Some cause)) = answer_shown None _ cause (now_shown None cause)
+  waiting_shown wait (InQueuing again Load) (Saw word) = either_shown _ _ word.spin _ _ (none_shown _ _) (none_shown _ _)
+  waiting_shown wait (InQueuing again (Take last)) (Saw word) = either_shown _ _ word.spin _ _ (none_shown _ _) (none_shown _ _)
+  waiting_shown wait (InQueuing again (Take last)) Made = none_shown _ _
+  waiting_shown wait (InQueuing again (ArmToWait last)) Made = none_shown _ _
+  waiting_shown wait (InQueuing again (LoadToScan last i)) (Cell v) = none_shown _ _
+  waiting_shown wait (InQueuing again (QueueToWait last)) (Saw word) = none_shown _ _
+  waiting_shown wait (InQueuing again (QueueToWait last)) (Scanned owes tests) = either_shown _ _ owes _ _ (none_shown _ _) (none_shown _ _)
   waiting_shown wait PayInWait (Paid owes) = either_shown _ _ owes _ _ (none_shown _ _) (none_shown _ _)
-  waiting_shown wait AwaitWakeInWait (Flag v) = either_shown _ _ (eqb v 0) _ _ (none_shown _ _) (either_shown _ _ (is_limited wait.limits) _ _ (none_shown _ _) (none_shown _ _))
+  waiting_shown wait AwaitWakeInWait (Flag v) = either_shown _ _ (eqb v 1) _ _ (either_shown _ _ (is_limited wait.limits) _ _ (none_shown _ _) (none_shown _ _)) (none_shown _ _)
   waiting_shown wait LookOut (Looked None) = none_shown _ _
   waiting_shown wait LookOut (Looked (Some cause)) = now_shown None cause
-  waiting_shown wait (LeaveLoad cause) (Saw word) = either_shown _ _ word.spin _ _ (stays_shown _ _) (stays_shown _ _)
-  waiting_shown wait (TakeToLeave cause last) (Saw word) = either_shown _ _ word.spin _ _ (stays_shown _ _) (stays_shown _ _)
-  waiting_shown wait (TakeToLeave cause last) Made = stays_shown _ _
-  waiting_shown wait (Leave cause last) (Saw word) = stays_shown _ _
-  waiting_shown wait (Leave cause last) (Left stood) = either_shown _ _ stood _ _ (stays_shown _ _) (stays_shown _ _)
-  waiting_shown wait (AwaitWakeToLeave cause) (Flag v) = either_shown _ _ (eqb v 0) _ _ (stays_shown _ _) (stays_shown _ _)
+  waiting_shown wait (InLeaving cause LeaveLoad) (Saw word) = either_shown _ _ word.spin _ _ (stays_shown _ _) (stays_shown _ _)
+  waiting_shown wait (InLeaving cause (TakeToLeave last)) (Saw word) = either_shown _ _ word.spin _ _ (stays_shown _ _) (stays_shown _ _)
+  waiting_shown wait (InLeaving cause (TakeToLeave last)) Made = stays_shown _ _
+  waiting_shown wait (InLeaving cause (Leave last)) (Saw word) = stays_shown _ _
+  waiting_shown wait (InLeaving cause (Leave last)) (Left stood) = either_shown _ _ stood _ _ (stays_shown _ _) (stays_shown _ _)
+  waiting_shown wait (InLeaving cause AwaitWakeToLeave) (Flag v) = either_shown _ _ (eqb v 1) _ _ (stays_shown _ _) (woken_shown (Flag v) wait.on cause)
   waiting_shown wait place found = stays_shown (place_cause_kept place) found
 
-  acquire_shown : (found : Found) (aim : Aim C) (woken : Bool) (word : Word) → ShownNext (cause_for aim) found (acquire_by aim woken word)
-  acquire_shown found aim woken word =
-      either_shown (cause_for aim) found (may_acquire (mode_for aim) woken word) _ _ (stays_shown _ _) (either_shown (cause_for aim) found word.spin _ _ (stays_shown _ _) (stays_shown _ _))
+  acquire_shown : (found : Found) (aim : Aim C) (arrival : Arrival) (word : Word) → ShownNext (cause_for aim) found (acquire_by aim arrival word)
+  acquire_shown found aim arrival word =
+      either_shown (cause_for aim) found (may_acquire (mode_for aim) arrival word) _ _ (stays_shown _ _) (either_shown (cause_for aim) found word.spin _ _ (stays_shown _ _) (stays_shown _ _))
+
+  -- a wait for a condition that comes back tests it with the cause that it kept, and one for a variable answers by that
+  back_shown : (found : Found) (on : Subject C) (wait : Wait C) (kept : Option Cause) → ShownNext kept found (back_with N on wait kept)
+  back_shown found (OnCondition c) wait kept = test_shown found wait (OnReturn kept) 0
+  back_shown found (OnVariable k) wait None = none_shown None found
+  back_shown found (OnVariable k) wait (Some cause) = answer_shown (Some cause) found cause (stays_shown (Some cause) found)
 
   acquired_shown : (found : Found) (aim : Aim C) → ShownNext (cause_for aim) found (acquired_for N aim)
   acquired_shown found (ForLock mode) = none_shown _ _
-  acquired_shown found (ForWait wait kept) = test_shown found wait (OnReturn kept) 0
+  acquired_shown found (ForWait wait kept) = back_shown found wait.on wait kept
 
   shown_by : (walk : Walk C) (found : Found) → ShownNext (cause_kept walk) found (got_of N walk found)
-  shown_by (TryLoad mode) (Saw word) = either_shown _ _ (may_acquire mode false word) _ _ (none_shown _ _) (none_shown _ _)
-  shown_by (TryAcquire mode last) (Saw word) = none_shown _ _
-  shown_by (TryAcquire mode last) Made = none_shown _ _
-  shown_by (AcquireLoad aim woken) (Saw word) = acquire_shown (Saw word) aim woken word
-  shown_by (AcquireExchange aim woken last) (Saw word) = acquire_shown (Saw word) aim woken word
-  shown_by (AcquireExchange aim woken last) Made = acquired_shown Made aim
-  shown_by (TakeToQueue aim woken last) (Saw word) = acquire_shown (Saw word) aim woken word
-  shown_by (TakeToQueue aim woken last) Made = stays_shown _ _
-  shown_by (Arm aim woken last) Made = stays_shown _ _
-  shown_by (Queue aim woken last) (Saw word) = stays_shown _ _
-  shown_by (Queue aim woken last) Made = stays_shown _ _
-  shown_by (AwaitWake aim) (Flag v) = either_shown _ _ (eqb v 0) _ _ (stays_shown _ _) (stays_shown _ _)
-  shown_by (QuietCells i) (Cell v) = quiet_shown C N (Cell v) (i + 1)
-  shown_by (QuietLast i) (Quiet quiet) = either_shown _ _ quiet _ _ (none_shown _ _) (none_shown _ _)
-  shown_by (ReleaseLoad releasing) (Saw word) = release_shown C (Saw word) releasing word
-  shown_by (ReleaseExchange releasing last) (Saw word) = release_shown C (Saw word) releasing word
-  shown_by (ReleaseExchange releasing last) Made = none_shown _ _
-  shown_by (TakeToScan releasing last) (Saw word) = release_shown C (Saw word) releasing word
-  shown_by (TakeToScan releasing last) Made = either_walk_shown _ _ last.cond _ _ (scan_shown C N Made releasing _ 0) (none_shown _ _)
-  shown_by (ScanCells releasing last i) (Cell v) = scan_shown C N (Cell v) releasing last (i + 1)
-  shown_by (ScanAndRelease releasing last) (Saw word) = none_shown _ _
-  shown_by (ScanAndRelease releasing last) (Scanned owes tests) = either_shown _ _ owes _ _ (none_shown _ _) (none_shown _ _)
-  shown_by Pay (Paid owes) = either_shown _ _ owes _ _ (none_shown _ _) (none_shown _ _)
-  shown_by (GetLoad i) (Cell v) = none_shown _ _
-  shown_by (SetLoad i v) (Cell w) = none_shown _ _
-  shown_by (SetStore i v) Made = none_shown _ _
+  shown_by (InTry mode TryLoad) (Saw word) = either_shown _ _ (may_acquire mode AsFresh word) _ _ (none_shown _ _) (none_shown _ _)
+  shown_by (InTry mode (TryAcquire last)) (Saw word) = none_shown _ _
+  shown_by (InTry mode (TryAcquire last)) Made = none_shown _ _
+  shown_by (InAcquire aim (AcquireLoad arrival)) (Saw word) = acquire_shown (Saw word) aim arrival word
+  shown_by (InAcquire aim (AcquireExchange arrival last)) (Saw word) = acquire_shown (Saw word) aim arrival word
+  shown_by (InAcquire aim (AcquireExchange arrival last)) Made = acquired_shown Made aim
+  shown_by (InAcquire aim (TakeToQueue arrival last)) (Saw word) = acquire_shown (Saw word) aim arrival word
+  shown_by (InAcquire aim (TakeToQueue arrival last)) Made = stays_shown _ _
+  shown_by (InAcquire aim (Arm arrival last)) Made = stays_shown _ _
+  shown_by (InAcquire aim (Queue arrival last)) (Saw word) = stays_shown _ _
+  shown_by (InAcquire aim (Queue arrival last)) Made = stays_shown _ _
+  shown_by (InAcquire aim AwaitWake) (Flag v) = either_shown _ _ (eqb v 1) _ _ (stays_shown _ _) (stays_shown _ _)
+  shown_by (InCells (QuietCells i)) (Cell v) = none_shown _ _
+  shown_by (InCells (QuietLast i)) (Quiet quiet) = either_shown _ _ quiet _ _ (none_shown _ _) (none_shown _ _)
+  shown_by (InRelease releasing ReleaseLoad) (Saw word) = release_shown C (Saw word) releasing word
+  shown_by (InRelease releasing (ReleaseExchange last)) (Saw word) = release_shown C (Saw word) releasing word
+  shown_by (InRelease releasing (ReleaseExchange last)) Made = none_shown _ _
+  shown_by (InRelease releasing (TakeToScan last)) (Saw word) = release_shown C (Saw word) releasing word
+  shown_by (InRelease releasing (TakeToScan last)) Made = none_shown _ _
+  shown_by (InRelease releasing (ScanCells last i)) (Cell v) = none_shown _ _
+  shown_by (InRelease releasing (ScanAndRelease last)) (Saw word) = none_shown _ _
+  shown_by (InRelease releasing (ScanAndRelease last)) (Scanned owes tests) = either_shown _ _ owes _ _ (none_shown _ _) (none_shown _ _)
+  shown_by (InRelease releasing Pay) (Paid owes) = either_shown _ _ owes _ _ (none_shown _ _) (none_shown _ _)
+  shown_by (InCells (GetLoad i)) (Cell v) = none_shown _ _
+  shown_by (InCells (SetLoad i v)) (Cell w) = none_shown _ _
+  shown_by (InCells (SetStore i v)) Made = none_shown _ _
   shown_by (InWait wait place) found = waiting_shown wait place found
+  shown_by (InSignal waking k place) found = signaling_shown C waking k place found
   shown_by walk found = stays_shown (cause_kept walk) found
 
   goes_with : (next : Next C) (walk : Walk C) → walk_after next ≡ Some walk → next_cause next ≡ cause_kept walk
@@ -181,15 +212,17 @@ module _ {C : Type 0} (N : ℕ) where
 
   -- No call begins with one.
   pub first_keeps_none : (walk : Walk C) → IsFirst N walk → cause_kept walk ≡ None
-  first_keeps_none (AcquireLoad (ForLock mode) woken) p = refl
+  first_keeps_none (InAcquire (ForLock mode) (AcquireLoad arrival)) p = refl
   first_keeps_none (InWait wait (TestCells OnEntry i)) p = refl
   first_keeps_none (InWait wait (TestLast OnEntry i)) p = refl
-  first_keeps_none (TryLoad mode) p = refl
-  first_keeps_none (QuietCells i) p = refl
-  first_keeps_none (QuietLast i) p = refl
-  first_keeps_none (ReleaseLoad releasing) p = refl
-  first_keeps_none (GetLoad i) p = refl
-  first_keeps_none (SetLoad i v) p = refl
+  first_keeps_none (InWait wait (InQueuing again Load)) p = refl
+  first_keeps_none (InSignal waking k SignalLoad) p = refl
+  first_keeps_none (InTry mode TryLoad) p = refl
+  first_keeps_none (InCells (QuietCells i)) p = refl
+  first_keeps_none (InCells (QuietLast i)) p = refl
+  first_keeps_none (InRelease releasing ReleaseLoad) p = refl
+  first_keeps_none (InCells (GetLoad i)) p = refl
+  first_keeps_none (InCells (SetLoad i v)) p = refl
   first_keeps_none _ p = absurd p
 
 -- ---- a wait that has come back is met only by an acquire
@@ -200,7 +233,7 @@ Out next = is_back (walk_after next) ≡ false
 
 -- the step acquires the lock
 abbrev acquires : {C : Type 0} → Walk C → Found → Bool
-acquires (AcquireExchange aim woken last) Made = true
+acquires (InAcquire aim (AcquireExchange arrival last)) Made = true
 acquires walk found = false
 
 module _ {C : Type 0} where
@@ -215,93 +248,112 @@ module _ {C : Type 0} where
 release_out : (C : Type 0) (releasing : Releasing) (word : Word) → Out (release_by {C = C} releasing word)
 release_out C releasing word = either_out (not (needs_scan releasing word)) _ _ refl (either_out word.spin _ _ refl refl)
 
-quiet_out : (C : Type 0) (N : ℕ) (loaded : ℕ) → has_come_back (quiet_place {C = C} N loaded) ≡ false
-quiet_out C N loaded = either_walk_out (ltb loaded (N - 1)) _ _ refl refl
+signaling_out : (C : Type 0) (waking : Waking) (k : ℕ) (place : SignalPlace) (found : Found) → Out (got_signaling {C = C} waking k place found)
+signaling_out C waking k SignalLoad (Saw word) = either_out word.spin _ _ refl refl
+signaling_out C waking k (TakeToWake last) (Saw word) = either_out word.spin _ _ refl refl
+signaling_out C waking k (TakeToWake last) Made = refl
+signaling_out C waking k (WakeAndReturn last) (Saw word) = refl
+signaling_out C waking k (WakeAndReturn last) (Woke owes) = either_out owes _ _ refl refl
+signaling_out C waking k PayTheWoken (Paid owes) = either_out owes _ _ refl refl
+signaling_out C waking k place found = refl
 
-scan_out : (C : Type 0) (N : ℕ) (releasing : Releasing) (last : Word) (loaded : ℕ) → has_come_back (scan_place {C = C} N releasing last loaded) ≡ false
-scan_out C N releasing last loaded = either_walk_out (ltb loaded N) _ _ refl refl
+-- nor does one that loads cells for its scan look
+either_place_out : (again b : Bool) (one other : QueuePlace) → place_has_come_back (InQueuing again one) ≡ false → place_has_come_back (InQueuing again other) ≡ false → place_has_come_back (InQueuing again (cond b one other)) ≡ false
+either_place_out again true one other p q = p
+either_place_out again false one other p q = q
+
+load_out : (N : ℕ) (again : Bool) (last : Word) (loaded : ℕ) → place_has_come_back (InQueuing again (load_place N last loaded)) ≡ false
+load_out N again last loaded = either_place_out again (ltb loaded N) (LoadToScan last loaded) (QueueToWait last) refl refl
 
 module _ {C : Type 0} (N : ℕ) where
+  armed_out : (again : Bool) (on : Subject C) (last : Word) → place_has_come_back (InQueuing again (armed_place N on last)) ≡ false
+  armed_out again (OnCondition c) last = refl
+  armed_out again (OnVariable k) last = either_place_out again last.cond (load_place N last 0) (QueueToWait last) (load_out N again last 0) refl
+
   test_out : (wait : Wait C) (visit : Visit) (loaded : ℕ) → comes_back visit ≡ false → has_come_back (test_place N wait visit loaded) ≡ false
   test_out wait visit loaded e = either_walk_out (ltb loaded (N - 1)) (InWait wait (TestCells visit loaded)) (InWait wait (TestLast visit (N - 1))) e e
 
   unmet_out : (wait : Wait C) (visit : Visit) → comes_back visit ≡ false → Out (unmet_by wait visit)
-  unmet_out wait OnEntry e = either_out (is_limited wait.limits) (On (InWait wait (LookIn false))) (On (InWait wait (Load false))) refl refl
+  unmet_out wait OnEntry e = either_out (is_limited wait.limits) (On (InWait wait (InQueuing false LookIn))) (On (InWait wait (InQueuing false Load))) refl refl
   unmet_out wait (OnReturn kept) e = absurd (cc)
 
   waiting_out : (wait : Wait C) (place : WaitPlace) (found : Found) → place_has_come_back place ≡ false → Out (got_waiting N wait place found)
   waiting_out wait (TestCells visit i) (Cell v) e = test_out wait visit (i + 1) e
   waiting_out wait (TestLast visit i) (Tested met) e = either_out met _ _ refl (unmet_out wait visit e)
-  waiting_out wait (LookIn again) (Looked None) e = refl
-  waiting_out wait (LookIn again) (Looked (Some cause)) e = refl
-  waiting_out wait (Load again) (Saw word) e = either_out word.spin _ _ refl refl
-  waiting_out wait (Take again last) (Saw word) e = either_out word.spin _ _ refl refl
-  waiting_out wait (Take again last) Made e = refl
-  waiting_out wait (ArmToWait again last) Made e = refl
-  waiting_out wait (QueueToWait again last) (Saw word) e = refl
-  waiting_out wait (QueueToWait again last) (Scanned owes tests) e = either_out owes _ _ refl refl
+  waiting_out wait (InQueuing again LookIn) (Looked None) e = refl
+  waiting_out wait (InQueuing again LookIn) (Looked (Some cause)) e = refl
+  waiting_out wait (InQueuing again Load) (Saw word) e = either_out word.spin _ _ refl refl
+  waiting_out wait (InQueuing again (Take last)) (Saw word) e = either_out word.spin _ _ refl refl
+  waiting_out wait (InQueuing again (Take last)) Made e = refl
+  waiting_out wait (InQueuing again (ArmToWait last)) Made e = armed_out again wait.on last
+  waiting_out wait (InQueuing again (LoadToScan last i)) (Cell v) e = load_out N again last (i + 1)
+  waiting_out wait (InQueuing again (QueueToWait last)) (Saw word) e = refl
+  waiting_out wait (InQueuing again (QueueToWait last)) (Scanned owes tests) e = either_out owes _ _ refl refl
   waiting_out wait PayInWait (Paid owes) e = either_out owes _ _ refl refl
-  waiting_out wait AwaitWakeInWait (Flag v) e = either_out (eqb v 0) _ _ refl (either_out (is_limited wait.limits) _ _ refl refl)
+  waiting_out wait AwaitWakeInWait (Flag v) e = either_out (eqb v 1) _ _ (either_out (is_limited wait.limits) _ _ refl refl) refl
   waiting_out wait LookOut (Looked None) e = refl
   waiting_out wait LookOut (Looked (Some cause)) e = refl
-  waiting_out wait (LeaveLoad cause) (Saw word) e = either_out word.spin _ _ refl refl
-  waiting_out wait (TakeToLeave cause last) (Saw word) e = either_out word.spin _ _ refl refl
-  waiting_out wait (TakeToLeave cause last) Made e = refl
-  waiting_out wait (Leave cause last) (Saw word) e = refl
-  waiting_out wait (Leave cause last) (Left stood) e = either_out stood _ _ refl refl
-  waiting_out wait (AwaitWakeToLeave cause) (Flag v) e = either_out (eqb v 0) _ _ refl refl
+  waiting_out wait (InLeaving cause LeaveLoad) (Saw word) e = either_out word.spin _ _ refl refl
+  waiting_out wait (InLeaving cause (TakeToLeave last)) (Saw word) e = either_out word.spin _ _ refl refl
+  waiting_out wait (InLeaving cause (TakeToLeave last)) Made e = refl
+  waiting_out wait (InLeaving cause (Leave last)) (Saw word) e = refl
+  waiting_out wait (InLeaving cause (Leave last)) (Left stood) e = either_out stood _ _ refl refl
+  waiting_out wait (InLeaving cause AwaitWakeToLeave) (Flag v) e = either_out (eqb v 1) _ _ refl refl
   waiting_out wait place found e = e
 
-  acquire_out : (aim : Aim C) (woken : Bool) (word : Word) → Out (acquire_by aim woken word)
-  acquire_out aim woken word = either_out (may_acquire (mode_for aim) woken word) _ _ refl (either_out word.spin _ _ refl refl)
+  acquire_out : (aim : Aim C) (arrival : Arrival) (word : Word) → Out (acquire_by aim arrival word)
+  acquire_out aim arrival word = either_out (may_acquire (mode_for aim) arrival word) _ _ refl (either_out word.spin _ _ refl refl)
 
   out_by : (walk : Walk C) (found : Found) → has_come_back walk ≡ false → acquires walk found ≡ false → Out (got_of N walk found)
-  out_by (TryLoad mode) (Saw word) e a = either_out (may_acquire mode false word) _ _ refl refl
-  out_by (TryAcquire mode last) (Saw word) e a = refl
-  out_by (TryAcquire mode last) Made e a = refl
-  out_by (AcquireLoad aim woken) (Saw word) e a = acquire_out aim woken word
-  out_by (AcquireExchange aim woken last) (Saw word) e a = acquire_out aim woken word
-  out_by (AcquireExchange aim woken last) Made e a = absurd (cc)
-  out_by (TakeToQueue aim woken last) (Saw word) e a = acquire_out aim woken word
-  out_by (TakeToQueue aim woken last) Made e a = refl
-  out_by (Arm aim woken last) Made e a = refl
-  out_by (Queue aim woken last) (Saw word) e a = refl
-  out_by (Queue aim woken last) Made e a = refl
-  out_by (AwaitWake aim) (Flag v) e a = either_out (eqb v 0) _ _ refl refl
-  out_by (QuietCells i) (Cell v) e a = quiet_out C N (i + 1)
-  out_by (QuietLast i) (Quiet quiet) e a = either_out quiet _ _ refl refl
-  out_by (ReleaseLoad releasing) (Saw word) e a = release_out C releasing word
-  out_by (ReleaseExchange releasing last) (Saw word) e a = release_out C releasing word
-  out_by (ReleaseExchange releasing last) Made e a = refl
-  out_by (TakeToScan releasing last) (Saw word) e a = release_out C releasing word
-  out_by (TakeToScan releasing last) Made e a = either_walk_out last.cond _ _ (scan_out C N releasing _ 0) refl
-  out_by (ScanCells releasing last i) (Cell v) e a = scan_out C N releasing last (i + 1)
-  out_by (ScanAndRelease releasing last) (Saw word) e a = refl
-  out_by (ScanAndRelease releasing last) (Scanned owes tests) e a = either_out owes _ _ refl refl
-  out_by Pay (Paid owes) e a = either_out owes _ _ refl refl
-  out_by (GetLoad i) (Cell v) e a = refl
-  out_by (SetLoad i v) (Cell w) e a = refl
-  out_by (SetStore i v) Made e a = refl
+  out_by (InTry mode TryLoad) (Saw word) e a = either_out (may_acquire mode AsFresh word) _ _ refl refl
+  out_by (InTry mode (TryAcquire last)) (Saw word) e a = refl
+  out_by (InTry mode (TryAcquire last)) Made e a = refl
+  out_by (InAcquire aim (AcquireLoad arrival)) (Saw word) e a = acquire_out aim arrival word
+  out_by (InAcquire aim (AcquireExchange arrival last)) (Saw word) e a = acquire_out aim arrival word
+  out_by (InAcquire aim (AcquireExchange arrival last)) Made e a = absurd (cc)
+  out_by (InAcquire aim (TakeToQueue arrival last)) (Saw word) e a = acquire_out aim arrival word
+  out_by (InAcquire aim (TakeToQueue arrival last)) Made e a = refl
+  out_by (InAcquire aim (Arm arrival last)) Made e a = refl
+  out_by (InAcquire aim (Queue arrival last)) (Saw word) e a = refl
+  out_by (InAcquire aim (Queue arrival last)) Made e a = refl
+  out_by (InAcquire aim AwaitWake) (Flag v) e a = either_out (eqb v 1) _ _ refl refl
+  out_by (InCells (QuietCells i)) (Cell v) e a = refl
+  out_by (InCells (QuietLast i)) (Quiet quiet) e a = either_out quiet _ _ refl refl
+  out_by (InRelease releasing ReleaseLoad) (Saw word) e a = release_out C releasing word
+  out_by (InRelease releasing (ReleaseExchange last)) (Saw word) e a = release_out C releasing word
+  out_by (InRelease releasing (ReleaseExchange last)) Made e a = refl
+  out_by (InRelease releasing (TakeToScan last)) (Saw word) e a = release_out C releasing word
+  out_by (InRelease releasing (TakeToScan last)) Made e a = refl
+  out_by (InRelease releasing (ScanCells last i)) (Cell v) e a = refl
+  out_by (InRelease releasing (ScanAndRelease last)) (Saw word) e a = refl
+  out_by (InRelease releasing (ScanAndRelease last)) (Scanned owes tests) e a = either_out owes _ _ refl refl
+  out_by (InRelease releasing Pay) (Paid owes) e a = either_out owes _ _ refl refl
+  out_by (InCells (GetLoad i)) (Cell v) e a = refl
+  out_by (InCells (SetLoad i v)) (Cell w) e a = refl
+  out_by (InCells (SetStore i v)) Made e a = refl
   out_by (InWait wait place) found e a = waiting_out wait place found e
+  out_by (InSignal waking k place) found e a = signaling_out C waking k place found
   out_by walk found e a = e
 
   -- Nor does a call begin as such a wait.
   pub first_is_out : (walk : Walk C) → IsFirst N walk → has_come_back walk ≡ false
-  first_is_out (AcquireLoad (ForLock mode) woken) p = refl
+  first_is_out (InAcquire (ForLock mode) (AcquireLoad arrival)) p = refl
   first_is_out (InWait wait (TestCells OnEntry i)) p = refl
   first_is_out (InWait wait (TestLast OnEntry i)) p = refl
-  first_is_out (TryLoad mode) p = refl
-  first_is_out (QuietCells i) p = refl
-  first_is_out (QuietLast i) p = refl
-  first_is_out (ReleaseLoad releasing) p = refl
-  first_is_out (GetLoad i) p = refl
-  first_is_out (SetLoad i v) p = refl
+  first_is_out (InWait wait (InQueuing again Load)) p = refl
+  first_is_out (InSignal waking k SignalLoad) p = refl
+  first_is_out (InTry mode TryLoad) p = refl
+  first_is_out (InCells (QuietCells i)) p = refl
+  first_is_out (InCells (QuietLast i)) p = refl
+  first_is_out (InRelease releasing ReleaseLoad) p = refl
+  first_is_out (InCells (GetLoad i)) p = refl
+  first_is_out (InCells (SetLoad i v)) p = refl
   first_is_out _ p = absurd p
 
 module _ {C : Type 0} {N : ℕ} (truths : Truths C) where
   -- with a section in hand, nothing is acquired
   holder_acquires_not : (seat : ℕ) (walk : Walk C) (found : Found) (old new : Part C N) (commits : List (Event C N)) (was : Held C N) → Effect truths seat (want_of walk) old found new commits → old.held ≡ Some was → acquires walk found ≡ false
-  holder_acquires_not seat (AcquireExchange aim woken last) Made old new commits was e p = let clash : None ≡ Some was = sym e.2 ∙ p in absurd (cc)
+  holder_acquires_not seat (InAcquire aim (AcquireExchange arrival last)) Made old new commits was e p = let clash : None ≡ Some was = sym e.2 ∙ p in absurd (cc)
   holder_acquires_not seat _ _ old new commits was e p = refl
 
   -- With a section in hand, a call that isn't such a wait doesn't become one.

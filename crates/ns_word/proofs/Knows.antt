@@ -1,39 +1,77 @@
 -- What the steps leave of the designated waker and the idle list.
 use Rattle.std.proofs.Common.{◌≡◌, ◌≢◌, ℕ, ◌+◌, ◌≤◌, Bool, true, false, ◌&&◌, ◌||◌, not, cond, eqb, ltb, ◌⊎◌, inl, inr, List, [], ◌∷◌, ◌++◌, Option, Some, refl, ap, sym, ◌∙◌, subst, arith, eq-eqb}
 use Rattle.std.specs.List.{list_any}
-use Rattle.std.proofs.lemmas.Bool.{ne_eqb, eqb-true, cases_eq, and_parts, or_cases, or_parts, both_ways, not-false, not-true, and_cases, ltb-true}
+use Rattle.std.proofs.lemmas.Bool.{ne_eqb, eqb-true, cases_eq, and_parts, or_cases, or_parts, both_ways, not-false, not-true, and_cases, ltb-true, lt-ltb}
 use Rattle.ns_model.specs.declared.event.Mode.{Mode}
 use Rattle.ns_model.specs.declared.event.Mode.TheVariants.{Write, Read}
 use Rattle.ns_queue.specs.declared.waiter.Waiter.{Waiter}
-use Rattle.ns_queue.specs.Waiters.{times_in, is_of, without_in, writes, has_condition}
+use Rattle.ns_queue.specs.Queues.{Lists, times}
+use Rattle.ns_queue.specs.Waiters.{seats_of, times_in, writes, has_condition}
 use Rattle.ns_queue.specs.Scans.{woken_of, left_of}
 use Rattle.ns_word.specs.declared.word.Word.{Word}
 use Rattle.ns_word.specs.declared.word.Releasing.{Releasing}
 use Rattle.ns_word.specs.declared.word.Releasing.TheVariants.{Writer, QuietWriter, Reader}
 use Rattle.ns_word.specs.declared.word.Taking.TheVariants.{ToQueue}
+use Rattle.ns_word.specs.declared.word.Arrival.{Arrival}
 use Rattle.ns_word.specs.declared.view.Held.{Held}
 use Rattle.ns_word.specs.declared.view.SeatView.{SeatView}
 use Rattle.ns_word.specs.declared.walk.Walk.{Walk}
-use Rattle.ns_word.specs.declared.walk.Walk.TheVariants.{Arm, Queue}
-use Rattle.ns_word.specs.Words.{may_acquire, needs_scan, word_acquired, word_released, word_taken, word_returned, word_released_returning}
-use Rattle.ns_word.specs.Lists.{has_some, has_eligible, bits_of, queued}
-use Rattle.ns_word.specs.Walks.{awaits, has_queues, is_queuing, is_woken, is_on_way}
-use Rattle.ns_word.specs.Views.{takers, queuers, walk_at, NoneIs}
+use Rattle.ns_word.specs.declared.walk.Walk.TheVariants.{InAcquire}
+use Rattle.ns_word.specs.Words.{is_held, is_woken, may_acquire, needs_scan, word_acquired, word_released, word_taken, word_returned, word_released_returning}
+use Rattle.ns_word.specs.Lists.{has_some, has_eligible, bits_of, queued, times_among}
+use Rattle.ns_word.specs.Walks.{awaits, has_queues, is_queuing, was_woken, calls_from_lock, is_on_way}
+use Rattle.ns_word.specs.Views.{takers, queuers, owed_to, called_to, walk_at, NoneIs}
 use Rattle.ns_word.specs.Lawful.{WaitersPlaced, NobodyCouldGoOn, is_armed, is_unwoken}
 use Rattle.ns_word.proofs.Groups.{Homed, Known}
-use Rattle.ns_word.proofs.Scans.{times_scan, times_queued, times_without, times_others, some_queued, filter_eligible, writer_eligible, none_eligible, woken_none, woken_some}
+use Rattle.ns_word.proofs.Scans.{times_scan, times_seats, some_queued, writer_eligible, none_eligible, woken_none, woken_some}
 use Rattle.ns_model.specs.Tallies.{one_if}
-use Rattle.ns_word.proofs.Views.{one_most, view_of, takers_at, queuers_at, walk_here, walk_there}
+use Rattle.ns_word.proofs.Views.{one_most, view_of, takers_at, queuers_at, called_at, called_most, walk_here, walk_there}
+use Rattle.ns_word.proofs.Waits.{cleared, due_of, placed_here}
+use Rattle.ns_word.specs.Steps.{flags_with}
 
-on_way_fewer : {C : Type 0} (walk : Option (Walk C)) (n m : ℕ) → (n ≡ 0 → m ≡ 0) → is_on_way walk n ≡ true → is_on_way walk m ≡ true
-on_way_fewer walk n m f e = go (awaits walk) e where
-  go : (b : Bool) → cond b (eqb n 0) (is_woken walk) ≡ true → cond b (eqb m 0) (is_woken walk) ≡ true
-  go true g = eq-eqb m 0 (f (eqb-true n 0 g))
-  go false g = g
+-- one that waits, and whose wake from the lock list is owed, is on its way
+called_on_way : {C : Type 0} (walk : Option (Walk C)) (flag owed : ℕ) → awaits walk ≡ true → 1 ≤ owed → is_on_way walk flag owed ≡ true
+called_on_way walk flag owed a some = rw a (rw (lt-ltb 0 owed some) (elim (was_woken walk) as (λ b. (b || (true && (eqb flag 0 || true))) ≡ true) [ true ↦ refl | false ↦ elim (eqb flag 0) as (λ c. (c || true) ≡ true) [ true ↦ refl | false ↦ refl ] ]))
 
--- who waits in no list is on its way
-awaits_on_way : {C : Type 0} (walk : Option (Walk C)) (n : ℕ) → awaits walk ≡ true → n ≡ 0 → is_on_way walk n ≡ true
-awaits_on_way walk n a e = rw a (eq-eqb n 0 e)
+-- one on its way stays so where its flag is cleared to 0
+cleared_on_way : {C : Type 0} (walk : Option (Walk C)) (flag owed owed' : ℕ) → is_on_way walk flag owed ≡ true → is_on_way walk 0 owed' ≡ true
+cleared_on_way walk flag owed owed' e = go (was_woken walk) (awaits walk) e where
+  go : (b a : Bool) → (b || (a && (eqb flag 0 || ltb 0 owed))) ≡ true → (b || (a && (true || ltb 0 owed'))) ≡ true
+  go true a f = refl
+  go false true f = refl
+  go false false f = absurd (cc)
+
+-- a wake of another value puts nobody on its way whose flag was set
+woken_on_way : {C : Type 0} (walk : Option (Walk C)) (owed : ℕ) → is_on_way walk 1 owed ≡ true → is_on_way walk 2 owed ≡ true
+woken_on_way walk owed e = e
+
+-- more wakes owed are no fewer
+more_on_way : {C : Type 0} (walk : Option (Walk C)) (flag owed owed' : ℕ) → owed ≤ owed' → is_on_way walk flag owed ≡ true → is_on_way walk flag owed' ≡ true
+more_on_way walk flag owed owed' less e = go (was_woken walk) (awaits walk) (eqb flag 0) e where
+  some : ltb 0 owed ≡ true → ltb 0 owed' ≡ true
+  some f = lt-ltb 0 owed' (omega (arith, ltb-true 0 owed f, less))
+
+  go : (b a c : Bool) → (b || (a && (c || ltb 0 owed))) ≡ true → (b || (a && (c || ltb 0 owed'))) ≡ true
+  go true a c f = refl
+  go false true true f = refl
+  go false true false f = some f
+  go false false c f = absurd (cc)
+
+-- a seat that is due has its flag set
+pub due_flag : {C : Type 0} (walk : Option (Walk C)) (flag : ℕ) → one_if (is_unwoken walk flag) ≡ 1 → flag ≡ 1
+due_flag walk flag e = go (awaits walk) (eqb flag 1) refl e where
+  go : (a b : Bool) → eqb flag 1 ≡ b → one_if (a && b) ≡ 1 → flag ≡ 1
+  go true true f g = eqb-true flag 1 f
+  go true false f g = absurd (cc)
+  go false b f g = absurd (cc)
+
+-- places that tell the same are on the way alike
+goes_on : {C : Type 0} (walk walk' : Option (Walk C)) (flag owed : ℕ) → awaits walk' ≡ awaits walk → was_woken walk' ≡ was_woken walk → is_on_way walk flag owed ≡ true → is_on_way walk' flag owed ≡ true
+goes_on walk walk' flag owed a w e = rw (w, a) e
+
+some_append : {A : Type 0} (xs ys : List A) → has_some ys ≡ true → has_some (xs ++ ys) ≡ true
+some_append [] ys e = e
+some_append (x ∷ xs) ys e = refl
 
 pub due_awaits : {C : Type 0} (walk : Option (Walk C)) (flag : ℕ) → 1 ≤ one_if (is_unwoken walk flag) → awaits walk ≡ true
 due_awaits walk flag e = go (awaits walk) e where
@@ -42,8 +80,7 @@ due_awaits walk flag e = go (awaits walk) e where
   go false f = absurd (omega (arith, f))
 
 queuer_spins : {C : Type 0} (walk : Option (Walk C)) → one_if (is_queuing walk) ≤ one_if (has_queues walk)
-queuer_spins (Some (Arm aim woken last)) = omega arith
-queuer_spins (Some (Queue aim woken last)) = omega arith
+queuer_spins (Some (InAcquire aim place)) = omega arith
 queuer_spins walk = omega arith
 
 -- no scan was needed, and nobody is on its way
@@ -59,11 +96,18 @@ is_loud Writer = true
 is_loud QuietWriter = false
 is_loud Reader = false
 
-refused : (mode : Mode) (woken : Bool) (word : Word) → may_acquire mode woken word ≡ false → word.write ≡ false → word.readers ≡ 0 → (woken ≡ false) × (word.writer_waits ≡ true)
-refused Write woken word e w r = let may : may_acquire Write woken word ≡ true = rw w (rw r refl) in absurd (both_ways (may_acquire Write woken word) e may)
-refused Read woken word e w r =
-    let parts = or_parts woken (not word.writer_waits) (subst (λ b. (not b && (woken || not word.writer_waits)) ≡ false) w e) in
+refused : (mode : Mode) (arrival : Arrival) (word : Word) → may_acquire mode arrival word ≡ false → word.write ≡ false → word.readers ≡ 0 → (is_woken arrival ≡ false) × (word.writer_waits ≡ true)
+refused Write arrival word e w r = let may : may_acquire Write arrival word ≡ true = rw w (rw r refl) in absurd (both_ways (may_acquire Write arrival word) e may)
+refused Read arrival word e w r =
+    let parts = or_parts (is_woken arrival) (not word.writer_waits) (subst (λ b. (not b && (is_woken arrival || not word.writer_waits)) ≡ false) w e) in
     (parts.0, not-false word.writer_waits parts.1)
+
+-- one that owes no wake owes none of one taken from the lock list
+pub nothing_called : {C : Type 0} (at : Option (Walk C)) (owing : List ℕ) (seat : ℕ) → owing ≡ [] → ◌≡◌ {A = ℕ} (cond (calls_from_lock at) (times_among seat owing) 0) 0
+nothing_called at owing seat none = subst (λ xs. ◌≡◌ {A = ℕ} (cond (calls_from_lock at) (times_among seat xs) 0) 0) (sym none) (go (calls_from_lock at)) where
+  go : (b : Bool) → ◌≡◌ {A = ℕ} (cond b 0 0) 0
+  go true = refl
+  go false = refl
 
 module _ {C : Type 0} {N : ℕ} where
   queuers_most : (views : List (SeatView C N)) → queuers views ≤ takers views
@@ -80,18 +124,37 @@ module _ {C : Type 0} {N : ℕ} (holds : C → List ℕ → Bool) (front : List 
   same_queuers : is_queuing walk' ≡ is_queuing walk → queuers news ≡ queuers olds
   same_queuers e = queuers_at front (view_of who walk' held' owed') back ∙ rw e (sym (queuers_at front (view_of who walk held owed) back))
 
-  abbrev Way : List (Waiter C) → List (SeatView C N) → Type 0
-  Way lock views = (seat : ℕ) × (is_on_way (walk_at seat views) (times_in seat lock) ≡ true)
+  abbrev Way : (ℕ → ℕ) → List (SeatView C N) → Type 0
+  Way flags views = (seat : ℕ) × (is_on_way (walk_at seat views) (flags seat) (called_to seat views) ≡ true)
 
-  way : (lock lock' : List (Waiter C)) → NoneIs who front → (is_on_way walk (times_in who lock) ≡ true → is_on_way walk' (times_in who lock') ≡ true) →
-      ((seat : ℕ) → who ≢ seat → times_in seat lock ≡ 0 → times_in seat lock' ≡ 0) → Way lock olds → Way lock' news
-  way lock lock' apart here there p =
+  -- what the seat itself owes of those wakes
+  abbrev pub called : Option (Walk C) → List ℕ → ℕ → ℕ
+  called walk owed seat = cond (calls_from_lock walk) (times_among seat owed) 0
+
+  called_old : (seat : ℕ) → called_to seat olds ≡ called_to seat front + (called walk owed seat + called_to seat back)
+  called_old seat = called_at seat front (view_of who walk held owed) back
+
+  called_new : (seat : ℕ) → called_to seat news ≡ called_to seat front + (called walk' owed' seat + called_to seat back)
+  called_new seat = called_at seat front (view_of who walk' held' owed') back
+
+  same_called : ((seat : ℕ) → called walk' owed' seat ≡ called walk owed seat) → (seat : ℕ) → called_to seat news ≡ called_to seat olds
+  same_called e seat = omega (arith, called_old seat, called_new seat, e seat)
+
+  way : (flags flags' : ℕ → ℕ) → NoneIs who front → (is_on_way walk (flags who) (called_to who olds) ≡ true → is_on_way walk' (flags' who) (called_to who news) ≡ true) →
+      ((seat : ℕ) → who ≢ seat → is_on_way (walk_at seat olds) (flags seat) (called_to seat olds) ≡ true → is_on_way (walk_at seat olds) (flags' seat) (called_to seat news) ≡ true) → Way flags olds → Way flags' news
+  way flags flags' apart here there p =
       let seat = p.0 in
       elim (cases_eq who seat) [
-        | inl e ↦ let was : is_on_way walk (times_in who lock) ≡ true = subst (λ w. is_on_way w (times_in who lock) ≡ true) (walk_here front (view_of who walk held owed) back apart) (subst (λ s. is_on_way (walk_at s olds) (times_in s lock) ≡ true) (sym e) p.1) in
-            (who, rw (walk_here front (view_of who walk' held' owed') back apart) (here was))
-        | inr ne ↦ (seat, rw (walk_there seat front (view_of who walk held owed) (view_of who walk' held' owed') back ne refl) (on_way_fewer (walk_at seat olds) (times_in seat lock) (times_in seat lock') (there seat ne) p.1))
+        | inl e ↦ let was : is_on_way walk (flags who) (called_to who olds) ≡ true = subst (λ w. is_on_way w (flags who) (called_to who olds) ≡ true) (walk_here front (view_of who walk held owed) back apart) (subst (λ s. is_on_way (walk_at s olds) (flags s) (called_to s olds) ≡ true) (sym e) p.1) in
+            (who, subst (λ w. is_on_way w (flags' who) (called_to who news) ≡ true) (sym (walk_here front (view_of who walk' held' owed') back apart)) (here was))
+        | inr ne ↦ (seat, subst (λ w. is_on_way w (flags' seat) (called_to seat news) ≡ true) (sym (walk_there seat front (view_of who walk held owed) (view_of who walk' held' owed') back ne refl)) (there seat ne p.1))
       ]
+
+  -- flags and wakes stay
+  way_on : (flags : ℕ → ℕ) → NoneIs who front → ((seat : ℕ) → called walk' owed' seat ≡ called walk owed seat) → ((flag n : ℕ) → is_on_way walk flag n ≡ true → is_on_way walk' flag n ≡ true) → Way flags olds → Way flags news
+  way_on flags apart same o p =
+      way flags flags apart (λ f. subst (λ n. is_on_way walk' (flags who) n ≡ true) (sym (same_called same who)) (o (flags who) (called_to who olds) f))
+      (λ seat ne f. subst (λ n. is_on_way (walk_at seat olds) (flags seat) n ≡ true) (sym (same_called same seat)) f) p
 
   -- while the seat has the queues, nobody queues beside it
   alone : (word : Word) (lock : List (Waiter C)) → has_queues walk ≡ true → is_queuing walk' ≡ false → Homed word lock olds → queuers news ≡ 0
@@ -106,92 +169,102 @@ module _ {C : Type 0} {N : ℕ} (holds : C → List ℕ → Bool) (front : List 
       omega (arith, all, here, sum, most, f, b, count, none)
 
   -- the word tells the same, and the list stays
-  pub rests : (word word' : Word) (now : List ℕ) (lock : List (Waiter C)) → NoneIs who front →
+  pub rests : (word word' : Word) (now : List ℕ) (lock : List (Waiter C)) (flags : ℕ → ℕ) → NoneIs who front → ((seat : ℕ) → called walk' owed' seat ≡ called walk owed seat) →
       word'.desig ≡ word.desig → word'.all_false ≡ word.all_false → word'.write ≡ word.write → word'.readers ≡ word.readers → word'.waiting ≡ word.waiting →
-      is_queuing walk' ≡ is_queuing walk → ((n : ℕ) → is_on_way walk n ≡ true → is_on_way walk' n ≡ true) →
-      Known holds word now lock olds → Known holds word' now lock news
-  rests word word' now lock apart d a w r i q o p =
+      is_queuing walk' ≡ is_queuing walk → ((flag n : ℕ) → is_on_way walk flag n ≡ true → is_on_way walk' flag n ≡ true) →
+      Known holds word now lock flags olds → Known holds word' now lock flags news
+  rests word word' now lock flags apart c d a w r i q o p =
       let same = same_queuers q in
       record {
-        on_way = λ e. way lock lock apart (o (times_in who lock)) (λ seat ne z. z) (p.on_way (sym d ∙ e));
+        on_way = λ e. way_on flags apart c o (p.on_way (sym d ∙ e));
         idle = λ e. let was = p.idle (sym a ∙ e) in (was.0, same ∙ was.1);
         free = λ e f g. let was = p.free (sym w ∙ e) (sym r ∙ f) (sym d ∙ g) in (was.0, same ∙ was.1);
         empty = λ e. let was = p.empty (sym i ∙ e) in (was.0, same ∙ was.1);
       }
 
   -- an acquire
-  pub acquires : (mode : Mode) (woken : Bool) (word : Word) (now : List ℕ) (lock : List (Waiter C)) → NoneIs who front → is_queuing walk' ≡ is_queuing walk → ((n : ℕ) → woken ≡ false → is_on_way walk n ≡ true → is_on_way walk' n ≡ true) →
-      Known holds word now lock olds → Known holds (word_acquired mode woken word) now lock news
-  acquires Write woken word now lock apart q o p =
+  pub acquires : (mode : Mode) (arrival : Arrival) (word : Word) (now : List ℕ) (lock : List (Waiter C)) (flags : ℕ → ℕ) → NoneIs who front → ((seat : ℕ) → called walk' owed' seat ≡ called walk owed seat) → is_queuing walk' ≡ is_queuing walk → ((flag n : ℕ) → is_woken arrival ≡ false → is_on_way walk flag n ≡ true → is_on_way walk' flag n ≡ true) →
+      Known holds word now lock flags olds → Known holds (word_acquired mode arrival word) now lock flags news
+  acquires Write arrival word now lock flags apart c q o p =
       let same = same_queuers q in
       record {
-        on_way = λ e. let parts = and_parts word.desig (not woken) e in way lock lock apart (o (times_in who lock) (not-true woken parts.1)) (λ seat ne z. z) (p.on_way parts.0);
+        on_way = λ e. let parts = and_parts word.desig (not (is_woken arrival)) e in way_on flags apart c (λ flag n f. o flag n (not-true (is_woken arrival) parts.1) f) (p.on_way parts.0);
         idle = λ e. let was = p.idle e in (was.0, same ∙ was.1);
         free = λ e f g. absurd (cc);
         empty = λ e. let was = p.empty e in (was.0, same ∙ was.1);
       }
-  acquires Read woken word now lock apart q o p =
+  acquires Read arrival word now lock flags apart c q o p =
       let same = same_queuers q in
       record {
-        on_way = λ e. let parts = and_parts word.desig (not woken) e in way lock lock apart (o (times_in who lock) (not-true woken parts.1)) (λ seat ne z. z) (p.on_way parts.0);
+        on_way = λ e. let parts = and_parts word.desig (not (is_woken arrival)) e in way_on flags apart c (λ flag n f. o flag n (not-true (is_woken arrival) parts.1) f) (p.on_way parts.0);
         idle = λ e. let was = p.idle e in (was.0, same ∙ was.1);
         free = λ e f g. absurd (omega (arith, f));
         empty = λ e. let was = p.empty e in (was.0, same ∙ was.1);
       }
 
   -- the queues are taken to queue
-  pub takes : (mode : Mode) (woken : Bool) (word : Word) (now : List ℕ) (lock : List (Waiter C)) → NoneIs who front → may_acquire mode woken word ≡ false → word.spin ≡ false → Homed word lock olds →
-      ((n : ℕ) → woken ≡ false → is_on_way walk n ≡ true → is_on_way walk' n ≡ true) →
-      Known holds word now lock olds → Known holds (word_taken (ToQueue mode woken) word) now lock news
-  takes mode woken word now lock apart shut clear homed o p = record {
-    on_way = λ e. let parts = and_parts word.desig (not woken) e in way lock lock apart (o (times_in who lock) (not-true woken parts.1)) (λ seat ne z. z) (p.on_way parts.0);
+  pub takes : (mode : Mode) (arrival : Arrival) (word : Word) (now : List ℕ) (lock : List (Waiter C)) (flags : ℕ → ℕ) → NoneIs who front → ((seat : ℕ) → called walk' owed' seat ≡ called walk owed seat) → may_acquire mode arrival word ≡ false → word.spin ≡ false → Homed word lock olds →
+      ((flag n : ℕ) → is_woken arrival ≡ false → is_on_way walk flag n ≡ true → is_on_way walk' flag n ≡ true) →
+      Known holds word now lock flags olds → Known holds (word_taken (ToQueue mode arrival) word) now lock flags news
+  takes mode arrival word now lock flags apart c shut clear homed o p = record {
+    on_way = λ e. let parts = and_parts word.desig (not (is_woken arrival)) e in way_on flags apart c (λ flag n f. o flag n (not-true (is_woken arrival) parts.1) f) (p.on_way parts.0);
     idle = λ e. absurd (cc);
     free = λ e f g.
-        let why = refused mode woken word shut e f in
-        let desig : word.desig ≡ false = elim (and_cases word.desig (not woken) g) [ inl d ↦ d | inr n ↦ absurd (both_ways woken why.0 (not-false woken n)) ] in
+        let why = refused mode arrival word shut e f in
+        let desig : word.desig ≡ false = elim (and_cases word.desig (not (is_woken arrival)) g) [ inl d ↦ d | inr n ↦ absurd (both_ways (is_woken arrival) why.0 (not-false (is_woken arrival) n)) ] in
         let none : list_any (λ w. writes w && not (has_condition w)) lock ≡ false = writer_eligible (λ c. holds c now) lock (p.free e f desig).0 in
         absurd (both_ways word.writer_waits (ap (λ b. b.writer_waits) (homed.bits clear) ∙ none) why.1);
     empty = λ e. absurd (cc);
   }
 
   -- a seat puts itself in
-  pub puts : (mode : Mode) (c : Option C) (woken : Bool) (word : Word) (now : List ℕ) (lock : List (Waiter C)) → NoneIs who front → is_queuing walk ≡ true → ((n : ℕ) → is_on_way walk n ≡ false) →
-      Known holds word now lock olds → Known holds (word_returned (bits_of (queued who mode c woken lock)) word) now (queued who mode c woken lock) news
-  puts mode c woken word now lock apart q o p =
+  pub puts : (mode : Mode) (c : Option C) (first : Bool) (word : Word) (now : List ℕ) (lock : List (Waiter C)) (flags : ℕ → ℕ) → NoneIs who front → ((seat : ℕ) → called walk' owed' seat ≡ called walk owed seat) → is_queuing walk ≡ true → ((flag n : ℕ) → is_on_way walk flag n ≡ false) →
+      Known holds word now lock flags olds → Known holds (word_returned false (bits_of (queued who mode c first lock)) word) now (queued who mode c first lock) flags news
+  puts mode c first word now lock flags apart calls q o p =
       let count : queuers olds ≡ queuers front + (one_if (is_queuing walk) + queuers back) = queuers_at front (view_of who walk held owed) back in
       let one : one_if (is_queuing walk) ≡ 1 = ap one_if q in
       let some : queuers olds ≢ 0 = λ z. absurd (omega (arith, count, one, z)) in
       record {
-        on_way = λ e. way lock (queued who mode c woken lock) apart (λ f. absurd (both_ways (is_on_way walk (times_in who lock)) (o (times_in who lock)) f))
-            (λ seat ne z. times_queued seat who mode c woken lock ∙ rw (ne_eqb who seat ne) (rw z refl)) (p.on_way e);
-        idle = λ e. absurd (some (p.idle (and_parts word.all_false _ e).0).1);
+        on_way = λ e. way_on flags apart calls (λ flag n f. absurd (both_ways (is_on_way walk flag n) (o flag n) f)) (p.on_way e);
+        idle = λ e. absurd (some (p.idle (and_parts word.all_false _ (and_parts (word.all_false && _) true e).0).0).1);
         free = λ e f g. absurd (some (p.free e f g).1);
-        empty = λ e. absurd (both_ways (has_some (queued who mode c woken lock)) e (some_queued who mode c woken lock));
+        empty = λ e. absurd (both_ways (has_some (queued who mode c first lock)) e (some_queued who mode c first lock));
       }
 
-  -- a seat takes itself out, if it stands there
-  pub withdraws : (word : Word) (now : List ℕ) (lock : List (Waiter C)) → NoneIs who front → has_queues walk ≡ true → is_queuing walk ≡ false → is_queuing walk' ≡ false →
-      (is_on_way walk (times_in who lock) ≡ true → is_on_way walk' 0 ≡ true) → Homed word lock olds →
-      Known holds word now lock olds → Known holds (word_returned (bits_of (without_in who lock)) word) now (without_in who lock) news
-  withdraws word now lock apart spin q q' o homed p =
+  -- The queues are put back with some of the lock list gone, or the list as it was.
+  pub withdraws : (word : Word) (now : List ℕ) (lock lock' : List (Waiter C)) (flags : ℕ → ℕ) → NoneIs who front → ((seat : ℕ) → called walk' owed' seat ≡ called walk owed seat) → has_queues walk ≡ true → is_queuing walk ≡ false → is_queuing walk' ≡ false →
+      (is_on_way walk (flags who) (called_to who olds) ≡ true → is_on_way walk' (flags who) (called_to who olds) ≡ true) → (has_eligible (λ c. holds c now) lock ≡ false → has_eligible (λ c. holds c now) lock' ≡ false) → Homed word lock olds →
+      Known holds word now lock flags olds → Known holds (word_returned false (bits_of lock') word) now lock' flags news
+  withdraws word now lock lock' flags apart calls spin q q' o fewer homed p =
       let same = same_queuers (q' ∙ sym q) in
-      let keep : NobodyCouldGoOn holds now lock olds → NobodyCouldGoOn holds now (without_in who lock) news = λ was. (filter_eligible (λ c. holds c now) (λ w. not (is_of who w)) lock was.0, same ∙ was.1) in
+      let keep : NobodyCouldGoOn holds now lock olds → NobodyCouldGoOn holds now lock' news = λ was. (fewer was.0, same ∙ was.1) in
       record {
-        on_way = λ e. way lock (without_in who lock) apart (λ f. subst (λ n. is_on_way walk' n ≡ true) (sym (times_without who lock)) (o f)) (λ seat ne z. times_others seat who lock ne ∙ z) (p.on_way e);
-        idle = λ e. keep (p.idle (and_parts word.all_false _ e).0);
+        on_way = λ e. way flags flags apart (λ f. subst (λ n. is_on_way walk' (flags who) n ≡ true) (sym (same_called calls who)) (o f)) (λ seat ne f. subst (λ n. is_on_way (walk_at seat olds) (flags seat) n ≡ true) (sym (same_called calls seat)) f) (p.on_way e);
+        idle = λ e. keep (p.idle (and_parts word.all_false _ (and_parts (word.all_false && _) true e).0).0);
         free = λ e f g. keep (p.free e f g);
         empty = λ e. (e, alone word lock spin q' homed);
       }
 
+  -- The queues are put back with some moved to the lock list, by one that found the lock held.
+  pub moves_in : (word : Word) (now : List ℕ) (lock taken : List (Waiter C)) (flags : ℕ → ℕ) → NoneIs who front → ((seat : ℕ) → called walk' owed' seat ≡ called walk owed seat) → has_queues walk ≡ true → is_queuing walk ≡ false → is_queuing walk' ≡ false →
+      ((flag n : ℕ) → is_on_way walk flag n ≡ true → is_on_way walk' flag n ≡ true) → is_held word ≡ true → has_some taken ≡ true → Homed word lock olds →
+      Known holds word now lock flags olds → Known holds (word_returned true (bits_of (lock ++ taken)) word) now (lock ++ taken) flags news
+  moves_in word now lock taken flags apart calls spin q q' o busy some homed p = record {
+    on_way = λ e. way_on flags apart calls o (p.on_way e);
+    idle = λ e. let parts = and_parts (word.all_false && has_some (lock ++ taken)) false e in absurd (both_ways false refl parts.1);
+    free = λ e f g. absurd (both_ways (is_held word) (rw e (rw f refl)) busy);
+    empty = λ e. absurd (both_ways (has_some (lock ++ taken)) e (some_append lock taken some));
+  }
+
   -- a release without a scan
-  pub releases : (releasing : Releasing) (word : Word) (now now' : List ℕ) (lock : List (Waiter C)) → NoneIs who front → needs_scan releasing word ≡ false →
+  pub releases : (releasing : Releasing) (word : Word) (now now' : List ℕ) (lock : List (Waiter C)) (flags : ℕ → ℕ) → NoneIs who front → ((seat : ℕ) → called walk' owed' seat ≡ called walk owed seat) → needs_scan releasing word ≡ false →
       (is_loud releasing ≡ false → has_eligible (λ c. holds c now) lock ≡ false → has_eligible (λ c. holds c now') lock ≡ false) →
-      is_queuing walk' ≡ is_queuing walk → ((n : ℕ) → is_on_way walk n ≡ true → is_on_way walk' n ≡ true) →
-      Known holds word now lock olds → Known holds (word_released releasing word) now' lock news
-  releases Writer word now now' lock apart calm row q o p =
+      is_queuing walk' ≡ is_queuing walk → ((flag n : ℕ) → is_on_way walk flag n ≡ true → is_on_way walk' flag n ≡ true) →
+      Known holds word now lock flags olds → Known holds (word_released releasing word) now' lock flags news
+  releases Writer word now now' lock flags apart calls calm row q o p =
       let same = same_queuers q in
       record {
-        on_way = λ e. way lock lock apart (o (times_in who lock)) (λ seat ne z. z) (p.on_way e);
+        on_way = λ e. way_on flags apart calls o (p.on_way e);
         idle = λ e. absurd (cc);
         free = λ e f g. elim (no_scan word.waiting word.desig false calm g) [
           | inl none ↦ let was = p.empty none in (none_eligible (λ c. holds c now') lock was.0, same ∙ was.1)
@@ -199,11 +272,11 @@ module _ {C : Type 0} {N : ℕ} (holds : C → List ℕ → Bool) (front : List 
         ];
         empty = λ e. let was = p.empty e in (was.0, same ∙ was.1);
       }
-  releases QuietWriter word now now' lock apart calm row q o p =
+  releases QuietWriter word now now' lock flags apart calls calm row q o p =
       let same = same_queuers q in
       let keep : NobodyCouldGoOn holds now lock olds → NobodyCouldGoOn holds now' lock news = λ was. (row refl was.0, same ∙ was.1) in
       record {
-        on_way = λ e. way lock lock apart (o (times_in who lock)) (λ seat ne z. z) (p.on_way e);
+        on_way = λ e. way_on flags apart calls o (p.on_way e);
         idle = λ e. keep (p.idle e);
         free = λ e f g. elim (no_scan word.waiting word.desig word.all_false calm g) [
           | inl none ↦ let was = p.empty none in (none_eligible (λ c. holds c now') lock was.0, same ∙ was.1)
@@ -211,11 +284,11 @@ module _ {C : Type 0} {N : ℕ} (holds : C → List ℕ → Bool) (front : List 
         ];
         empty = λ e. let was = p.empty e in (was.0, same ∙ was.1);
       }
-  releases Reader word now now' lock apart calm row q o p =
+  releases Reader word now now' lock flags apart calls calm row q o p =
       let same = same_queuers q in
       let keep : NobodyCouldGoOn holds now lock olds → NobodyCouldGoOn holds now' lock news = λ was. (row refl was.0, same ∙ was.1) in
       record {
-        on_way = λ e. way lock lock apart (o (times_in who lock)) (λ seat ne z. z) (p.on_way e);
+        on_way = λ e. way_on flags apart calls o (p.on_way e);
         idle = λ e. keep (p.idle e);
         free = λ e f g. elim (no_scan word.waiting word.desig (ltb 1 word.readers || word.all_false) calm g) [
           | inl none ↦ let was = p.empty none in (none_eligible (λ c. holds c now') lock was.0, same ∙ was.1)
@@ -227,35 +300,100 @@ module _ {C : Type 0} {N : ℕ} (holds : C → List ℕ → Bool) (front : List 
         empty = λ e. let was = p.empty e in (was.0, same ∙ was.1);
       }
 
-  -- A scan, with the release of a section that leaves the row now'. What is put back has nobody who can go on where the scan leaves nobody, and of the other seats just those whom it leaves.
-  pub scans : (releasing : Releasing) (word : Word) (now now' : List ℕ) (lock lock' : List (Waiter C)) (flags : ℕ → ℕ) → NoneIs who front → has_queues walk ≡ true → is_queuing walk' ≡ false → awaits walk ≡ false → ((n : ℕ) → is_on_way walk n ≡ false) →
+  -- A scan, with the release of a section that leaves the row now'. What is put back has nobody who can go on where the scan leaves nobody.
+  pub scans : (releasing : Releasing) (word : Word) (now now' : List ℕ) (lists : Lists C) (lock' : List (Waiter C)) (flags : ℕ → ℕ) → NoneIs who front → has_queues walk ≡ true → is_queuing walk' ≡ false → awaits walk ≡ false → ((flag n : ℕ) → is_on_way walk flag n ≡ false) →
       let meets : C → Bool = λ c. holds c now' in
-      (has_eligible meets (left_of meets lock) ≡ false → has_eligible meets lock' ≡ false) → ((seat : ℕ) → who ≢ seat → times_in seat lock' ≡ times_in seat (left_of meets lock)) →
-      Homed word lock olds → WaitersPlaced lock flags olds →
-      Known holds word now lock olds → Known holds (word_released_returning releasing (has_some (woken_of meets lock)) (bits_of lock') word) now' lock' news
-  scans releasing word now now' lock lock' flags apart spin q' a o calm others homed placed p =
+      owed ≡ [] → owed' ≡ seats_of (woken_of meets lists.lock) → calls_from_lock walk' ≡ true →
+      (has_eligible meets (left_of meets lists.lock) ≡ false → has_eligible meets lock' ≡ false) →
+      Homed word lists.lock olds → WaitersPlaced lists flags olds →
+      Known holds word now lists.lock flags olds → Known holds (word_released_returning releasing (has_some (woken_of meets lists.lock)) (bits_of lock') word) now' lock' flags news
+  scans releasing word now now' lists lock' flags apart spin q' a o none owes from calm homed placed p =
       let meets : C → Bool = λ c. holds c now' in
+      let lock = lists.lock in
       let took = has_some (woken_of meets lock) in
-      let stay = left_of meets lock in
-      let parts : (seat : ℕ) → times_in seat (woken_of meets lock) + times_in seat stay ≡ times_in seat lock = λ seat. times_scan seat meets lock in
       let nobody : queuers news ≡ 0 = alone word lock spin q' homed in
-      let idle : took ≡ false → NobodyCouldGoOn holds now' lock' news = λ e. let none = woken_none meets lock e in (calm (subst (λ ws. has_eligible meets ws ≡ false) (sym none.1) none.0), nobody) in
+      let idle : took ≡ false → NobodyCouldGoOn holds now' lock' news = λ e. let left = woken_none meets lock e in (calm (subst (λ ws. has_eligible meets ws ≡ false) (sym left.1) left.0), nobody) in
+      let before : (seat : ℕ) → called walk owed seat ≡ 0 = λ seat. nothing_called walk owed seat none in
+      let after_all : (seat : ℕ) → called walk' owed' seat ≡ times_in seat (woken_of meets lock) = λ seat. rw from (ap (times_among seat) owes ∙ times_seats seat (woken_of meets lock)) in
       record {
         on_way = λ e. elim (or_cases took word.desig e) [
           | inl t ↦
               let one = woken_some meets lock t in
               let seat = one.0 in
-              let sum : times_in seat lock + _ ≡ one_if (is_unwoken (walk_at seat olds) (flags seat)) = placed.placed seat in
-              let most = one_most (is_unwoken (walk_at seat olds) (flags seat)) in
-              let part = parts seat in
+              let sum : times seat lists + _ ≡ one_if (is_unwoken (walk_at seat olds) (flags seat)) = placed.placed seat in
+              let part = times_scan seat meets lock in
               let waits : awaits (walk_at seat olds) ≡ true = due_awaits (walk_at seat olds) (flags seat) (omega (arith, sum, part, one.1)) in
-              let other : who ≢ seat = λ f. both_ways (awaits walk) a (subst (λ w. awaits w ≡ true) (walk_here front (view_of who walk held owed) back apart) (subst (λ s. awaits (walk_at s olds) ≡ true) (sym f) waits)) in
-              let same = others seat other in
-              let gone : times_in seat lock' ≡ 0 = omega (arith, sum, most, part, one.1, same) in
-              (seat, rw (walk_there seat front (view_of who walk held owed) (view_of who walk' held' owed') back other refl) (awaits_on_way (walk_at seat olds) (times_in seat lock') waits gone))
-          | inr d ↦ way lock lock' apart (λ f. absurd (both_ways (is_on_way walk (times_in who lock)) (o (times_in who lock)) f)) (λ seat ne z. let part = parts seat in let same = others seat ne in omega (arith, part, same, z)) (p.on_way d)
+              let other : who ≢ seat = λ f. both_ways (awaits walk) a (subst (λ w. awaits w ≡ true) (walk_here front (view_of who walk held owed) back apart) (subst (λ s. awaits (walk_at s olds) ≡ true) (sym f) waits)) in (
+                seat,
+                subst (λ w. is_on_way w (flags seat) (called_to seat news) ≡ true) (sym (walk_there seat front (view_of who walk held owed) (view_of who walk' held' owed') back other refl))
+                    (called_on_way (walk_at seat olds) (flags seat) (called_to seat news) waits (omega (arith, called_new seat, after_all seat, one.1))),
+              )
+          | inr d ↦ way flags flags apart (λ f. absurd (both_ways (is_on_way walk (flags who) (called_to who olds)) (o (flags who) (called_to who olds)) f))
+              (λ seat ne f. more_on_way (walk_at seat olds) (flags seat) (called_to seat olds) (called_to seat news) (omega (arith, called_old seat, called_new seat, before seat)) f) (p.on_way d)
         ];
         idle = λ e. idle (not-true took (and_parts (has_some lock') (not took) e).1);
         free = λ e f g. idle (or_parts took word.desig g).0;
         empty = λ e. (e, nobody);
+      }
+
+  -- a seat sets its flag
+  pub arms : (word : Word) (now : List ℕ) (lock : List (Waiter C)) (flags : ℕ → ℕ) → NoneIs who front → ((seat : ℕ) → called walk' owed' seat ≡ called walk owed seat) → is_queuing walk' ≡ is_queuing walk → ((flag n : ℕ) → is_on_way walk flag n ≡ false) →
+      Known holds word now lock flags olds → Known holds word now lock (flags_with flags who 1) news
+  arms word now lock flags apart calls q o p =
+      let same = same_queuers q in
+      record {
+        on_way = λ e. way flags (flags_with flags who 1) apart (λ f. absurd (both_ways (is_on_way walk (flags who) (called_to who olds)) (o (flags who) (called_to who olds)) f))
+            (λ seat ne f. subst (λ n. is_on_way (walk_at seat olds) n (called_to seat news) ≡ true) (sym (ap (λ b. cond b 1 (flags seat)) (ne_eqb who seat ne)))
+            (subst (λ n. is_on_way (walk_at seat olds) (flags seat) n ≡ true) (sym (same_called calls seat)) f)) (p.on_way e);
+        idle = λ e. let was = p.idle e in (was.0, same ∙ was.1);
+        free = λ e f g. let was = p.free e f g in (was.0, same ∙ was.1);
+        empty = λ e. let was = p.empty e in (was.0, same ∙ was.1);
+      }
+
+  -- a seat pays a wake: of one taken from the lock list by 0, of any other by 2
+  pub pays_one : (word : Word) (now : List ℕ) (lists : Lists C) (flags : ℕ → ℕ) (target value : ℕ) → NoneIs who front → owed ≡ target ∷ owed' → calls_from_lock walk ≡ eqb value 0 → (value ≡ 0) ⊎ (value ≡ 2) → ((seat : ℕ) → called walk' owed' seat ≡ cond (eqb value 0) (times_among seat owed') 0) →
+      is_queuing walk' ≡ is_queuing walk → awaits walk' ≡ awaits walk → was_woken walk' ≡ was_woken walk → WaitersPlaced lists flags olds →
+      Known holds word now lists.lock flags olds → Known holds word now lists.lock (flags_with flags target value) news
+  pays_one word now lists flags target value apart owes calls is_value after_all q a w placed p =
+      let same = same_queuers q in
+      let due : (seat : ℕ) → target ≡ seat → flags seat ≡ 1 = λ seat e. due_flag (walk_at seat olds) (flags seat) (due_of front who walk held owed walk' held' owed' back target seat lists flags owes e placed) in
+      let goes : (seat : ℕ) (at : Option (Walk C)) → is_on_way at (flags seat) (called_to seat olds) ≡ true → is_on_way at (flags_with flags target value seat) (called_to seat news) ≡ true = λ seat at f.
+      elim (cases_eq target seat) [
+        | inl e ↦ subst (λ n. is_on_way at n (called_to seat news) ≡ true) (sym (ap (λ b. cond b value (flags seat)) (eq-eqb target seat e))) (elim is_value [
+          | inl zero ↦ subst (λ n. is_on_way at n (called_to seat news) ≡ true) (sym zero) (cleared_on_way at (flags seat) (called_to seat olds) (called_to seat news) f)
+          | inr two ↦
+              let no : eqb value 0 ≡ false = ap (λ n. eqb n 0) two in
+              let here : called walk owed seat ≡ 0 = ap (λ b. cond b (times_among seat owed) 0) (calls ∙ no) in
+              let there : called walk' owed' seat ≡ 0 = after_all seat ∙ ap (λ b. cond b (times_among seat owed') 0) no in
+              let now_is : called_to seat news ≡ called_to seat olds = omega (arith, called_old seat, called_new seat, here, there) in
+              subst (λ n. is_on_way at n (called_to seat news) ≡ true) (sym two) (subst (λ n. is_on_way at 2 n ≡ true) (sym now_is) (woken_on_way at (called_to seat olds) (subst (λ n. is_on_way at n (called_to seat olds) ≡ true) (due seat e) f)))
+        ])
+        | inr ne ↦
+            let fewer : times_among seat owed ≡ times_among seat owed' = ap (times_among seat) owes ∙ rw (ne_eqb target seat ne) (omega arith) in
+            let here : called walk owed seat ≡ called walk' owed' seat = ap (λ b. cond b (times_among seat owed) 0) calls ∙ ap (λ n. cond (eqb value 0) n 0) fewer ∙ sym (after_all seat) in
+            let now_is : called_to seat news ≡ called_to seat olds = omega (arith, called_old seat, called_new seat, here) in
+            subst (λ n. is_on_way at n (called_to seat news) ≡ true) (sym (ap (λ b. cond b value (flags seat)) (ne_eqb target seat ne))) (subst (λ n. is_on_way at (flags seat) n ≡ true) (sym now_is) f)
+      ] in
+      record {
+        on_way = λ e. way flags (flags_with flags target value) apart
+            (λ f. goes_on walk walk' (flags_with flags target value who) (called_to who news) a w (goes who walk f)) (λ seat ne f. goes seat (walk_at seat olds) f) (p.on_way e);
+        idle = λ e. let was = p.idle e in (was.0, same ∙ was.1);
+        free = λ e f g. let was = p.free e f g in (was.0, same ∙ was.1);
+        empty = λ e. let was = p.empty e in (was.0, same ∙ was.1);
+      }
+
+  -- a seat sees its flag cleared
+  pub sees_wake : (word : Word) (now : List ℕ) (lists : Lists C) (flags : ℕ → ℕ) → NoneIs who front → ((seat : ℕ) → called walk' owed' seat ≡ called walk owed seat) → is_queuing walk' ≡ is_queuing walk → flags who ≢ 1 → (is_on_way walk (flags who) 0 ≡ true → is_on_way walk' (flags who) 0 ≡ true) → WaitersPlaced lists flags olds →
+      Known holds word now lists.lock flags olds → Known holds word now lists.lock flags news
+  sees_wake word now lists flags apart calls q clear o placed p =
+      let same = same_queuers q in
+      let sum : times who lists + owed_to who olds ≡ 0 = placed_here front who walk held owed walk' held' owed' back lists flags apart placed ∙ rw (cleared walk (flags who) clear) refl in
+      let none : called_to who olds ≡ 0 = let most = called_most who olds in omega (arith, sum, most) in
+      record {
+        on_way = λ e. way flags flags apart
+            (λ f. subst (λ n. is_on_way walk' (flags who) n ≡ true) (sym (same_called calls who ∙ none)) (o (subst (λ n. is_on_way walk (flags who) n ≡ true) none f)))
+            (λ seat ne f. subst (λ n. is_on_way (walk_at seat olds) (flags seat) n ≡ true) (sym (same_called calls seat)) f) (p.on_way e);
+        idle = λ e. let was = p.idle e in (was.0, same ∙ was.1);
+        free = λ e f g. let was = p.free e f g in (was.0, same ∙ was.1);
+        empty = λ e. let was = p.empty e in (was.0, same ∙ was.1);
       }

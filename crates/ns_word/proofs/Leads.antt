@@ -1,37 +1,49 @@
 -- Where a decision leads: the place goes with the section in hand, and tells the same as the place before.
-use Rattle.std.proofs.Common.{◌≡◌, ℕ, ◌-◌, ◌<◌, Bool, true, false, not, cond, ltb, List, [], length, Option, None, Some, IsSome, refl, sym, ◌∙◌, subst, arith}
+use Rattle.std.proofs.Common.{◌≡◌, ℕ, ◌-◌, ◌<◌, Bool, true, false, not, cond, ltb, List, [], length, Option, None, Some, IsSome, refl, ap, sym, ◌∙◌, subst, arith}
 use Rattle.std.proofs.lemmas.Bool.{ltb-true}
 use Rattle.ns_model.specs.declared.event.Mode.{Mode}
 use Rattle.ns_model.specs.declared.event.Mode.TheVariants.{Write, Read}
 use Rattle.ns_model.specs.declared.event.Answer.TheVariants.{Met}
-use Rattle.ns_model.specs.declared.phase.Phase.TheVariants.{Cond}
 use Rattle.ns_model.specs.declared.phase.Phase.TheVariants as ThePhase
 use Rattle.ns_queue.specs.declared.waiter.Waiter.{Waiter}
 use Rattle.ns_word.specs.declared.word.Word.{Word}
 use Rattle.ns_word.specs.declared.word.Releasing.{Releasing}
+use Rattle.ns_word.specs.declared.word.Arrival.{Arrival}
+use Rattle.ns_word.specs.declared.word.Arrival.TheVariants.{AsFresh}
 use Rattle.ns_word.specs.declared.word.Releasing.TheVariants.{Writer, QuietWriter, Reader}
 use Rattle.ns_word.specs.declared.limits.Cause.{Cause}
+use Rattle.ns_word.specs.declared.wait.Subject.{Subject}
+use Rattle.ns_word.specs.declared.wait.Subject.TheVariants.{OnCondition, OnVariable}
 use Rattle.ns_word.specs.declared.wait.Wait.{Wait}
 use Rattle.ns_word.specs.declared.wait.Aim.{Aim}
 use Rattle.ns_word.specs.declared.wait.Aim.TheVariants.{ForLock, ForWait}
 use Rattle.ns_word.specs.declared.wait.Visit.{Visit}
 use Rattle.ns_word.specs.declared.wait.Visit.TheVariants.{OnEntry, OnReturn}
-use Rattle.ns_word.specs.declared.wait.WaitPlace.TheVariants.{TestCells, TestLast, LookIn, Load, Take, AwaitWakeInWait, LookOut, LeaveLoad, TakeToLeave}
 use Rattle.ns_word.specs.declared.view.Opening.{Opening}
-use Rattle.ns_word.specs.declared.view.Opening.TheVariants.{Locked, CameBack}
+use Rattle.ns_word.specs.declared.view.Opening.TheVariants.{CameBack}
 use Rattle.ns_word.specs.declared.view.Held.{Held}
+use Rattle.ns_word.specs.declared.wait.WaitPlace.TheVariants.{TestCells, TestLast, InQueuing, AwaitWakeInWait, LookOut, InLeaving}
+use Rattle.ns_word.specs.declared.wait.QueuePlace.TheVariants.{LookIn, Load, Take, LoadToScan, QueueToWait}
+use Rattle.ns_word.specs.declared.wait.LeavePlace.TheVariants.{LeaveLoad, TakeToLeave}
+use Rattle.ns_word.specs.declared.try_walk.TryPlace.TheVariants.{TryAcquire}
+use Rattle.ns_word.specs.declared.acquire_walk.AcquirePlace.TheVariants.{AcquireLoad, AcquireExchange, TakeToQueue}
+use Rattle.ns_word.specs.declared.release_walk.ReleasePlace.TheVariants.{ReleaseLoad, ReleaseExchange, TakeToScan, ScanCells, ScanAndRelease}
+use Rattle.ns_word.specs.declared.cell_walk.CellPlace.TheVariants.{QuietCells, QuietLast}
 use Rattle.ns_word.specs.declared.walk.Walk.{Walk}
-use Rattle.ns_word.specs.declared.walk.Walk.TheVariants.{TryAcquire, AcquireLoad, AcquireExchange, TakeToQueue, QuietCells, QuietLast, ReleaseLoad, ReleaseExchange, TakeToScan, ScanCells, ScanAndRelease, Pay, InWait}
+use Rattle.ns_word.specs.declared.act.Waking.{Waking}
+use Rattle.ns_word.specs.declared.signal_walk.SignalPlace.TheVariants.{SignalLoad, TakeToWake}
+use Rattle.ns_word.specs.declared.walk.Walk.TheVariants.{InTry, InAcquire, InRelease, InCells, InWait, InSignal}
 use Rattle.ns_word.specs.declared.walk.Next.TheVariants.{On, Idle, Done}
-use Rattle.ns_word.specs.declared.walk.Reply.TheVariants.{Succeeded, Busy, Noisy, Answered}
+use Rattle.ns_word.specs.declared.walk.Reply.TheVariants.{Busy, Noisy, Answered}
 use Rattle.ns_word.specs.Words.{mode_released, may_acquire, needs_scan}
 use Rattle.ns_word.specs.Lists.{has_eligible}
-use Rattle.ns_word.specs.Waits.{is_limited, mode_for}
-use Rattle.ns_word.specs.Walks.{walk_after, acquire_by, acquired_for, release_by, quiet_place, scan_place, test_place, unmet_by, queue_by, pay_waiting, rest_or_look, leave_by, has_queues, is_queuing, has_armed, waits_in, pays, phase_by}
+use Rattle.ns_word.specs.Waits.{is_limited, mode_for, phase_kept}
+use Rattle.ns_word.specs.Walks.{walk_after, acquire_by, back_with, acquired_for, load_place, armed_place, signal_by, pay_woken, expected_for, calls_from_lock, was_woken, release_by, quiet_place, scan_place, pay_releasing, test_place, unmet_by, queue_by, pay_waiting, rest_or_look, leave_by, has_queues, is_queuing, has_armed, waits_in, pays, phase_by}
 use Rattle.ns_model.specs.Truths.{Truths, QuietKeeps}
-use Rattle.ns_word.specs.Steps.{newly_held, opening_by, held_after, meets_at}
-use Rattle.ns_word.specs.Places.{PlaceFits, HasMode, CanLeave, IsLeft, Tests, CanWait}
-use Rattle.ns_word.specs.Lawful.{phase_before}
+use Rattle.ns_word.specs.Answers.{cause_by}
+use Rattle.ns_word.specs.Steps.{MayShow, newly_held, opening_by, held_after, meets_at}
+use Rattle.ns_word.specs.Places.{PlaceFits, IsForCondition, IsUnmet, IsInRange, HasMode, IsSettledBy, IsSettled, CanLeave, IsLeft, Tests, CanWait, AimFits}
+use Rattle.ns_word.specs.Lawful.{IsExpected, phase_before}
 use Rattle.ns_word.proofs.Scans.{quiet_eligible}
 use Rattle.ns_word.proofs.Knows.{is_loud}
 use Rattle.ns_word.proofs.Keeps.{Same, Way, Stays}
@@ -44,148 +56,225 @@ row_in (Some held) = held.row
 
 -- a wait with its section in hand, and one that stands in the lock list
 abbrev pub inside : {C : Type 0} → Wait C → Option (Walk C)
-inside wait = Some (InWait wait (Load false))
+inside wait = Some (InWait wait (InQueuing false Load))
 
 abbrev pub outside : {C : Type 0} → Wait C → Option (Walk C)
 outside wait = Some (InWait wait AwaitWakeInWait)
 
-shown_phase : {C : Type 0} (mode : Mode) (cause : Cause) (entry : Opening C) → phase_before mode (opening_by cause entry) ≡ phase_before mode entry
-shown_phase mode cause Locked = refl
-shown_phase mode cause (CameBack c was) = refl
+-- what ends a wait for a condition changes nothing of its phase
+shown_phase : {C : Type 0} (mode : Mode) (cause : Cause) (on : Subject C) (kept : Option Cause) → IsForCondition on → phase_kept on mode (Some cause) ≡ phase_kept on mode kept
+shown_phase mode cause (OnCondition c) kept is = refl
+shown_phase mode cause (OnVariable k) kept is = absurd is
+
+-- what ended a wait settles it
+ended_settled : {C : Type 0} (holds : C → List ℕ → Bool) (before : List ℕ) (on : Subject C) (cause : Cause) → IsSettledBy holds before (CameBack on (Some cause))
+ended_settled holds before (OnCondition c) cause = tt
+ended_settled holds before (OnVariable k) cause = tt
 
 module _ {C : Type 0} {N : ℕ} (truths : Truths C) where
   -- The step changes the place in the call alone.
   abbrev pub Leads : Option (Walk C) → Option (Walk C) → Option (Held C N) → Type 0
   Leads walk next held = PlaceFits truths next held × Same walk next × (is_queuing next ≡ is_queuing walk) × Way walk next × Stays walk next held
 
-  pub try_leads : (mode : Mode) (word : Word) (held : Option (Held C N)) (b : Bool) → may_acquire mode false word ≡ b → held ≡ None →
-      Leads None (walk_after (cond b (On (TryAcquire mode word)) (Done Busy))) held
-  try_leads mode word held true e p = ((p, e), (refl, refl, refl, refl), refl, λ n f. f, λ none. refl)
-  try_leads mode word held false e p = (tt, (refl, refl, refl, refl), refl, λ n f. f, λ none. refl)
+  -- where nothing is in hand, nothing is open
+  pub none_settled : (held : Option (Held C N)) → held ≡ None → IsSettled truths held
+  none_settled held e = subst (λ x. IsSettled truths x) (sym e) tt
 
-  acquire_place : (aim : Aim C) (woken : Bool) (word : Word) (held : Option (Held C N)) (b c : Bool) → may_acquire (mode_for aim) woken word ≡ b → word.spin ≡ c → held ≡ None →
-      Leads (Some (AcquireLoad aim woken)) (walk_after (cond b (On (AcquireExchange aim woken word)) (cond c (Idle (AcquireLoad aim woken)) (On (TakeToQueue aim woken word))))) held
-  acquire_place aim woken word held true c e f p = ((p, e), (refl, refl, refl, refl), refl, λ n f. f, λ none. refl)
-  acquire_place aim woken word held false true e f p = (p, (refl, refl, refl, refl), refl, λ n f. f, λ none. refl)
-  acquire_place aim woken word held false false e f p = ((p, f, e), (refl, refl, refl, refl), refl, λ n f. f, λ none. refl)
+  -- and so where a section may be left
+  pub leave_settled : (releasing : Releasing) (held : Option (Held C N)) → CanLeave truths releasing held → IsSettled truths held
+  leave_settled releasing None p = absurd p
+  leave_settled releasing (Some held) p = p.2
 
-  pub acquire_leads : (aim : Aim C) (woken : Bool) (word : Word) (held : Option (Held C N)) → held ≡ None → Leads (Some (AcquireLoad aim woken)) (walk_after (acquire_by aim woken word)) held
-  acquire_leads aim woken word held p = acquire_place aim woken word held (may_acquire (mode_for aim) woken word) word.spin refl refl p
+  pub try_leads : (mode : Mode) (word : Word) (held : Option (Held C N)) (b : Bool) → may_acquire mode AsFresh word ≡ b → held ≡ None →
+      Leads None (walk_after (cond b (On (InTry mode (TryAcquire word))) (Done Busy))) held
+  try_leads mode word held true e p = ((p, e), (refl, refl, refl, refl), refl, λ flag n f. f, λ none. refl)
+  try_leads mode word held false e p = (none_settled held p, (refl, refl, refl, refl), refl, λ flag n f. f, λ none. refl)
+
+  acquire_place : (aim : Aim C) (arrival : Arrival) (word : Word) (held : Option (Held C N)) (b c : Bool) → may_acquire (mode_for aim) arrival word ≡ b → word.spin ≡ c → held ≡ None → AimFits aim →
+      Leads (Some (InAcquire aim (AcquireLoad arrival))) (walk_after (cond b (On (InAcquire aim (AcquireExchange arrival word))) (cond c (Idle (InAcquire aim (AcquireLoad arrival))) (On (InAcquire aim (TakeToQueue arrival word)))))) held
+  acquire_place aim arrival word held true c e f p kept = ((p, e, kept), (refl, refl, refl, refl), refl, λ flag n f. f, λ none. refl)
+  acquire_place aim arrival word held false true e f p kept = ((p, tt, kept), (refl, refl, refl, refl), refl, λ flag n f. f, λ none. refl)
+  acquire_place aim arrival word held false false e f p kept = ((p, (f, e), kept), (refl, refl, refl, refl), refl, λ flag n f. f, λ none. refl)
+
+  pub acquire_leads : (aim : Aim C) (arrival : Arrival) (word : Word) (held : Option (Held C N)) → held ≡ None → AimFits aim → Leads (Some (InAcquire aim (AcquireLoad arrival))) (walk_after (acquire_by aim arrival word)) held
+  acquire_leads aim arrival word held p kept = acquire_place aim arrival word held (may_acquire (mode_for aim) arrival word) word.spin refl refl p kept
 
   release_place : (releasing : Releasing) (word : Word) (held : Option (Held C N)) (b c : Bool) → needs_scan releasing word ≡ b → word.spin ≡ c → CanLeave truths releasing held →
-      Leads None (walk_after (cond (not b) (On (ReleaseExchange releasing word)) (cond c (Idle (ReleaseLoad releasing)) (On (TakeToScan releasing word))))) held
-  release_place releasing word held false c e f p = ((p, e), (refl, refl, refl, refl), refl, λ n f. f, λ none. refl)
-  release_place releasing word held true true e f p = (p, (refl, refl, refl, refl), refl, λ n f. f, λ none. refl)
-  release_place releasing word held true false e f p = ((p, f, e), (refl, refl, refl, refl), refl, λ n f. f, λ none. refl)
+      Leads None (walk_after (cond (not b) (On (InRelease releasing (ReleaseExchange word))) (cond c (Idle (InRelease releasing ReleaseLoad)) (On (InRelease releasing (TakeToScan word)))))) held
+  release_place releasing word held false c e f p = ((p, e), (refl, refl, refl, refl), refl, λ flag n f. f, λ none. refl)
+  release_place releasing word held true true e f p = (p, (refl, refl, refl, refl), refl, λ flag n f. f, λ none. refl)
+  release_place releasing word held true false e f p = ((p, f, e), (refl, refl, refl, refl), refl, λ flag n f. f, λ none. refl)
 
   pub release_leads : (releasing : Releasing) (word : Word) (held : Option (Held C N)) → CanLeave truths releasing held → Leads None (walk_after (release_by releasing word)) held
   release_leads releasing word held p = release_place releasing word held (needs_scan releasing word) word.spin refl refl p
 
   scan_place_at : (releasing : Releasing) (last : Word) (held : Option (Held C N)) (loaded : ℕ) (b : Bool) → ltb loaded N ≡ b → CanLeave truths releasing held →
-      Leads (Some (ScanAndRelease releasing last)) (Some (cond b (ScanCells releasing last loaded) (ScanAndRelease releasing last))) held
-  scan_place_at releasing last held loaded true e p = ((p, ltb-true loaded N e), (refl, refl, refl, refl), refl, λ n f. f, λ none. refl)
-  scan_place_at releasing last held loaded false e p = (p, (refl, refl, refl, refl), refl, λ n f. f, λ none. refl)
+      Leads (Some (InRelease releasing (ScanAndRelease last))) (Some (InRelease releasing (cond b (ScanCells last loaded) (ScanAndRelease last)))) held
+  scan_place_at releasing last held loaded true e p = ((p, ltb-true loaded N e), (refl, refl, refl, refl), refl, λ flag n f. f, λ none. refl)
+  scan_place_at releasing last held loaded false e p = (p, (refl, refl, refl, refl), refl, λ flag n f. f, λ none. refl)
 
   pub scan_leads : (releasing : Releasing) (last : Word) (held : Option (Held C N)) (loaded : ℕ) → CanLeave truths releasing held →
-      Leads (Some (ScanAndRelease releasing last)) (Some (scan_place N releasing last loaded)) held
+      Leads (Some (InRelease releasing (ScanAndRelease last))) (Some (InRelease releasing (scan_place N last loaded))) held
   scan_leads releasing last held loaded p = scan_place_at releasing last held loaded (ltb loaded N) refl p
 
   -- after the queues were taken to scan
   pub taken_leads : (releasing : Releasing) (last : Word) (held : Option (Held C N)) (b : Bool) → CanLeave truths releasing held →
-      Leads (Some (ScanAndRelease releasing last)) (Some (cond b (scan_place N releasing last 0) (ScanAndRelease releasing last))) held
+      Leads (Some (InRelease releasing (ScanAndRelease last))) (Some (InRelease releasing (cond b (scan_place N last 0) (ScanAndRelease last)))) held
   taken_leads releasing last held true p = scan_leads releasing last held 0 p
-  taken_leads releasing last held false p = (p, (refl, refl, refl, refl), refl, λ n f. f, λ none. refl)
+  taken_leads releasing last held false p = (p, (refl, refl, refl, refl), refl, λ flag n f. f, λ none. refl)
 
-  quiet_place_at : (held : Option (Held C N)) (loaded : ℕ) (b : Bool) → ltb loaded (N - 1) ≡ b → 0 < N → HasMode Write held →
-      Leads None (Some (cond b (QuietCells loaded) (QuietLast (N - 1)))) held
-  quiet_place_at held loaded true e some p = let less = ltb-true loaded (N - 1) e in ((p, omega (arith, less)), (refl, refl, refl, refl), refl, λ n f. f, λ none. refl)
-  quiet_place_at held loaded false e some p = ((p, omega (arith, some)), (refl, refl, refl, refl), refl, λ n f. f, λ none. refl)
+  quiet_place_at : (held : Option (Held C N)) (loaded : ℕ) (b : Bool) → ltb loaded (N - 1) ≡ b → 0 < N → HasMode Write held → IsSettled truths held →
+      Leads None (Some (InCells (cond b (QuietCells loaded) (QuietLast (N - 1))))) held
+  quiet_place_at held loaded true e some p settled = let less = ltb-true loaded (N - 1) e in (((p, omega (arith, less)), settled), (refl, refl, refl, refl), refl, λ flag n f. f, λ none. refl)
+  quiet_place_at held loaded false e some p settled = (((p, omega (arith, some)), settled), (refl, refl, refl, refl), refl, λ flag n f. f, λ none. refl)
 
-  pub quiet_leads : (held : Option (Held C N)) (loaded : ℕ) → 0 < N → HasMode Write held → Leads None (Some (quiet_place N loaded)) held
-  quiet_leads held loaded some p = quiet_place_at held loaded (ltb loaded (N - 1)) refl some p
+  pub quiet_leads : (held : Option (Held C N)) (loaded : ℕ) → 0 < N → HasMode Write held → IsSettled truths held → Leads None (Some (InCells (quiet_place N loaded))) held
+  quiet_leads held loaded some p settled = quiet_place_at held loaded (ltb loaded (N - 1)) refl some p settled
 
-  pub judged_leads : (held : Option (Held C N)) (b : Bool) → (b ≡ true → CanLeave truths QuietWriter held) → Leads None (walk_after (cond b (On (ReleaseLoad QuietWriter)) (Done Noisy))) held
-  judged_leads held true p = (p refl, (refl, refl, refl, refl), refl, λ n f. f, λ none. refl)
-  judged_leads held false p = (tt, (refl, refl, refl, refl), refl, λ n f. f, λ none. refl)
+  pub judged_leads : (held : Option (Held C N)) (b : Bool) → (b ≡ true → CanLeave truths QuietWriter held) → IsSettled truths held → Leads None (walk_after (cond b (On (InRelease QuietWriter ReleaseLoad)) (Done Noisy))) held
+  judged_leads held true p settled = (p refl, (refl, refl, refl, refl), refl, λ flag n f. f, λ none. refl)
+  judged_leads held false p settled = (settled, (refl, refl, refl, refl), refl, λ flag n f. f, λ none. refl)
 
-  pub pay_leads : (held : Option (Held C N)) (b : Bool) → let next = walk_after (cond b (On Pay) (Done Succeeded)) in
-      (held ≡ None → PlaceFits truths next held) × (pays next ≡ b) × (has_queues next ≡ false) × (waits_in next ≡ None) × (has_armed next ≡ false) × (is_queuing next ≡ false) × Way None next × (phase_by next ≡ ThePhase.Idle)
-  pay_leads held true = (λ e. e, refl, refl, refl, refl, refl, λ n f. f, refl)
-  pay_leads held false = (λ e. tt, refl, refl, refl, refl, refl, λ n f. f, refl)
+  pub pay_leads : (releasing : Releasing) (held : Option (Held C N)) (b : Bool) → let next = walk_after (pay_releasing releasing b) in
+      (held ≡ None → PlaceFits truths next held) × (pays next ≡ b) × (has_queues next ≡ false) × (waits_in next ≡ None) × (has_armed next ≡ false) × (is_queuing next ≡ false) × Way None next × (calls_from_lock next ≡ true) × IsExpected (phase_by next) ThePhase.Idle × (was_woken next ≡ false)
+  pay_leads releasing held true = (λ e. e, refl, refl, refl, refl, refl, λ flag n f. f, refl, refl, refl)
+  pay_leads releasing held false = (λ e. none_settled held e, refl, refl, refl, refl, refl, λ flag n f. f, refl, refl, refl)
 
   -- ---- waits
 
-  test_place_at : (wait : Wait C) (visit : Visit) (held : Option (Held C N)) (loaded : ℕ) (b : Bool) → ltb loaded (N - 1) ≡ b → 0 < N → Tests wait visit held →
+  test_place_at : (wait : Wait C) (visit : Visit) (held : Option (Held C N)) (loaded : ℕ) (b : Bool) → ltb loaded (N - 1) ≡ b → 0 < N → Tests truths wait visit held → MayShow wait.limits (cause_by visit) → IsForCondition wait.on →
       Leads (inside wait) (Some (cond b (InWait wait (TestCells visit loaded)) (InWait wait (TestLast visit (N - 1))))) held
-  test_place_at wait visit held loaded true e some p = let less = ltb-true loaded (N - 1) e in ((p, omega (arith, less)), (refl, refl, refl, refl), refl, λ n f. f, λ none. refl)
-  test_place_at wait visit held loaded false e some p = ((p, omega (arith, some)), (refl, refl, refl, refl), refl, λ n f. f, λ none. refl)
+  test_place_at wait visit held loaded true e some p kept on = let less = ltb-true loaded (N - 1) e in (((p, omega (arith, less), on), kept), (refl, refl, refl, refl), refl, λ flag n f. f, λ none. refl)
+  test_place_at wait visit held loaded false e some p kept on = (((p, omega (arith, some), on), kept), (refl, refl, refl, refl), refl, λ flag n f. f, λ none. refl)
 
-  pub test_leads : (wait : Wait C) (visit : Visit) (held : Option (Held C N)) (loaded : ℕ) → 0 < N → Tests wait visit held → Leads (inside wait) (Some (test_place N wait visit loaded)) held
-  test_leads wait visit held loaded some p = test_place_at wait visit held loaded (ltb loaded (N - 1)) refl some p
+  pub test_leads : (wait : Wait C) (visit : Visit) (held : Option (Held C N)) (loaded : ℕ) → 0 < N → Tests truths wait visit held → MayShow wait.limits (cause_by visit) → IsForCondition wait.on → Leads (inside wait) (Some (test_place N wait visit loaded)) held
+  test_leads wait visit held loaded some p kept on = test_place_at wait visit held loaded (ltb loaded (N - 1)) refl some p kept on
 
   -- after an acquire
-  pub acquired_leads : (aim : Aim C) (row : List ℕ) → 0 < N → let next = walk_after (acquired_for N aim) in
+  back_leads : (on : Subject C) (wait : Wait C) (kept : Option Cause) (row : List ℕ) → wait.on ≡ on → 0 < N → MayShow wait.limits kept → let next = walk_after (back_with N on wait kept) in
+      PlaceFits truths next (Some (newly_held {C = C} {N = N} (ForWait wait kept) row)) × Same None next × (is_queuing next ≡ false)
+  back_leads (OnCondition c) wait kept row is some fits =
+      let to = test_leads wait (OnReturn kept) (Some (newly_held {C = C} {N = N} (ForWait wait kept) row)) 0 some (refl, record { entry = refl; cells = refl }) fits (subst IsForCondition (sym is) tt) in (to.0, to.1, to.2)
+  back_leads (OnVariable k) wait kept row is some fits = (subst (λ on. IsSettledBy truths.holds row (CameBack on kept)) (sym is) (variable_settled kept), (refl, refl, refl, refl), refl) where
+    variable_settled : (kept : Option Cause) → IsSettledBy truths.holds row (CameBack (OnVariable k) kept)
+    variable_settled None = tt
+    variable_settled (Some cause) = tt
+
+  pub acquired_leads : (aim : Aim C) (row : List ℕ) → 0 < N → AimFits aim → let next = walk_after (acquired_for N aim) in
       PlaceFits truths next (Some (newly_held {C = C} {N = N} aim row)) × Same None next × (is_queuing next ≡ false)
-  acquired_leads (ForLock mode) row some = (tt, (refl, refl, refl, refl), refl)
-  acquired_leads (ForWait wait kept) row some = let to = test_leads wait (OnReturn kept) (Some (newly_held {C = C} {N = N} (ForWait wait kept) row)) 0 some (refl, record { entry = refl; cells = refl }) in (to.0, to.1, to.2)
+  acquired_leads (ForLock mode) row some fits = (tt, (refl, refl, refl, refl), refl)
+  acquired_leads (ForWait wait kept) row some fits = back_leads wait.on wait kept row refl some fits
 
   -- a section is in hand where a condition is tested
-  pub tests_some : (wait : Wait C) (visit : Visit) (held : Option (Held C N)) → Tests wait visit held → IsSome held
+  pub tests_some : (wait : Wait C) (visit : Visit) (held : Option (Held C N)) → Tests truths wait visit held → IsSome held
   tests_some wait visit None p = absurd p
   tests_some wait visit (Some held) p = refl
 
   look_place : (wait : Wait C) (again : Bool) (held : Option (Held C N)) (b : Bool) → CanWait truths wait again held →
-      Leads (inside wait) (walk_after (cond b (On (InWait wait (LookIn again))) (On (InWait wait (Load again))))) held
-  look_place wait again held true p = (p, (refl, refl, refl, refl), refl, λ n f. f, λ none. refl)
-  look_place wait again held false p = (p, (refl, refl, refl, refl), refl, λ n f. f, λ none. refl)
+      Leads (inside wait) (walk_after (cond b (On (InWait wait (InQueuing again LookIn))) (On (InWait wait (InQueuing again Load))))) held
+  look_place wait again held true p = (((p, tt), tt), (refl, refl, refl, refl), refl, λ flag n f. f, λ none. refl)
+  look_place wait again held false p = (((p, tt), tt), (refl, refl, refl, refl), refl, λ flag n f. f, λ none. refl)
 
-  unmet_leads : (wait : Wait C) (visit : Visit) (held : Option (Held C N)) → Tests wait visit held → truths.holds wait.cond (row_in held) ≡ false → Leads (inside wait) (walk_after (unmet_by wait visit)) held
-  unmet_leads wait visit None p e = absurd p
-  unmet_leads wait OnEntry (Some held) p e = look_place wait false (Some held) (is_limited wait.limits) (record { mode = p; unmet = e; back = λ again. absurd (cc) })
-  unmet_leads wait (OnReturn None) (Some held) p e = look_place wait true (Some held) (is_limited wait.limits) (record { mode = p.0; unmet = e; back = λ again. p.1 })
-  unmet_leads wait (OnReturn (Some cause)) (Some held) p e = (tt, (refl, refl, refl, refl), refl, λ n f. f, λ none. absurd (cc))
+  unmet_leads : (wait : Wait C) (visit : Visit) (held : Option (Held C N)) → Tests truths wait visit held → IsForCondition wait.on → IsUnmet truths wait.on (row_in held) → Leads (inside wait) (walk_after (unmet_by wait visit)) held
+  unmet_leads wait visit None p on e = absurd p
+  unmet_leads wait OnEntry (Some held) p on e = look_place wait false (Some held) (is_limited wait.limits) (record { mode = p.0; unmet = e; settled = λ first. p.1; back = λ again. absurd (cc) })
+  unmet_leads wait (OnReturn None) (Some held) p on e = look_place wait true (Some held) (is_limited wait.limits) (record { mode = p.0; unmet = e; settled = λ first. absurd (cc); back = λ again. (on, p.1) })
+  unmet_leads wait (OnReturn (Some cause)) (Some held) p on e = (subst (λ x. IsSettledBy truths.holds held.before x) (sym p.1.entry) (ended_settled truths.holds held.before wait.on cause), (refl, refl, refl, refl), refl, λ flag n f. f, λ none. absurd (cc))
+
+  -- a section whose wait has met its condition is settled
+  met_settled : (wait : Wait C) (c : C) (visit : Visit) (held : Option (Held C N)) → wait.on ≡ OnCondition c → Tests truths wait visit held → truths.holds c (row_in held) ≡ true → IsSettled truths held
+  met_settled wait c visit None is p e = absurd p
+  met_settled wait c OnEntry (Some held) is p e = p.1
+  met_settled wait c (OnReturn None) (Some held) is p e = subst (λ x. IsSettledBy truths.holds held.before x) (sym (p.1.entry ∙ ap (λ on. CameBack on None) is)) (ap (truths.holds c) (sym p.1.cells) ∙ e)
+  met_settled wait c (OnReturn (Some cause)) (Some held) is p e = subst (λ x. IsSettledBy truths.holds held.before x) (sym p.1.entry) (ended_settled truths.holds held.before wait.on cause)
 
   -- the condition was tested
-  pub met_leads : (wait : Wait C) (visit : Visit) (held : Option (Held C N)) (b : Bool) → Tests wait visit held → truths.holds wait.cond (row_in held) ≡ b →
+  pub met_leads : (wait : Wait C) (c : C) (visit : Visit) (held : Option (Held C N)) (b : Bool) → wait.on ≡ OnCondition c → Tests truths wait visit held → truths.holds c (row_in held) ≡ b →
       Leads (inside wait) (walk_after (cond b (Done (Answered Met)) (unmet_by wait visit))) held
-  met_leads wait visit held true p e = (tt, (refl, refl, refl, refl), refl, λ n f. f, λ none. absurd (subst (λ x. Tests wait visit x) none p))
-  met_leads wait visit held false p e = unmet_leads wait visit held p e
+  met_leads wait c visit held true is p e = (met_settled wait c visit held is p e, (refl, refl, refl, refl), refl, λ flag n f. f, λ none. absurd (subst (λ x. Tests truths wait visit x) none p))
+  met_leads wait c visit held false is p e = unmet_leads wait visit held p (subst IsForCondition (sym is) tt) (subst (λ on. IsUnmet truths on (row_in held)) (sym is) e)
 
   queue_place : (wait : Wait C) (again : Bool) (word : Word) (held : Option (Held C N)) (b : Bool) → word.spin ≡ b → CanWait truths wait again held →
-      Leads (inside wait) (walk_after (cond b (Idle (InWait wait (Load again))) (On (InWait wait (Take again word))))) held
-  queue_place wait again word held true e p = (p, (refl, refl, refl, refl), refl, λ n f. f, λ none. refl)
-  queue_place wait again word held false e p = ((p, e), (refl, refl, refl, refl), refl, λ n f. f, λ none. refl)
+      Leads (inside wait) (walk_after (cond b (Idle (InWait wait (InQueuing again Load))) (On (InWait wait (InQueuing again (Take word)))))) held
+  queue_place wait again word held true e p = (((p, tt), tt), (refl, refl, refl, refl), refl, λ flag n f. f, λ none. refl)
+  queue_place wait again word held false e p = (((p, e), tt), (refl, refl, refl, refl), refl, λ flag n f. f, λ none. refl)
 
   pub queue_leads : (wait : Wait C) (again : Bool) (word : Word) (held : Option (Held C N)) → CanWait truths wait again held → Leads (inside wait) (walk_after (queue_by wait again word)) held
   queue_leads wait again word held p = queue_place wait again word held word.spin refl p
 
-  leave_place : (wait : Wait C) (cause : Cause) (word : Word) (held : Option (Held C N)) (b : Bool) → word.spin ≡ b → held ≡ None →
-      Leads (outside wait) (walk_after (cond b (Idle (InWait wait (LeaveLoad cause))) (On (InWait wait (TakeToLeave cause word))))) held
-  leave_place wait cause word held true e p = (p, (refl, refl, refl, refl), refl, λ n f. f, λ none. refl)
-  leave_place wait cause word held false e p = ((p, e), (refl, refl, refl, refl), refl, λ n f. f, λ none. refl)
+  leave_place : (wait : Wait C) (cause : Cause) (word : Word) (held : Option (Held C N)) (b : Bool) → word.spin ≡ b → held ≡ None → IsInRange wait.on → MayShow wait.limits (Some cause) →
+      Leads (outside wait) (walk_after (cond b (Idle (InWait wait (InLeaving cause LeaveLoad))) (On (InWait wait (InLeaving cause (TakeToLeave word)))))) held
+  leave_place wait cause word held true e p range given = (((p, tt, range), given), (refl, refl, refl, refl), refl, λ flag n f. f, λ none. refl)
+  leave_place wait cause word held false e p range given = (((p, e, range), given), (refl, refl, refl, refl), refl, λ flag n f. f, λ none. refl)
 
-  pub leave_leads : (wait : Wait C) (cause : Cause) (word : Word) (held : Option (Held C N)) → held ≡ None → Leads (outside wait) (walk_after (leave_by wait cause word)) held
-  leave_leads wait cause word held p = leave_place wait cause word held word.spin refl p
+  pub leave_leads : (wait : Wait C) (cause : Cause) (word : Word) (held : Option (Held C N)) → held ≡ None → IsInRange wait.on → MayShow wait.limits (Some cause) → Leads (outside wait) (walk_after (leave_by wait cause word)) held
+  leave_leads wait cause word held p range given = leave_place wait cause word held word.spin refl p range given
 
-  rest_place : (wait : Wait C) (held : Option (Held C N)) (b : Bool) → held ≡ None → Leads (outside wait) (walk_after (cond b (On (InWait wait LookOut)) (Idle (InWait wait AwaitWakeInWait)))) held
-  rest_place wait held true p = (p, (refl, refl, refl, refl), refl, λ n f. f, λ none. refl)
-  rest_place wait held false p = (p, (refl, refl, refl, refl), refl, λ n f. f, λ none. refl)
+  rest_place : (wait : Wait C) (held : Option (Held C N)) (b : Bool) → held ≡ None → IsInRange wait.on → Leads (outside wait) (walk_after (cond b (On (InWait wait LookOut)) (Idle (InWait wait AwaitWakeInWait)))) held
+  rest_place wait held true p range = (((p, range), tt), (refl, refl, refl, refl), refl, λ flag n f. f, λ none. refl)
+  rest_place wait held false p range = (((p, range), tt), (refl, refl, refl, refl), refl, λ flag n f. f, λ none. refl)
 
-  pub rest_leads : (wait : Wait C) (held : Option (Held C N)) → held ≡ None → Leads (outside wait) (walk_after (rest_or_look wait)) held
-  rest_leads wait held p = rest_place wait held (is_limited wait.limits) p
+  pub rest_leads : (wait : Wait C) (held : Option (Held C N)) → held ≡ None → IsInRange wait.on → Leads (outside wait) (walk_after (rest_or_look wait)) held
+  rest_leads wait held p range = rest_place wait held (is_limited wait.limits) p range
 
   pub pay_waiting_leads : (wait : Wait C) (held : Option (Held C N)) (b : Bool) → let next = walk_after (pay_waiting wait b) in
-      (held ≡ None → PlaceFits truths next held) × (pays next ≡ b) × (has_queues next ≡ false) × (waits_in next ≡ waits_in (outside wait)) × (has_armed next ≡ false) × (is_queuing next ≡ false) × Way (outside wait) next × (phase_by next ≡ Cond wait.cond wait.mode)
-  pay_waiting_leads wait held true = (λ e. e, refl, refl, refl, refl, refl, λ n f. f, refl)
-  pay_waiting_leads wait held false = (λ e. e, refl, refl, refl, refl, refl, λ n f. f, refl)
+      (held ≡ None → IsInRange wait.on → PlaceFits truths next held) × (pays next ≡ b) × (has_queues next ≡ false) × (waits_in next ≡ waits_in (outside wait)) × (has_armed next ≡ false) × (is_queuing next ≡ false) × (calls_from_lock next ≡ true) × (phase_by next ≡ expected_for wait.on wait.mode) × (was_woken next ≡ false)
+  pay_waiting_leads wait held true = (λ e range. ((e, range), tt), refl, refl, refl, refl, refl, refl, refl, refl)
+  pay_waiting_leads wait held false = (λ e range. ((e, range), tt), refl, refl, refl, refl, refl, refl, refl, refl)
+
+  -- ---- a wait for a variable loads the row for its scan
+
+  load_leads_at : (wait : Wait C) (again : Bool) (last : Word) (held : Option (Held C N)) (loaded : ℕ) (b : Bool) → ltb loaded N ≡ b → CanWait truths wait again held →
+      Leads (Some (InWait wait (InQueuing again (QueueToWait last)))) (Some (InWait wait (InQueuing again (cond b (LoadToScan last loaded) (QueueToWait last))))) held
+  load_leads_at wait again last held loaded true e p = (((p, ltb-true loaded N e), tt), (refl, refl, refl, refl), refl, λ flag n f. f, λ none. refl)
+  load_leads_at wait again last held loaded false e p = (((p, tt), tt), (refl, refl, refl, refl), refl, λ flag n f. f, λ none. refl)
+
+  pub load_leads : (wait : Wait C) (again : Bool) (last : Word) (held : Option (Held C N)) (loaded : ℕ) → CanWait truths wait again held →
+      Leads (Some (InWait wait (InQueuing again (QueueToWait last)))) (Some (InWait wait (InQueuing again (load_place N last loaded)))) held
+  load_leads wait again last held loaded p = load_leads_at wait again last held loaded (ltb loaded N) refl p
+
+  -- after its flag was set
+  pub armed_leads : (wait : Wait C) (on : Subject C) (again : Bool) (last : Word) (held : Option (Held C N)) → CanWait truths wait again held →
+      Leads (Some (InWait wait (InQueuing again (QueueToWait last)))) (Some (InWait wait (InQueuing again (armed_place N on last)))) held
+  armed_leads wait (OnCondition c) again last held p = (((p, tt), tt), (refl, refl, refl, refl), refl, λ flag n f. f, λ none. refl)
+  armed_leads wait (OnVariable k) again last held p = by_bit last.cond where
+    by_bit : (b : Bool) → Leads (Some (InWait wait (InQueuing again (QueueToWait last)))) (Some (InWait wait (InQueuing again (cond b (load_place N last 0) (QueueToWait last))))) held
+    by_bit true = load_leads wait again last held 0 p
+    by_bit false = (((p, tt), tt), (refl, refl, refl, refl), refl, λ flag n f. f, λ none. refl)
+
+  -- ---- calls that wake
+
+  signal_place : (waking : Waking) (k : ℕ) (word : Word) (held : Option (Held C N)) (b : Bool) → word.spin ≡ b → k < 4 → IsSettled truths held →
+      Leads None (walk_after (cond b (Idle (InSignal waking k SignalLoad)) (On (InSignal waking k (TakeToWake word))))) held
+  signal_place waking k word held true e low p = ((tt, low, p), (refl, refl, refl, refl), refl, λ flag n f. f, λ none. refl)
+  signal_place waking k word held false e low p = ((e, low, p), (refl, refl, refl, refl), refl, λ flag n f. f, λ none. refl)
+
+  pub signal_leads : (waking : Waking) (k : ℕ) (word : Word) (held : Option (Held C N)) → k < 4 → IsSettled truths held → Leads None (walk_after (signal_by waking k word)) held
+  signal_leads waking k word held low p = signal_place waking k word held word.spin refl low p
+
+  pub pay_woken_leads : (waking : Waking) (k : ℕ) (held : Option (Held C N)) (b : Bool) → let next = walk_after (pay_woken waking k b) in
+      (k < 4 → IsSettled truths held → PlaceFits truths next held) × (pays next ≡ b) × (has_queues next ≡ false) × (waits_in next ≡ None) × (has_armed next ≡ false) × (is_queuing next ≡ false) × Way None next × (phase_by next ≡ phase_by {C = C} None) × (was_woken next ≡ false)
+  pay_woken_leads waking k held true = (λ low p. (tt, low, p), refl, refl, refl, refl, refl, λ flag n f. f, refl, refl)
+  pay_woken_leads waking k held false = (λ low p. p, refl, refl, refl, refl, refl, λ flag n f. f, refl, refl)
+
+  -- a section whose wait a look has ended is settled
+  pub shown_settled : (wait : Wait C) (again : Bool) (cause : Cause) (held : Option (Held C N)) → CanWait truths wait again held → IsSettled truths (held_after again (Some cause) held)
+  shown_settled wait again cause None p = absurd p
+  shown_settled wait true cause (Some held) p = subst (λ x. IsSettledBy truths.holds held.before (opening_by cause x)) (sym (p.back refl).1.entry) (ended_settled truths.holds held.before wait.on cause)
+  shown_settled wait false cause (Some held) p = p.settled refl
 
   -- one that has come back goes by what a look shows
-  pub shown_section : (wait : Wait C) (again : Bool) (cause : Cause) (held : Option (Held C N)) → CanWait truths wait again held → SameSection (Some (InWait wait (LookIn again))) held None (held_after again (Some cause) held)
+  pub shown_section : (wait : Wait C) (again : Bool) (cause : Cause) (held : Option (Held C N)) → CanWait truths wait again held → SameSection (Some (InWait wait (InQueuing again LookIn))) held None (held_after again (Some cause) held)
   shown_section wait again cause None p = absurd p
   shown_section wait true cause (Some held) p = record {
     writing = refl;
     reading = refl;
-    fits = λ now row seat q. record { starts = q.starts; enters = q.enters ∙ sym (shown_phase held.mode cause held.entry); cells = q.cells; reads = q.reads };
+    fits = λ now row seat q. record {
+      starts = q.starts;
+      enters = q.enters ∙ ap (phase_before held.mode) (p.back refl).1.entry ∙ sym (shown_phase held.mode cause wait.on None (p.back refl).0) ∙ sym (ap (λ x. phase_before held.mode (opening_by cause x)) (p.back refl).1.entry);
+      cells = q.cells;
+      reads = q.reads;
+    };
   }
   shown_section wait false cause (Some held) p = record { writing = refl; reading = refl; fits = λ now row seat q. q }
 

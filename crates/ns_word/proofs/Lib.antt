@@ -8,6 +8,7 @@ pub mod EnvKeeps
 pub mod EnvLooks
 pub mod EnvRanges
 pub mod Groups
+pub mod Hands
 pub mod Homes
 pub mod Keeps
 pub mod Kept
@@ -22,5 +23,6 @@ pub mod Same
 pub mod Scans
 pub mod Starts
 pub mod Tells
+pub mod Variables
 pub mod Views
 pub mod Waits

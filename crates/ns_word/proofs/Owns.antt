@@ -4,6 +4,9 @@ use Rattle.std.specs.List.{filter}
 use Rattle.std.proofs.lemmas.Bool.{cases_eq}
 use Rattle.ns_model.specs.declared.event.Mode.{Mode}
 use Rattle.ns_queue.specs.declared.waiter.Waiter.{Waiter}
+use Rattle.ns_model.specs.declared.phase.Phase.{Phase}
+use Rattle.ns_model.specs.Tallies.{Every}
+use Rattle.ns_queue.specs.Queues.{Lists, times}
 use Rattle.ns_queue.specs.Waiters.{times_in, is_of, without_in, reads, writes}
 use Rattle.ns_queue.specs.Scans.{is_eligible, left_of}
 use Rattle.ns_queue.proofs.Seats.{times_in-cons}
@@ -13,7 +16,7 @@ use Rattle.ns_word.specs.declared.walk.Walk.{Walk}
 use Rattle.ns_word.specs.Lists.{queued}
 use Rattle.ns_word.specs.Walks.{waits_in}
 use Rattle.ns_word.specs.Views.{owed_to, walk_at, NoneIs}
-use Rattle.ns_word.specs.Lawful.{is_unwoken, stance_of, WaitersPlaced, WaiterFits, WaitersOwn}
+use Rattle.ns_word.specs.Lawful.{lock_stance, is_unwoken, WaitersPlaced, WaiterFits, WaitersOwn, VariableWaiterFits}
 use Rattle.ns_model.specs.Tallies.{one_if}
 use Rattle.ns_word.proofs.Views.{view_of, walk_here, walk_there}
 use Rattle.ns_word.proofs.Scans.{times_scan, times_without}
@@ -49,7 +52,7 @@ module _ {C : Type 0} {N : ℕ} (front : List (SeatView C N)) (who : ℕ) (walk 
   own_stays (w ∷ ws) none p =
       let sum = times_in-cons who w ws in
       let other : who ≢ w.seat = λ e. let one : one_if (eqb w.seat who) ≡ 1 = rw (eq-eqb w.seat who (sym e)) refl in absurd (omega (arith, sum, one, none)) in (
-        ap waits_in (walk_there w.seat front (view_of who walk held owed) (view_of who walk' held' owed') back other refl) ∙ p.0,
+        ap (λ w. lock_stance (waits_in w)) (walk_there w.seat front (view_of who walk held owed) (view_of who walk' held' owed') back other refl) ∙ p.0,
         own_stays ws (omega (arith, sum, none)) p.1,
       )
 
@@ -58,34 +61,34 @@ module _ {C : Type 0} {N : ℕ} (front : List (SeatView C N)) (who : ℕ) (walk 
   own_same [] apart same p = tt
   own_same (w ∷ ws) apart same p = (
     elim (cases_eq who w.seat) [
-      | inl e ↦ subst (λ s. waits_in (walk_at s news) ≡ Some (stance_of w)) e
-          (ap waits_in (walk_here front (view_of who walk' held' owed') back apart) ∙ same ∙ sym (ap waits_in (walk_here front (view_of who walk held owed) back apart))
-          ∙ subst (λ s. waits_in (walk_at s olds) ≡ Some (stance_of w)) (sym e) p.0)
-      | inr ne ↦ ap waits_in (walk_there w.seat front (view_of who walk held owed) (view_of who walk' held' owed') back ne refl) ∙ p.0
+      | inl e ↦ subst (λ s. lock_stance (waits_in (walk_at s news)) ≡ Some (w.mode, w.cond)) e
+          (ap lock_stance (ap waits_in (walk_here front (view_of who walk' held' owed') back apart) ∙ same ∙ sym (ap waits_in (walk_here front (view_of who walk held owed) back apart)))
+          ∙ subst (λ s. lock_stance (waits_in (walk_at s olds)) ≡ Some (w.mode, w.cond)) (sym e) p.0)
+      | inr ne ↦ ap (λ w. lock_stance (waits_in w)) (walk_there w.seat front (view_of who walk held owed) (view_of who walk' held' owed') back ne refl) ∙ p.0
     ],
     own_same ws apart same p.1,
   )
 
   -- one that isn't due stands nowhere
-  pub nowhere : (lock : List (Waiter C)) (flags : ℕ → ℕ) → NoneIs who front → is_unwoken walk (flags who) ≡ false → WaitersPlaced lock flags olds → times_in who lock ≡ 0
-  nowhere lock flags apart undue p =
-      let sum : times_in who lock + owed_to who olds ≡ 0 = p.placed who ∙ ap (λ w. one_if (is_unwoken w (flags who))) (walk_here front (view_of who walk held owed) back apart) ∙ ap one_if undue in
+  pub nowhere : (lists : Lists C) (flags : ℕ → ℕ) → NoneIs who front → is_unwoken walk (flags who) ≡ false → WaitersPlaced lists flags olds → times who lists ≡ 0
+  nowhere lists flags apart undue p =
+      let sum : times who lists + owed_to who olds ≡ 0 = p.placed who ∙ ap (λ w. one_if (is_unwoken w (flags who))) (walk_here front (view_of who walk held owed) back apart) ∙ ap one_if undue in
       omega (arith, sum)
 
   -- a seat puts itself in
-  pub own_queued : (mode : Mode) (c : Option C) (woken : Bool) (ws : List (Waiter C)) → NoneIs who front → times_in who ws ≡ 0 → waits_in walk' ≡ Some (record { mode = mode; cond = c }) →
-      WaitersOwn ws olds → WaitersOwn (queued who mode c woken ws) news
-  own_queued mode c woken ws apart none waits p =
-      let self : WaiterFits news (record { seat = who; mode = mode; cond = c }) = ap waits_in (walk_here front (view_of who walk' held' owed') back apart) ∙ waits in
+  pub own_queued : (mode : Mode) (c : Option C) (first : Bool) (ws : List (Waiter C)) → NoneIs who front → times_in who ws ≡ 0 → lock_stance (waits_in walk') ≡ Some (mode, c) →
+      WaitersOwn ws olds → WaitersOwn (queued who mode c first ws) news
+  own_queued mode c first ws apart none waits p =
+      let self : WaiterFits news (record { seat = who; mode = mode; cond = c }) = ap (λ w. lock_stance (waits_in w)) (walk_here front (view_of who walk' held' owed') back apart) ∙ waits in
       let rest = own_stays ws none p in
-      elim woken as (λ b. WaitersOwn (queued who mode c b ws) news) [ true ↦ (self, rest) | false ↦ own_append ws (record { seat = who; mode = mode; cond = c } ∷ []) news rest (self, tt) ]
+      elim first as (λ b. WaitersOwn (queued who mode c b ws) news) [ true ↦ (self, rest) | false ↦ own_append ws (record { seat = who; mode = mode; cond = c } ∷ []) news rest (self, tt) ]
 
   -- a scan takes some, and the seat stands nowhere
   pub own_scanned : (meets : C → Bool) (ws : List (Waiter C)) → times_in who ws ≡ 0 → WaitersOwn ws olds → WaitersOwn (left_of meets ws) news
   own_scanned meets ws none p = let parts = times_scan who meets ws in own_stays (left_of meets ws) (omega (arith, parts, none)) (own_left meets ws olds p)
 
   -- and puts itself in as it does
-  pub own_waited : (meets : C → Bool) (mode : Mode) (c : Option C) (again : Bool) (ws : List (Waiter C)) → NoneIs who front → times_in who ws ≡ 0 → waits_in walk' ≡ Some (record { mode = mode; cond = c }) →
+  pub own_waited : (meets : C → Bool) (mode : Mode) (c : Option C) (again : Bool) (ws : List (Waiter C)) → NoneIs who front → times_in who ws ≡ 0 → lock_stance (waits_in walk') ≡ Some (mode, c) →
       WaitersOwn ws olds → WaitersOwn (queued who mode c again (left_of meets ws)) news
   own_waited meets mode c again ws apart none waits p =
       let parts = times_scan who meets ws in own_queued mode c again (left_of meets ws) apart (omega (arith, parts, none)) waits (own_left meets ws olds p)
@@ -93,3 +96,10 @@ module _ {C : Type 0} {N : ℕ} (front : List (SeatView C N)) (who : ℕ) (walk 
   -- the seat stands there no more
   pub own_without : (ws : List (Waiter C)) → WaitersOwn ws olds → WaitersOwn (without_in who ws) news
   own_without ws p = own_stays (without_in who ws) (times_without who ws) (own_filter (λ w. not (is_of who w)) ws olds p)
+
+-- those who wait for a variable may stand in the lock list, where they have no condition
+pub own_moved : {C : Type 0} {N : ℕ} (phases : ℕ → Phase C) (views : List (SeatView C N)) (k : ℕ) (ws taken : List (Waiter C)) → WaitersOwn ws views → Every (VariableWaiterFits phases views k) taken → WaitersOwn (ws ++ taken) views
+own_moved phases views k ws taken p q = own_append ws taken views p (plain taken q) where
+  plain : (vs : List (Waiter _)) → Every (VariableWaiterFits phases views k) vs → WaitersOwn vs views
+  plain [] f = tt
+  plain (v ∷ vs) f = (ap lock_stance f.0.stands ∙ ap (λ c. Some (v.mode, c)) (sym f.0.plain), plain vs f.1)

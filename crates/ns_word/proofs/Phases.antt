@@ -5,58 +5,80 @@ use Rattle.std.proofs.lemmas.Bool.{ne_eqb, cases_eq}
 use Rattle.ns_model.specs.declared.event.Mode.{Mode}
 use Rattle.ns_model.specs.declared.event.Event.{Event}
 use Rattle.ns_model.specs.declared.phase.Phase.{Phase}
-use Rattle.ns_model.specs.declared.phase.Phase.TheVariants.{Idle, Cond}
+use Rattle.ns_model.specs.declared.phase.Phase.TheVariants.{Cond}
 use Rattle.ns_model.specs.Histories.{Standing, standing_after, phase_of}
 use Rattle.ns_queue.specs.declared.waiter.Waiter.{Waiter}
+use Rattle.ns_word.specs.declared.wait.Subject.{Subject}
+use Rattle.ns_word.specs.declared.wait.Subject.TheVariants.{OnCondition, OnVariable}
 use Rattle.ns_word.specs.declared.wait.Wait.{Wait}
-use Rattle.ns_word.specs.declared.wait.WaitPlace.{WaitPlace}
-use Rattle.ns_word.specs.declared.wait.WaitPlace.TheVariants.{PayInWait, AwaitWakeInWait, LookOut, LeaveLoad, TakeToLeave, Leave, AwaitWakeToLeave}
 use Rattle.ns_word.specs.declared.view.Held.{Held}
 use Rattle.ns_word.specs.declared.view.SeatView.{SeatView}
+use Rattle.ns_word.specs.declared.wait.WaitPlace.{WaitPlace}
+use Rattle.ns_word.specs.declared.wait.WaitPlace.TheVariants.{PayInWait, AwaitWakeInWait, LookOut, InLeaving}
+use Rattle.ns_word.specs.declared.acquire_walk.AcquirePlace.TheVariants.{AwaitWake}
 use Rattle.ns_word.specs.declared.walk.Walk.{Walk}
-use Rattle.ns_word.specs.declared.walk.Walk.TheVariants.{AwaitWake, InWait}
-use Rattle.ns_word.specs.Walks.{Stance, place_awaits, waits_in}
+use Rattle.ns_word.specs.declared.walk.Walk.TheVariants.{InAcquire, InWait}
+use Rattle.ns_word.specs.Walks.{Stance, place_awaits, waits_in, expected_for}
 use Rattle.ns_word.specs.Views.{walk_at}
 use Rattle.ns_model.specs.Truths.{Truths}
 use Rattle.ns_word.specs.Steps.{State}
 use Rattle.ns_word.specs.Places.{WaitFits, PlaceFits}
-use Rattle.ns_word.specs.Lawful.{SectionFits, EachFits, WaiterFits, WaitersOwn, IsLawful}
+use Rattle.ns_word.specs.Lawful.{SectionFits, EachFits, IsExpected, WaiterFits, WaitersOwn, IsLawful, cond_on, lock_stance}
 
--- how one stands there that waits for this condition in this mode
+-- how one waits that waits for this condition in this mode
 abbrev pub waiting_for : {C : Type 0} → Mode → C → Option (Stance C)
-waiting_for mode c = Some (record { mode = mode; cond = Some c })
+waiting_for mode c = Some (record { mode = mode; on = Some (OnCondition c) })
 
--- the phase of one that stands there so
-abbrev phase_with : {C : Type 0} → Mode → Option C → Phase C
-phase_with mode None = Idle
-phase_with mode (Some c) = Cond c mode
+-- a phase fits what one waits for
+abbrev FitsOn : {C : Type 0} → Phase C → Mode → Option (Subject C) → Type 0
+FitsOn phase mode None = ⊥
+FitsOn phase mode (Some on) = IsExpected (expected_for on mode) phase
 
-abbrev phase_in : {C : Type 0} → Option (Stance C) → Phase C
-phase_in None = Idle
-phase_in (Some stance) = phase_with stance.mode stance.cond
+abbrev FitsStance : {C : Type 0} → Phase C → Option (Stance C) → Type 0
+FitsStance phase None = ⊥
+FitsStance phase (Some stance) = FitsOn phase stance.mode stance.on
 
-abbrev cond_in : {C : Type 0} → Option (Stance C) → Option C
+abbrev on_in : {C : Type 0} → Option (Stance C) → Option (Subject C)
+on_in None = None
+on_in (Some stance) = stance.on
+
+abbrev mode_in : {C : Type 0} → Mode → Option (Mode × Option C) → Mode
+mode_in mode None = mode
+mode_in mode (Some pair) = pair.0
+
+abbrev cond_in : {C : Type 0} → Option (Mode × Option C) → Option C
 cond_in None = None
-cond_in (Some stance) = stance.cond
+cond_in (Some pair) = pair.1
+
+abbrev waited_for : {C : Type 0} → Option C → Option (Subject C)
+waited_for None = None
+waited_for (Some c) = Some (OnCondition c)
+
+module _ {C : Type 0} where
+  -- one that stands in the lock list with a condition waits for that
+  stance_of : (stance : Option (Stance C)) (mode : Mode) (c : C) → lock_stance stance ≡ Some (mode, Some c) → stance ≡ waiting_for mode c
+  stance_of None mode c e = absurd (cc)
+  stance_of (Some stance) mode c e = go stance.on (ap (mode_in mode) e) (ap cond_in e) where
+    go : (on : Option (Subject C)) → stance.mode ≡ mode → cond_on on ≡ Some c → ◌≡◌ {A = Option (Stance C)} (Some (record { mode = stance.mode; on = on })) (waiting_for mode c)
+    go None m f = absurd (cc)
+    go (Some (OnCondition d)) m f = λ i. Some (record { mode = m i; on = ap waited_for f i })
+    go (Some (OnVariable k)) m f = absurd (cc)
 
 module _ {C : Type 0} {N : ℕ} (truths : Truths C) where
   -- one that waits has no section in hand
   waits_free : (wait : Wait C) (place : WaitPlace) (held : Option (Held C N)) → place_awaits place ≡ true → WaitFits truths wait place held → held ≡ None
-  waits_free wait PayInWait held a p = p
-  waits_free wait AwaitWakeInWait held a p = p
-  waits_free wait LookOut held a p = p
-  waits_free wait (LeaveLoad cause) held a p = p
-  waits_free wait (TakeToLeave cause last) held a p = p.0
-  waits_free wait (Leave cause last) held a p = p
-  waits_free wait (AwaitWakeToLeave cause) held a p = p
+  waits_free wait PayInWait held a p = p.0
+  waits_free wait AwaitWakeInWait held a p = p.0
+  waits_free wait LookOut held a p = p.0
+  waits_free wait (InLeaving cause place) held a p = p.0
   waits_free wait _ held a p = absurd (cc)
 
   module _ (now : Standing C) (row : List ℕ) where
     phase_by_place : (seat : ℕ) (walk : Option (Walk C)) (held : Option (Held C N)) (mode : Mode) (c : C) → waits_in walk ≡ waiting_for mode c → PlaceFits truths walk held → SectionFits now row seat walk held → now.phases seat ≡ Cond c mode
-    phase_by_place seat (Some (AwaitWake aim)) held mode c e place section = let never : ◌≡◌ {A = Option C} None (Some c) = ap cond_in e in absurd (cc)
+    phase_by_place seat (Some (InAcquire aim AwaitWake)) held mode c e place section = let never : ◌≡◌ {A = Option (Subject C)} None (Some (OnCondition c)) = ap on_in e in absurd (cc)
     phase_by_place seat (Some (InWait wait at_place)) held mode c e place section = go (place_awaits at_place) refl e where
-      go : (b : Bool) → place_awaits at_place ≡ b → cond b (Some (record { mode = wait.mode; cond = Some wait.cond })) None ≡ waiting_for mode c → now.phases seat ≡ Cond c mode
-      go true a f = subst (λ x. SectionFits now row seat (Some (InWait wait at_place)) x) (waits_free wait at_place held a place) section ∙ ap phase_in f
+      go : (b : Bool) → place_awaits at_place ≡ b → cond b (Some (record { mode = wait.mode; on = Some wait.on })) None ≡ waiting_for mode c → now.phases seat ≡ Cond c mode
+      go true a f = subst (λ stance. FitsStance (now.phases seat) stance) f (subst (λ x. SectionFits now row seat (Some (InWait wait at_place)) x) (waits_free wait at_place held a place.0) section)
       go false a f = absurd (cc)
     phase_by_place seat _ held mode c e place section = absurd (cc)
 
@@ -78,7 +100,7 @@ module _ {C : Type 0} {N : ℕ} where
   own_at (w ∷ ws) views zero p = p.0
   own_at (w ∷ ws) views (suc at) p = own_at ws views at p.1
 
-  pub waiter_phase : (truths : Truths C) (seats : ℕ) (h : List (Event C N)) (s : State C N) (at : ℕ) (w : Waiter C) (c : C) → IsLawful truths seats h s → slice_get s.lock at ≡ Some w → w.cond ≡ Some c → phase_of h w.seat ≡ Cond c w.mode
+  pub waiter_phase : (truths : Truths C) (seats : ℕ) (h : List (Event C N)) (s : State C N) (at : ℕ) (w : Waiter C) (c : C) → IsLawful truths seats h s → slice_get s.lists.lock at ≡ Some w → w.cond ≡ Some c → phase_of h w.seat ≡ Cond c w.mode
   waiter_phase truths seats h s at w c p found e =
-      let own : WaiterFits s.views w = subst (λ x. FitsIf s.views x) found (own_at s.lock s.views at p.waiters_own) in
-      phase_at truths (standing_after h) s.row seats w.seat s.views w.mode c p.one_history.each (own ∙ ap (λ x. Some (record { mode = w.mode; cond = x })) e)
+      let own : WaiterFits s.views w = subst (λ x. FitsIf s.views x) found (own_at s.lists.lock s.views at p.waiters_own) in
+      phase_at truths (standing_after h) s.row seats w.seat s.views w.mode c p.one_history.each (stance_of (waits_in (walk_at w.seat s.views)) w.mode c (own ∙ ap (λ x. Some (w.mode, x)) e))

@@ -1,5 +1,5 @@
 -- What the steps leave of the sections.
-use Rattle.std.proofs.Common.{◌≡◌, ◌≢◌, ℕ, ◌+◌, ◌-◌, ◌<◌, ◌≤◌, Bool, true, false, cond, inl, inr, List, [], ◌∷◌, ◌++◌, length, Option, None, Some, slice_set, refl, ap, sym, ◌∙◌, subst, arith, eq-eqb}
+use Rattle.std.proofs.Common.{◌≡◌, ◌≢◌, ℕ, ◌+◌, ◌-◌, ◌<◌, ◌≤◌, Bool, true, false, cond, ◌⊎◌, inl, inr, List, [], ◌∷◌, ◌++◌, length, Option, None, Some, slice_set, refl, ap, sym, ◌∙◌, subst, arith, eq-eqb}
 use Rattle.std.proofs.lemmas.List.{length-set}
 use Rattle.std.proofs.lemmas.Bool.{ne_eqb, both_ways}
 use Rattle.ns_model.specs.declared.event.Mode.{Mode}
@@ -7,12 +7,18 @@ use Rattle.ns_model.specs.declared.event.Mode.TheVariants.{Write, Read}
 use Rattle.ns_model.specs.declared.event.Answer.TheVariants.{Met}
 use Rattle.ns_model.specs.declared.event.Exit.{Exit}
 use Rattle.ns_model.specs.declared.event.Event.{Event}
+use Rattle.ns_model.specs.declared.event.Event.TheVariants.{Leave}
+use Rattle.ns_model.specs.declared.phase.Phase.{Phase}
+use Rattle.ns_model.specs.declared.phase.Phase.TheVariants.{Waiting, Left}
+use Rattle.ns_model.specs.Phases.{woken_phase, left_phase}
+use Rattle.ns_model.specs.Wakes.{IsLegalLeave}
 use Rattle.ns_model.specs.Sections.{is_met, ModeFits, EntryFits, ExitFits, phase_after}
-use Rattle.ns_model.specs.Histories.{Standing, first_standing, standing_after, standing_next, IsLegal, IsBySeats, who_of}
+use Rattle.ns_model.specs.Histories.{Standing, first_standing, standing_after, standing_next, IsLegal, IsLegalEvent, IsBySeats, who_of}
 use Rattle.ns_model.proofs.Histories.{legal_append, standing_from-append}
 use Rattle.ns_word.specs.declared.word.Word.{Word}
 use Rattle.ns_word.specs.declared.limits.Cause.{Cause}
 use Rattle.ns_word.specs.declared.limits.Cause.TheVariants.{Expired, Notified}
+use Rattle.ns_word.specs.declared.wait.Subject.TheVariants.{OnCondition, OnVariable}
 use Rattle.ns_word.specs.declared.view.Opening.{Opening}
 use Rattle.ns_word.specs.declared.view.Opening.TheVariants.{Locked, CameBack}
 use Rattle.ns_word.specs.declared.view.Held.{Held}
@@ -24,10 +30,10 @@ use Rattle.ns_word.specs.Walks.{pays, phase_by}
 use Rattle.ns_word.specs.Views.{is_writing, is_reading, writers, readers}
 use Rattle.ns_model.specs.Truths.{Truths}
 use Rattle.ns_word.specs.Steps.{entry_of, section_of}
-use Rattle.ns_word.specs.Places.{PlaceFits}
-use Rattle.ns_word.specs.Lawful.{HeldFits, SectionFits, phase_before}
+use Rattle.ns_word.specs.Places.{IsSettledBy, PlaceFits}
+use Rattle.ns_word.specs.Lawful.{HeldFits, SectionFits, IsExpected, phase_before}
 use Rattle.ns_word.proofs.Groups.{Safe}
-use Rattle.ns_word.proofs.Views.{view_of, writers_at, readers_at, apart_parts, apart_moves, each_parts, each_join, each_moves}
+use Rattle.ns_word.proofs.Views.{view_of, writers_at, readers_at, apart_parts, apart_moves, each_parts, each_join, each_moves, each_woken}
 
 pub by_seats_more : {C : Type 0} {N : ℕ} (seats : ℕ) (h : List (Event C N)) (e : Event C N) → IsBySeats seats h → who_of e < seats → IsBySeats seats (h ++ e ∷ [])
 by_seats_more seats [] e p q = (q, tt)
@@ -47,7 +53,7 @@ pub record SameSection {C : Type 0} {N : ℕ} (walk : Option (Walk C)) (held : O
   pub fits : (now : Standing C) (row : List ℕ) (seat : ℕ) → SectionFits now row seat walk held → SectionFits now row seat walk' held'
 
 pub same_section : {C : Type 0} {N : ℕ} (walk walk' : Option (Walk C)) (held : Option (Held C N)) → (held ≡ None → phase_by walk' ≡ phase_by walk) → SameSection walk held walk' held
-same_section walk walk' None phase = record { writing = refl; reading = refl; fits = λ now row seat p. p ∙ sym (phase refl) }
+same_section walk walk' None phase = record { writing = refl; reading = refl; fits = λ now row seat p. subst (λ expected. IsExpected expected (now.phases seat)) (sym (phase refl)) p }
 same_section walk walk' (Some held) phase = record { writing = refl; reading = refl; fits = λ now row seat p. p }
 
 met_of : (b : Bool) (cause : Cause) → b ≡ is_met (cond b Met (answer_of cause))
@@ -55,23 +61,51 @@ met_of true cause = refl
 met_of false Expired = refl
 met_of false Notified = refl
 
--- the entry of a section is settled so that it fits the phase that it comes from
-pub entry_fits : {C : Type 0} (holds : C → List ℕ → Bool) (before : List ℕ) (mode : Mode) (entry : Opening C) → EntryFits holds before mode (entry_of holds before entry) (phase_before mode entry)
-entry_fits holds before mode Locked = tt
-entry_fits holds before mode (CameBack c cause) = (refl, met_of (holds c before) cause, met_of (holds c before) cause)
+-- the entry of a section that is settled fits the phase that it comes from
+pub entry_fits : {C : Type 0} (holds : C → List ℕ → Bool) (before : List ℕ) (mode : Mode) (entry : Opening C) → IsSettledBy holds before entry → EntryFits holds before mode (entry_of holds before entry) (phase_before mode entry)
+entry_fits holds before mode Locked settled = tt
+entry_fits holds before mode (CameBack (OnCondition c) None) settled = (refl, settled, settled)
+entry_fits holds before mode (CameBack (OnCondition c) (Some cause)) settled = (refl, met_of (holds c before) cause, met_of (holds c before) cause)
+entry_fits holds before mode (CameBack (OnVariable k) None) settled = (refl, refl, refl)
+entry_fits holds before mode (CameBack (OnVariable k) (Some Expired)) settled = (refl, refl, refl)
+entry_fits holds before mode (CameBack (OnVariable k) (Some Notified)) settled = (refl, refl, refl)
+
+-- a wake leaves all views as they are
+pub after_wake : {C : Type 0} {N : ℕ} (truths : Truths C) (seats : ℕ) (h : List (Event C N)) (e : Event C N) (word : Word) (row : List ℕ) (views : List (SeatView C N)) → who_of e < seats → IsLegalEvent truths.holds (standing_after h) e →
+    (standing_next (standing_after h) e).row ≡ (standing_after h).row →
+    ((seat : ℕ) → ((standing_next (standing_after h) e).phases seat ≡ (standing_after h).phases seat) ⊎ ((standing_next (standing_after h) e).phases seat ≡ woken_phase ((standing_after h).phases seat))) →
+    Safe truths seats h word row views → Safe truths seats (h ++ e ∷ []) word row views
+after_wake {C} {N} truths seats h e word row views low legal same phases p =
+    let next = standing_next (standing_after h) e in
+    let after : standing_after (h ++ e ∷ []) ≡ next = standing_from-append (first_standing N) h (e ∷ []) in
+    let stays : (standing_after (h ++ e ∷ [])).row ≡ (standing_after h).row = ap (λ s. s.row) after ∙ same in
+    record {
+      one_writer = p.one_writer;
+      count = p.count;
+      one_history = record {
+        legal = legal_append truths.holds (first_standing N) h (e ∷ []) p.one_history.legal (legal, tt);
+        by_seats = by_seats_more seats h e p.one_history.by_seats low;
+        each = rw after (each_woken truths seats (standing_after h) next row views phases same p.one_history.each);
+        free = λ f. p.one_history.free f ∙ sym stays;
+        cells = p.one_history.cells;
+        cells_after = ap length stays ∙ p.one_history.cells_after;
+      };
+      apart = p.apart;
+    }
 
 module _ {C : Type 0} {N : ℕ} (truths : Truths C) (seats : ℕ) (h : List (Event C N)) where
   module _ (front : List (SeatView C N)) (who : ℕ) (walk : Option (Walk C)) (owed : List ℕ) (walk' : Option (Walk C)) (owed' : List ℕ) (back : List (SeatView C N)) where
-    -- a step that leaves the sections, but for how one is said to have begun
-    pub unchanged : (word word' : Word) (row : List ℕ) (held held' : Option (Held C N)) → word'.write ≡ word.write → word'.readers ≡ word.readers →
-        PlaceFits truths walk' held' → has_some owed' ≡ pays walk' → SameSection walk held walk' held' →
+    -- a step that leaves the sections, but for what is shown of the seat's own
+    pub unchanged_by : (word word' : Word) (row : List ℕ) (held held' : Option (Held C N)) → word'.write ≡ word.write → word'.readers ≡ word.readers →
+        PlaceFits truths walk' held' → has_some owed' ≡ pays walk' → is_writing held' ≡ is_writing held → is_reading held' ≡ is_reading held →
+        (SectionFits (standing_after h) row who walk held → SectionFits (standing_after h) row who walk' held') →
         Safe truths seats h word row (front ++ view_of who walk held owed ∷ back) → Safe truths seats h word' row (front ++ view_of who walk' held' owed' ∷ back)
-    unchanged word word' row held held' same_write same_readers place owes same p =
+    unchanged_by word word' row held held' same_write same_readers place owes writing reading fits p =
         let view = view_of who walk held owed in
         let view' = view_of who walk' held' owed' in
         let parts = each_parts truths seats (standing_after h) row front view back p.one_history.each in
-        let w : writers (front ++ view' ∷ back) ≡ writers (front ++ view ∷ back) = writers_at front view' back ∙ ap (λ b. writers front + (cond b 1 0 + writers back)) same.writing ∙ sym (writers_at front view back) in
-        let r : readers (front ++ view' ∷ back) ≡ readers (front ++ view ∷ back) = readers_at front view' back ∙ ap (λ b. readers front + (cond b 1 0 + readers back)) same.reading ∙ sym (readers_at front view back) in
+        let w : writers (front ++ view' ∷ back) ≡ writers (front ++ view ∷ back) = writers_at front view' back ∙ ap (λ b. writers front + (cond b 1 0 + writers back)) writing ∙ sym (writers_at front view back) in
+        let r : readers (front ++ view' ∷ back) ≡ readers (front ++ view ∷ back) = readers_at front view' back ∙ ap (λ b. readers front + (cond b 1 0 + readers back)) reading ∙ sym (readers_at front view back) in
         record {
           one_writer = record { bit = w ∙ p.one_writer.bit ∙ ap (λ b. cond b 1 0) (sym same_write); alone = λ e. r ∙ p.one_writer.alone (sym same_write ∙ e) };
           count = same_readers ∙ p.count ∙ sym r;
@@ -79,7 +113,7 @@ module _ {C : Type 0} {N : ℕ} (truths : Truths C) (seats : ℕ) (h : List (Eve
             legal = p.one_history.legal;
             by_seats = p.one_history.by_seats;
             each = each_join truths seats (standing_after h) row front view' back parts.0
-                (record { in_range = parts.1.in_range; place = place; owes = owes; section = same.fits (standing_after h) row who parts.1.section }) parts.2;
+                (record { in_range = parts.1.in_range; place = place; owes = owes; section = fits parts.1.section }) parts.2;
             free = λ e. p.one_history.free (sym same_write ∙ e);
             cells = p.one_history.cells;
             cells_after = p.one_history.cells_after;
@@ -87,8 +121,63 @@ module _ {C : Type 0} {N : ℕ} (truths : Truths C) (seats : ℕ) (h : List (Eve
           apart = apart_moves front view view' back refl p.apart;
         }
 
+    -- a step that leaves the sections, but for how one is said to have begun
+    pub unchanged : (word word' : Word) (row : List ℕ) (held held' : Option (Held C N)) → word'.write ≡ word.write → word'.readers ≡ word.readers →
+        PlaceFits truths walk' held' → has_some owed' ≡ pays walk' → SameSection walk held walk' held' →
+        Safe truths seats h word row (front ++ view_of who walk held owed ∷ back) → Safe truths seats h word' row (front ++ view_of who walk' held' owed' ∷ back)
+    unchanged word word' row held held' same_write same_readers place owes same p =
+        unchanged_by word word' row held held' same_write same_readers place owes same.writing same.reading (same.fits (standing_after h) row who) p
+
+    -- a wake of those who wait for a variable: beside its event, the seat's place changes, and what it owes
+    pub woken : (e : Event C N) (word word' : Word) (row : List ℕ) (held : Option (Held C N)) → who_of e ≡ who → IsLegalEvent truths.holds (standing_after h) e →
+        (standing_next (standing_after h) e).row ≡ (standing_after h).row →
+        ((seat : ℕ) → ((standing_next (standing_after h) e).phases seat ≡ (standing_after h).phases seat) ⊎ ((standing_next (standing_after h) e).phases seat ≡ woken_phase ((standing_after h).phases seat))) →
+        word'.write ≡ word.write → word'.readers ≡ word.readers →
+        PlaceFits truths walk' held → has_some owed' ≡ pays walk' →
+        (SectionFits (standing_after h) row who walk held → SectionFits (standing_after h) row who walk' held) →
+        Safe truths seats h word row (front ++ view_of who walk held owed ∷ back) →
+        Safe truths seats (h ++ e ∷ []) word' row (front ++ view_of who walk' held owed' ∷ back)
+    woken e word word' row held by legal same phases same_write same_readers place owes fits p =
+        let moved = unchanged_by word word' row held held same_write same_readers place owes refl refl fits p in
+        let here = (each_parts truths seats (standing_after h) row front (view_of who walk held owed) back p.one_history.each).1 in
+        after_wake truths seats h e word' row (front ++ view_of who walk' held owed' ∷ back) (subst (λ seat. seat < seats) (sym by) here.in_range) legal same phases moved
+
+    -- a wait for a variable takes itself out of its list
+    pub left_variable : (k : ℕ) (mode : Mode) (word word' : Word) (row : List ℕ) → seats ≤ 64 → (standing_after h).phases who ≡ Waiting k mode → IsExpected (phase_by walk') (Left k mode) →
+        word'.write ≡ word.write → word'.readers ≡ word.readers →
+        PlaceFits {C = C} {N = N} truths walk' None → has_some owed' ≡ pays walk' →
+        Safe truths seats h word row (front ++ view_of who walk None owed ∷ back) →
+        Safe truths seats (h ++ Leave who k ∷ []) word' row (front ++ view_of who walk' None owed' ∷ back)
+    left_variable k mode word word' row few phase is same_write same_readers place owes p =
+        let view = view_of {C = C} {N = N} who walk None owed in
+        let view' = view_of {C = C} {N = N} who walk' None owed' in
+        let e : Event C N = Leave who k in
+        let now = standing_after h in
+        let next = standing_next now e in
+        let left : standing_after (h ++ e ∷ []) ≡ next = standing_from-append (first_standing N) h (e ∷ []) in
+        let parts = each_parts truths seats now row front view back p.one_history.each in
+        let apart = apart_parts front view back p.apart in
+        let others : (seat : ℕ) → seat ≢ who → next.phases seat ≡ now.phases seat = λ seat ne. rw (ne_eqb who seat (λ f. ne (sym f))) refl in
+        let here : next.phases who ≡ Left k mode = rw (eq-eqb who who refl) (ap left_phase phase) in
+        record {
+          one_writer = record { bit = writers_at front view' back ∙ sym (writers_at front view back) ∙ p.one_writer.bit ∙ ap (λ b. cond b 1 0) (sym same_write); alone = λ f. readers_at front view' back ∙ sym (readers_at front view back) ∙ p.one_writer.alone (sym same_write ∙ f) };
+          count = same_readers ∙ p.count ∙ readers_at front view back ∙ sym (readers_at front view' back);
+          one_history = record {
+            legal = legal_append truths.holds (first_standing N) h (e ∷ []) p.one_history.legal ((omega (arith, few, parts.1.in_range), subst (λ ph. IsLegalLeave k ph) (sym phase) refl), tt);
+            by_seats = by_seats_more seats h e p.one_history.by_seats parts.1.in_range;
+            each = rw left (each_join truths seats next row front view' back
+                (each_moves truths seats now next row row who front apart.0 others (inl (refl, refl)) parts.0)
+                (record { in_range = parts.1.in_range; place = place; owes = owes; section = subst (λ ph. IsExpected (phase_by walk') ph) (sym here) is })
+                (each_moves truths seats now next row row who back apart.1 others (inl (refl, refl)) parts.2));
+            free = λ f. p.one_history.free (sym same_write ∙ f) ∙ sym (ap (λ s. s.row) left);
+            cells = p.one_history.cells;
+            cells_after = ap (λ s. length s.row) left ∙ p.one_history.cells_after;
+          };
+          apart = apart_moves front view view' back refl p.apart;
+        }
+
     -- a write acquire
-    pub acquired_write : (word word' : Word) (row : List ℕ) (entry : Opening C) → phase_by walk ≡ phase_before Write entry → word.write ≡ false → word.readers ≡ 0 → word'.write ≡ true → word'.readers ≡ word.readers →
+    pub acquired_write : (word word' : Word) (row : List ℕ) (entry : Opening C) → ((p : Phase C) → IsExpected (phase_by walk) p → p ≡ phase_before Write entry) → word.write ≡ false → word.readers ≡ 0 → word'.write ≡ true → word'.readers ≡ word.readers →
         PlaceFits truths walk' (Some (section {C = C} {N = N} Write entry row row)) → has_some owed' ≡ pays walk' →
         Safe truths seats h word row (front ++ view_of who walk None owed ∷ back) →
         Safe truths seats h word' row (front ++ view_of who walk' (Some (section Write entry row row)) owed' ∷ back)
@@ -114,7 +203,7 @@ module _ {C : Type 0} {N : ℕ} (truths : Truths C) (seats : ℕ) (h : List (Eve
                   in_range = parts.1.in_range;
                   place = place;
                   owes = owes;
-                  section = record { starts = p.one_history.free no_writer; enters = parts.1.section ∙ phase; cells = refl; reads = λ e. refl };
+                  section = record { starts = p.one_history.free no_writer; enters = phase ((standing_after h).phases who) parts.1.section; cells = refl; reads = λ e. refl };
                 }) parts.2;
             free = λ e. absurd (cc);
             cells = p.one_history.cells;
@@ -124,7 +213,7 @@ module _ {C : Type 0} {N : ℕ} (truths : Truths C) (seats : ℕ) (h : List (Eve
         }
 
     -- a read acquire
-    pub acquired_read : (word word' : Word) (row : List ℕ) (entry : Opening C) → phase_by walk ≡ phase_before Read entry → word.write ≡ false → word'.write ≡ false → word'.readers ≡ word.readers + 1 →
+    pub acquired_read : (word word' : Word) (row : List ℕ) (entry : Opening C) → ((p : Phase C) → IsExpected (phase_by walk) p → p ≡ phase_before Read entry) → word.write ≡ false → word'.write ≡ false → word'.readers ≡ word.readers + 1 →
         PlaceFits truths walk' (Some (section {C = C} {N = N} Read entry row row)) → has_some owed' ≡ pays walk' →
         Safe truths seats h word row (front ++ view_of who walk None owed ∷ back) →
         Safe truths seats h word' row (front ++ view_of who walk' (Some (section Read entry row row)) owed' ∷ back)
@@ -146,7 +235,7 @@ module _ {C : Type 0} {N : ℕ} (truths : Truths C) (seats : ℕ) (h : List (Eve
                   in_range = parts.1.in_range;
                   place = place;
                   owes = owes;
-                  section = record { starts = p.one_history.free no_writer; enters = parts.1.section ∙ phase; cells = refl; reads = λ e. refl };
+                  section = record { starts = p.one_history.free no_writer; enters = phase ((standing_after h).phases who) parts.1.section; cells = refl; reads = λ e. refl };
                 }) parts.2;
             free = λ e. p.one_history.free no_writer;
             cells = p.one_history.cells;
@@ -211,15 +300,15 @@ module _ {C : Type 0} {N : ℕ} (truths : Truths C) (seats : ℕ) (h : List (Eve
   keeps_row Write before row e = tt
   keeps_row Read before row e = e refl
 
-  commits : (who : ℕ) (row : List ℕ) (held : Held C N) (exit : Exit C) → who < 64 → ExitFits truths.holds held.row exit → HeldFits (standing_after h) row who held → IsLegal truths.holds h → IsLegal truths.holds (h ++ section_of truths.holds who held exit ∷ [])
-  commits who row held exit few leaves fits legal =
+  commits : (who : ℕ) (row : List ℕ) (held : Held C N) (exit : Exit C) → who < 64 → IsSettledBy truths.holds held.before held.entry → ExitFits truths.holds held.row exit → HeldFits (standing_after h) row who held → IsLegal truths.holds h → IsLegal truths.holds (h ++ section_of truths.holds who held exit ∷ [])
+  commits who row held exit few settled leaves fits legal =
       legal_append truths.holds (first_standing N) h (section_of truths.holds who held exit ∷ []) legal (
         (
           few,
           record {
             starts = fits.starts;
             keeps = keeps_row held.mode held.before held.row fits.reads;
-            enters = subst (λ phase. EntryFits truths.holds held.before held.mode (entry_of truths.holds held.before held.entry) phase) (sym fits.enters) (entry_fits truths.holds held.before held.mode held.entry);
+            enters = subst (λ phase. EntryFits truths.holds held.before held.mode (entry_of truths.holds held.before held.entry) phase) (sym fits.enters) (entry_fits truths.holds held.before held.mode held.entry settled);
             leaves = leaves;
           },
         ),
@@ -228,12 +317,12 @@ module _ {C : Type 0} {N : ℕ} (truths : Truths C) (seats : ℕ) (h : List (Eve
 
   module _ (front : List (SeatView C N)) (who : ℕ) (walk : Option (Walk C)) (owed : List ℕ) (walk' : Option (Walk C)) (owed' : List ℕ) (back : List (SeatView C N)) where
     -- a release
-    pub released : (mode : Mode) (exit : Exit C) (word word' : Word) (row : List ℕ) (entry : Opening C) (before cells : List ℕ) → seats ≤ 64 → ExitFits truths.holds cells exit → phase_after mode exit ≡ phase_by walk' →
+    pub released : (mode : Mode) (exit : Exit C) (word word' : Word) (row : List ℕ) (entry : Opening C) (before cells : List ℕ) → seats ≤ 64 → IsSettledBy truths.holds before entry → ExitFits truths.holds cells exit → IsExpected (phase_by walk') (phase_after mode exit) →
         (mode ≡ Write → word'.write ≡ false) → (mode ≡ Read → word'.write ≡ word.write) → (mode ≡ Write → word'.readers ≡ word.readers) → (mode ≡ Read → word'.readers ≡ word.readers - 1) →
         PlaceFits {C = C} {N = N} truths walk' None → has_some owed' ≡ pays walk' →
         Safe truths seats h word row (front ++ view_of who walk (Some (section mode entry before cells)) owed ∷ back) →
         Safe truths seats (h ++ section_of truths.holds who (section mode entry before cells) exit ∷ []) word' row (front ++ view_of who walk' None owed' ∷ back)
-    released Write exit word word' row entry before cells few leaves phase ww rw' wr rr place owes p =
+    released Write exit word word' row entry before cells few settled leaves phase ww rw' wr rr place owes p =
         let held = section Write entry before cells in
         let view = view_of who walk (Some held) owed in
         let view' = view_of {C = C} {N = N} who walk' None owed' in
@@ -259,11 +348,11 @@ module _ {C : Type 0} {N : ℕ} (truths : Truths C) (seats : ℕ) (h : List (Eve
           one_writer = record { bit = omega (arith, w', unit', others_front, others_back); alone = λ e. absurd (both_ways word'.write (ww refl) e) };
           count = omega (arith, r, r', count, count');
           one_history = record {
-            legal = commits who row held exit (omega (arith, parts.1.in_range)) leaves parts.1.section p.one_history.legal;
+            legal = commits who row held exit (omega (arith, parts.1.in_range)) settled leaves parts.1.section p.one_history.legal;
             by_seats = by_seats_more seats h (section_of truths.holds who held exit) p.one_history.by_seats parts.1.in_range;
             each = rw left (each_join truths seats next row front view' back
                 (each_moves truths seats now next row row who front apart.0 (phases_left who held exit) (inr others_front) parts.0)
-                (record { in_range = parts.1.in_range; place = place; owes = owes; section = phase_left who held exit ∙ phase })
+                (record { in_range = parts.1.in_range; place = place; owes = owes; section = subst (λ ph. IsExpected (phase_by walk') ph) (sym (phase_left who held exit)) phase })
                 (each_moves truths seats now next row row who back apart.1 (phases_left who held exit) (inr others_back) parts.2));
             free = λ e. sym parts.1.section.cells ∙ sym (ap (λ s. s.row) left);
             cells = p.one_history.cells;
@@ -271,7 +360,7 @@ module _ {C : Type 0} {N : ℕ} (truths : Truths C) (seats : ℕ) (h : List (Eve
           };
           apart = apart_moves front view view' back refl p.apart;
         }
-    released Read exit word word' row entry before cells few leaves phase ww rw' wr rr place owes p =
+    released Read exit word word' row entry before cells few settled leaves phase ww rw' wr rr place owes p =
         let held = section Read entry before cells in
         let view = view_of who walk (Some held) owed in
         let view' = view_of {C = C} {N = N} who walk' None owed' in
@@ -293,11 +382,11 @@ module _ {C : Type 0} {N : ℕ} (truths : Truths C) (seats : ℕ) (h : List (Eve
           one_writer = record { bit = omega (arith, w, w', set, set'); alone = λ e. let nobody : readers (front ++ view ∷ back) ≡ 0 = p.one_writer.alone (sym (rw' refl) ∙ e) in omega (arith, r, nobody) };
           count = omega (arith, r, r', count, count');
           one_history = record {
-            legal = commits who row held exit (omega (arith, parts.1.in_range)) leaves parts.1.section p.one_history.legal;
+            legal = commits who row held exit (omega (arith, parts.1.in_range)) settled leaves parts.1.section p.one_history.legal;
             by_seats = by_seats_more seats h (section_of truths.holds who held exit) p.one_history.by_seats parts.1.in_range;
             each = rw left (each_join truths seats next row front view' back
                 (each_moves truths seats now next row row who front apart.0 (phases_left who held exit) (inl (same, refl)) parts.0)
-                (record { in_range = parts.1.in_range; place = place; owes = owes; section = phase_left who held exit ∙ phase })
+                (record { in_range = parts.1.in_range; place = place; owes = owes; section = subst (λ ph. IsExpected (phase_by walk') ph) (sym (phase_left who held exit)) phase })
                 (each_moves truths seats now next row row who back apart.1 (phases_left who held exit) (inl (same, refl)) parts.2));
             free = λ e. sym parts.1.section.cells ∙ sym (ap (λ s. s.row) left);
             cells = p.one_history.cells;
@@ -307,7 +396,7 @@ module _ {C : Type 0} {N : ℕ} (truths : Truths C) (seats : ℕ) (h : List (Eve
         }
 
     -- a section is given up without an event: nothing has changed in it, and its seat goes back to where it came from
-    pub dropped : (mode : Mode) (word word' : Word) (row : List ℕ) (entry : Opening C) (before cells : List ℕ) → cells ≡ before → phase_before mode entry ≡ phase_by walk' →
+    pub dropped : (mode : Mode) (word word' : Word) (row : List ℕ) (entry : Opening C) (before cells : List ℕ) → cells ≡ before → IsExpected (phase_by walk') (phase_before mode entry) →
         (mode ≡ Write → word'.write ≡ false) → (mode ≡ Read → word'.write ≡ word.write) → (mode ≡ Write → word'.readers ≡ word.readers) → (mode ≡ Read → word'.readers ≡ word.readers - 1) →
         PlaceFits {C = C} {N = N} truths walk' None → has_some owed' ≡ pays walk' →
         Safe truths seats h word row (front ++ view_of who walk (Some (section mode entry before cells)) owed ∷ back) →
@@ -333,7 +422,7 @@ module _ {C : Type 0} {N : ℕ} (truths : Truths C) (seats : ℕ) (h : List (Eve
           one_history = record {
             legal = p.one_history.legal;
             by_seats = p.one_history.by_seats;
-            each = each_join truths seats now row front view' back parts.0 (record { in_range = parts.1.in_range; place = place; owes = owes; section = parts.1.section.enters ∙ phase }) parts.2;
+            each = each_join truths seats now row front view' back parts.0 (record { in_range = parts.1.in_range; place = place; owes = owes; section = subst (λ ph. IsExpected (phase_by walk') ph) (sym parts.1.section.enters) phase }) parts.2;
             free = λ e. sym parts.1.section.cells ∙ stays ∙ parts.1.section.starts;
             cells = p.one_history.cells;
             cells_after = p.one_history.cells_after;
@@ -359,7 +448,7 @@ module _ {C : Type 0} {N : ℕ} (truths : Truths C) (seats : ℕ) (h : List (Eve
           one_history = record {
             legal = p.one_history.legal;
             by_seats = p.one_history.by_seats;
-            each = each_join truths seats now row front view' back parts.0 (record { in_range = parts.1.in_range; place = place; owes = owes; section = parts.1.section.enters ∙ phase }) parts.2;
+            each = each_join truths seats now row front view' back parts.0 (record { in_range = parts.1.in_range; place = place; owes = owes; section = subst (λ ph. IsExpected (phase_by walk') ph) (sym parts.1.section.enters) phase }) parts.2;
             free = λ e. sym parts.1.section.cells ∙ stays ∙ parts.1.section.starts;
             cells = p.one_history.cells;
             cells_after = p.one_history.cells_after;

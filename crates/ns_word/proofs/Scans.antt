@@ -62,13 +62,13 @@ module _ {C : Type 0} where
       ]
 
   -- one more
-  pub times_queued : (seat who : ℕ) (mode : Mode) (c : Option C) (woken : Bool) (ws : List (Waiter C)) → times_in seat (queued who mode c woken ws) ≡ cond (eqb who seat) 1 0 + times_in seat ws
+  pub times_queued : (seat who : ℕ) (mode : Mode) (c : Option C) (first : Bool) (ws : List (Waiter C)) → times_in seat (queued who mode c first ws) ≡ cond (eqb who seat) 1 0 + times_in seat ws
   times_queued seat who mode c true ws = times_in-cons seat (record { seat = who; mode = mode; cond = c }) ws
   times_queued seat who mode c false ws =
       let one : Waiter C = record { seat = who; mode = mode; cond = c } in
       omega (arith, times_in-append seat ws (one ∷ []), times_in-cons seat one [])
 
-  pub some_queued : (who : ℕ) (mode : Mode) (c : Option C) (woken : Bool) (ws : List (Waiter C)) → has_some (queued who mode c woken ws) ≡ true
+  pub some_queued : (who : ℕ) (mode : Mode) (c : Option C) (first : Bool) (ws : List (Waiter C)) → has_some (queued who mode c first ws) ≡ true
   some_queued who mode c true ws = refl
   some_queued who mode c false [] = refl
   some_queued who mode c false (w ∷ ws) = refl
@@ -106,7 +106,7 @@ module _ {C : Type 0} where
   none_eligible meets (w ∷ ws) e = absurd (cc)
 
   -- nor can anybody where one more stands whose condition is false, or some stand no more
-  pub queued_eligible : (meets : C → Bool) (who : ℕ) (mode : Mode) (c : C) (woken : Bool) (ws : List (Waiter C)) → meets c ≡ false → has_eligible meets ws ≡ false → has_eligible meets (queued who mode (Some c) woken ws) ≡ false
+  pub queued_eligible : (meets : C → Bool) (who : ℕ) (mode : Mode) (c : C) (first : Bool) (ws : List (Waiter C)) → meets c ≡ false → has_eligible meets ws ≡ false → has_eligible meets (queued who mode (Some c) first ws) ≡ false
   queued_eligible meets who mode c true ws unmet e = rw unmet e
   queued_eligible meets who mode c false [] unmet e = rw unmet refl
   queued_eligible meets who mode c false (w ∷ ws) unmet e =

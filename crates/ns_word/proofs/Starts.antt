@@ -1,24 +1,37 @@
 -- A fresh lock is lawful, and so is one where a call begins.
-use Rattle.std.proofs.Common.{◌≡◌, ℕ, Bool, zero, suc, ◌+◌, ◌-◌, ◌<◌, ◌≤◌, true, false, cond, eqb, ltb, List, [], ◌∷◌, ◌++◌, Option, None, Some, refl, sym, subst, arith}
+use Rattle.std.proofs.Common.{◌≡◌, ℕ, Bool, zero, suc, ◌+◌, ◌-◌, ◌<◌, ◌≤◌, true, false, cond, eqb, ltb, List, [], ◌∷◌, ◌++◌, Option, None, Some, refl, sym, subst, replicate, arith}
 use Rattle.std.proofs.lemmas.List.{length-replicate}
 use Rattle.std.proofs.lemmas.Bool.{both_ways, ltb-false}
 use Rattle.ns_model.specs.declared.event.Event.{Event}
+use Rattle.ns_model.specs.declared.phase.Phase.TheVariants.{Idle}
 use Rattle.ns_model.specs.Histories.{first_standing, first_row}
+use Rattle.ns_model.specs.Tallies.{Every}
+use Rattle.ns_queue.specs.declared.waiter.Waiter.{Waiter}
+use Rattle.ns_queue.specs.declared.waiter.Which.TheVariants.{Cv}
+use Rattle.ns_queue.specs.Queues.{waiters_of}
 use Rattle.ns_word.specs.declared.view.SeatView.{SeatView}
-use Rattle.ns_word.specs.declared.walk.Walk.{Walk}
-use Rattle.ns_word.specs.declared.walk.Walk.TheVariants.{TryLoad, AcquireLoad, QuietCells, QuietLast, ReleaseLoad, GetLoad, SetLoad, InWait}
+use Rattle.ns_word.specs.declared.wait.Subject.{Subject}
+use Rattle.ns_word.specs.declared.wait.Subject.TheVariants.{OnCondition, OnVariable}
 use Rattle.ns_word.specs.declared.wait.Wait.{Wait}
 use Rattle.ns_word.specs.declared.wait.Aim.TheVariants.{ForLock}
 use Rattle.ns_word.specs.declared.wait.Visit.TheVariants.{OnEntry}
-use Rattle.ns_word.specs.declared.wait.WaitPlace.TheVariants.{TestCells, TestLast}
 use Rattle.ns_word.specs.declared.view.Held.{Held}
-use Rattle.ns_word.specs.Walks.{has_armed, quiet_place, test_place}
+use Rattle.ns_word.specs.declared.wait.WaitPlace.TheVariants.{TestCells, TestLast, InQueuing}
+use Rattle.ns_word.specs.declared.wait.QueuePlace.TheVariants.{Load}
+use Rattle.ns_word.specs.declared.signal_walk.SignalPlace.TheVariants.{SignalLoad}
+use Rattle.ns_word.specs.declared.try_walk.TryPlace.TheVariants.{TryLoad}
+use Rattle.ns_word.specs.declared.acquire_walk.AcquirePlace.TheVariants.{AcquireLoad}
+use Rattle.ns_word.specs.declared.release_walk.ReleasePlace.TheVariants.{ReleaseLoad}
+use Rattle.ns_word.specs.declared.cell_walk.CellPlace.TheVariants.{QuietCells, QuietLast}
+use Rattle.ns_word.specs.declared.walk.Walk.{Walk}
+use Rattle.ns_word.specs.declared.walk.Walk.TheVariants.{InTry, InAcquire, InRelease, InCells, InWait, InSignal}
+use Rattle.ns_word.specs.Walks.{has_armed, quiet_first, first_for, wait_first}
 use Rattle.ns_word.specs.Views.{writers, readers, takers, queuers, owed_to, walk_at, NoneIs, AreApart}
 use Rattle.ns_model.specs.Truths.{Truths}
 use Rattle.ns_word.specs.Steps.{State}
-use Rattle.ns_word.specs.Places.{PlaceFits, Tests}
-use Rattle.ns_word.specs.Lawful.{EachFits, IsLawful}
-use Rattle.ns_word.specs.Begins.{fresh_views, fresh_state, IsFirst, Begins}
+use Rattle.ns_word.specs.Places.{PlaceFits, Tests, CanWait}
+use Rattle.ns_word.specs.Lawful.{EachFits, VariableWaiterFits, IsLawful}
+use Rattle.ns_word.specs.Begins.{fresh_views, fresh_state, IsForVariable, IsFirst, Begins}
 use Rattle.ns_word.proofs.Groups.{groups_of, lawful_by}
 use Rattle.ns_word.proofs.Views.{view_of}
 use Rattle.ns_word.proofs.Safes.{same_section}
@@ -65,6 +78,14 @@ module _ (C : Type 0) (N : ℕ) where
   each truths seats first zero row few = tt
   each truths seats first (suc n) row few = (record { in_range = omega arith; place = tt; owes = refl; section = refl }, each truths seats (first + 1) n row (omega arith))
 
+  -- nobody stands in the list of a variable
+  nobody_waits : (P : Waiter C → Type 0) (k : ℕ) → Every P (waiters_of {C = C} (record { lock = []; cvs = replicate 4 [] }) (Cv k))
+  nobody_waits P zero = tt
+  nobody_waits P (suc zero) = tt
+  nobody_waits P (suc (suc zero)) = tt
+  nobody_waits P (suc (suc (suc zero))) = tt
+  nobody_waits P (suc (suc (suc (suc k)))) = tt
+
   pub lawful_fresh : (truths : Truths C) (seats : ℕ) → seats ≤ 64 → IsLawful truths seats [] (fresh_state {C = C} {N = N} seats)
   lawful_fresh truths seats few = record {
     one_writer = record { bit = no_writers 0 seats; alone = λ e. absurd (cc) };
@@ -80,11 +101,13 @@ module _ (C : Type 0) (N : ℕ) where
     spin_held_once = no_takers 0 seats;
     bits_tell = record { at_home = λ e. refl; nobody = λ e. (refl, no_queuers 0 seats) };
     waiters_placed = record {
+      four = refl;
       placed = λ seat. let none = none_owed seat 0 seats in rw (no_walk seat 0 seats) (omega (arith, none));
       armed = λ seat e. absurd (both_ways (has_armed (walk_at seat (fresh 0 seats))) (rw (no_walk seat 0 seats) refl) e);
       flag = λ seat. omega arith;
     };
     waiters_own = tt;
+    variables_tell = record { own = λ k low. nobody_waits (VariableWaiterFits (λ seat. Idle) (fresh 0 seats) k) k; all = λ k seat mode e. absurd (cc) };
     desig_on_its_way = λ e. absurd (cc);
     idle_waiters_false = λ e f g. (refl, no_queuers 0 seats);
     allfalse_true = λ e. absurd (cc);
@@ -92,39 +115,43 @@ module _ (C : Type 0) (N : ℕ) where
   }
 
 -- a quiet release begins at the first cell
-quiet_first_at : (C : Type 0) (N : ℕ) (b : Bool) → ltb 0 (N - 1) ≡ b → IsFirst {C = C} N (cond b (QuietCells 0) (QuietLast (N - 1)))
+quiet_first_at : (C : Type 0) (N : ℕ) (b : Bool) → ltb 0 (N - 1) ≡ b → IsFirst {C = C} N (InCells (cond b (QuietCells 0) (QuietLast (N - 1))))
 quiet_first_at C N true e = refl
 quiet_first_at C N false e = let most = ltb-false 0 (N - 1) e in omega (arith, most)
 
-pub quiet_first : (C : Type 0) (N : ℕ) → IsFirst {C = C} N (quiet_place N 0)
-quiet_first C N = quiet_first_at C N (ltb 0 (N - 1)) refl
+pub quiet_is_first : (C : Type 0) (N : ℕ) → IsFirst {C = C} N (quiet_first N)
+quiet_is_first C N = quiet_first_at C N (ltb 0 (N - 1)) refl
 
 -- and so does the test of a wait
 test_first_at : {C : Type 0} (N : ℕ) (wait : Wait C) (b : Bool) → ltb 0 (N - 1) ≡ b → IsFirst N (cond b (InWait wait (TestCells OnEntry 0)) (InWait wait (TestLast OnEntry (N - 1))))
 test_first_at N wait true e = refl
 test_first_at N wait false e = let most = ltb-false 0 (N - 1) e in omega (arith, most)
 
-pub test_first : {C : Type 0} (N : ℕ) (wait : Wait C) → IsFirst N (test_place N wait OnEntry 0)
-test_first N wait = test_first_at N wait (ltb 0 (N - 1)) refl
+first_is_for : {C : Type 0} (N : ℕ) (on : Subject C) (wait : Wait C) → wait.on ≡ on → IsFirst N (first_for N on wait)
+first_is_for N (OnCondition c) wait e = test_first_at N wait (ltb 0 (N - 1)) refl
+first_is_for N (OnVariable k) wait e = (refl, subst IsForVariable (sym e) tt)
+
+pub wait_is_first : {C : Type 0} (N : ℕ) (wait : Wait C) → IsFirst N (wait_first N wait)
+wait_is_first N wait = first_is_for N wait.on wait refl
 
 module _ {C : Type 0} {N : ℕ} (truths : Truths C) (seats : ℕ) (h : List (Event C N)) where
   -- A first place tells nothing that no place doesn't, but that a wait begins with its section in hand.
   first_place : (walk : Walk C) (held : Option (Held C N)) → IsFirst N walk → PlaceFits truths (Some walk) held → Leads truths None (Some walk) held
-  first_place (TryLoad mode) held e p = (p, (refl, refl, refl, refl), refl, λ n f. absurd (cc), λ none. refl)
-  first_place (AcquireLoad (ForLock mode) woken) held e p = (p, (refl, refl, refl, refl), refl, λ n f. absurd (cc), λ none. refl)
-  first_place (QuietCells i) held e p = (p, (refl, refl, refl, refl), refl, λ n f. absurd (cc), λ none. refl)
-  first_place (QuietLast i) held e p = (p, (refl, refl, refl, refl), refl, λ n f. absurd (cc), λ none. refl)
-  first_place (ReleaseLoad releasing) held e p = (p, (refl, refl, refl, refl), refl, λ n f. absurd (cc), λ none. refl)
-  first_place (GetLoad i) held e p = (p, (refl, refl, refl, refl), refl, λ n f. absurd (cc), λ none. refl)
-  first_place (SetLoad i v) held e p = (p, (refl, refl, refl, refl), refl, λ n f. absurd (cc), λ none. refl)
-  first_place (InWait wait (TestCells OnEntry i)) held e p = (p, (refl, refl, refl, refl), refl, λ n f. absurd (cc), λ none. absurd (subst (λ x. Tests wait OnEntry x) none p.0))
-  first_place (InWait wait (TestLast OnEntry i)) held e p = (p, (refl, refl, refl, refl), refl, λ n f. absurd (cc), λ none. absurd (subst (λ x. Tests wait OnEntry x) none p.0))
+  first_place (InTry mode TryLoad) held e p = (p, (refl, refl, refl, refl), refl, λ flag n f. absurd (cc), λ none. refl)
+  first_place (InAcquire (ForLock mode) (AcquireLoad arrival)) held e p = (p, (refl, refl, refl, refl), refl, λ flag n f. absurd (cc), λ none. refl)
+  first_place (InRelease releasing ReleaseLoad) held e p = (p, (refl, refl, refl, refl), refl, λ flag n f. absurd (cc), λ none. refl)
+  first_place (InCells place) held e p = (p, (refl, refl, refl, refl), refl, λ flag n f. absurd (cc), λ none. refl)
+  first_place (InWait wait (TestCells OnEntry i)) held e p = (p, (refl, refl, refl, refl), refl, λ flag n f. absurd (cc), λ none. absurd (subst (λ x. Tests truths wait OnEntry x) none p.0.0))
+  first_place (InWait wait (TestLast OnEntry i)) held e p = (p, (refl, refl, refl, refl), refl, λ flag n f. absurd (cc), λ none. absurd (subst (λ x. Tests truths wait OnEntry x) none p.0.0))
+  first_place (InWait wait (InQueuing false Load)) held e p = (p, (refl, refl, refl, refl), refl, λ flag n f. absurd (cc), λ none. absurd (subst (λ x. CanWait truths wait false x) none p.0.0))
+  first_place (InWait wait (InQueuing true Load)) held e p = let never : true ≡ false = e.0 in absurd (cc)
+  first_place (InSignal waking k SignalLoad) held e p = (p, (refl, refl, refl, refl), refl, λ flag n f. absurd (cc), λ none. refl)
   first_place _ held e p = absurd e
 
   pub begins : (old : State C N) (view : SeatView C N) (walk : Walk C) (new : State C N) → Begins truths old view walk new → IsLawful truths seats h old → IsLawful truths seats h new
   begins old view walk new b p =
-      let start = subst (λ views. IsLawful truths seats h (record { word = old.word; row = old.row; lock = old.lock; flags = old.flags; views = views })) b.was p in
-      let here = subst (λ w. IsLawful truths seats h (record { word = old.word; row = old.row; lock = old.lock; flags = old.flags; views = b.front ++ view_of view.seat w view.held view.owed ∷ b.back })) b.over start in
+      let start = subst (λ views. IsLawful truths seats h (record { word = old.word; row = old.row; lists = old.lists; flags = old.flags; views = views })) b.was p in
+      let here = subst (λ w. IsLawful truths seats h (record { word = old.word; row = old.row; lists = old.lists; flags = old.flags; views = b.front ++ view_of view.seat w view.held view.owed ∷ b.back })) b.over start in
       let leads = first_place walk view.held b.first b.fits in
-      let moved = rests truths seats h b.front view.seat None (Some walk) b.back old.word old.row old.lock old.flags view.held view.held view.owed leads.0 leads.1 leads.2 leads.3 (same_section None (Some walk) view.held leads.4) (groups_of truths seats h _ here) in
+      let moved = rests truths seats h b.front view.seat None (Some walk) b.back old.word old.row old.lists old.flags view.held view.held view.owed refl leads.0 leads.1 leads.2 leads.3 (same_section None (Some walk) view.held leads.4) (groups_of truths seats h _ here) in
       subst (λ s. IsLawful truths seats h s) (sym b.becomes) (lawful_by truths seats h _ moved)

@@ -8,13 +8,21 @@ use Rattle.ns_model.specs.declared.event.Event.{Event}
 use Rattle.ns_model.specs.Histories.{IsLegal, IsBySeats, own, who_of}
 use Rattle.ns_word.specs.declared.view.SeatView.{SeatView}
 use Rattle.ns_word.specs.declared.walk.Walk.{Walk}
+use Rattle.ns_queue.specs.Queues.{Lists}
+use Rattle.ns_queue.specs.declared.waiter.Which.{Which}
+use Rattle.ns_queue.specs.declared.waiter.Which.TheVariants.{Lock, Cv}
+use Rattle.ns_queue.specs.declared.waiter.Waiter.{Waiter}
+use Rattle.ns_word.specs.declared.act.Waking.{Waking}
+use Rattle.ns_word.specs.declared.act.Waking.TheVariants.{Signaling, Broadcasting}
+use Rattle.ns_word.specs.declared.act.Change.{Change}
+use Rattle.ns_word.specs.declared.act.Change.TheVariants.{QueueSelf, LeaveSelf, WakeWaiters}
 use Rattle.ns_word.specs.declared.act.Act.{Act}
 use Rattle.ns_word.specs.declared.act.Act.TheVariants.{LoadWord, Acquire, TakeQueues, ReturnQueues, Release, ReleaseReturning, WaitReturning, LoadCell, JudgeQuiet, JudgeMet, StoreCell, ArmFlag, PayWake, LoadFlag, Look}
 use Rattle.ns_word.specs.declared.act.Found.{Found}
-use Rattle.ns_word.specs.declared.act.Found.TheVariants.{Saw, Made, Cell, Quiet, Tested, Scanned, Paid, Left, Flag, Looked}
+use Rattle.ns_word.specs.declared.act.Found.TheVariants.{Saw, Made, Cell, Quiet, Tested, Scanned, Paid, Left, Woke, Flag, Looked}
 use Rattle.ns_word.specs.Walks.{want_of, got_of, walk_after}
 use Rattle.ns_model.specs.Truths.{Truths, QuietKeeps}
-use Rattle.ns_word.specs.Steps.{State, Part, Effect, Step}
+use Rattle.ns_word.specs.Steps.{State, Part, Effect, Step, leave_of, wake_of, change_commits}
 use Rattle.ns_word.specs.Begins.{IsFirst, FirstStep}
 use Rattle.ns_word.specs.Lawful.{IsLawful}
 use Rattle.ns_model.specs.Beginnings.{BeginsWith}
@@ -38,6 +46,21 @@ led_on N begun walk found led = led_at N begun (walk_after (got_of N walk found)
 led_from : {C : Type 0} (N : ℕ) (earlier : List (Walk C)) (first : Walk C) (found : Found) (next : Option (Walk C)) → walk_after (got_of N first found) ≡ next → IsLed N (earlier ++ first ∷ []) next
 led_from N earlier first found next e = led_at N (earlier ++ first ∷ []) next earlier first (found ∷ []) refl e
 
+-- what is committed as the queues are put back is the seat's
+left_by : (C : Type 0) (N : ℕ) (seat : ℕ) (which : Which) (stood : Bool) → AreBy seat (leave_of {C = C} {N = N} seat which stood)
+left_by C N seat Lock stood = tt
+left_by C N seat (Cv k) true = (refl, tt)
+left_by C N seat (Cv k) false = tt
+
+woken_by : {C : Type 0} (N : ℕ) (seat : ℕ) (waking : Waking) (k : ℕ) (taken : List (Waiter C)) → who_of (wake_of {C = C} {N = N} seat waking k taken) ≡ seat
+woken_by N seat Signaling k taken = refl
+woken_by N seat Broadcasting k taken = refl
+
+change_by : {C : Type 0} (N : ℕ) (seat : ℕ) (change : Change) (lists : Lists C) → AreBy seat (change_commits {C = C} {N = N} seat change lists)
+change_by N seat (QueueSelf mode arrival) lists = tt
+change_by {C} N seat (LeaveSelf which) lists = left_by C N seat which _
+change_by N seat (WakeWaiters waking k) lists = (woken_by N seat waking k _, tt)
+
 module _ {C : Type 0} {N : ℕ} where
   none_by : (seat : ℕ) (commits : List (Event C N)) → commits ≡ [] → AreBy seat commits
   none_by seat commits e = subst (λ xs. AreBy seat xs) (sym e) tt
@@ -45,19 +68,23 @@ module _ {C : Type 0} {N : ℕ} where
   one_by : (seat : ℕ) (event : Event C N) (commits : List (Event C N)) → who_of event ≡ seat → commits ≡ event ∷ [] → AreBy seat commits
   one_by seat event commits same e = subst (λ xs. AreBy seat xs) (sym e) (same, tt)
 
+  returned_by : (seat : ℕ) (change : Change) (lists : Lists C) (commits : List (Event C N)) → commits ≡ change_commits seat change lists → AreBy seat commits
+  returned_by seat change lists commits e = subst (λ xs. AreBy seat xs) (sym e) (change_by N seat change lists)
+
   -- what a step commits is its seat's
   effect_by : (truths : Truths C) (seat : ℕ) (act : Act C) (old : Part C N) (found : Found) (new : Part C N) (commits : List (Event C N)) → Effect truths seat act old found new commits → AreBy seat commits
   effect_by truths seat LoadWord old (Saw word) new commits e = none_by seat commits e.2
-  effect_by truths seat (Acquire aim woken last) old (Saw word) new commits e = none_by seat commits e.3
+  effect_by truths seat (Acquire aim arrival last) old (Saw word) new commits e = none_by seat commits e.3
   effect_by truths seat (TakeQueues taking last) old (Saw word) new commits e = none_by seat commits e.3
   effect_by truths seat (ReturnQueues change last) old (Saw word) new commits e = none_by seat commits e.3
   effect_by truths seat (Release releasing last) old (Saw word) new commits e = none_by seat commits e.3
   effect_by truths seat (ReleaseReturning releasing last) old (Saw word) new commits e = none_by seat commits e.3
   effect_by truths seat (WaitReturning wait again last) old (Saw word) new commits e = none_by seat commits e.3
-  effect_by truths seat (Acquire aim woken last) old Made new commits e = none_by seat commits e.4
+  effect_by truths seat (Acquire aim arrival last) old Made new commits e = none_by seat commits e.4
   effect_by truths seat (TakeQueues taking last) old Made new commits e = none_by seat commits e.3
-  effect_by truths seat (ReturnQueues change last) old Made new commits e = none_by seat commits e.3
-  effect_by truths seat (ReturnQueues change last) old (Left stood) new commits e = none_by seat commits e.3
+  effect_by truths seat (ReturnQueues change last) old Made new commits e = returned_by seat change old.lists commits e.3
+  effect_by truths seat (ReturnQueues change last) old (Left stood) new commits e = returned_by seat change old.lists commits e.3
+  effect_by truths seat (ReturnQueues change last) old (Woke owes) new commits e = returned_by seat change old.lists commits e.3
   effect_by truths seat (Release releasing last) old Made new commits e = one_by seat _ commits refl e.5
   effect_by truths seat (ReleaseReturning releasing last) old (Scanned owes tests) new commits e = one_by seat _ commits refl e.7
   effect_by truths seat (WaitReturning wait false last) old (Scanned owes tests) new commits e = one_by seat _ commits refl e.7
@@ -67,7 +94,7 @@ module _ {C : Type 0} {N : ℕ} where
   effect_by truths seat (JudgeMet i c) old (Tested is_met) new commits e = none_by seat commits e.4
   effect_by truths seat (StoreCell i v) old Made new commits e = none_by seat commits e.4
   effect_by truths seat ArmFlag old Made new commits e = none_by seat commits e.1
-  effect_by truths seat PayWake old (Paid owes) new commits e = none_by seat commits e.5
+  effect_by truths seat (PayWake value) old (Paid owes) new commits e = none_by seat commits e.5
   effect_by truths seat LoadFlag old (Flag v) new commits e = none_by seat commits e.2
   effect_by truths seat (Look limits again) old (Looked cause) new commits e = none_by seat commits e.2
   effect_by truths seat _ old _ new commits e = absurd e

@@ -1,18 +1,30 @@
 -- A view among the views: what holds of all of them, by the views before it, itself, and those behind it.
 use Rattle.std.proofs.Common.{◌≡◌, ◌≢◌, ℕ, ◌+◌, ◌≤◌, Bool, true, false, not, cond, ◌⊎◌, inl, inr, List, [], ◌∷◌, ◌++◌, Option, None, Some, eqb, refl, ap, sym, ◌∙◌, subst, arith, eq-eqb}
 use Rattle.std.proofs.lemmas.Bool.{ne_eqb}
-use Rattle.ns_model.specs.Phases.{is_write}
+use Rattle.ns_model.specs.Phases.{is_write, woken_phase}
 use Rattle.ns_model.specs.Histories.{Standing}
 use Rattle.ns_model.specs.Tallies.{one_if}
 use Rattle.ns_model.proofs.Tallies.{total_amid, every_parts, every_join}
+use Rattle.ns_model.specs.declared.event.Mode.{Mode}
+use Rattle.ns_model.specs.declared.phase.Phase.{Phase}
+use Rattle.ns_model.specs.declared.phase.Phase.TheVariants.{Idle, Cond, Waiting, Woken, Left}
+use Rattle.ns_word.specs.declared.limits.Cause.{Cause}
+use Rattle.ns_word.specs.declared.wait.Subject.{Subject}
+use Rattle.ns_word.specs.declared.wait.Subject.TheVariants.{OnCondition, OnVariable}
+use Rattle.ns_word.specs.declared.wait.Aim.{Aim}
+use Rattle.ns_word.specs.declared.wait.Aim.TheVariants.{ForLock, ForWait}
+use Rattle.ns_word.specs.declared.view.Opening.{Opening}
+use Rattle.ns_word.specs.declared.view.Opening.TheVariants.{Locked, CameBack}
+use Rattle.ns_word.specs.declared.walk.Walk.TheVariants.{InTry, InAcquire, InRelease, InCells, InWait, InSignal}
+use Rattle.ns_word.specs.Waits.{phase_kept, phase_for}
 use Rattle.ns_word.specs.declared.view.Held.{Held}
 use Rattle.ns_word.specs.declared.view.SeatView.{SeatView}
 use Rattle.ns_word.specs.declared.walk.Walk.{Walk}
 use Rattle.ns_word.specs.Lists.{times_among}
-use Rattle.ns_word.specs.Walks.{has_queues, is_queuing}
-use Rattle.ns_word.specs.Views.{is_writing, is_reading, writers, readers, takers, queuers, owed_to, walk_at, NoneIs, AreApart}
+use Rattle.ns_word.specs.Walks.{has_queues, is_queuing, calls_from_lock, phase_by, expected_for}
+use Rattle.ns_word.specs.Views.{is_writing, is_reading, writers, readers, takers, queuers, owed_to, called_to, walk_at, NoneIs, AreApart}
 use Rattle.ns_model.specs.Truths.{Truths}
-use Rattle.ns_word.specs.Lawful.{ViewFits, SectionFits, EachFits}
+use Rattle.ns_word.specs.Lawful.{ViewFits, SectionFits, EachFits, IsExpected, IsEither, phase_before}
 
 -- a seat with this place, this section and these wakes to pay
 abbrev pub view_of : {C : Type 0} {N : ℕ} → ℕ → Option (Walk C) → Option (Held C N) → List ℕ → SeatView C N
@@ -44,6 +56,17 @@ module _ {C : Type 0} {N : ℕ} where
   pub owed_at : (seat : ℕ) (front : List (SeatView C N)) (view : SeatView C N) (back : List (SeatView C N)) →
       owed_to seat (front ++ view ∷ back) ≡ owed_to seat front + (times_among seat view.owed + owed_to seat back)
   owed_at seat front view back = total_amid (λ view. times_among seat view.owed) front view back
+
+  pub called_at : (seat : ℕ) (front : List (SeatView C N)) (view : SeatView C N) (back : List (SeatView C N)) →
+      called_to seat (front ++ view ∷ back) ≡ called_to seat front + (cond (calls_from_lock view.walk) (times_among seat view.owed) 0 + called_to seat back)
+  called_at seat front view back = total_amid (λ view. cond (calls_from_lock view.walk) (times_among seat view.owed) 0) front view back
+
+  -- those are some of all that a seat is owed
+  pub called_most : (seat : ℕ) (views : List (SeatView C N)) → called_to seat views ≤ owed_to seat views
+  called_most seat [] = omega arith
+  called_most seat (u ∷ views) =
+      let rest = called_most seat views in
+      elim (calls_from_lock u.walk) as (λ b. cond b (times_among seat u.owed) 0 + called_to seat views ≤ times_among seat u.owed + owed_to seat views) [ true ↦ omega (arith, rest) | false ↦ omega (arith, rest) ]
 
   pub queuers_at : (front : List (SeatView C N)) (view : SeatView C N) (back : List (SeatView C N)) →
       queuers (front ++ view ∷ back) ≡ queuers front + (cond (is_queuing view.walk) 1 0 + queuers back)
@@ -110,7 +133,7 @@ module _ {C : Type 0} {N : ℕ} where
         next.phases who ≡ now.phases who →
         ((next.row ≡ now.row) × (cells ≡ row)) ⊎ (held ≡ None) →
         SectionFits now row who walk held → SectionFits next cells who walk held
-    section_moves now next row cells who walk None phase same p = phase ∙ p
+    section_moves now next row cells who walk None phase same p = subst (λ ph. IsExpected (phase_by walk) ph) (sym phase) p
     section_moves now next row cells who walk (Some held) phase (inl same) p = record {
       starts = p.starts ∙ sym same.0;
       enters = phase ∙ p.enters;
@@ -133,3 +156,69 @@ module _ {C : Type 0} {N : ℕ} where
       record { in_range = p.0.in_range; place = p.0.place; owes = p.0.owes; section = section_moves now next row cells u.seat u.walk u.held (phases u.seat apart.0) (inr (none_held u.held (omega arith))) p.0.section },
       each_moves now next row cells who views apart.1 phases (inr (omega arith)) p.1,
     )
+
+-- ---- what a wake leaves of the phases
+
+module _ {C : Type 0} where
+  -- only one that waits for a variable is woken
+  kept_steady : (on : Subject C) (mode : Mode) (kept : Option Cause) → woken_phase (phase_kept on mode kept) ≡ phase_kept on mode kept
+  kept_steady (OnCondition c) mode kept = refl
+  kept_steady (OnVariable k) mode None = refl
+  kept_steady (OnVariable k) mode (Some cause) = refl
+
+  before_steady : (mode : Mode) (entry : Opening C) → woken_phase (phase_before mode entry) ≡ phase_before mode entry
+  before_steady mode Locked = refl
+  before_steady mode (CameBack on kept) = kept_steady on mode kept
+
+  for_steady : (aim : Aim C) → woken_phase (phase_for aim) ≡ phase_for aim
+  for_steady (ForLock mode) = refl
+  for_steady (ForWait wait kept) = kept_steady wait.on wait.mode kept
+
+  woken_twice : (phase : Phase C) → woken_phase (woken_phase phase) ≡ woken_phase phase
+  woken_twice Idle = refl
+  woken_twice (Cond c mode) = refl
+  woken_twice (Waiting k mode) = refl
+  woken_twice (Woken k mode) = refl
+  woken_twice (Left k mode) = refl
+
+  either_woken : (b : Bool) (phase now : Phase C) → (b ≡ false → woken_phase phase ≡ phase) → IsEither b phase now → IsEither b phase (woken_phase now)
+  either_woken false phase now steady p = ap woken_phase p ∙ steady refl
+  either_woken true phase now steady (inl e) = inr (ap woken_phase e)
+  either_woken true phase now steady (inr e) = inr (ap woken_phase e ∙ woken_twice phase)
+
+  subject_woken : (on : Subject C) (mode : Mode) (now : Phase C) → IsExpected (expected_for on mode) now → IsExpected (expected_for on mode) (woken_phase now)
+  subject_woken (OnCondition c) mode now p = either_woken false (Cond c mode) now (λ e. refl) p
+  subject_woken (OnVariable k) mode now p = either_woken true (Waiting k mode) now (λ e. absurd (cc)) p
+
+  pub expected_woken : (walk : Option (Walk C)) (now : Phase C) → IsExpected (phase_by walk) now → IsExpected (phase_by walk) (woken_phase now)
+  expected_woken None now p = either_woken false Idle now (λ e. refl) p
+  expected_woken (Some (InTry mode place)) now p = either_woken false Idle now (λ e. refl) p
+  expected_woken (Some (InAcquire aim place)) now p = either_woken false (phase_for aim) now (λ e. for_steady aim) p
+  expected_woken (Some (InRelease releasing place)) now p = either_woken false Idle now (λ e. refl) p
+  expected_woken (Some (InCells place)) now p = either_woken false Idle now (λ e. refl) p
+  expected_woken (Some (InWait wait place)) now p = subject_woken wait.on wait.mode now p
+  expected_woken (Some (InSignal waking k place)) now p = either_woken false Idle now (λ e. refl) p
+
+module _ {C : Type 0} {N : ℕ} (truths : Truths C) (seats : ℕ) where
+  section_woken : (now next : Standing C) (row : List ℕ) (who : ℕ) (walk : Option (Walk C)) (held : Option (Held C N)) →
+      (next.phases who ≡ now.phases who) ⊎ (next.phases who ≡ woken_phase (now.phases who)) → next.row ≡ now.row →
+      SectionFits now row who walk held → SectionFits next row who walk held
+  section_woken now next row who walk None (inl e) same p = subst (λ ph. IsExpected (phase_by walk) ph) (sym e) p
+  section_woken now next row who walk None (inr e) same p = subst (λ ph. IsExpected (phase_by walk) ph) (sym e) (expected_woken walk (now.phases who) p)
+  section_woken now next row who walk (Some held) (inl e) same p = record { starts = p.starts ∙ sym same; enters = e ∙ p.enters; cells = p.cells; reads = p.reads }
+  section_woken now next row who walk (Some held) (inr e) same p = record {
+    starts = p.starts ∙ sym same;
+    enters = e ∙ ap woken_phase p.enters ∙ before_steady held.mode held.entry;
+    cells = p.cells;
+    reads = p.reads;
+  }
+
+  -- what a wake leaves of the seats: each is as it was, or woken
+  pub each_woken : (now next : Standing C) (row : List ℕ) (views : List (SeatView C N)) →
+      ((seat : ℕ) → (next.phases seat ≡ now.phases seat) ⊎ (next.phases seat ≡ woken_phase (now.phases seat))) → next.row ≡ now.row →
+      EachFits truths seats now row views → EachFits truths seats next row views
+  each_woken now next row [] phases same p = tt
+  each_woken now next row (u ∷ views) phases same p = (
+    record { in_range = p.0.in_range; place = p.0.place; owes = p.0.owes; section = section_woken now next row u.seat u.walk u.held (phases u.seat) same p.0.section },
+    each_woken now next row views phases same p.1,
+  )

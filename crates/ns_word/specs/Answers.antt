@@ -6,9 +6,10 @@ use Rattle.ns_word.specs.declared.wait.Aim.TheVariants.{ForLock, ForWait}
 use Rattle.ns_word.specs.declared.wait.Visit.{Visit}
 use Rattle.ns_word.specs.declared.wait.Visit.TheVariants.{OnEntry, OnReturn}
 use Rattle.ns_word.specs.declared.wait.WaitPlace.{WaitPlace}
-use Rattle.ns_word.specs.declared.wait.WaitPlace.TheVariants.{TestCells, TestLast, LookIn, LeaveLoad, TakeToLeave, Leave, AwaitWakeToLeave}
+use Rattle.ns_word.specs.declared.wait.WaitPlace.TheVariants.{TestCells, TestLast, InQueuing, InLeaving}
+use Rattle.ns_word.specs.declared.wait.QueuePlace.TheVariants.{LookIn}
 use Rattle.ns_word.specs.declared.walk.Walk.{Walk}
-use Rattle.ns_word.specs.declared.walk.Walk.TheVariants.{AcquireLoad, AcquireExchange, TakeToQueue, Arm, Queue, AwaitWake, InWait}
+use Rattle.ns_word.specs.declared.walk.Walk.TheVariants.{InAcquire, InWait}
 
 -- the condition is tested after the lock was acquired again
 abbrev pub comes_back : Visit → Bool
@@ -19,7 +20,7 @@ comes_back (OnReturn kept) = true
 abbrev pub place_has_come_back : WaitPlace → Bool
 place_has_come_back (TestCells visit i) = comes_back visit
 place_has_come_back (TestLast visit i) = comes_back visit
-place_has_come_back (LookIn again) = again
+place_has_come_back (InQueuing again LookIn) = again
 place_has_come_back place = false
 
 -- the call is a wait that has come back with the lock, and hasn't settled whether it is to answer or to queue again
@@ -46,19 +47,11 @@ cause_by (OnReturn kept) = kept
 abbrev pub place_cause_kept : WaitPlace → Option Cause
 place_cause_kept (TestCells visit i) = cause_by visit
 place_cause_kept (TestLast visit i) = cause_by visit
-place_cause_kept (LeaveLoad cause) = Some cause
-place_cause_kept (TakeToLeave cause last) = Some cause
-place_cause_kept (Leave cause last) = Some cause
-place_cause_kept (AwaitWakeToLeave cause) = Some cause
+place_cause_kept (InLeaving cause place) = Some cause
 place_cause_kept place = None
 
 -- what ends the wait early that the call is, by its place: kept while the wait leaves the lock list, acquires the lock again and tests its condition
 abbrev pub cause_kept : {C : Type 0} → Walk C → Option Cause
-cause_kept (AcquireLoad aim woken) = cause_for aim
-cause_kept (AcquireExchange aim woken last) = cause_for aim
-cause_kept (TakeToQueue aim woken last) = cause_for aim
-cause_kept (Arm aim woken last) = cause_for aim
-cause_kept (Queue aim woken last) = cause_for aim
-cause_kept (AwaitWake aim) = cause_for aim
+cause_kept (InAcquire aim place) = cause_for aim
 cause_kept (InWait wait place) = place_cause_kept place
 cause_kept walk = None

@@ -1,14 +1,23 @@
 -- How a lock begins, and how a seat's call begins.
-use Rattle.std.specs.Prelude.{◌≡◌, ℕ, zero, suc, ◌+◌, false, List, [], ◌∷◌, ◌++◌, None, Some}
+use Rattle.std.specs.Prelude.{◌≡◌, ℕ, zero, suc, ◌+◌, false, List, [], ◌∷◌, ◌++◌, replicate, None, Some}
 use Rattle.ns_model.specs.declared.event.Event.{Event}
 use Rattle.ns_model.specs.Histories.{first_row}
 use Rattle.ns_word.specs.declared.word.Word.{Word}
 use Rattle.ns_word.specs.declared.view.SeatView.{SeatView}
-use Rattle.ns_word.specs.declared.walk.Walk.{Walk}
-use Rattle.ns_word.specs.declared.walk.Walk.TheVariants.{TryLoad, AcquireLoad, QuietCells, QuietLast, ReleaseLoad, GetLoad, SetLoad, InWait}
 use Rattle.ns_word.specs.declared.wait.Aim.TheVariants.{ForLock}
 use Rattle.ns_word.specs.declared.wait.Visit.TheVariants.{OnEntry}
-use Rattle.ns_word.specs.declared.wait.WaitPlace.TheVariants.{TestCells, TestLast}
+use Rattle.ns_word.specs.declared.wait.WaitPlace.TheVariants.{TestCells, TestLast, InQueuing}
+use Rattle.ns_word.specs.declared.wait.QueuePlace.TheVariants.{Load}
+use Rattle.ns_word.specs.declared.wait.Subject.{Subject}
+use Rattle.ns_word.specs.declared.wait.Subject.TheVariants.{OnCondition, OnVariable}
+use Rattle.ns_word.specs.declared.signal_walk.SignalPlace.TheVariants.{SignalLoad}
+use Rattle.ns_word.specs.declared.word.Arrival.TheVariants.{AsFresh}
+use Rattle.ns_word.specs.declared.try_walk.TryPlace.TheVariants.{TryLoad}
+use Rattle.ns_word.specs.declared.acquire_walk.AcquirePlace.TheVariants.{AcquireLoad}
+use Rattle.ns_word.specs.declared.release_walk.ReleasePlace.TheVariants.{ReleaseLoad}
+use Rattle.ns_word.specs.declared.cell_walk.CellPlace.TheVariants.{GetLoad, SetLoad, QuietCells, QuietLast}
+use Rattle.ns_word.specs.declared.walk.Walk.{Walk}
+use Rattle.ns_word.specs.declared.walk.Walk.TheVariants.{InTry, InAcquire, InRelease, InCells, InWait, InSignal}
 use Rattle.ns_word.specs.declared.act.Found.{Found}
 use Rattle.ns_model.specs.Truths.{Truths}
 use Rattle.ns_word.specs.Steps.{State, Step}
@@ -25,19 +34,26 @@ fresh_views first (suc n) = record { seat = first; walk = None; held = None; owe
 
 -- a free lock with so many seats, over a row of zeros
 abbrev pub fresh_state : {C : Type 0} {N : ℕ} → ℕ → State C N
-fresh_state {C} {N} seats = record { word = free_word; row = first_row N; lock = []; flags = λ seat. 0; views = fresh_views 0 seats }
+fresh_state {C} {N} seats = record { word = free_word; row = first_row N; lists = record { lock = []; cvs = replicate 4 [] }; flags = λ seat. 0; views = fresh_views 0 seats }
 
--- the first place of a call, over a row of N cells
+-- the wait is for a variable
+abbrev pub IsForVariable : {C : Type 0} → Subject C → Type 0
+IsForVariable (OnCondition c) = ⊥
+IsForVariable (OnVariable k) = Unit {0}
+
+-- the first place of a call, over a row of N cells; a wait for a condition begins with its test
 abbrev pub IsFirst : {C : Type 0} → ℕ → Walk C → Type 0
-IsFirst N (TryLoad mode) = Unit {0}
-IsFirst N (AcquireLoad (ForLock mode) woken) = woken ≡ false
-IsFirst N (QuietCells i) = i ≡ 0
-IsFirst N (QuietLast i) = i ≡ 0
-IsFirst N (ReleaseLoad releasing) = Unit {0}
-IsFirst N (GetLoad i) = Unit {0}
-IsFirst N (SetLoad i v) = Unit {0}
+IsFirst N (InTry mode TryLoad) = Unit {0}
+IsFirst N (InAcquire (ForLock mode) (AcquireLoad arrival)) = arrival ≡ AsFresh
+IsFirst N (InCells (QuietCells i)) = i ≡ 0
+IsFirst N (InCells (QuietLast i)) = i ≡ 0
+IsFirst N (InRelease releasing ReleaseLoad) = Unit {0}
+IsFirst N (InCells (GetLoad i)) = Unit {0}
+IsFirst N (InCells (SetLoad i v)) = Unit {0}
 IsFirst N (InWait wait (TestCells OnEntry i)) = i ≡ 0
 IsFirst N (InWait wait (TestLast OnEntry i)) = i ≡ 0
+IsFirst N (InWait wait (InQueuing again Load)) = (again ≡ false) × IsForVariable wait.on
+IsFirst N (InSignal waking k SignalLoad) = Unit {0}
 IsFirst N walk = ⊥
 
 -- A seat whose last call is over begins one whose need is met: its place in a call changes, and nothing else.

@@ -1,24 +1,30 @@
 -- The law: what holds of a lock and its seats between any two steps.
-use Rattle.std.specs.Prelude.{◌≡◌, ℕ, ◌+◌, ◌<◌, ◌≤◌, Bool, true, false, ◌&&◌, ◌==◌, if◌then◌else◌, List, [], ◌∷◌, length, Option, None, Some}
+use Rattle.std.specs.Prelude.{◌≡◌, ℕ, ◌+◌, ◌<◌, ◌≤◌, Bool, true, false, ◌&&◌, ◌==◌, ◌⊎◌, if◌then◌else◌, List, length, Option, None, Some}
 use Rattle.ns_model.specs.declared.event.Mode.{Mode}
 use Rattle.ns_model.specs.declared.event.Mode.TheVariants.{Read}
 use Rattle.ns_model.specs.declared.event.Event.{Event}
 use Rattle.ns_model.specs.declared.phase.Phase.{Phase}
-use Rattle.ns_model.specs.declared.phase.Phase.TheVariants.{Idle, Cond}
+use Rattle.ns_model.specs.declared.phase.Phase.TheVariants.{Idle, Waiting}
+use Rattle.ns_model.specs.Phases.{woken_phase}
 use Rattle.ns_model.specs.Tallies.{Every}
 use Rattle.ns_model.specs.Histories.{Standing, IsLegal, IsBySeats, standing_after}
 use Rattle.ns_queue.specs.declared.waiter.Waiter.{Waiter}
+use Rattle.ns_queue.specs.declared.waiter.Which.TheVariants.{Cv}
+use Rattle.ns_queue.specs.Queues.{Lists, times, waiters_of}
 use Rattle.ns_queue.specs.Waiters.{times_in}
 use Rattle.ns_word.specs.declared.word.Word.{Word}
 use Rattle.ns_word.specs.declared.word.Bits.{Bits}
+use Rattle.ns_word.specs.declared.wait.Subject.{Subject}
+use Rattle.ns_word.specs.declared.wait.Subject.TheVariants.{OnCondition, OnVariable}
 use Rattle.ns_word.specs.declared.view.Opening.{Opening}
 use Rattle.ns_word.specs.declared.view.Opening.TheVariants.{Locked, CameBack}
 use Rattle.ns_word.specs.declared.view.Held.{Held}
 use Rattle.ns_word.specs.declared.view.SeatView.{SeatView}
 use Rattle.ns_word.specs.declared.walk.Walk.{Walk}
 use Rattle.ns_word.specs.Lists.{has_some, has_eligible, bits_of}
-use Rattle.ns_word.specs.Walks.{Stance, has_armed, waits_in, awaits, pays, is_on_way, phase_by}
-use Rattle.ns_word.specs.Views.{writers, readers, takers, queuers, owed_to, walk_at, AreApart}
+use Rattle.ns_word.specs.Walks.{Stance, Expected, has_armed, waits_in, awaits, pays, is_on_way, phase_by}
+use Rattle.ns_word.specs.Waits.{phase_kept}
+use Rattle.ns_word.specs.Views.{writers, readers, takers, queuers, owed_to, called_to, walk_at, AreApart}
 use Rattle.ns_word.specs.Places.{PlaceFits}
 use Rattle.ns_model.specs.Truths.{Truths}
 use Rattle.ns_word.specs.Steps.{State}
@@ -37,7 +43,7 @@ ReadersCounted word views = word.readers ≡ readers views
 -- the phase that a section comes from
 abbrev pub phase_before : {C : Type 0} → Mode → Opening C → Phase C
 phase_before mode Locked = Idle
-phase_before mode (CameBack c cause) = Cond c mode
+phase_before mode (CameBack on kept) = phase_kept on mode kept
 
 -- a section in hand begins where the history has left the row and its seat, its row is the row's cells, and a reader changes nothing
 pub record HeldFits {C : Type 0} {N : ℕ} (now : Standing C) (row : List ℕ) (seat : ℕ) (held : Held C N) : Type 0 where
@@ -46,9 +52,17 @@ pub record HeldFits {C : Type 0} {N : ℕ} (now : Standing C) (row : List ℕ) (
   pub cells : held.row ≡ row
   pub reads : held.mode ≡ Read → held.row ≡ held.before
 
+-- a phase is the expected one, or what a wake makes of that where one may have been woken
+abbrev pub IsEither : {C : Type 0} → Bool → Phase C → Phase C → Type 0
+IsEither false phase now = now ≡ phase
+IsEither true phase now = (now ≡ phase) ⊎ (now ≡ woken_phase phase)
+
+abbrev pub IsExpected : {C : Type 0} → Expected C → Phase C → Type 0
+IsExpected expected now = IsEither expected.may_be_woken expected.phase now
+
 -- A seat with no section in hand owes the history nothing, or is in the wait that its place in its call tells of.
 abbrev pub SectionFits : {C : Type 0} {N : ℕ} → Standing C → List ℕ → ℕ → Option (Walk C) → Option (Held C N) → Type 0
-SectionFits now row seat walk None = now.phases seat ≡ phase_by walk
+SectionFits now row seat walk None = IsExpected (phase_by walk) (now.phases seat)
 SectionFits now row seat walk (Some held) = HeldFits now row seat held
 
 -- A view of one of so many seats, after a history that left this standing. It owes a wake exactly where it is about to pay one, so none once its call is over.
@@ -96,29 +110,47 @@ is_armed flag = flag == 1
 abbrev pub is_unwoken : {C : Type 0} → Option (Walk C) → ℕ → Bool
 is_unwoken walk flag = awaits walk && is_armed flag
 
--- Each seat that waits stands in the lock list once, or is owed one wake by one seat, or has its flag cleared and neither; every other seat stands nowhere and is owed nothing. Before it queues, a seat has set its flag.
-pub record WaitersPlaced {C : Type 0} {N : ℕ} (lock : List (Waiter C)) (flags : ℕ → ℕ) (views : List (SeatView C N)) : Type 0 where
-  pub placed : (seat : ℕ) → times_in seat lock + owed_to seat views ≡ (if is_unwoken (walk_at seat views) (flags seat) then 1 else 0)
+-- Each seat that waits stands in one list, once, or is owed one wake by one seat, or has its flag cleared and neither; every other seat stands nowhere and is owed nothing. Before it queues, a seat has set its flag. There are four variables.
+pub record WaitersPlaced {C : Type 0} {N : ℕ} (lists : Lists C) (flags : ℕ → ℕ) (views : List (SeatView C N)) : Type 0 where
+  pub placed : (seat : ℕ) → times seat lists + owed_to seat views ≡ (if is_unwoken (walk_at seat views) (flags seat) then 1 else 0)
   pub armed : (seat : ℕ) → has_armed (walk_at seat views) ≡ true → flags seat ≡ 1
-  pub flag : (seat : ℕ) → flags seat ≤ 1
+  pub flag : (seat : ℕ) → flags seat ≤ 2
+  pub four : length lists.cvs ≡ 4
 
--- how a waiter stands there
-abbrev pub stance_of : {C : Type 0} → Waiter C → Stance C
-stance_of w = record { mode = w.mode; cond = w.cond }
+-- with which condition one stands in the lock list that waits so: one that waits for a variable, and was moved there, with none
+abbrev pub cond_on : {C : Type 0} → Option (Subject C) → Option C
+cond_on None = None
+cond_on (Some (OnCondition c)) = Some c
+cond_on (Some (OnVariable k)) = None
+
+abbrev pub lock_stance : {C : Type 0} → Option (Stance C) → Option (Mode × Option C)
+lock_stance None = None
+lock_stance (Some stance) = Some (stance.mode, cond_on stance.on)
 
 -- A waiter of the lock list is its seat's own: the seat waits in that mode, and for that condition, if there is one.
 abbrev pub WaiterFits : {C : Type 0} {N : ℕ} → List (SeatView C N) → Waiter C → Type 0
-WaiterFits views w = waits_in (walk_at w.seat views) ≡ Some (stance_of w)
+WaiterFits views w = lock_stance (waits_in (walk_at w.seat views)) ≡ Some (w.mode, w.cond)
 
 -- Each waiter of the lock list is its seat's own.
 abbrev pub WaitersOwn : {C : Type 0} {N : ℕ} → List (Waiter C) → List (SeatView C N) → Type 0
 WaitersOwn lock views = Every (WaiterFits views) lock
 
+-- A waiter of a variable's list is its seat's own, and waits for that variable, by its place and by the history; it has no condition.
+pub record VariableWaiterFits {C : Type 0} {N : ℕ} (phases : ℕ → Phase C) (views : List (SeatView C N)) (k : ℕ) (w : Waiter C) : Type 0 where
+  pub stands : waits_in (walk_at w.seat views) ≡ Some (record { mode = w.mode; on = Some (OnVariable k) })
+  pub waits : phases w.seat ≡ Waiting k w.mode
+  pub plain : w.cond ≡ None
+
+-- The list of each variable has just the seats that wait for it, by the history, in their modes.
+pub record VariablesTell {C : Type 0} {N : ℕ} (phases : ℕ → Phase C) (lists : Lists C) (views : List (SeatView C N)) : Type 0 where
+  pub own : (k : ℕ) → k < 4 → Every (VariableWaiterFits phases views k) (waiters_of lists (Cv k))
+  pub all : (k seat : ℕ) (mode : Mode) → phases seat ≡ Waiting k mode → (k < 4) × (1 ≤ times_in seat (waiters_of lists (Cv k)))
+
 -- ---- nobody is forgotten
 
 -- Where the designated bit is set, some seat is on its way that a scan took from the lock list.
-abbrev pub DesigOnItsWay : {C : Type 0} {N : ℕ} → Word → List (Waiter C) → List (SeatView C N) → Type 0
-DesigOnItsWay word lock views = word.desig ≡ true → (seat : ℕ) × (is_on_way (walk_at seat views) (times_in seat lock) ≡ true)
+abbrev pub DesigOnItsWay : {C : Type 0} {N : ℕ} → Word → (ℕ → ℕ) → List (SeatView C N) → Type 0
+DesigOnItsWay word flags views = word.desig ≡ true → (seat : ℕ) × (is_on_way (walk_at seat views) (flags seat) (called_to seat views) ≡ true)
 
 -- nobody who stands in the lock list could go on at this row, and nobody is about to stand there without a condition
 abbrev pub NobodyCouldGoOn : {C : Type 0} {N : ℕ} → (C → List ℕ → Bool) → List ℕ → List (Waiter C) → List (SeatView C N) → Type 0
@@ -138,10 +170,11 @@ pub record IsLawful {C : Type 0} {N : ℕ} (truths : Truths C) (seats : ℕ) (hi
   pub readers_counted : ReadersCounted s.word s.views
   pub one_history : OneHistory truths seats history s.word s.row s.views
   pub spin_held_once : SpinHeldOnce s.word s.views
-  pub bits_tell : BitsTell s.word s.lock s.views
-  pub waiters_placed : WaitersPlaced s.lock s.flags s.views
-  pub waiters_own : WaitersOwn s.lock s.views
-  pub desig_on_its_way : DesigOnItsWay s.word s.lock s.views
-  pub idle_waiters_false : IdleWaitersFalse truths.holds (standing_after history).row s.word s.lock s.views
-  pub allfalse_true : AllfalseTrue truths.holds (standing_after history).row s.word s.lock s.views
+  pub bits_tell : BitsTell s.word s.lists.lock s.views
+  pub waiters_placed : WaitersPlaced s.lists s.flags s.views
+  pub waiters_own : WaitersOwn s.lists.lock s.views
+  pub variables_tell : VariablesTell (standing_after history).phases s.lists s.views
+  pub desig_on_its_way : DesigOnItsWay s.word s.flags s.views
+  pub idle_waiters_false : IdleWaitersFalse truths.holds (standing_after history).row s.word s.lists.lock s.views
+  pub allfalse_true : AllfalseTrue truths.holds (standing_after history).row s.word s.lists.lock s.views
   pub apart : AreApart s.views

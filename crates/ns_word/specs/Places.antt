@@ -2,32 +2,64 @@
 use Rattle.std.specs.Prelude.{◌≡◌, ℕ, ◌+◌, ◌<◌, Bool, true, false, List, [], ◌∷◌, Option, None, Some, IsSome}
 use Rattle.ns_model.specs.declared.event.Mode.{Mode}
 use Rattle.ns_model.specs.declared.event.Mode.TheVariants.{Write}
-use Rattle.ns_queue.specs.Waiters.{times_in}
+use Rattle.ns_queue.specs.Queues.{IsList, times}
 use Rattle.ns_word.specs.declared.word.Releasing.{Releasing}
 use Rattle.ns_word.specs.declared.word.Releasing.TheVariants.{Writer, QuietWriter, Reader}
 use Rattle.ns_word.specs.declared.view.Held.{Held}
-use Rattle.ns_word.specs.declared.walk.Walk.{Walk}
-use Rattle.ns_word.specs.declared.walk.Walk.TheVariants.{TryLoad, TryAcquire, AcquireLoad, AcquireExchange, TakeToQueue, Arm, Queue, AwaitWake, QuietCells, QuietLast, ReleaseLoad, ReleaseExchange, TakeToScan, ScanCells, ScanAndRelease, Pay, GetLoad, SetLoad, SetStore, InWait}
 use Rattle.ns_word.specs.declared.limits.Cause.{Cause}
+use Rattle.ns_word.specs.declared.wait.Subject.{Subject}
+use Rattle.ns_word.specs.declared.wait.Subject.TheVariants.{OnCondition, OnVariable}
 use Rattle.ns_word.specs.declared.wait.Wait.{Wait}
 use Rattle.ns_word.specs.declared.wait.Visit.{Visit}
 use Rattle.ns_word.specs.declared.wait.Visit.TheVariants.{OnEntry, OnReturn}
+use Rattle.ns_word.specs.declared.word.Arrival.TheVariants.{AsFresh}
+use Rattle.ns_word.specs.declared.wait.Aim.{Aim}
+use Rattle.ns_word.specs.declared.wait.Aim.TheVariants.{ForLock, ForWait}
 use Rattle.ns_word.specs.declared.wait.WaitPlace.{WaitPlace}
-use Rattle.ns_word.specs.declared.wait.WaitPlace.TheVariants.{TestCells, TestLast, LookIn, Load, Take, ArmToWait, QueueToWait, PayInWait, AwaitWakeInWait, LookOut, LeaveLoad, TakeToLeave, Leave, AwaitWakeToLeave}
-use Rattle.ns_word.specs.declared.view.Opening.TheVariants.{CameBack}
+use Rattle.ns_word.specs.declared.wait.WaitPlace.TheVariants.{TestCells, TestLast, InQueuing, InLeaving}
+use Rattle.ns_word.specs.declared.wait.QueuePlace.{QueuePlace}
+use Rattle.ns_word.specs.declared.wait.QueuePlace.TheVariants.{Take, LoadToScan}
+use Rattle.ns_word.specs.declared.wait.LeavePlace.{LeavePlace}
+use Rattle.ns_word.specs.declared.wait.LeavePlace.TheVariants.{TakeToLeave}
+use Rattle.ns_word.specs.declared.try_walk.TryPlace.{TryPlace}
+use Rattle.ns_word.specs.declared.try_walk.TryPlace.TheVariants.{TryAcquire}
+use Rattle.ns_word.specs.declared.acquire_walk.AcquirePlace.{AcquirePlace}
+use Rattle.ns_word.specs.declared.acquire_walk.AcquirePlace.TheVariants.{AcquireExchange, TakeToQueue}
+use Rattle.ns_word.specs.declared.release_walk.ReleasePlace.{ReleasePlace}
+use Rattle.ns_word.specs.declared.release_walk.ReleasePlace.TheVariants.{ReleaseLoad, ReleaseExchange, TakeToScan, ScanCells, ScanAndRelease, Pay}
+use Rattle.ns_word.specs.declared.cell_walk.CellPlace.{CellPlace}
+use Rattle.ns_word.specs.declared.cell_walk.CellPlace.TheVariants.{GetLoad, SetLoad, SetStore, QuietCells, QuietLast}
+use Rattle.ns_word.specs.declared.walk.Walk.{Walk}
+use Rattle.ns_word.specs.declared.signal_walk.SignalPlace.{SignalPlace}
+use Rattle.ns_word.specs.declared.signal_walk.SignalPlace.TheVariants.{TakeToWake}
+use Rattle.ns_word.specs.declared.walk.Walk.TheVariants.{InTry, InAcquire, InRelease, InCells, InWait, InSignal}
+use Rattle.ns_word.specs.declared.view.Opening.{Opening}
+use Rattle.ns_word.specs.declared.view.Opening.TheVariants.{Locked, CameBack}
 use Rattle.ns_word.specs.declared.act.Change.{Change}
-use Rattle.ns_word.specs.declared.act.Change.TheVariants.{QueueSelf, LeaveSelf}
+use Rattle.ns_word.specs.declared.act.Change.TheVariants.{QueueSelf, LeaveSelf, WakeWaiters}
 use Rattle.ns_word.specs.declared.act.Act.{Act}
 use Rattle.ns_word.specs.declared.act.Act.TheVariants.{LoadWord, Acquire, TakeQueues, ReturnQueues, Release, ReleaseReturning, WaitReturning, LoadCell, JudgeQuiet, JudgeMet, StoreCell, ArmFlag, PayWake, LoadFlag, Look}
 use Rattle.ns_word.specs.Words.{mode_released, may_acquire, needs_scan}
-use Rattle.ns_word.specs.Waits.{cause_or, mode_for}
+use Rattle.ns_word.specs.Waits.{mode_for}
+use Rattle.ns_word.specs.Answers.{place_cause_kept}
 use Rattle.ns_model.specs.Truths.{Truths}
-use Rattle.ns_word.specs.Steps.{Part}
+use Rattle.ns_word.specs.Steps.{MayShow, Part}
 
 -- a section in this mode is in hand
 abbrev pub HasMode : {C : Type 0} {N : ℕ} → Mode → Option (Held C N) → Type 0
 HasMode mode None = ⊥
 HasMode mode (Some held) = held.mode ≡ mode
+
+-- How a section began is settled: it came back from no wait for a condition, or something has ended the wait, or the condition is true of the row that the section began at.
+abbrev pub IsSettledBy : {C : Type 0} → (C → List ℕ → Bool) → List ℕ → Opening C → Type 0
+IsSettledBy holds before Locked = Unit {0}
+IsSettledBy holds before (CameBack (OnCondition c) None) = holds c before ≡ true
+IsSettledBy holds before (CameBack on kept) = Unit {0}
+
+-- so it is of the section in hand, if there is one; an open one isn't committed
+abbrev pub IsSettled : {C : Type 0} {N : ℕ} → Truths C → Option (Held C N) → Type 0
+IsSettled truths None = Unit {0}
+IsSettled truths (Some held) = IsSettledBy truths.holds held.before held.entry
 
 -- what is declared of the section that is left
 abbrev pub IsLeft : {C : Type 0} {N : ℕ} → Truths C → Releasing → Held C N → Type 0
@@ -35,98 +67,147 @@ IsLeft truths Writer held = Unit {0}
 IsLeft truths QuietWriter held = truths.quiet held.before held.row ≡ true
 IsLeft truths Reader held = Unit {0}
 
--- a section that may be left so is in hand: in its mode, and quiet where that is declared
+-- a section that may be left so is in hand: in its mode, settled, and quiet where that is declared
 abbrev pub CanLeave : {C : Type 0} {N : ℕ} → Truths C → Releasing → Option (Held C N) → Type 0
 CanLeave truths releasing None = ⊥
-CanLeave truths releasing (Some held) = (held.mode ≡ mode_released releasing) × IsLeft truths releasing held
+CanLeave truths releasing (Some held) = (held.mode ≡ mode_released releasing) × IsLeft truths releasing held × IsSettledBy truths.holds held.before held.entry
 
--- the section in hand came back from this wait, and nothing has changed in it: it goes by this cause
-pub record ComesBack {C : Type 0} {N : ℕ} (wait : Wait C) (cause : Cause) (held : Held C N) : Type 0 where
-  pub entry : held.entry ≡ CameBack wait.cond cause
+-- the section in hand came back from this wait, and nothing has changed in it: it goes by what ended the wait, if anything did
+pub record ComesBack {C : Type 0} {N : ℕ} (wait : Wait C) (kept : Option Cause) (held : Held C N) : Type 0 where
+  pub entry : held.entry ≡ CameBack wait.on kept
   pub cells : held.row ≡ held.before
 
--- a wait tests its condition: as the call begins, or with the section that it came back with
-abbrev pub Tests : {C : Type 0} {N : ℕ} → Wait C → Visit → Option (Held C N) → Type 0
-Tests wait visit None = ⊥
-Tests wait OnEntry (Some held) = held.mode ≡ wait.mode
-Tests wait (OnReturn kept) (Some held) = (held.mode ≡ wait.mode) × ComesBack wait (cause_or kept) held
+-- the wait is for a condition
+abbrev pub IsForCondition : {C : Type 0} → Subject C → Type 0
+IsForCondition (OnCondition c) = Unit {0}
+IsForCondition (OnVariable k) = ⊥
 
--- a wait is about to queue: its condition is false of the section in hand, which it came back with if it queues again
+-- the wait's condition is false of a row, if it is for one; a variable is below 4
+abbrev pub IsUnmet : {C : Type 0} → Truths C → Subject C → List ℕ → Type 0
+IsUnmet truths (OnCondition c) row = truths.holds c row ≡ false
+IsUnmet truths (OnVariable k) row = k < 4
+
+-- a wait tests its condition: as the call begins, or with the section that it came back with
+abbrev pub Tests : {C : Type 0} {N : ℕ} → Truths C → Wait C → Visit → Option (Held C N) → Type 0
+Tests truths wait visit None = ⊥
+Tests truths wait OnEntry (Some held) = (held.mode ≡ wait.mode) × IsSettledBy truths.holds held.before held.entry
+Tests truths wait (OnReturn kept) (Some held) = (held.mode ≡ wait.mode) × ComesBack wait kept held
+
+-- a wait is about to queue: its condition, if it is for one, is false of the section in hand, which is settled, or which it came back with if it queues again
 pub record MayWait {C : Type 0} {N : ℕ} (truths : Truths C) (wait : Wait C) (again : Bool) (held : Held C N) : Type 0 where
   pub mode : held.mode ≡ wait.mode
-  pub unmet : truths.holds wait.cond held.row ≡ false
-  pub back : again ≡ true → ComesBack wait (cause_or None) held
+  pub unmet : IsUnmet truths wait.on held.row
+  pub settled : again ≡ false → IsSettledBy truths.holds held.before held.entry
+  pub back : again ≡ true → IsForCondition wait.on × ComesBack wait None held
 
 -- a wait that is about to queue has a section in its own mode, of whose row its condition is false; one that queues again has not changed the row
 abbrev pub CanWait : {C : Type 0} {N : ℕ} → Truths C → Wait C → Bool → Option (Held C N) → Type 0
 CanWait truths wait again None = ⊥
 CanWait truths wait again (Some held) = MayWait truths wait again held
 
+-- an acquire for a wait keeps only a cause that the wait was given
+abbrev pub AimFits : {C : Type 0} → Aim C → Type 0
+AimFits (ForLock mode) = Unit {0}
+AimFits (ForWait wait kept) = MayShow wait.limits kept
+
+-- what a try has seen
+abbrev pub TryFits : Mode → TryPlace → Type 0
+TryFits mode (TryAcquire last) = may_acquire mode AsFresh last ≡ true
+TryFits mode place = Unit {0}
+
+-- what an acquire has seen
+abbrev pub AcquireFits : {C : Type 0} → Aim C → AcquirePlace → Type 0
+AcquireFits aim (AcquireExchange arrival last) = may_acquire (mode_for aim) arrival last ≡ true
+AcquireFits aim (TakeToQueue arrival last) = (last.spin ≡ false) × (may_acquire (mode_for aim) arrival last ≡ false)
+AcquireFits aim place = Unit {0}
+
+-- A release has its section in hand until it owes wakes alone.
+abbrev pub ReleaseFits : {C : Type 0} {N : ℕ} → Truths C → Releasing → ReleasePlace → Option (Held C N) → Type 0
+ReleaseFits truths releasing ReleaseLoad held = CanLeave truths releasing held
+ReleaseFits truths releasing (ReleaseExchange last) held = CanLeave truths releasing held × (needs_scan releasing last ≡ false)
+ReleaseFits truths releasing (TakeToScan last) held = CanLeave truths releasing held × (last.spin ≡ false) × (needs_scan releasing last ≡ true)
+ReleaseFits {C} {N} truths releasing (ScanCells last i) held = CanLeave truths releasing held × (i < N)
+ReleaseFits truths releasing (ScanAndRelease last) held = CanLeave truths releasing held
+ReleaseFits truths releasing Pay held = held ≡ None
+
+-- A call on the row has a settled section in hand, and loads a cell of it.
+abbrev pub CellFits : {C : Type 0} {N : ℕ} → CellPlace → Option (Held C N) → Type 0
+CellFits {C} {N} (GetLoad i) held = IsSome held × (i < N)
+CellFits {C} {N} (SetLoad i v) held = HasMode Write held × (i < N)
+CellFits {C} {N} (SetStore i v) held = HasMode Write held × (i < N)
+CellFits {C} {N} (QuietCells i) held = HasMode Write held × (i + 1 < N)
+CellFits {C} {N} (QuietLast i) held = HasMode Write held × (i + 1 ≡ N)
+
+-- what a wait has seen that is about to queue
+abbrev pub QueueFits : ℕ → QueuePlace → Type 0
+QueueFits N (Take last) = last.spin ≡ false
+QueueFits N (LoadToScan last i) = i < N
+QueueFits N place = Unit {0}
+
+-- a variable that there is
+abbrev pub IsInRange : {C : Type 0} → Subject C → Type 0
+IsInRange (OnCondition c) = Unit {0}
+IsInRange (OnVariable k) = k < 4
+
+-- what a call that wakes has seen
+abbrev pub SignalFits : SignalPlace → Type 0
+SignalFits (TakeToWake last) = last.spin ≡ false
+SignalFits place = Unit {0}
+
+-- what a wait has seen that leaves
+abbrev pub LeaveFits : LeavePlace → Type 0
+LeaveFits (TakeToLeave last) = last.spin ≡ false
+LeaveFits place = Unit {0}
+
 -- A place in a wait goes with the section in hand, and with the word last seen.
 abbrev pub WaitFits : {C : Type 0} {N : ℕ} → Truths C → Wait C → WaitPlace → Option (Held C N) → Type 0
-WaitFits {C} {N} truths wait (TestCells visit i) held = Tests wait visit held × (i + 1 < N)
-WaitFits {C} {N} truths wait (TestLast visit i) held = Tests wait visit held × (i + 1 ≡ N)
-WaitFits truths wait (LookIn again) held = CanWait truths wait again held
-WaitFits truths wait (Load again) held = CanWait truths wait again held
-WaitFits truths wait (Take again last) held = CanWait truths wait again held × (last.spin ≡ false)
-WaitFits truths wait (ArmToWait again last) held = CanWait truths wait again held
-WaitFits truths wait (QueueToWait again last) held = CanWait truths wait again held
-WaitFits truths wait PayInWait held = held ≡ None
-WaitFits truths wait AwaitWakeInWait held = held ≡ None
-WaitFits truths wait LookOut held = held ≡ None
-WaitFits truths wait (LeaveLoad cause) held = held ≡ None
-WaitFits truths wait (TakeToLeave cause last) held = (held ≡ None) × (last.spin ≡ false)
-WaitFits truths wait (Leave cause last) held = held ≡ None
-WaitFits truths wait (AwaitWakeToLeave cause) held = held ≡ None
+WaitFits {C} {N} truths wait (TestCells visit i) held = Tests truths wait visit held × (i + 1 < N) × IsForCondition wait.on
+WaitFits {C} {N} truths wait (TestLast visit i) held = Tests truths wait visit held × (i + 1 ≡ N) × IsForCondition wait.on
+WaitFits {C} {N} truths wait (InQueuing again place) held = CanWait truths wait again held × QueueFits N place
+WaitFits truths wait (InLeaving cause place) held = (held ≡ None) × LeaveFits place × IsInRange wait.on
+WaitFits truths wait place held = (held ≡ None) × IsInRange wait.on
 
--- A place in a call goes with the section in hand, and with the word last seen.
+-- A place in a call goes with the section in hand, and with the word last seen; a wait keeps only a cause that it was given. Between calls the section in hand is settled.
 abbrev pub PlaceFits : {C : Type 0} {N : ℕ} → Truths C → Option (Walk C) → Option (Held C N) → Type 0
-PlaceFits truths None held = Unit {0}
-PlaceFits truths (Some (TryLoad mode)) held = held ≡ None
-PlaceFits truths (Some (TryAcquire mode last)) held = (held ≡ None) × (may_acquire mode false last ≡ true)
-PlaceFits truths (Some (AcquireLoad aim woken)) held = held ≡ None
-PlaceFits truths (Some (AcquireExchange aim woken last)) held = (held ≡ None) × (may_acquire (mode_for aim) woken last ≡ true)
-PlaceFits truths (Some (TakeToQueue aim woken last)) held = (held ≡ None) × (last.spin ≡ false) × (may_acquire (mode_for aim) woken last ≡ false)
-PlaceFits truths (Some (Arm aim woken last)) held = held ≡ None
-PlaceFits truths (Some (Queue aim woken last)) held = held ≡ None
-PlaceFits truths (Some (AwaitWake aim)) held = held ≡ None
-PlaceFits {C} {N} truths (Some (QuietCells i)) held = HasMode Write held × (i + 1 < N)
-PlaceFits {C} {N} truths (Some (QuietLast i)) held = HasMode Write held × (i + 1 ≡ N)
-PlaceFits truths (Some (ReleaseLoad releasing)) held = CanLeave truths releasing held
-PlaceFits truths (Some (ReleaseExchange releasing last)) held = CanLeave truths releasing held × (needs_scan releasing last ≡ false)
-PlaceFits truths (Some (TakeToScan releasing last)) held = CanLeave truths releasing held × (last.spin ≡ false) × (needs_scan releasing last ≡ true)
-PlaceFits {C} {N} truths (Some (ScanCells releasing last i)) held = CanLeave truths releasing held × (i < N)
-PlaceFits truths (Some (ScanAndRelease releasing last)) held = CanLeave truths releasing held
-PlaceFits truths (Some Pay) held = held ≡ None
-PlaceFits {C} {N} truths (Some (GetLoad i)) held = IsSome held × (i < N)
-PlaceFits {C} {N} truths (Some (SetLoad i v)) held = HasMode Write held × (i < N)
-PlaceFits {C} {N} truths (Some (SetStore i v)) held = HasMode Write held × (i < N)
-PlaceFits truths (Some (InWait wait place)) held = WaitFits truths wait place held
+PlaceFits truths None held = IsSettled truths held
+PlaceFits truths (Some (InTry mode place)) held = (held ≡ None) × TryFits mode place
+PlaceFits truths (Some (InAcquire aim place)) held = (held ≡ None) × AcquireFits aim place × AimFits aim
+PlaceFits truths (Some (InRelease releasing place)) held = ReleaseFits truths releasing place held
+PlaceFits truths (Some (InCells place)) held = CellFits place held × IsSettled truths held
+PlaceFits truths (Some (InWait wait place)) held = WaitFits truths wait place held × MayShow wait.limits (place_cause_kept place)
+PlaceFits truths (Some (InSignal waking k place)) held = SignalFits place × (k < 4) × IsSettled truths held
+
+-- the lists that the walk names are ones that there are
+abbrev pub HasList : {C : Type 0} → Walk C → Type 0
+HasList (InWait wait place) = IsInRange wait.on
+HasList (InSignal waking k place) = k < 4
+HasList walk = Unit {0}
 
 -- a wake is owed, to one of so many seats
 abbrev pub OwesOne : ℕ → List ℕ → Type 0
 OwesOne seats [] = ⊥
 OwesOne seats (woken ∷ rest) = woken < seats
 
--- a seat that puts itself in stands nowhere yet
+-- a seat that puts itself in stands nowhere yet, and a list is one that there is
 abbrev pub ChangeFits : {C : Type 0} {N : ℕ} → ℕ → Change → Part C N → Type 0
-ChangeFits seat (QueueSelf mode woken) part = times_in seat part.lock ≡ 0
-ChangeFits seat LeaveSelf part = Unit {0}
+ChangeFits seat (QueueSelf mode arrival) part = times seat part.lists ≡ 0
+ChangeFits seat (LeaveSelf which) part = IsList which
+ChangeFits seat (WakeWaiters waking k) part = k < 4
 
 -- What an act needs, that it may be made by one of so many seats on its part of the state.
 abbrev pub ActFits : {C : Type 0} {N : ℕ} → Truths C → ℕ → ℕ → Act C → Part C N → Type 0
 ActFits truths seats seat LoadWord part = Unit {0}
-ActFits truths seats seat (Acquire aim woken last) part = (part.held ≡ None) × (may_acquire (mode_for aim) woken last ≡ true) × (part.word.readers < 64)
+ActFits truths seats seat (Acquire aim arrival last) part = (part.held ≡ None) × (may_acquire (mode_for aim) arrival last ≡ true) × (part.word.readers < 64)
 ActFits truths seats seat (TakeQueues taking last) part = last.spin ≡ false
 ActFits truths seats seat (ReturnQueues change last) part = (seat < seats) × ChangeFits seat change part
 ActFits truths seats seat (Release releasing last) part = CanLeave truths releasing part.held
 ActFits truths seats seat (ReleaseReturning releasing last) part = CanLeave truths releasing part.held × (part.owed ≡ [])
-ActFits truths seats seat (WaitReturning wait again last) part = CanWait truths wait again part.held × (part.owed ≡ []) × (seat < seats) × (times_in seat part.lock ≡ 0)
+ActFits truths seats seat (WaitReturning wait again last) part = CanWait truths wait again part.held × (part.owed ≡ []) × (seat < seats) × (times seat part.lists ≡ 0)
 ActFits {C} {N} truths seats seat (LoadCell i) part = i < N
 ActFits {C} {N} truths seats seat (JudgeQuiet i) part = HasMode Write part.held × (i < N)
 ActFits {C} {N} truths seats seat (JudgeMet i c) part = IsSome part.held × (i < N)
 ActFits {C} {N} truths seats seat (StoreCell i v) part = HasMode Write part.held × (i < N)
 ActFits truths seats seat ArmFlag part = seat < seats
-ActFits truths seats seat PayWake part = OwesOne seats part.owed
+ActFits truths seats seat (PayWake value) part = OwesOne seats part.owed
 ActFits truths seats seat LoadFlag part = seat < seats
 ActFits truths seats seat (Look limits again) part = Unit {0}

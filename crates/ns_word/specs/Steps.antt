@@ -1,48 +1,67 @@
 -- One atomic step of one seat.
-use Rattle.std.specs.Prelude.{◌≡◌, ◌≢◌, ℕ, Bool, true, false, nat_lt, ◌==◌, if◌then◌else◌, List, [], ◌∷◌, ◌++◌, length, Option, None, Some, IsSome, slice_index, slice_set}
+use Rattle.std.specs.Prelude.{◌≡◌, ◌≢◌, ℕ, Bool, true, false, not, ◌&&◌, nat_lt, ◌==◌, if◌then◌else◌, List, [], ◌∷◌, ◌++◌, Option, None, Some, IsSome, slice_index, slice_set}
+use Rattle.ns_model.specs.declared.event.Mode.{Mode}
 use Rattle.ns_model.specs.declared.event.Mode.TheVariants.{Write}
 use Rattle.ns_model.specs.declared.event.Answer.TheVariants.{Met}
 use Rattle.ns_model.specs.declared.event.Entry.{Entry}
-use Rattle.ns_model.specs.declared.event.Entry.TheVariants.{Plain, Waited}
+use Rattle.ns_model.specs.declared.event.Entry.TheVariants.{Plain, Waited, AfterCv}
 use Rattle.ns_model.specs.declared.event.Exit.{Exit}
-use Rattle.ns_model.specs.declared.event.Exit.TheVariants.{CondWait}
+use Rattle.ns_model.specs.declared.event.Exit.TheVariants.{CondWait, CvWait}
 use Rattle.ns_model.specs.declared.event.Exit.TheVariants as TheExit
 use Rattle.ns_model.specs.declared.event.Event.{Event}
-use Rattle.ns_model.specs.declared.event.Event.TheVariants.{Section}
+use Rattle.ns_model.specs.declared.event.Event.TheVariants.{Section, Signal, Broadcast}
+use Rattle.ns_model.specs.declared.event.Event.TheVariants as TheEvent
 use Rattle.ns_model.specs.Truths.{Truths}
 use Rattle.ns_queue.specs.declared.waiter.Waiter.{Waiter}
+use Rattle.ns_queue.specs.declared.waiter.Which.{Which}
+use Rattle.ns_queue.specs.declared.waiter.Which.TheVariants.{Cv}
+use Rattle.ns_queue.specs.Queues.{Lists, waiters_of, with_waiters}
+use Rattle.ns_queue.specs.Signals.{signaled_of, unsignaled_of, taken_set}
 use Rattle.ns_queue.specs.Waiters.{seats_of, times_in, without_in}
 use Rattle.ns_queue.specs.Scans.{woken_of, left_of, tests_of}
 use Rattle.ns_word.specs.declared.word.Word.{Word}
 use Rattle.ns_word.specs.declared.limits.Limits.{Limits}
 use Rattle.ns_word.specs.declared.limits.Cause.{Cause}
 use Rattle.ns_word.specs.declared.limits.Cause.TheVariants.{Expired, Notified}
+use Rattle.ns_word.specs.declared.wait.Subject.{Subject}
+use Rattle.ns_word.specs.declared.wait.Subject.TheVariants.{OnCondition, OnVariable}
 use Rattle.ns_word.specs.declared.wait.Wait.{Wait}
 use Rattle.ns_word.specs.declared.wait.Aim.{Aim}
 use Rattle.ns_word.specs.declared.wait.Aim.TheVariants.{ForLock, ForWait}
-use Rattle.ns_word.specs.declared.wait.WaitPlace.TheVariants.{QueueToWait, Leave}
 use Rattle.ns_word.specs.declared.view.Opening.{Opening}
 use Rattle.ns_word.specs.declared.view.Opening.TheVariants.{Locked, CameBack}
 use Rattle.ns_word.specs.declared.view.Held.{Held}
 use Rattle.ns_word.specs.declared.view.SeatView.{SeatView}
+use Rattle.ns_word.specs.declared.wait.WaitPlace.{WaitPlace}
+use Rattle.ns_word.specs.declared.wait.WaitPlace.TheVariants.{InQueuing, InLeaving}
+use Rattle.ns_word.specs.declared.wait.QueuePlace.TheVariants.{QueueToWait}
+use Rattle.ns_word.specs.declared.wait.LeavePlace.TheVariants.{Leave}
+use Rattle.ns_word.specs.declared.acquire_walk.AcquirePlace.{AcquirePlace}
+use Rattle.ns_word.specs.declared.acquire_walk.AcquirePlace.TheVariants.{Queue}
+use Rattle.ns_word.specs.declared.release_walk.ReleasePlace.{ReleasePlace}
+use Rattle.ns_word.specs.declared.release_walk.ReleasePlace.TheVariants.{ScanAndRelease}
 use Rattle.ns_word.specs.declared.walk.Walk.{Walk}
-use Rattle.ns_word.specs.declared.walk.Walk.TheVariants.{Queue, ScanAndRelease, InWait}
+use Rattle.ns_word.specs.declared.signal_walk.SignalPlace.{SignalPlace}
+use Rattle.ns_word.specs.declared.signal_walk.SignalPlace.TheVariants.{WakeAndReturn}
+use Rattle.ns_word.specs.declared.walk.Walk.TheVariants.{InAcquire, InRelease, InWait, InSignal}
 use Rattle.ns_word.specs.declared.act.Change.{Change}
-use Rattle.ns_word.specs.declared.act.Change.TheVariants.{QueueSelf, LeaveSelf}
+use Rattle.ns_word.specs.declared.act.Change.TheVariants.{QueueSelf, LeaveSelf, WakeWaiters}
+use Rattle.ns_word.specs.declared.act.Waking.{Waking}
+use Rattle.ns_word.specs.declared.act.Waking.TheVariants.{Signaling, Broadcasting}
 use Rattle.ns_word.specs.declared.act.Act.{Act}
 use Rattle.ns_word.specs.declared.act.Act.TheVariants.{LoadWord, Acquire, TakeQueues, ReturnQueues, Release, ReleaseReturning, WaitReturning, LoadCell, JudgeQuiet, JudgeMet, StoreCell, ArmFlag, PayWake, LoadFlag, Look}
 use Rattle.ns_word.specs.declared.act.Found.{Found}
-use Rattle.ns_word.specs.declared.act.Found.TheVariants.{Saw, Made, Cell, Quiet, Tested, Scanned, Paid, Left, Flag, Looked}
-use Rattle.ns_word.specs.Words.{mode_released, releasing_of, may_acquire, word_acquired, word_taken, word_returned, word_released, word_released_returning}
-use Rattle.ns_word.specs.Waits.{answer_of, cause_or, mode_for}
+use Rattle.ns_word.specs.declared.act.Found.TheVariants.{Saw, Made, Cell, Quiet, Tested, Scanned, Paid, Left, Woke, Flag, Looked}
+use Rattle.ns_word.specs.Words.{is_held, is_woken, mode_released, releasing_of, may_acquire, word_acquired, word_taken, word_returned, word_released, word_released_returning}
+use Rattle.ns_word.specs.Waits.{answer_of, answer_kept, home_of, mode_for}
 use Rattle.ns_word.specs.Lists.{has_some, bits_of, queued}
 use Rattle.ns_word.specs.Walks.{want_of, got_of, walk_after}
 
--- the lock word, the row's cells, the lock list as it last stood at home, each seat's flag, and each seat's view
+-- the lock word, the row's cells, the lists as they last stood at home, each seat's flag, and each seat's view
 pub record State (C : Type 0) (N : ℕ) : Type 0 where
   pub word : Word
   pub row : List ℕ
-  pub lock : List (Waiter C)
+  pub lists : Lists C
   pub flags : ℕ → ℕ
   pub views : List (SeatView C N)
 
@@ -50,15 +69,17 @@ pub record State (C : Type 0) (N : ℕ) : Type 0 where
 pub record Part (C : Type 0) (N : ℕ) : Type 0 where
   pub word : Word
   pub row : List ℕ
-  pub lock : List (Waiter C)
+  pub lists : Lists C
   pub flags : ℕ → ℕ
   pub held : Option (Held C N)
   pub owed : List ℕ
 
--- How a section is said to begin in the history. The answer of a wait that came back is settled only here: met where its condition is true of the row that the section began at, else by its cause.
+-- How a section is said to begin in the history. A wait for a condition that came back is said to have met it where it is true of the row that the section began at, or where nothing has ended the wait; else it is said to have been ended by its cause. A wait for a variable says what it was ended by, or that it was woken.
 abbrev pub entry_of : {C : Type 0} → (C → List ℕ → Bool) → List ℕ → Opening C → Entry C
 entry_of holds before Locked = Plain
-entry_of holds before (CameBack c cause) = Waited c (if holds c before then Met else answer_of cause)
+entry_of holds before (CameBack (OnCondition c) None) = Waited c Met
+entry_of holds before (CameBack (OnCondition c) (Some cause)) = Waited c (if holds c before then Met else answer_of cause)
+entry_of holds before (CameBack (OnVariable k) kept) = AfterCv k (answer_kept kept)
 
 -- the event that a section is, where it ends so
 abbrev pub section_of : {C : Type 0} {N : ℕ} → (C → List ℕ → Bool) → ℕ → Held C N → Exit C → Event C N
@@ -67,7 +88,7 @@ section_of holds seat held exit = Section seat held.mode (entry_of holds held.be
 -- how a section begins that is acquired for this
 abbrev pub opening_for : {C : Type 0} → Aim C → Opening C
 opening_for (ForLock mode) = Locked
-opening_for (ForWait wait kept) = CameBack wait.cond (cause_or kept)
+opening_for (ForWait wait kept) = CameBack wait.on kept
 
 -- a section as it begins at a row
 abbrev pub newly_held : {C : Type 0} {N : ℕ} → Aim C → List ℕ → Held C N
@@ -76,7 +97,7 @@ newly_held aim row = record { mode = mode_for aim; entry = opening_for aim; befo
 -- a section that came back from a wait, once it is known what ended that
 abbrev pub opening_by : {C : Type 0} → Cause → Opening C → Opening C
 opening_by cause Locked = Locked
-opening_by cause (CameBack c was) = CameBack c cause
+opening_by cause (CameBack on was) = CameBack on (Some cause)
 
 -- the section in hand, once it is known what ended its wait
 abbrev pub held_by : {C : Type 0} {N : ℕ} → Cause → Option (Held C N) → Option (Held C N)
@@ -102,52 +123,143 @@ flags_with flags who value seat = if who == seat then value else flags seat
 abbrev pub meets_at : {C : Type 0} → Truths C → List ℕ → C → Bool
 meets_at truths row c = truths.holds c row
 
--- the lock list that is put back
-abbrev pub changed : {C : Type 0} → ℕ → Change → List (Waiter C) → List (Waiter C)
-changed seat (QueueSelf mode woken) lock = queued seat mode None woken lock
-changed seat LeaveSelf lock = without_in seat lock
+-- a seat puts itself into the lock list
+abbrev pub IsQueuing : Change → Type 0
+IsQueuing (QueueSelf mode arrival) = Unit {0}
+IsQueuing change = ⊥
 
--- what is found where it was put back: one that leaves learns whether it still stood there
-abbrev pub change_found : {C : Type 0} → ℕ → Change → List (Waiter C) → Found
-change_found seat (QueueSelf mode woken) lock = Made
-change_found seat LeaveSelf lock = Left (nat_lt 0 (times_in seat lock))
+-- the lists with another lock list
+abbrev pub with_lock : {C : Type 0} → Lists C → List (Waiter C) → Lists C
+with_lock lists lock = record { lock = lock; cvs = lists.cvs }
 
--- the lock list that a wait puts back: as a scan leaves it, with itself in it
-abbrev pub waited_in : {C : Type 0} → Truths C → ℕ → Wait C → Bool → List ℕ → List (Waiter C) → List (Waiter C)
-waited_in truths seat wait again row lock = queued seat wait.mode (Some wait.cond) again (left_of (meets_at truths row) lock)
+-- those whom a call takes from the list of its variable, and those who stay there
+abbrev pub taken_by : {C : Type 0} → Waking → List (Waiter C) → List (Waiter C)
+taken_by Signaling ws = signaled_of ws
+taken_by Broadcasting ws = ws
 
--- The lock list as the seat that has the queues has it in hand: what its walk does to it is done as soon as the step before is answered.
-abbrev pub in_hand : {C : Type 0} → Truths C → ℕ → Walk C → List ℕ → List (Waiter C) → List (Waiter C)
-in_hand truths seat (Queue aim woken last) row lock = queued seat (mode_for aim) None woken lock
-in_hand truths seat (ScanAndRelease releasing last) row lock = left_of (meets_at truths row) lock
-in_hand truths seat (InWait wait (QueueToWait again last)) row lock = waited_in truths seat wait again row lock
-in_hand truths seat (InWait wait (Leave cause last)) row lock = without_in seat lock
-in_hand truths seat walk row lock = lock
+abbrev pub kept_by : {C : Type 0} → Waking → List (Waiter C) → List (Waiter C)
+kept_by Signaling ws = unsignaled_of ws
+kept_by Broadcasting ws = []
+
+-- where they go: to the back of the lock list if the lock is held
+abbrev pub moved_to : {C : Type 0} → Bool → List (Waiter C) → Lists C → Lists C
+moved_to held taken lists = if held then with_lock lists (lists.lock ++ taken) else lists
+
+-- the lists that are put back, where this is the word last seen
+abbrev pub changed : {C : Type 0} → ℕ → Change → Word → Lists C → Lists C
+changed seat (QueueSelf mode arrival) last lists = with_lock lists (queued seat mode None (is_woken arrival) lists.lock)
+changed seat (LeaveSelf which) last lists = with_waiters lists which (without_in seat (waiters_of lists which))
+changed seat (WakeWaiters waking k) last lists =
+    moved_to (is_held last) (taken_by waking (waiters_of lists (Cv k))) (with_waiters lists (Cv k) (kept_by waking (waiters_of lists (Cv k))))
+
+-- whether somebody is moved to the lock list
+abbrev pub moves : {C : Type 0} → Change → Word → Lists C → Bool
+moves (WakeWaiters waking k) last lists = is_held last && has_some (taken_by waking (waiters_of lists (Cv k)))
+moves change last lists = false
+
+-- whom the seat owes a wake then: those whom it took and didn't move
+abbrev pub owed_after : {C : Type 0} → Change → Word → Lists C → List ℕ → List ℕ
+owed_after (WakeWaiters waking k) last lists owed = if is_held last then [] else seats_of (taken_by waking (waiters_of lists (Cv k)))
+owed_after change last lists owed = owed
+
+-- what is found where they were put back: one that leaves learns whether it still stood there
+abbrev pub change_found : {C : Type 0} → ℕ → Change → Word → Lists C → Found
+change_found seat (QueueSelf mode arrival) last lists = Made
+change_found seat (LeaveSelf which) last lists = Left (nat_lt 0 (times_in seat (waiters_of lists which)))
+change_found seat (WakeWaiters waking k) last lists = Woke (not (is_held last) && has_some (taken_by waking (waiters_of lists (Cv k))))
+
+-- the event that a call is which wakes these
+abbrev pub wake_of : {C : Type 0} {N : ℕ} → ℕ → Waking → ℕ → List (Waiter C) → Event C N
+wake_of seat Signaling k taken = Signal seat k (taken_set taken)
+wake_of seat Broadcasting k taken = Broadcast seat k (taken_set taken)
+
+-- that a wait for a variable was left, if it still stood there
+abbrev pub leave_of : {C : Type 0} {N : ℕ} → ℕ → Which → Bool → List (Event C N)
+leave_of seat (Cv k) true = TheEvent.Leave seat k ∷ []
+leave_of seat which stood = []
+
+-- what is committed as they are put back
+abbrev pub change_commits : {C : Type 0} {N : ℕ} → ℕ → Change → Lists C → List (Event C N)
+change_commits seat (QueueSelf mode arrival) lists = []
+change_commits seat (LeaveSelf which) lists = leave_of seat which (nat_lt 0 (times_in seat (waiters_of lists which)))
+change_commits seat (WakeWaiters waking k) lists = wake_of seat waking k (taken_by waking (waiters_of lists (Cv k))) ∷ []
+
+-- a waiter of its own list, with its condition if it waits for one
+abbrev pub waits_at : {C : Type 0} → Subject C → ℕ → Mode → Bool → Lists C → Lists C
+waits_at (OnCondition c) seat mode again lists = with_lock lists (queued seat mode (Some c) again lists.lock)
+waits_at (OnVariable k) seat mode again lists = with_waiters lists (Cv k) (waiters_of lists (Cv k) ++ record { seat = seat; mode = mode; cond = None } ∷ [])
+
+-- the lists that a wait puts back: as a scan leaves them, with itself in its own
+abbrev pub waited_in : {C : Type 0} → Truths C → ℕ → Wait C → Bool → List ℕ → Lists C → Lists C
+waited_in truths seat wait again row lists = waits_at wait.on seat wait.mode again (with_lock lists (left_of (meets_at truths row) lists.lock))
+
+-- how the section ends that such a wait leaves
+abbrev pub exit_for : {C : Type 0} → Subject C → Exit C
+exit_for (OnCondition c) = CondWait c
+exit_for (OnVariable k) = CvWait k
+
+-- the lists in the hand of an acquire: it puts itself in
+abbrev pub acquire_hand : {C : Type 0} → ℕ → Aim C → AcquirePlace → Lists C → Lists C
+acquire_hand seat aim (Queue arrival last) lists = changed seat (QueueSelf (mode_for aim) arrival) last lists
+acquire_hand seat aim place lists = lists
+
+-- in the hand of a release: it takes those out whom a scan wakes
+abbrev pub release_hand : {C : Type 0} → Truths C → ReleasePlace → List ℕ → Lists C → Lists C
+release_hand truths (ScanAndRelease last) row lists = with_lock lists (left_of (meets_at truths row) lists.lock)
+release_hand truths place row lists = lists
+
+-- in the hand of a wait: it does that and puts itself in, or takes itself out
+abbrev pub wait_hand : {C : Type 0} → Truths C → ℕ → Wait C → WaitPlace → List ℕ → Lists C → Lists C
+wait_hand truths seat wait (InQueuing again (QueueToWait last)) row lists = waited_in truths seat wait again row lists
+wait_hand truths seat wait (InLeaving cause (Leave last)) row lists = changed seat (LeaveSelf (home_of wait.on)) last lists
+wait_hand truths seat wait place row lists = lists
+
+-- in the hand of a call that wakes: those whom it takes leave their list, and are moved where the word last seen is held
+abbrev pub signal_hand : {C : Type 0} → ℕ → Waking → ℕ → SignalPlace → Lists C → Lists C
+signal_hand seat waking k (WakeAndReturn last) lists = changed seat (WakeWaiters waking k) last lists
+signal_hand seat waking k place lists = lists
+
+-- The lists as the seat that has the queues has them in hand: what its walk does to them is done as soon as the step before is answered.
+abbrev pub in_hand : {C : Type 0} → Truths C → ℕ → Walk C → List ℕ → Lists C → Lists C
+in_hand truths seat (InAcquire aim place) row lists = acquire_hand seat aim place lists
+in_hand truths seat (InRelease releasing place) row lists = release_hand truths place row lists
+in_hand truths seat (InWait wait place) row lists = wait_hand truths seat wait place row lists
+in_hand truths seat (InSignal waking k place) row lists = signal_hand seat waking k place lists
+in_hand truths seat walk row lists = lists
 
 -- The act of the seat takes the part old to the part new, finds this, and commits these events. An exchange is refused by a word that differs from the one last seen, and by no other.
 abbrev pub Effect : {C : Type 0} {N : ℕ} → Truths C → ℕ → Act C → Part C N → Found → Part C N → List (Event C N) → Type 0
 -- a load of the word, and a compare-exchange that failed
 Effect truths seat LoadWord old (Saw word) new commits = (word ≡ old.word) × (new ≡ old) × (commits ≡ [])
-Effect truths seat (Acquire aim woken last) old (Saw word) new commits = (word ≡ old.word) × (word ≢ last) × (new ≡ old) × (commits ≡ [])
+Effect truths seat (Acquire aim arrival last) old (Saw word) new commits = (word ≡ old.word) × (word ≢ last) × (new ≡ old) × (commits ≡ [])
 Effect truths seat (TakeQueues taking last) old (Saw word) new commits = (word ≡ old.word) × (word ≢ last) × (new ≡ old) × (commits ≡ [])
 Effect truths seat (ReturnQueues change last) old (Saw word) new commits = (word ≡ old.word) × (word ≢ last) × (new ≡ old) × (commits ≡ [])
 Effect truths seat (Release releasing last) old (Saw word) new commits = (word ≡ old.word) × (word ≢ last) × (new ≡ old) × (commits ≡ [])
 Effect truths seat (ReleaseReturning releasing last) old (Saw word) new commits = (word ≡ old.word) × (word ≢ last) × (new ≡ old) × (commits ≡ [])
 Effect truths seat (WaitReturning wait again last) old (Saw word) new commits = (word ≡ old.word) × (word ≢ last) × (new ≡ old) × (commits ≡ [])
 -- an acquire
-Effect truths seat (Acquire aim woken last) old Made new commits =
-    (last ≡ old.word) × (may_acquire (mode_for aim) woken last ≡ true) × (old.held ≡ None)
-    × (new ≡ record old { word = word_acquired (mode_for aim) woken last; held = Some (newly_held aim old.row) })
+Effect truths seat (Acquire aim arrival last) old Made new commits =
+    (last ≡ old.word) × (may_acquire (mode_for aim) arrival last ≡ true) × (old.held ≡ None)
+    × (new ≡ record old { word = word_acquired (mode_for aim) arrival last; held = Some (newly_held aim old.row) })
     × (commits ≡ [])
 -- the queues are taken, and put back
 Effect truths seat (TakeQueues taking last) old Made new commits =
     (last ≡ old.word) × (last.spin ≡ false) × (new ≡ record old { word = word_taken taking last }) × (commits ≡ [])
 Effect truths seat (ReturnQueues change last) old Made new commits =
-    let lock = changed seat change old.lock in
-    (change_found seat change old.lock ≡ Made) × (last ≡ old.word) × (new ≡ record old { word = word_returned (bits_of lock) last; lock = lock }) × (commits ≡ [])
+    let lists = changed seat change last old.lists in
+    (change_found seat change last old.lists ≡ Made) × (last ≡ old.word)
+    × (new ≡ record old { word = word_returned (moves change last old.lists) (bits_of lists.lock) last; lists = lists; owed = owed_after change last old.lists old.owed })
+    × (commits ≡ change_commits seat change old.lists)
 Effect truths seat (ReturnQueues change last) old (Left stood) new commits =
-    let lock = changed seat change old.lock in
-    (change_found seat change old.lock ≡ Left stood) × (last ≡ old.word) × (new ≡ record old { word = word_returned (bits_of lock) last; lock = lock }) × (commits ≡ [])
+    let lists = changed seat change last old.lists in
+    (change_found seat change last old.lists ≡ Left stood) × (last ≡ old.word)
+    × (new ≡ record old { word = word_returned (moves change last old.lists) (bits_of lists.lock) last; lists = lists; owed = owed_after change last old.lists old.owed })
+    × (commits ≡ change_commits seat change old.lists)
+Effect truths seat (ReturnQueues change last) old (Woke owes) new commits =
+    let lists = changed seat change last old.lists in
+    (change_found seat change last old.lists ≡ Woke owes) × (last ≡ old.word)
+    × (new ≡ record old { word = word_returned (moves change last old.lists) (bits_of lists.lock) last; lists = lists; owed = owed_after change last old.lists old.owed })
+    × (commits ≡ change_commits seat change old.lists)
 -- a release without a scan
 Effect {C} {N} truths seat (Release releasing last) old Made new commits =
     (held : Held C N) × (old.held ≡ Some held) × (held.mode ≡ mode_released releasing) × (last ≡ old.word)
@@ -155,18 +267,18 @@ Effect {C} {N} truths seat (Release releasing last) old Made new commits =
     × (commits ≡ section_of truths.holds seat held TheExit.Plain ∷ [])
 -- a release with the scan of the list: the woken are owed their wakes, the others are put back
 Effect {C} {N} truths seat (ReleaseReturning releasing last) old (Scanned owes tests) new commits =
-    let woken = woken_of (meets_at truths old.row) old.lock in let stay = left_of (meets_at truths old.row) old.lock in
+    let woken = woken_of (meets_at truths old.row) old.lists.lock in let stay = left_of (meets_at truths old.row) old.lists.lock in
     (held : Held C N) × (old.held ≡ Some held) × (held.mode ≡ mode_released releasing) × (last ≡ old.word)
-    × (new ≡ record old { word = word_released_returning releasing (has_some woken) (bits_of stay) last; lock = stay; held = None; owed = seats_of woken })
-    × (owes ≡ has_some (seats_of woken)) × (tests ≡ tests_of truths.same (meets_at truths old.row) old.lock)
+    × (new ≡ record old { word = word_released_returning releasing (has_some woken) (bits_of stay) last; lists = with_lock old.lists stay; held = None; owed = seats_of woken })
+    × (owes ≡ has_some (seats_of woken)) × (tests ≡ tests_of truths.same (meets_at truths old.row) old.lists.lock)
     × (commits ≡ section_of truths.holds seat held TheExit.Plain ∷ [])
 -- the same by a wait, which puts itself into the list; one that queues again commits nothing
 Effect {C} {N} truths seat (WaitReturning wait again last) old (Scanned owes tests) new commits =
-    let woken = woken_of (meets_at truths old.row) old.lock in let lock = waited_in truths seat wait again old.row old.lock in
+    let woken = woken_of (meets_at truths old.row) old.lists.lock in let lists = waited_in truths seat wait again old.row old.lists in
     (held : Held C N) × (old.held ≡ Some held) × (held.mode ≡ wait.mode) × (last ≡ old.word)
-    × (new ≡ record old { word = word_released_returning (releasing_of wait.mode) (has_some woken) (bits_of lock) last; lock = lock; held = None; owed = seats_of woken })
-    × (owes ≡ has_some (seats_of woken)) × (tests ≡ tests_of truths.same (meets_at truths old.row) old.lock)
-    × (commits ≡ (if again then [] else section_of truths.holds seat held (CondWait wait.cond) ∷ []))
+    × (new ≡ record old { word = word_released_returning (releasing_of wait.mode) (has_some woken) (bits_of lists.lock) last; lists = lists; held = None; owed = seats_of woken })
+    × (owes ≡ has_some (seats_of woken)) × (tests ≡ tests_of truths.same (meets_at truths old.row) old.lists.lock)
+    × (commits ≡ (if again then [] else section_of truths.holds seat held (exit_for wait.on) ∷ []))
 -- the cells
 Effect truths seat (LoadCell i) old (Cell v) new commits = (v ≡ slice_index old.row i) × (new ≡ old) × (commits ≡ [])
 Effect {C} {N} truths seat (JudgeQuiet i) old (Quiet is_quiet) new commits =
@@ -179,9 +291,9 @@ Effect {C} {N} truths seat (StoreCell i v) old Made new commits =
     × (commits ≡ [])
 -- the flags
 Effect truths seat ArmFlag old Made new commits = (new ≡ record old { flags = flags_with old.flags seat 1 }) × (commits ≡ [])
-Effect {C} {N} truths seat PayWake old (Paid owes) new commits =
+Effect {C} {N} truths seat (PayWake value) old (Paid owes) new commits =
     (woken : ℕ) × (rest : List ℕ) × (old.owed ≡ woken ∷ rest)
-    × (new ≡ record old { flags = flags_with old.flags woken 0; owed = rest })
+    × (new ≡ record old { flags = flags_with old.flags woken value; owed = rest })
     × (owes ≡ has_some rest) × (commits ≡ [])
 Effect truths seat LoadFlag old (Flag v) new commits = (v ≡ old.flags seat) × (new ≡ old) × (commits ≡ [])
 -- a look
@@ -190,7 +302,7 @@ Effect truths seat act old found new commits = ⊥
 
 -- a view's part of a state
 abbrev pub part_of : {C : Type 0} {N : ℕ} → State C N → Option (Held C N) → List ℕ → Part C N
-part_of s held owed = record { word = s.word; row = s.row; lock = s.lock; flags = s.flags; held = held; owed = owed }
+part_of s held owed = record { word = s.word; row = s.row; lists = s.lists; flags = s.flags; held = held; owed = owed }
 
 -- The seat with this view makes the step that its walk wants, and no other view changes.
 pub record Step {C : Type 0} {N : ℕ} (truths : Truths C) (old : State C N) (view : SeatView C N) (found : Found) (new : State C N) (commits : List (Event C N)) : Type 0 where

@@ -1,12 +1,12 @@
 -- What is counted over the seats' views, and one of them among the others.
-use Rattle.std.specs.Prelude.{◌≢◌, ℕ, ◌+◌, ◌==◌, Bool, false, not, if◌then◌else◌, List, [], ◌∷◌, Option, None, Some}
+use Rattle.std.specs.Prelude.{◌≢◌, ℕ, ◌==◌, Bool, false, not, if◌then◌else◌, List, [], ◌∷◌, Option, None, Some}
 use Rattle.ns_model.specs.Phases.{is_write}
 use Rattle.ns_model.specs.Tallies.{total, one_if}
 use Rattle.ns_word.specs.declared.view.Held.{Held}
 use Rattle.ns_word.specs.declared.view.SeatView.{SeatView}
 use Rattle.ns_word.specs.declared.walk.Walk.{Walk}
 use Rattle.ns_word.specs.Lists.{times_among}
-use Rattle.ns_word.specs.Walks.{has_queues, is_queuing}
+use Rattle.ns_word.specs.Walks.{has_queues, is_queuing, calls_from_lock}
 
 -- whether the section in hand, if there is one, is a write section
 abbrev pub is_writing : {C : Type 0} {N : ℕ} → Option (Held C N) → Bool
@@ -37,6 +37,10 @@ queuers views = total (λ view. one_if (is_queuing view.walk)) views
 -- how many wakes a seat is owed, by all seats
 abbrev pub owed_to : {C : Type 0} {N : ℕ} → ℕ → List (SeatView C N) → ℕ
 owed_to seat views = total (λ view. times_among seat view.owed) views
+
+-- how many of those are of a seat that was taken from the lock list
+abbrev pub called_to : {C : Type 0} {N : ℕ} → ℕ → List (SeatView C N) → ℕ
+called_to seat views = total (λ view. if calls_from_lock view.walk then times_among seat view.owed else 0) views
 
 -- the place of a seat in its call
 abbrev pub walk_at : {C : Type 0} {N : ℕ} → ℕ → List (SeatView C N) → Option (Walk C)

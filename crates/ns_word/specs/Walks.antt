@@ -1,114 +1,180 @@
 -- What each place in a call wants next, where what its step found leads it, and what the place tells.
-use Rattle.std.specs.Prelude.{ℕ, ◌+◌, ◌-◌, nat_lt, Option, None, Some, is_some, Bool, true, false, not, ◌==◌, if◌then◌else◌}
+use Rattle.std.specs.Prelude.{ℕ, ◌+◌, ◌-◌, nat_lt, Option, None, Some, is_some, Bool, true, false, not, ◌&&◌, ◌||◌, ◌==◌, if◌then◌else◌}
 use Rattle.ns_model.specs.declared.event.Mode.{Mode}
 use Rattle.ns_model.specs.declared.event.Answer.TheVariants.{Met}
 use Rattle.ns_model.specs.declared.phase.Phase.{Phase}
-use Rattle.ns_model.specs.declared.phase.Phase.TheVariants.{Cond}
+use Rattle.ns_model.specs.declared.phase.Phase.TheVariants.{Cond, Waiting}
 use Rattle.ns_model.specs.declared.phase.Phase.TheVariants as ThePhase
 use Rattle.ns_word.specs.declared.word.Word.{Word}
 use Rattle.ns_word.specs.declared.word.Releasing.{Releasing}
 use Rattle.ns_word.specs.declared.word.Releasing.TheVariants.{QuietWriter}
 use Rattle.ns_word.specs.declared.word.Taking.TheVariants.{ToChange, ToQueue}
+use Rattle.ns_word.specs.declared.word.Arrival.{Arrival}
+use Rattle.ns_word.specs.declared.word.Arrival.TheVariants.{AsFresh}
 use Rattle.ns_word.specs.declared.limits.Cause.{Cause}
+use Rattle.ns_word.specs.declared.wait.Subject.{Subject}
+use Rattle.ns_word.specs.declared.wait.Subject.TheVariants.{OnCondition, OnVariable}
 use Rattle.ns_word.specs.declared.wait.Wait.{Wait}
 use Rattle.ns_word.specs.declared.wait.Aim.{Aim}
 use Rattle.ns_word.specs.declared.wait.Aim.TheVariants.{ForLock, ForWait}
 use Rattle.ns_word.specs.declared.wait.Visit.{Visit}
 use Rattle.ns_word.specs.declared.wait.Visit.TheVariants.{OnEntry, OnReturn}
 use Rattle.ns_word.specs.declared.wait.WaitPlace.{WaitPlace}
-use Rattle.ns_word.specs.declared.wait.WaitPlace.TheVariants.{TestCells, TestLast, LookIn, Load, Take, ArmToWait, QueueToWait, PayInWait, AwaitWakeInWait, LookOut, LeaveLoad, TakeToLeave, Leave, AwaitWakeToLeave}
+use Rattle.ns_word.specs.declared.wait.WaitPlace.TheVariants.{TestCells, TestLast, InQueuing, PayInWait, AwaitWakeInWait, LookOut, InLeaving}
+use Rattle.ns_word.specs.declared.wait.QueuePlace.{QueuePlace}
+use Rattle.ns_word.specs.declared.wait.QueuePlace.TheVariants.{LookIn, Load, Take, ArmToWait, LoadToScan, QueueToWait}
+use Rattle.ns_word.specs.declared.wait.LeavePlace.{LeavePlace}
+use Rattle.ns_word.specs.declared.wait.LeavePlace.TheVariants.{LeaveLoad, TakeToLeave, Leave, AwaitWakeToLeave}
+use Rattle.ns_word.specs.declared.try_walk.TryPlace.{TryPlace}
+use Rattle.ns_word.specs.declared.try_walk.TryPlace.TheVariants.{TryLoad, TryAcquire}
+use Rattle.ns_word.specs.declared.acquire_walk.AcquirePlace.{AcquirePlace}
+use Rattle.ns_word.specs.declared.acquire_walk.AcquirePlace.TheVariants.{AcquireLoad, AcquireExchange, TakeToQueue, Arm, Queue, AwaitWake}
+use Rattle.ns_word.specs.declared.release_walk.ReleasePlace.{ReleasePlace}
+use Rattle.ns_word.specs.declared.release_walk.ReleasePlace.TheVariants.{ReleaseLoad, ReleaseExchange, TakeToScan, ScanCells, ScanAndRelease, Pay}
+use Rattle.ns_word.specs.declared.cell_walk.CellPlace.{CellPlace}
+use Rattle.ns_word.specs.declared.cell_walk.CellPlace.TheVariants.{GetLoad, SetLoad, SetStore, QuietCells, QuietLast}
 use Rattle.ns_word.specs.declared.walk.Walk.{Walk}
-use Rattle.ns_word.specs.declared.walk.Walk.TheVariants.{TryLoad, TryAcquire, AcquireLoad, AcquireExchange, TakeToQueue, Arm, Queue, AwaitWake, QuietCells, QuietLast, ReleaseLoad, ReleaseExchange, TakeToScan, ScanCells, ScanAndRelease, Pay, GetLoad, SetLoad, SetStore, InWait}
-use Rattle.ns_word.specs.declared.act.Change.TheVariants.{QueueSelf, LeaveSelf}
+use Rattle.ns_word.specs.declared.signal_walk.SignalPlace.{SignalPlace}
+use Rattle.ns_word.specs.declared.signal_walk.SignalPlace.TheVariants.{SignalLoad, TakeToWake, WakeAndReturn, PayTheWoken}
+use Rattle.ns_word.specs.declared.walk.Walk.TheVariants.{InTry, InAcquire, InRelease, InCells, InWait, InSignal}
+use Rattle.ns_word.specs.declared.act.Change.TheVariants.{QueueSelf, LeaveSelf, WakeWaiters}
+use Rattle.ns_word.specs.declared.act.Waking.{Waking}
 use Rattle.ns_word.specs.declared.act.Act.{Act}
 use Rattle.ns_word.specs.declared.act.Act.TheVariants.{LoadWord, Acquire, TakeQueues, ReturnQueues, Release, ReleaseReturning, WaitReturning, LoadCell, JudgeQuiet, JudgeMet, StoreCell, ArmFlag, PayWake, LoadFlag, Look}
 use Rattle.ns_word.specs.declared.act.Found.{Found}
-use Rattle.ns_word.specs.declared.act.Found.TheVariants.{Saw, Made, Cell, Quiet, Tested, Scanned, Paid, Left, Flag, Looked}
+use Rattle.ns_word.specs.declared.act.Found.TheVariants.{Saw, Made, Cell, Quiet, Tested, Scanned, Paid, Left, Woke, Flag, Looked}
 use Rattle.ns_word.specs.declared.walk.Reply.{Reply}
 use Rattle.ns_word.specs.declared.walk.Reply.TheVariants.{Succeeded, Busy, Noisy, Number, Answered}
 use Rattle.ns_word.specs.declared.walk.Next.{Next}
 use Rattle.ns_word.specs.declared.walk.Next.TheVariants.{On, Idle, Done}
-use Rattle.ns_word.specs.Words.{may_acquire, needs_scan, word_taken}
-use Rattle.ns_word.specs.Waits.{answer_of, is_limited, mode_for, phase_for}
+use Rattle.ns_word.specs.Words.{is_woken, may_acquire, needs_scan, word_taken}
+use Rattle.ns_word.specs.Waits.{answer_of, answer_kept, arrival_of, home_of, kept_in, is_limited, mode_for, phase_for}
 
 -- ---- what a place wants
+
+-- the step that a try's place wants
+abbrev pub want_trying : {C : Type 0} → Mode → TryPlace → Act C
+want_trying mode TryLoad = LoadWord
+want_trying mode (TryAcquire last) = Acquire (ForLock mode) AsFresh last
+
+-- the step that an acquire's place wants
+abbrev pub want_acquiring : {C : Type 0} → Aim C → AcquirePlace → Act C
+want_acquiring aim (AcquireLoad arrival) = LoadWord
+want_acquiring aim (AcquireExchange arrival last) = Acquire aim arrival last
+want_acquiring aim (TakeToQueue arrival last) = TakeQueues (ToQueue (mode_for aim) arrival) last
+want_acquiring aim (Arm arrival last) = ArmFlag
+want_acquiring aim (Queue arrival last) = ReturnQueues (QueueSelf (mode_for aim) arrival) last
+want_acquiring aim AwaitWake = LoadFlag
+
+-- the step that a release's place wants
+abbrev pub want_releasing : {C : Type 0} → Releasing → ReleasePlace → Act C
+want_releasing releasing ReleaseLoad = LoadWord
+want_releasing releasing (ReleaseExchange last) = Release releasing last
+want_releasing releasing (TakeToScan last) = TakeQueues ToChange last
+want_releasing releasing (ScanCells last i) = LoadCell i
+want_releasing releasing (ScanAndRelease last) = ReleaseReturning releasing last
+want_releasing releasing Pay = PayWake 0
+
+-- the step that the place of a call on the row wants
+abbrev pub want_in_cells : {C : Type 0} → CellPlace → Act C
+want_in_cells (GetLoad i) = LoadCell i
+want_in_cells (SetLoad i v) = LoadCell i
+want_in_cells (SetStore i v) = StoreCell i v
+want_in_cells (QuietCells i) = LoadCell i
+want_in_cells (QuietLast i) = JudgeQuiet i
+
+-- the step that a wait wants that is about to queue
+abbrev pub want_queuing : {C : Type 0} → Wait C → Bool → QueuePlace → Act C
+want_queuing wait again LookIn = Look wait.limits again
+want_queuing wait again Load = LoadWord
+want_queuing wait again (Take last) = TakeQueues ToChange last
+want_queuing wait again (ArmToWait last) = ArmFlag
+want_queuing wait again (LoadToScan last i) = LoadCell i
+want_queuing wait again (QueueToWait last) = WaitReturning wait again last
+
+-- the step that a wait wants that leaves
+abbrev pub want_leaving : {C : Type 0} → Wait C → LeavePlace → Act C
+want_leaving wait LeaveLoad = LoadWord
+want_leaving wait (TakeToLeave last) = TakeQueues ToChange last
+want_leaving wait (Leave last) = ReturnQueues (LeaveSelf (home_of wait.on)) last
+want_leaving wait AwaitWakeToLeave = LoadFlag
+
+-- the step that tells of a condition
+abbrev pub judge_of : {C : Type 0} → Subject C → ℕ → Act C
+judge_of (OnCondition c) i = JudgeMet i c
+judge_of (OnVariable k) i = LoadCell i
 
 -- the step that the place of a wait wants
 abbrev pub want_waiting : {C : Type 0} → Wait C → WaitPlace → Act C
 want_waiting wait (TestCells visit i) = LoadCell i
-want_waiting wait (TestLast visit i) = JudgeMet i wait.cond
-want_waiting wait (LookIn again) = Look wait.limits again
-want_waiting wait (Load again) = LoadWord
-want_waiting wait (Take again last) = TakeQueues ToChange last
-want_waiting wait (ArmToWait again last) = ArmFlag
-want_waiting wait (QueueToWait again last) = WaitReturning wait again last
-want_waiting wait PayInWait = PayWake
+want_waiting wait (TestLast visit i) = judge_of wait.on i
+want_waiting wait (InQueuing again place) = want_queuing wait again place
+want_waiting wait PayInWait = PayWake 0
 want_waiting wait AwaitWakeInWait = LoadFlag
 want_waiting wait LookOut = Look wait.limits false
-want_waiting wait (LeaveLoad cause) = LoadWord
-want_waiting wait (TakeToLeave cause last) = TakeQueues ToChange last
-want_waiting wait (Leave cause last) = ReturnQueues LeaveSelf last
-want_waiting wait (AwaitWakeToLeave cause) = LoadFlag
+want_waiting wait (InLeaving cause place) = want_leaving wait place
+
+-- the step that a call wants that wakes
+abbrev pub want_signaling : {C : Type 0} → Waking → ℕ → SignalPlace → Act C
+want_signaling waking k SignalLoad = LoadWord
+want_signaling waking k (TakeToWake last) = TakeQueues ToChange last
+want_signaling waking k (WakeAndReturn last) = ReturnQueues (WakeWaiters waking k) last
+want_signaling waking k PayTheWoken = PayWake 2
 
 -- the step that the place wants
 abbrev pub want_of : {C : Type 0} → Walk C → Act C
-want_of (TryLoad mode) = LoadWord
-want_of (TryAcquire mode last) = Acquire (ForLock mode) false last
-want_of (AcquireLoad aim woken) = LoadWord
-want_of (AcquireExchange aim woken last) = Acquire aim woken last
-want_of (TakeToQueue aim woken last) = TakeQueues (ToQueue (mode_for aim) woken) last
-want_of (Arm aim woken last) = ArmFlag
-want_of (Queue aim woken last) = ReturnQueues (QueueSelf (mode_for aim) woken) last
-want_of (AwaitWake aim) = LoadFlag
-want_of (QuietCells i) = LoadCell i
-want_of (QuietLast i) = JudgeQuiet i
-want_of (ReleaseLoad releasing) = LoadWord
-want_of (ReleaseExchange releasing last) = Release releasing last
-want_of (TakeToScan releasing last) = TakeQueues ToChange last
-want_of (ScanCells releasing last i) = LoadCell i
-want_of (ScanAndRelease releasing last) = ReleaseReturning releasing last
-want_of Pay = PayWake
-want_of (GetLoad i) = LoadCell i
-want_of (SetLoad i v) = LoadCell i
-want_of (SetStore i v) = StoreCell i v
+want_of (InTry mode place) = want_trying mode place
+want_of (InAcquire aim place) = want_acquiring aim place
+want_of (InRelease releasing place) = want_releasing releasing place
+want_of (InCells place) = want_in_cells place
 want_of (InWait wait place) = want_waiting wait place
+want_of (InSignal waking k place) = want_signaling waking k place
 
 -- ---- the decisions
 
 -- An acquire's decision by the word last seen: acquire if it may, else idle while another has the queues, else queue.
-abbrev pub acquire_by : {C : Type 0} → Aim C → Bool → Word → Next C
-acquire_by aim woken word =
-    if may_acquire (mode_for aim) woken word then On (AcquireExchange aim woken word)
-    else if word.spin then Idle (AcquireLoad aim woken)
-    else On (TakeToQueue aim woken word)
+abbrev pub acquire_by : {C : Type 0} → Aim C → Arrival → Word → Next C
+acquire_by aim arrival word =
+    if may_acquire (mode_for aim) arrival word then On (InAcquire aim (AcquireExchange arrival word))
+    else if word.spin then Idle (InAcquire aim (AcquireLoad arrival))
+    else On (InAcquire aim (TakeToQueue arrival word))
 
 -- A release's decision by the word last seen: release if no scan is needed, else idle while another has the queues, else scan.
 abbrev pub release_by : {C : Type 0} → Releasing → Word → Next C
 release_by releasing word =
-    if not (needs_scan releasing word) then On (ReleaseExchange releasing word)
-    else if word.spin then Idle (ReleaseLoad releasing)
-    else On (TakeToScan releasing word)
+    if not (needs_scan releasing word) then On (InRelease releasing (ReleaseExchange word))
+    else if word.spin then Idle (InRelease releasing ReleaseLoad)
+    else On (InRelease releasing (TakeToScan word))
 
 -- where a quiet release goes that has loaded so many of N cells
-abbrev pub quiet_place : {C : Type 0} → ℕ → ℕ → Walk C
+abbrev pub quiet_place : ℕ → ℕ → CellPlace
 quiet_place N loaded = if nat_lt loaded (N - 1) then QuietCells loaded else QuietLast (N - 1)
 
--- where a release that has the queues goes that has loaded so many of N cells
-abbrev pub scan_place : {C : Type 0} → ℕ → Releasing → Word → ℕ → Walk C
-scan_place N releasing last loaded = if nat_lt loaded N then ScanCells releasing last loaded else ScanAndRelease releasing last
+-- where a release with the queues goes that has loaded so many of N cells
+abbrev pub scan_place : ℕ → Word → ℕ → ReleasePlace
+scan_place N last loaded = if nat_lt loaded N then ScanCells last loaded else ScanAndRelease last
+
+-- where a release goes that owes wakes, or none
+abbrev pub pay_releasing : {C : Type 0} → Releasing → Bool → Next C
+pay_releasing releasing owes = if owes then On (InRelease releasing Pay) else Done Succeeded
 
 -- where a wait goes that tests its condition and has loaded so many of N cells
 abbrev pub test_place : {C : Type 0} → ℕ → Wait C → Visit → ℕ → Walk C
 test_place N wait visit loaded = if nat_lt loaded (N - 1) then InWait wait (TestCells visit loaded) else InWait wait (TestLast visit (N - 1))
 
+-- where a wait goes that has come back: one for a condition tests it, and one for a variable is over
+abbrev pub back_with : {C : Type 0} → ℕ → Subject C → Wait C → Option Cause → Next C
+back_with N (OnCondition c) wait kept = On (test_place N wait (OnReturn kept) 0)
+back_with N (OnVariable k) wait kept = Done (Answered (answer_kept kept))
+
 -- where an acquire goes that was made
 abbrev pub acquired_for : {C : Type 0} → ℕ → Aim C → Next C
 acquired_for N (ForLock mode) = Done Succeeded
-acquired_for N (ForWait wait kept) = On (test_place N wait (OnReturn kept) 0)
+acquired_for N (ForWait wait kept) = back_with N wait.on wait kept
 
 -- a wait has to go on waiting, unless a look shows something
 abbrev pub look_or_queue : {C : Type 0} → Wait C → Bool → Next C
-look_or_queue wait again = if is_limited wait.limits then On (InWait wait (LookIn again)) else On (InWait wait (Load again))
+look_or_queue wait again = if is_limited wait.limits then On (InWait wait (InQueuing again LookIn)) else On (InWait wait (InQueuing again Load))
 
 -- where a wait goes whose condition is false: one that came back because it was ended early answers that
 abbrev pub unmet_by : {C : Type 0} → Wait C → Visit → Next C
@@ -118,7 +184,16 @@ unmet_by wait (OnReturn (Some cause)) = Done (Answered (answer_of cause))
 
 -- where a wait that is about to queue goes by the word last seen
 abbrev pub queue_by : {C : Type 0} → Wait C → Bool → Word → Next C
-queue_by wait again word = if word.spin then Idle (InWait wait (Load again)) else On (InWait wait (Take again word))
+queue_by wait again word = if word.spin then Idle (InWait wait (InQueuing again Load)) else On (InWait wait (InQueuing again (Take word)))
+
+-- where a wait with the queues goes that loads cells for its scan and has loaded so many of N
+abbrev pub load_place : ℕ → Word → ℕ → QueuePlace
+load_place N last loaded = if nat_lt loaded N then LoadToScan last loaded else QueueToWait last
+
+-- where a wait goes that has the queues and has set its flag: one for a variable loads the row where some waiter has a condition; another has loaded it
+abbrev pub armed_place : {C : Type 0} → ℕ → Subject C → Word → QueuePlace
+armed_place N (OnCondition c) last = QueueToWait last
+armed_place N (OnVariable k) last = if last.cond then load_place N last 0 else QueueToWait last
 
 -- where a wait goes that has queued, and owes wakes or none
 abbrev pub pay_waiting : {C : Type 0} → Wait C → Bool → Next C
@@ -130,65 +205,129 @@ rest_or_look wait = if is_limited wait.limits then On (InWait wait LookOut) else
 
 -- where a wait that leaves goes by the word last seen
 abbrev pub leave_by : {C : Type 0} → Wait C → Cause → Word → Next C
-leave_by wait cause word = if word.spin then Idle (InWait wait (LeaveLoad cause)) else On (InWait wait (TakeToLeave cause word))
+leave_by wait cause word = if word.spin then Idle (InWait wait (InLeaving cause LeaveLoad)) else On (InWait wait (InLeaving cause (TakeToLeave word)))
+
+-- the first place of a quiet release, over a row of N cells
+abbrev pub quiet_first : {C : Type 0} → ℕ → Walk C
+quiet_first N = InCells (quiet_place N 0)
+
+-- where a call that wakes goes by the word last seen
+abbrev pub signal_by : {C : Type 0} → Waking → ℕ → Word → Next C
+signal_by waking k word = if word.spin then Idle (InSignal waking k SignalLoad) else On (InSignal waking k (TakeToWake word))
+
+-- where a call that wakes goes that owes wakes, or none
+abbrev pub pay_woken : {C : Type 0} → Waking → ℕ → Bool → Next C
+pay_woken waking k owes = if owes then On (InSignal waking k PayTheWoken) else Done Succeeded
+
+-- the first place of a wait for this: one for a condition tests it
+abbrev pub first_for : {C : Type 0} → ℕ → Subject C → Wait C → Walk C
+first_for N (OnCondition c) wait = test_place N wait OnEntry 0
+first_for N (OnVariable k) wait = InWait wait (InQueuing false Load)
+
+-- the first place of a wait
+abbrev pub wait_first : {C : Type 0} → ℕ → Wait C → Walk C
+wait_first N wait = first_for N wait.on wait
 
 -- ---- where what was found leads
 
--- where a wait goes from a place of it; what no step of the place finds leaves it there
+-- where a try goes; here and in each group, what no step of the place finds leaves it there
+abbrev pub got_trying : {C : Type 0} → Mode → TryPlace → Found → Next C
+got_trying mode TryLoad (Saw word) = if may_acquire mode AsFresh word then On (InTry mode (TryAcquire word)) else Done Busy
+got_trying mode (TryAcquire last) (Saw word) = Done Busy
+got_trying mode (TryAcquire last) Made = Done Succeeded
+got_trying mode place found = On (InTry mode place)
+
+-- where an acquire goes
+abbrev pub got_acquiring : {C : Type 0} → ℕ → Aim C → AcquirePlace → Found → Next C
+got_acquiring N aim (AcquireLoad arrival) (Saw word) = acquire_by aim arrival word
+got_acquiring N aim (AcquireExchange arrival last) (Saw word) = acquire_by aim arrival word
+got_acquiring N aim (AcquireExchange arrival last) Made = acquired_for N aim
+got_acquiring N aim (TakeToQueue arrival last) (Saw word) = acquire_by aim arrival word
+got_acquiring N aim (TakeToQueue arrival last) Made = On (InAcquire aim (Arm arrival (word_taken (ToQueue (mode_for aim) arrival) last)))
+got_acquiring N aim (Arm arrival last) Made = On (InAcquire aim (Queue arrival last))
+got_acquiring N aim (Queue arrival last) (Saw word) = On (InAcquire aim (Queue arrival word))
+got_acquiring N aim (Queue arrival last) Made = On (InAcquire aim AwaitWake)
+got_acquiring N aim AwaitWake (Flag v) = if v == 1 then Idle (InAcquire aim AwaitWake) else On (InAcquire aim (AcquireLoad (arrival_of v)))
+got_acquiring N aim place found = On (InAcquire aim place)
+
+-- where a release goes
+abbrev pub got_releasing : {C : Type 0} → ℕ → Releasing → ReleasePlace → Found → Next C
+got_releasing N releasing ReleaseLoad (Saw word) = release_by releasing word
+got_releasing N releasing (ReleaseExchange last) (Saw word) = release_by releasing word
+got_releasing N releasing (ReleaseExchange last) Made = Done Succeeded
+got_releasing N releasing (TakeToScan last) (Saw word) = release_by releasing word
+got_releasing N releasing (TakeToScan last) Made =
+    On (InRelease releasing (if last.cond then scan_place N (word_taken ToChange last) 0 else ScanAndRelease (word_taken ToChange last)))
+got_releasing N releasing (ScanCells last i) (Cell v) = On (InRelease releasing (scan_place N last (i + 1)))
+got_releasing N releasing (ScanAndRelease last) (Saw word) = On (InRelease releasing (ScanAndRelease word))
+got_releasing N releasing (ScanAndRelease last) (Scanned owes tests) = pay_releasing releasing owes
+got_releasing N releasing Pay (Paid owes) = pay_releasing releasing owes
+got_releasing N releasing place found = On (InRelease releasing place)
+
+-- where a call on the row goes
+abbrev pub got_in_cells : {C : Type 0} → ℕ → CellPlace → Found → Next C
+got_in_cells N (GetLoad i) (Cell v) = Done (Number v)
+got_in_cells N (SetLoad i v) (Cell w) = On (InCells (SetStore i v))
+got_in_cells N (SetStore i v) Made = Done Succeeded
+got_in_cells N (QuietCells i) (Cell v) = On (InCells (quiet_place N (i + 1)))
+got_in_cells N (QuietLast i) (Quiet is_quiet) = if is_quiet then On (InRelease QuietWriter ReleaseLoad) else Done Noisy
+got_in_cells N place found = On (InCells place)
+
+-- where a wait goes that is about to queue
+abbrev pub got_queuing : {C : Type 0} → ℕ → Wait C → Bool → QueuePlace → Found → Next C
+got_queuing N wait again LookIn (Looked None) = On (InWait wait (InQueuing again Load))
+got_queuing N wait again LookIn (Looked (Some cause)) = Done (Answered (answer_of cause))
+got_queuing N wait again Load (Saw word) = queue_by wait again word
+got_queuing N wait again (Take last) (Saw word) = queue_by wait again word
+got_queuing N wait again (Take last) Made = On (InWait wait (InQueuing again (ArmToWait (word_taken ToChange last))))
+got_queuing N wait again (ArmToWait last) Made = On (InWait wait (InQueuing again (armed_place N wait.on last)))
+got_queuing N wait again (LoadToScan last i) (Cell v) = On (InWait wait (InQueuing again (load_place N last (i + 1))))
+got_queuing N wait again (QueueToWait last) (Saw word) = On (InWait wait (InQueuing again (QueueToWait word)))
+got_queuing N wait again (QueueToWait last) (Scanned owes tests) = pay_waiting wait owes
+got_queuing N wait again place found = On (InWait wait (InQueuing again place))
+
+-- where a wait goes that leaves
+abbrev pub got_leaving : {C : Type 0} → Wait C → Cause → LeavePlace → Found → Next C
+got_leaving wait cause LeaveLoad (Saw word) = leave_by wait cause word
+got_leaving wait cause (TakeToLeave last) (Saw word) = leave_by wait cause word
+got_leaving wait cause (TakeToLeave last) Made = On (InWait wait (InLeaving cause (Leave (word_taken ToChange last))))
+got_leaving wait cause (Leave last) (Saw word) = On (InWait wait (InLeaving cause (Leave word)))
+got_leaving wait cause (Leave last) (Left stood) =
+    if stood then On (InAcquire (ForWait wait (Some cause)) (AcquireLoad AsFresh)) else On (InWait wait (InLeaving cause AwaitWakeToLeave))
+got_leaving wait cause AwaitWakeToLeave (Flag v) =
+    if v == 1 then Idle (InWait wait (InLeaving cause AwaitWakeToLeave)) else On (InAcquire (ForWait wait (kept_in wait.on cause)) (AcquireLoad (arrival_of v)))
+got_leaving wait cause place found = On (InWait wait (InLeaving cause place))
+
+-- where a wait goes
 abbrev pub got_waiting : {C : Type 0} → ℕ → Wait C → WaitPlace → Found → Next C
 got_waiting N wait (TestCells visit i) (Cell v) = On (test_place N wait visit (i + 1))
 got_waiting N wait (TestLast visit i) (Tested is_met) = if is_met then Done (Answered Met) else unmet_by wait visit
-got_waiting N wait (LookIn again) (Looked None) = On (InWait wait (Load again))
-got_waiting N wait (LookIn again) (Looked (Some cause)) = Done (Answered (answer_of cause))
-got_waiting N wait (Load again) (Saw word) = queue_by wait again word
-got_waiting N wait (Take again last) (Saw word) = queue_by wait again word
-got_waiting N wait (Take again last) Made = On (InWait wait (ArmToWait again (word_taken ToChange last)))
-got_waiting N wait (ArmToWait again last) Made = On (InWait wait (QueueToWait again last))
-got_waiting N wait (QueueToWait again last) (Saw word) = On (InWait wait (QueueToWait again word))
-got_waiting N wait (QueueToWait again last) (Scanned owes tests) = pay_waiting wait owes
+got_waiting N wait (InQueuing again place) found = got_queuing N wait again place found
 got_waiting N wait PayInWait (Paid owes) = pay_waiting wait owes
-got_waiting N wait AwaitWakeInWait (Flag v) = if v == 0 then On (AcquireLoad (ForWait wait None) true) else rest_or_look wait
+got_waiting N wait AwaitWakeInWait (Flag v) = if v == 1 then rest_or_look wait else On (InAcquire (ForWait wait None) (AcquireLoad (arrival_of v)))
 got_waiting N wait LookOut (Looked None) = Idle (InWait wait AwaitWakeInWait)
-got_waiting N wait LookOut (Looked (Some cause)) = On (InWait wait (LeaveLoad cause))
-got_waiting N wait (LeaveLoad cause) (Saw word) = leave_by wait cause word
-got_waiting N wait (TakeToLeave cause last) (Saw word) = leave_by wait cause word
-got_waiting N wait (TakeToLeave cause last) Made = On (InWait wait (Leave cause (word_taken ToChange last)))
-got_waiting N wait (Leave cause last) (Saw word) = On (InWait wait (Leave cause word))
-got_waiting N wait (Leave cause last) (Left stood) = if stood then On (AcquireLoad (ForWait wait (Some cause)) false) else On (InWait wait (AwaitWakeToLeave cause))
-got_waiting N wait (AwaitWakeToLeave cause) (Flag v) = if v == 0 then On (AcquireLoad (ForWait wait (Some cause)) true) else Idle (InWait wait (AwaitWakeToLeave cause))
+got_waiting N wait LookOut (Looked (Some cause)) = On (InWait wait (InLeaving cause LeaveLoad))
+got_waiting N wait (InLeaving cause place) found = got_leaving wait cause place found
 got_waiting N wait place found = On (InWait wait place)
 
--- where it goes with what the step found, over a row of N cells; what no step of the place finds leaves it there
+-- where a call that wakes goes
+abbrev pub got_signaling : {C : Type 0} → Waking → ℕ → SignalPlace → Found → Next C
+got_signaling waking k SignalLoad (Saw word) = signal_by waking k word
+got_signaling waking k (TakeToWake last) (Saw word) = signal_by waking k word
+got_signaling waking k (TakeToWake last) Made = On (InSignal waking k (WakeAndReturn (word_taken ToChange last)))
+got_signaling waking k (WakeAndReturn last) (Saw word) = On (InSignal waking k (WakeAndReturn word))
+got_signaling waking k (WakeAndReturn last) (Woke owes) = pay_woken waking k owes
+got_signaling waking k PayTheWoken (Paid owes) = pay_woken waking k owes
+got_signaling waking k place found = On (InSignal waking k place)
+
+-- where a place goes with what its step found, over a row of N cells
 abbrev pub got_of : {C : Type 0} → ℕ → Walk C → Found → Next C
-got_of N (TryLoad mode) (Saw word) = if may_acquire mode false word then On (TryAcquire mode word) else Done Busy
-got_of N (TryAcquire mode last) (Saw word) = Done Busy
-got_of N (TryAcquire mode last) Made = Done Succeeded
-got_of N (AcquireLoad aim woken) (Saw word) = acquire_by aim woken word
-got_of N (AcquireExchange aim woken last) (Saw word) = acquire_by aim woken word
-got_of N (AcquireExchange aim woken last) Made = acquired_for N aim
-got_of N (TakeToQueue aim woken last) (Saw word) = acquire_by aim woken word
-got_of N (TakeToQueue aim woken last) Made = On (Arm aim woken (word_taken (ToQueue (mode_for aim) woken) last))
-got_of N (Arm aim woken last) Made = On (Queue aim woken last)
-got_of N (Queue aim woken last) (Saw word) = On (Queue aim woken word)
-got_of N (Queue aim woken last) Made = On (AwaitWake aim)
-got_of N (AwaitWake aim) (Flag v) = if v == 0 then On (AcquireLoad aim true) else Idle (AwaitWake aim)
-got_of N (QuietCells i) (Cell v) = On (quiet_place N (i + 1))
-got_of N (QuietLast i) (Quiet is_quiet) = if is_quiet then On (ReleaseLoad QuietWriter) else Done Noisy
-got_of N (ReleaseLoad releasing) (Saw word) = release_by releasing word
-got_of N (ReleaseExchange releasing last) (Saw word) = release_by releasing word
-got_of N (ReleaseExchange releasing last) Made = Done Succeeded
-got_of N (TakeToScan releasing last) (Saw word) = release_by releasing word
-got_of N (TakeToScan releasing last) Made =
-    On (if last.cond then scan_place N releasing (word_taken ToChange last) 0 else ScanAndRelease releasing (word_taken ToChange last))
-got_of N (ScanCells releasing last i) (Cell v) = On (scan_place N releasing last (i + 1))
-got_of N (ScanAndRelease releasing last) (Saw word) = On (ScanAndRelease releasing word)
-got_of N (ScanAndRelease releasing last) (Scanned owes tests) = if owes then On Pay else Done Succeeded
-got_of N Pay (Paid owes) = if owes then On Pay else Done Succeeded
-got_of N (GetLoad i) (Cell v) = Done (Number v)
-got_of N (SetLoad i v) (Cell w) = On (SetStore i v)
-got_of N (SetStore i v) Made = Done Succeeded
+got_of N (InTry mode place) found = got_trying mode place found
+got_of N (InAcquire aim place) found = got_acquiring N aim place found
+got_of N (InRelease releasing place) found = got_releasing N releasing place found
+got_of N (InCells place) found = got_in_cells N place found
 got_of N (InWait wait place) found = got_waiting N wait place found
-got_of N walk found = On walk
+got_of N (InSignal waking k place) found = got_signaling waking k place found
 
 -- the place after, if the call goes on
 abbrev pub walk_after : {C : Type 0} → Next C → Option (Walk C)
@@ -204,94 +343,112 @@ reply_of (Done reply) = Some reply
 
 -- ---- what a place in a call tells of its seat
 
--- how a waiter stands in the lock list: in which mode, and for which condition, if for one
+-- how a seat waits: in which mode, and what for, unless it is for the lock alone
 pub record Stance (C : Type 0) : Type 0 where
   pub mode : Mode
-  pub cond : Option C
+  pub on : Option (Subject C)
 
--- the wait is about to put the queues back with itself in the lock list, or without itself, or to set its flag before
-abbrev pub place_has_queues : WaitPlace → Bool
-place_has_queues (ArmToWait again last) = true
-place_has_queues (QueueToWait again last) = true
-place_has_queues (Leave cause last) = true
-place_has_queues place = false
+-- an acquire has the queues, to queue, which the word tells already
+abbrev pub acquire_has_queues : AcquirePlace → Bool
+acquire_has_queues (Arm arrival last) = true
+acquire_has_queues (Queue arrival last) = true
+acquire_has_queues place = false
+
+-- a release has the queues
+abbrev pub release_has_queues : ReleasePlace → Bool
+release_has_queues (ScanCells last i) = true
+release_has_queues (ScanAndRelease last) = true
+release_has_queues place = false
+
+-- a wait has the queues, to put itself in, or to take itself out
+abbrev pub wait_has_queues : WaitPlace → Bool
+wait_has_queues (InQueuing again (ArmToWait last)) = true
+wait_has_queues (InQueuing again (LoadToScan last i)) = true
+wait_has_queues (InQueuing again (QueueToWait last)) = true
+wait_has_queues (InLeaving cause (Leave last)) = true
+wait_has_queues place = false
+
+-- a call that wakes has the queues
+abbrev pub signal_has_queues : SignalPlace → Bool
+signal_has_queues (WakeAndReturn last) = true
+signal_has_queues place = false
 
 -- it has the queues
 abbrev pub has_queues : {C : Type 0} → Option (Walk C) → Bool
-has_queues (Some (Arm aim woken last)) = true
-has_queues (Some (Queue aim woken last)) = true
-has_queues (Some (ScanCells releasing last i)) = true
-has_queues (Some (ScanAndRelease releasing last)) = true
-has_queues (Some (InWait wait place)) = place_has_queues place
+has_queues (Some (InAcquire aim place)) = acquire_has_queues place
+has_queues (Some (InRelease releasing place)) = release_has_queues place
+has_queues (Some (InWait wait place)) = wait_has_queues place
+has_queues (Some (InSignal waking k place)) = signal_has_queues place
 has_queues walk = false
 
 -- it has taken the queues to queue, which the word tells already, and doesn't stand in the list yet
 abbrev pub is_queuing : {C : Type 0} → Option (Walk C) → Bool
-is_queuing (Some (Arm aim woken last)) = true
-is_queuing (Some (Queue aim woken last)) = true
+is_queuing (Some (InAcquire aim place)) = acquire_has_queues place
 is_queuing walk = false
-
--- whether a wait at the place has set its flag, and not queued yet
-abbrev pub place_has_armed : WaitPlace → Bool
-place_has_armed (QueueToWait again last) = true
-place_has_armed place = false
 
 -- it has set its flag, and doesn't stand in the list yet
 abbrev pub has_armed : {C : Type 0} → Option (Walk C) → Bool
-has_armed (Some (Queue aim woken last)) = true
-has_armed (Some (InWait wait place)) = place_has_armed place
+has_armed (Some (InAcquire aim (Queue arrival last))) = true
+has_armed (Some (InWait wait (InQueuing again (LoadToScan last i)))) = true
+has_armed (Some (InWait wait (InQueuing again (QueueToWait last)))) = true
 has_armed walk = false
 
--- the wait stands in the lock list, or was taken from it and hasn't seen its flag cleared
+-- the wait stands in a list, or was taken from it and hasn't seen its flag cleared
 abbrev pub place_awaits : WaitPlace → Bool
 place_awaits PayInWait = true
 place_awaits AwaitWakeInWait = true
 place_awaits LookOut = true
-place_awaits (LeaveLoad cause) = true
-place_awaits (TakeToLeave cause last) = true
-place_awaits (Leave cause last) = true
-place_awaits (AwaitWakeToLeave cause) = true
+place_awaits (InLeaving cause place) = true
 place_awaits place = false
 
--- how it waits: it stands in the lock list so, or was taken from it and hasn't seen its flag cleared
+-- how it waits: it stands in a list, or was taken from it and hasn't seen its flag cleared
 abbrev pub waits_in : {C : Type 0} → Option (Walk C) → Option (Stance C)
-waits_in (Some (AwaitWake aim)) = Some (record { mode = mode_for aim; cond = None })
-waits_in (Some (InWait wait place)) = if place_awaits place then Some (record { mode = wait.mode; cond = Some wait.cond }) else None
+waits_in (Some (InAcquire aim AwaitWake)) = Some (record { mode = mode_for aim; on = None })
+waits_in (Some (InWait wait place)) = if place_awaits place then Some (record { mode = wait.mode; on = Some wait.on }) else None
 waits_in walk = None
 
 -- whether a seat at the place waits: it has queued, and has not loaded its flag as clear nor taken itself out
 abbrev pub awaits : {C : Type 0} → Option (Walk C) → Bool
 awaits walk = is_some (waits_in walk)
 
--- whether a wait at the place is about to pay a wake
-abbrev pub place_pays : WaitPlace → Bool
-place_pays PayInWait = true
-place_pays place = false
-
 -- it is about to pay a wake
 abbrev pub pays : {C : Type 0} → Option (Walk C) → Bool
-pays (Some Pay) = true
-pays (Some (InWait wait place)) = place_pays place
+pays (Some (InRelease releasing Pay)) = true
+pays (Some (InWait wait PayInWait)) = true
+pays (Some (InSignal waking k PayTheWoken)) = true
 pays walk = false
 
+-- an acquire of one that was woken from the lock list, and hasn't acquired since
+abbrev pub is_arrival_woken : AcquirePlace → Bool
+is_arrival_woken (AcquireLoad arrival) = is_woken arrival
+is_arrival_woken (AcquireExchange arrival last) = is_woken arrival
+is_arrival_woken (TakeToQueue arrival last) = is_woken arrival
+is_arrival_woken place = false
+
 -- it was woken from the lock list, and hasn't acquired since
-abbrev pub is_woken : {C : Type 0} → Option (Walk C) → Bool
-is_woken (Some (AcquireLoad aim woken)) = woken
-is_woken (Some (AcquireExchange aim woken last)) = woken
-is_woken (Some (TakeToQueue aim woken last)) = woken
-is_woken walk = false
+abbrev pub was_woken : {C : Type 0} → Option (Walk C) → Bool
+was_woken (Some (InAcquire aim place)) = is_arrival_woken place
+was_woken walk = false
 
--- it was taken from the lock list, where it stands so often, and neither acquired nor queued again after that
-abbrev pub is_on_way : {C : Type 0} → Option (Walk C) → ℕ → Bool
-is_on_way walk n = if awaits walk then n == 0 else is_woken walk
+-- whether the wakes that it pays are those of seats taken from the lock list
+abbrev pub calls_from_lock : {C : Type 0} → Option (Walk C) → Bool
+calls_from_lock (Some (InSignal waking k place)) = false
+calls_from_lock walk = true
 
--- the phase of a seat that has no section in hand: one that waits for a condition is in that wait until it has acquired again
-abbrev pub phase_by : {C : Type 0} → Option (Walk C) → Phase C
-phase_by (Some (AcquireLoad aim woken)) = phase_for aim
-phase_by (Some (AcquireExchange aim woken last)) = phase_for aim
-phase_by (Some (TakeToQueue aim woken last)) = phase_for aim
-phase_by (Some (Arm aim woken last)) = phase_for aim
-phase_by (Some (Queue aim woken last)) = phase_for aim
-phase_by (Some (AwaitWake aim)) = phase_for aim
-phase_by (Some (InWait wait place)) = Cond wait.cond wait.mode
-phase_by walk = ThePhase.Idle
+-- It was taken from the lock list, and neither acquired nor queued again after that: it acquires as woken, or waits, with its flag at 0 or so many wakes owed to it of seats that were taken there.
+abbrev pub is_on_way : {C : Type 0} → Option (Walk C) → ℕ → ℕ → Bool
+is_on_way walk flag owed = was_woken walk || (awaits walk && (flag == 0 || nat_lt 0 owed))
+
+-- the phase of a seat with no section in hand, by its place; one that waits for a variable may have been woken since
+pub record Expected (C : Type 0) : Type 0 where
+  pub phase : Phase C
+  pub may_be_woken : Bool
+
+abbrev pub expected_for : {C : Type 0} → Subject C → Mode → Expected C
+expected_for (OnCondition c) mode = record { phase = Cond c mode; may_be_woken = false }
+expected_for (OnVariable k) mode = record { phase = Waiting k mode; may_be_woken = true }
+
+abbrev pub phase_by : {C : Type 0} → Option (Walk C) → Expected C
+phase_by (Some (InAcquire aim place)) = record { phase = phase_for aim; may_be_woken = false }
+phase_by (Some (InWait wait place)) = expected_for wait.on wait.mode
+phase_by walk = record { phase = ThePhase.Idle; may_be_woken = false }

@@ -7,6 +7,8 @@ use Rattle.ns_word.specs.declared.word.Word.{Word}
 use Rattle.ns_word.specs.declared.word.Bits.{Bits}
 use Rattle.ns_word.specs.declared.word.Releasing.{Releasing}
 use Rattle.ns_word.specs.declared.word.Releasing.TheVariants.{Writer, QuietWriter, Reader}
+use Rattle.ns_word.specs.declared.word.Arrival.{Arrival}
+use Rattle.ns_word.specs.declared.word.Arrival.TheVariants.{AsFresh, AsWoken}
 use Rattle.ns_word.specs.declared.word.Taking.{Taking}
 use Rattle.ns_word.specs.declared.word.Taking.TheVariants.{ToChange, ToQueue}
 
@@ -16,10 +18,15 @@ mode_released Writer = Write
 mode_released QuietWriter = Write
 mode_released Reader = Read
 
+-- the seat was woken from the lock list
+abbrev pub is_woken : Arrival → Bool
+is_woken AsFresh = false
+is_woken AsWoken = true
+
 -- A lock with this word may be acquired, fresh or woken: a fresh reader stands back where a writer waits.
-abbrev pub may_acquire : Mode → Bool → Word → Bool
-may_acquire Write woken word = not word.write && (word.readers == 0)
-may_acquire Read woken word = not word.write && (woken || not word.writer_waits)
+abbrev pub may_acquire : Mode → Arrival → Word → Bool
+may_acquire Write arrival word = not word.write && (word.readers == 0)
+may_acquire Read arrival word = not word.write && (is_woken arrival || not word.writer_waits)
 
 -- nobody who waits could go on: other readers stay, or all conditions are known to be false
 abbrev pub is_excused : Releasing → Word → Bool
@@ -32,20 +39,24 @@ abbrev pub needs_scan : Releasing → Word → Bool
 needs_scan releasing word = word.waiting && not word.desig && not (is_excused releasing word)
 
 -- an acquire; one that was woken is on its way no more
-abbrev pub word_acquired : Mode → Bool → Word → Word
-word_acquired Write woken word = record word { write = true; desig = word.desig && not woken }
-word_acquired Read woken word = record word { readers = word.readers + 1; desig = word.desig && not woken }
+abbrev pub word_acquired : Mode → Arrival → Word → Word
+word_acquired Write arrival word = record word { write = true; desig = word.desig && not (is_woken arrival) }
+word_acquired Read arrival word = record word { readers = word.readers + 1; desig = word.desig && not (is_woken arrival) }
 
 -- the queues are taken; by one that queues, the word tells of it at once
 abbrev pub word_taken : Taking → Word → Word
 word_taken ToChange word = record word { spin = true }
-word_taken (ToQueue mode woken) word =
-    record word { spin = true; waiting = true; writer_waits = word.writer_waits || is_write mode; all_false = false; desig = word.desig && not woken }
+word_taken (ToQueue mode arrival) word =
+    record word { spin = true; waiting = true; writer_waits = word.writer_waits || is_write mode; all_false = false; desig = word.desig && not (is_woken arrival) }
 
--- the queues are put back, with a lock list that these bits tell of
-abbrev pub word_returned : Bits → Word → Word
-word_returned bits word =
-    record word { spin = false; waiting = bits.waiting; cond = bits.conditional; writer_waits = bits.writer_waits; all_false = word.all_false && bits.waiting }
+-- somebody holds the lock
+abbrev pub is_held : Word → Bool
+is_held word = word.write || nat_lt 0 word.readers
+
+-- the queues are put back, with a lock list that these bits tell of, to which somebody was moved or nobody
+abbrev pub word_returned : Bool → Bits → Word → Word
+word_returned moved bits word =
+    record word { spin = false; waiting = bits.waiting; cond = bits.conditional; writer_waits = bits.writer_waits; all_false = word.all_false && bits.waiting && not moved }
 
 -- a release without a scan; the row may have changed, but for a reader's and a quiet one
 abbrev pub word_released : Releasing → Word → Word

@@ -4,18 +4,32 @@ ghost use Rattle.std.specs.Prelude.{◌≡◌, ⊤};
 
 use crate::limits::{Cause, Limits};
 use crate::wait::{Aim, Wait};
-use crate::word::{Releasing, Taking, Word};
+use crate::word::{Arrival, Releasing, Taking, Word};
 use ns_model::event::Mode;
+use ns_queue::waiter::Which;
 use std::alloc::AllocError;
 
-/// What is done to the lock list in hand before it is put back.
+/// What is done to the lists in hand before they are put back.
 #[derive(Clone, Copy)]
 pub enum Change {
     /// One puts itself in, without condition, in this mode: at the back, or at the front if it was
     /// woken from the list before, so that it loses no turn.
-    QueueSelf(Mode, bool),
-    /// One that waits takes itself out, if it still stands there.
-    LeaveSelf,
+    QueueSelf(Mode, Arrival),
+    /// One that waits takes itself out of this list, if it still stands there.
+    LeaveSelf(Which),
+    /// Those whom this takes leave the list of the variable. Where the lock is held they go to the
+    /// back of the lock list, in the order taken; else they are owed their wakes.
+    WakeWaiters(Waking, u8),
+}
+
+/// Whom a call on a condition variable wakes.
+#[derive(Clone, Copy, Debug, PartialEq, Eq)]
+pub enum Waking {
+    /// At least one: the first waiter, and if that one reads, every other reader and the first
+    /// writer.
+    Signaling,
+    /// Everybody.
+    Broadcasting,
 }
 
 /// One atomic step. Where it is a compare-exchange, the word is the one last seen. A look reads a
@@ -25,19 +39,21 @@ pub enum Change {
 pub enum Act<C> {
     /// Loads the lock word.
     LoadWord,
-    /// Acquires the lock for this, fresh or woken.
-    Acquire(Aim<C>, bool, Word),
+    /// Acquires the lock for this.
+    Acquire(Aim<C>, Arrival, Word),
     /// Sets the spinlock bit and takes the queues.
     TakeQueues(Taking, Word),
-    /// Changes the lock list in hand, puts the queues back and clears the spinlock bit.
+    /// Changes the lists in hand, puts the queues back and clears the spinlock bit. It commits a
+    /// signal, a broadcast, or that a wait for a variable was left.
     ReturnQueues(Change, Word),
     /// Releases the section without a scan, and commits it.
     Release(Releasing, Word),
     /// Takes out of the lock list in hand those whom a scan wakes, puts the queues back, clears the
     /// spinlock bit, releases the section and commits it. The seat then owes the wakes.
     ReleaseReturning(Releasing, Word),
-    /// The same for a wait, which also puts itself into the list, with its condition: at the back,
-    /// or at the front if it queues again. Where it queues again, nothing is committed.
+    /// The same for a wait, which also puts itself into its list: the lock list with its condition,
+    /// at the back, or at the front if it queues again, or that of its variable, at the back. Where
+    /// it queues again, nothing is committed.
     WaitReturning(Wait<C>, bool, Word),
     /// Loads a cell.
     LoadCell(u8),
@@ -49,8 +65,9 @@ pub enum Act<C> {
     StoreCell(u8, u64),
     /// Stores 1 into one's own flag.
     ArmFlag,
-    /// Stores 0 into the flag of the first to whom a wake is owed.
-    PayWake,
+    /// Stores this value into the flag of the first to whom a wake is owed: 0 where that one was
+    /// taken from the lock list, 2 where it was taken from the list of a variable.
+    PayWake(u8),
     /// Loads one's own flag.
     LoadFlag,
     /// Looks at the note and the deadline of a wait. The flag tells whether the wait has come back:
@@ -95,6 +112,11 @@ pub enum Found {
     },
     /// The queues were put back by one that leaves: whether it still stood there.
     Left(bool),
+    /// The queues were put back by one that wakes.
+    Woke {
+        /// Whether wakes are owed now.
+        owes: bool,
+    },
     /// The value of one's own flag.
     Flag(u8),
     /// What ends the wait, if anything does.

@@ -2,7 +2,7 @@
 
 ghost use Rattle.std.specs.Prelude.{◌≡◌, ◌≢◌, ◌⊎◌, ℕ, ◌≤◌, true, false, List, [], ◌∷◌, ◌++◌, Option, None, Some, slice_get};
 ghost use Rattle.ns_model.specs.declared.event.Answer.{Answer};
-ghost use Rattle.ns_model.specs.declared.event.Entry.TheVariants.{Waited};
+ghost use Rattle.ns_model.specs.declared.event.Entry.TheVariants.{Waited, AfterCv};
 ghost use Rattle.ns_model.specs.declared.event.Event.{Event};
 ghost use Rattle.ns_model.specs.declared.phase.Phase.TheVariants.{Cond};
 ghost use Rattle.ns_model.specs.Beginnings.{BeginsWith};
@@ -10,12 +10,15 @@ ghost use Rattle.ns_model.specs.Histories.{phase_of};
 ghost use Rattle.ns_model.specs.Sections.{is_met};
 ghost use Rattle.ns_queue.specs.declared.waiter.Waiter.{Waiter};
 ghost use Rattle.ns_word.specs.declared.limits.Cause.{Cause};
+ghost use Rattle.ns_word.specs.declared.wait.Aim.TheVariants.{ForWait};
+ghost use Rattle.ns_word.specs.declared.wait.Subject.TheVariants.{OnCondition, OnVariable};
 ghost use Rattle.ns_word.specs.declared.wait.Wait.{Wait};
 ghost use Rattle.ns_word.specs.declared.wait.WaitPlace.{WaitPlace};
+ghost use Rattle.ns_word.specs.declared.acquire_walk.AcquirePlace.{AcquirePlace};
 ghost use Rattle.ns_word.specs.declared.view.Held.{Held};
 ghost use Rattle.ns_word.specs.declared.view.SeatView.{SeatView};
 ghost use Rattle.ns_word.specs.declared.walk.Walk.{Walk};
-ghost use Rattle.ns_word.specs.declared.walk.Walk.TheVariants.{InWait};
+ghost use Rattle.ns_word.specs.declared.walk.Walk.TheVariants.{InAcquire, InWait};
 ghost use Rattle.ns_word.specs.declared.walk.Next.TheVariants.{Done};
 ghost use Rattle.ns_word.specs.declared.walk.Reply.TheVariants.{Answered};
 ghost use Rattle.ns_word.specs.declared.act.Found.{Found};
@@ -64,7 +67,7 @@ pub fn first_steps_keep_the_law<C: Condition<N>, const N: usize>()
 /// history.
 pub fn waiters_are_in_their_phase<C: Condition<N>, const N: usize>()
     ensures { (seats : ℕ) (history : List (Event C N)) (s : State C N) (at : ℕ) (w : Waiter C) (c : C) →
-        IsLawful C.means seats history s → slice_get s.lock at ≡ Some w → w.cond ≡ Some c →
+        IsLawful C.means seats history s → slice_get s.lists.lock at ≡ Some w → w.cond ≡ Some c →
         phase_of history w.seat ≡ Cond c w.mode }
 {}
 
@@ -106,15 +109,24 @@ pub fn first_steps_tell_no_other<C: Condition<N>, const N: usize>()
         view.seat ≢ other → IsTold C.means.holds seats history other walk told → IsTold C.means.holds seats (history ++ commits) other walk told }
 {}
 
-/// A wait answers that its condition was met exactly where it holds of the row that the wait returns
-/// with, and its section is in the mode that it was called in. Where it has waited, its section says of
-/// itself just that answer.
+/// A wait for a condition answers that it was met exactly where it holds of the row that the wait
+/// returns with, and its section is in the mode that it was called in. Where it has waited, its
+/// section says of itself just that answer.
 pub fn waits_answer_rightly<C: Condition<N>, const N: usize>()
-    ensures { (seats : ℕ) (history : List (Event C N)) (old new : State C N) (view : SeatView C N) (found : Found) (commits : List (Event C N)) (wait : Wait C) (place : WaitPlace) (answer : Answer) →
+    ensures { (seats : ℕ) (history : List (Event C N)) (old new : State C N) (view : SeatView C N) (found : Found) (commits : List (Event C N)) (wait : Wait C) (c : C) (place : WaitPlace) (answer : Answer) →
         (step : Step C.means old view found new commits) →
-        IsLawful C.means seats history old → step.walk ≡ InWait wait place → got_of N step.walk found ≡ Done (Answered answer) →
-        (held : Held C N) × (step.held ≡ Some held) × (held.mode ≡ wait.mode) × (is_met answer ≡ C.means.holds wait.cond held.row)
-        × (has_come_back step.walk ≡ true → entry_of C.means.holds held.before held.entry ≡ Waited wait.cond answer) }
+        IsLawful C.means seats history old → step.walk ≡ InWait wait place → wait.on ≡ OnCondition c → got_of N step.walk found ≡ Done (Answered answer) →
+        (held : Held C N) × (step.held ≡ Some held) × (held.mode ≡ wait.mode) × (is_met answer ≡ C.means.holds c held.row)
+        × (has_come_back step.walk ≡ true → entry_of C.means.holds held.before held.entry ≡ Waited c answer) }
+{}
+
+/// A wait for a variable answers what its section says of how it began: that it was woken, or by
+/// what it was ended. Its section is in the mode that it was called in.
+pub fn variable_waits_answer_rightly<C: Condition<N>, const N: usize>()
+    ensures { (old new : State C N) (view : SeatView C N) (found : Found) (commits : List (Event C N)) (wait : Wait C) (kept : Option Cause) (place : AcquirePlace) (k : ℕ) (answer : Answer) →
+        (step : Step C.means old view found new commits) →
+        step.walk ≡ InAcquire (ForWait wait kept) place → wait.on ≡ OnVariable k → got_of N step.walk found ≡ Done (Answered answer) →
+        (held : Held C N) × (step.held ≡ Some held) × (held.mode ≡ wait.mode) × (entry_of C.means.holds held.before held.entry ≡ AfterCv k answer) }
 {}
 
 /// A wait answers that it was ended early only by what a look of its own has shown, the deadline or

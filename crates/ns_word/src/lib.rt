@@ -13,7 +13,7 @@
 //!
 //! ```rust
 //! // a call is a walk: a place that wants an act next, and goes on by what the act found
-//! let place: Walk<bool> = Walk::TryLoad(Mode::Write);
+//! let place: Walk<bool> = Walk::try_lock(Mode::Write);
 //! assert!(rt; matches!(place.want(), Act::LoadWord));
 //! let Next::On(place) = place.got::<8>(Found::Saw(Word::FREE)) else {
 //!     return Ok(());
@@ -23,19 +23,25 @@
 //! assert!(rt; matches!(over, Next::Done(Reply::Succeeded)));
 //!
 //! // the lock word after that, as a number
-//! let word = Word::FREE.acquired(Mode::Write, false);
+//! let word = Word::FREE.acquired(Mode::Write, Arrival::AsFresh);
 //! assert!(rt; encode(word) == 1);
 //! ```
 #![tactic(auto)]
 
+pub mod acquire_walk;
 pub mod act;
+pub mod cell_walk;
 pub mod codec;
 pub mod env_act;
 pub mod env_law;
 pub mod env_walk;
+pub mod hand;
 pub mod law;
 pub mod limits;
+pub mod release_walk;
 pub mod room;
+pub mod signal_walk;
+pub mod try_walk;
 pub mod view;
 pub mod wait;
 mod wait_walk;

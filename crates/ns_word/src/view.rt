@@ -3,6 +3,7 @@
 ghost use Rattle.std.specs.Prelude.{◌≡◌, ⊤};
 
 use crate::limits::Cause;
+use crate::wait::Subject;
 use crate::walk::Walk;
 use ns_model::event::Mode;
 use std::alloc::AllocError;
@@ -13,11 +14,10 @@ use std::collections::LinkedList;
 pub enum Opening<C> {
     /// A call locked.
     Locked,
-    /// A wait for this condition came back. The answer is open until the section is committed:
-    /// met where the condition is true of the row that the section began at, else by this cause.
-    /// Until the wait is over it is what the wait has kept, a deadline where it has kept nothing;
-    /// then it is what the wait has answered.
-    CameBack(C, Cause),
+    /// A wait for this came back, with what ended it early, if anything did. A wait for a condition
+    /// is said to have met it where it is true of the row that the section began at. Where it isn't,
+    /// and nothing has ended the wait, the answer is open, and the section isn't committed.
+    CameBack(Subject<C>, Option<Cause>),
 }
 
 impl<C: Copy> Clone for Opening<C> {

@@ -1,20 +1,40 @@
-//! Waits for a condition.
+//! Waits, for a condition or for a condition variable.
 
 ghost use Rattle.std.specs.Prelude.{◌≡◌, ⊤};
-ghost use Rattle.ns_word.specs.Waits.{answer_of, is_limited, mode_for};
+ghost use Rattle.ns_word.specs.Waits.{answer_kept, answer_of, arrival_of, home_of, is_limited, kept_in, mode_for};
 
 use crate::limits::{Cause, Limits};
-use crate::word::Word;
+use crate::word::{Arrival, Word};
 use ns_model::event::{Answer, Mode};
+use ns_queue::waiter::Which;
 use std::alloc::AllocError;
 
-/// A wait for a condition.
+/// What a wait waits for.
+#[derive(Copy)]
+pub enum Subject<C> {
+    /// A condition on the row.
+    OnCondition(C),
+    /// A condition variable, by its number below 4.
+    OnVariable(u8),
+}
+
+impl<C: Copy> Clone for Subject<C> {
+    ghost is_clone = { λ one other. other ≡ one };
+
+    ghost is_infallible = { λ _. ⊤ };
+
+    fn clone(&self) -> Result<Self, AllocError> {
+        Ok(*self)
+    }
+}
+
+/// A wait.
 #[derive(Copy)]
 pub struct Wait<C> {
     /// The mode of the section that is left, in which the lock is acquired again.
     pub mode: Mode,
-    /// The condition.
-    pub cond: C,
+    /// What it waits for.
+    pub on: Subject<C>,
     /// What may end the wait early.
     pub limits: Limits,
 }
@@ -57,39 +77,54 @@ pub enum Visit {
     OnReturn(Option<Cause>),
 }
 
-/// A place in a wait. A word is the one last seen. The flag tells whether the wait queues again,
-/// after it was woken and found its condition false.
+/// A place in a wait.
 #[derive(Clone, Copy)]
 pub enum WaitPlace {
     /// It tests its condition, and is about to load this cell, which isn't the last.
     TestCells(Visit, u8),
     /// It tests its condition, and is about to load this cell, the last.
     TestLast(Visit, u8),
-    /// It looks, with its section in hand.
-    LookIn(bool),
-    /// It is about to queue, and to load the word for that.
-    Load(bool),
-    /// It has seen this word, and is about to take the queues.
-    Take(bool, Word),
-    /// It has the queues, and is about to set its flag.
-    ArmToWait(bool, Word),
-    /// It is about to put the queues back as a scan leaves them, with itself in the lock list.
-    QueueToWait(bool, Word),
-    /// It stands in the lock list, and owes wakes.
+    /// Its condition is false, and it is about to queue, at this place. The flag tells whether it
+    /// queues again, after it was woken and found its condition false.
+    InQueuing(bool, QueuePlace),
+    /// It stands in its list, and owes wakes.
     PayInWait,
     /// It waits to be woken.
     AwaitWakeInWait,
     /// It looks, while it waits to be woken.
     LookOut,
-    /// It ends for this cause, and is about to load the word.
-    LeaveLoad(Cause),
-    /// It ends for this cause, has seen this word, and is about to take the queues.
-    TakeToLeave(Cause, Word),
-    /// It ends for this cause, and is about to put the queues back without itself.
-    Leave(Cause, Word),
-    /// It ends for this cause, was taken from the lock list before it could leave it, and waits
-    /// for its wake.
-    AwaitWakeToLeave(Cause),
+    /// It ends for this cause, at this place.
+    InLeaving(Cause, LeavePlace),
+}
+
+/// A place in a wait that is about to queue, with its section in hand. A word is the one last seen.
+#[derive(Clone, Copy)]
+pub enum QueuePlace {
+    /// It looks.
+    LookIn,
+    /// It is about to load the word.
+    Load,
+    /// It has seen this word, and is about to take the queues.
+    Take(Word),
+    /// It has the queues, and is about to set its flag.
+    ArmToWait(Word),
+    /// It waits for a variable, has the queues, and is about to load this cell for the scan.
+    LoadToScan(Word, u8),
+    /// It is about to put the queues back as a scan leaves them, with itself in its list.
+    QueueToWait(Word),
+}
+
+/// A place in a wait that ends early, and has queued. A word is the one last seen.
+#[derive(Clone, Copy)]
+pub enum LeavePlace {
+    /// It is about to load the word.
+    LeaveLoad,
+    /// It has seen this word, and is about to take the queues.
+    TakeToLeave(Word),
+    /// It is about to put the queues back without itself.
+    Leave(Word),
+    /// It was taken from its list before it could leave it, and waits for its wake.
+    AwaitWakeToLeave,
 }
 
 /// What a wait answers that was ended early.
@@ -99,6 +134,50 @@ pub fn answer_of(cause: Cause) -> Answer
     match cause {
         Cause::Expired => Answer::TimedOut,
         Cause::Notified => Answer::Canceled,
+    }
+}
+
+/// What a wait for a variable answers, by what has ended it early, if anything has.
+pub fn answer_kept(kept: Option<Cause>) -> Answer
+    ensures { result ≡ answer_kept kept }
+{
+    match kept {
+        None => Answer::Met,
+        Some(cause) => answer_of(cause),
+    }
+}
+
+/// How one comes to acquire that has found this value in its flag.
+pub fn arrival_of(flag: u8) -> Arrival
+    ensures { result ≡ arrival_of flag }
+{
+    if flag == 0 {
+        Arrival::AsWoken
+    } else {
+        Arrival::AsFresh
+    }
+}
+
+impl<C: Copy> Subject<C> {
+    /// The list in which such a wait stands.
+    pub fn home(self) -> Which
+        ensures { result ≡ home_of self }
+    {
+        match self {
+            Subject::OnCondition(_) => Which::Lock,
+            Subject::OnVariable(k) => Which::Cv(k),
+        }
+    }
+
+    /// What such a wait keeps that was about to leave for this cause, and was taken from its list
+    /// before: a wait for a variable was woken, and one for a condition keeps the cause.
+    pub fn kept(self, cause: Cause) -> Option<Cause>
+        ensures { result ≡ kept_in self cause }
+    {
+        match self {
+            Subject::OnCondition(_) => Some(cause),
+            Subject::OnVariable(_) => None,
+        }
     }
 }
 

@@ -1,24 +1,25 @@
-//! The places of a wait for a condition, one atomic step at a time.
+//! The places of a wait, for a condition or for a condition variable, one atomic step at a time.
 //!
 //! *Again* says that the wait has come back once, found its condition false, and queues anew. A
 //! compare-exchange that finds another word leads on as a load of that word would; but the two that
 //! put the queues back are tried again, on the word found.
 //!
-//! | place | knows | wants | where an answer leads |
-//! |---|---|---|---|
-//! | `TestCells`, `TestLast` | a section, which as it comes back from the wait is unchanged | load each cell; the last tells whether the condition is true | `Met`, or the wait's decision |
-//! | `LookIn` | a section, of whose row the condition is false | look at the note and the deadline | what is shown is answered; nothing: `Load` |
-//! | `Load` | the same | load the word | `Take`; idle, and again while another has the queues |
-//! | `Take` | the same, and nobody has the queues | set the spinlock bit | `ArmToWait` |
-//! | `ArmToWait` | has the queues | set one's own flag | `QueueToWait` |
-//! | `QueueToWait` | has the queues, its flag is set, the condition is false | put back what a scan leaves, with oneself in the list: at the back, or at the front if again; release, and commit if not again | `PayInWait` if the scan took somebody, else `AwaitWakeInWait` |
-//! | `PayInWait` | waits, and owes wakes | clear the flag of the next who is owed one | again while wakes are owed, then `AwaitWakeInWait` |
-//! | `AwaitWakeInWait` | waits | load one's own flag | clear: `AcquireLoad`, woken, to come back; else `LookOut`, or idle and again if nothing may end the wait early |
-//! | `LookOut` | waits | look | what is shown is kept: `LeaveLoad`; nothing: idle, and `AwaitWakeInWait` again |
-//! | `LeaveLoad` | waits, and has kept a cause | load the word | `TakeToLeave`; idle, and again while another has the queues |
-//! | `TakeToLeave` | the same, and nobody has the queues | set the spinlock bit | `Leave` |
-//! | `Leave` | waits, and has the queues | put the queues back without oneself | `AcquireLoad`, fresh, if one still stood there; else `AwaitWakeToLeave` |
-//! | `AwaitWakeToLeave` | was taken before it could leave | load one's own flag | clear: `AcquireLoad`, woken; else idle, and again |
+//! | group, and what all its places know | place | knows besides | wants | where an answer leads |
+//! |---|---|---|---|---|
+//! | tests: a section, which as it comes back from the wait is unchanged | `TestCells`, `TestLast` | | load each cell; the last tells whether the condition is true | `Met`, or the wait's decision |
+//! | **queuing**: a section, of whose row the condition is false | `LookIn` | | look at the note and the deadline | what is shown is answered; nothing: `Load` |
+//! | | `Load` | | load the word | `Take`; idle, and again while another has the queues |
+//! | | `Take` | nobody has the queues | set the spinlock bit | `ArmToWait` |
+//! | | `ArmToWait` | has the queues | set one's own flag | `QueueToWait`; for a variable `LoadToScan` if a waiter of the lock list has a condition |
+//! | | `LoadToScan` | waits for a variable, has the queues, its flag is set | load each cell | after the last `QueueToWait` |
+//! | | `QueueToWait` | has the queues, its flag is set | put back what a scan leaves, with oneself in the lock list, at the back, or at the front if again, or at the back of the variable's list; release, and commit if not again | `PayInWait` if the scan took somebody, else `AwaitWakeInWait` |
+//! | outside: waits | `PayInWait` | owes wakes | clear the flag of the next who is owed one | again while wakes are owed, then `AwaitWakeInWait` |
+//! | | `AwaitWakeInWait` | | load one's own flag | cleared: `AcquireLoad`, woken from the lock list if the flag is 0, else fresh, to come back; else `LookOut`, or idle and again if nothing may end the wait early |
+//! | | `LookOut` | | look | what is shown is kept: `LeaveLoad`; nothing: idle, and `AwaitWakeInWait` again |
+//! | **leaving**: waits, and has kept a cause | `LeaveLoad` | | load the word | `TakeToLeave`; idle, and again while another has the queues |
+//! | | `TakeToLeave` | nobody has the queues | set the spinlock bit | `Leave` |
+//! | | `Leave` | has the queues | put the queues back without oneself | `AcquireLoad`, fresh, if one still stood there; else `AwaitWakeToLeave` |
+//! | | `AwaitWakeToLeave` | was taken before it could leave | load one's own flag | cleared: `AcquireLoad` as above, and a wait for a variable has been woken; else idle, and again |
 //!
 //! The wait's decision, where its condition is false: over with the cause that it has kept, if it has
 //! one; else `LookIn`, if anything may end it early; else `Load`. An acquire is *for* a lock or for a
@@ -27,13 +28,16 @@
 //! condition is true of the row that the section began at.
 
 ghost use Rattle.std.specs.Prelude.{◌≡◌, ◌≤◌};
-ghost use Rattle.ns_word.specs.Walks.{want_waiting, got_waiting, test_place, queue_by, leave_by, unmet_by, look_or_queue, rest_or_look, pay_waiting};
+ghost use Rattle.ns_word.specs.Walks.{want_queuing, want_leaving, want_waiting, judge_of, load_place, armed_place, got_queuing, got_leaving, got_waiting, test_place, queue_by, leave_by, unmet_by, look_or_queue, rest_or_look, pay_waiting};
 
+use crate::acquire_walk::AcquirePlace;
 use crate::act::{Act, Change, Found};
 use crate::limits::Cause;
-use crate::wait::{Aim, Visit, Wait, WaitPlace, answer_of};
+use crate::wait::{
+    Aim, LeavePlace, QueuePlace, Subject, Visit, Wait, WaitPlace, answer_of, arrival_of,
+};
 use crate::walk::{Next, Reply, Walk};
-use crate::word::{Taking, Word};
+use crate::word::{Arrival, Taking, Word};
 use ns_model::event::Answer;
 
 /// Where a wait goes that tests its condition and has loaded so many cells.
@@ -58,9 +62,9 @@ fn look_or_queue<C: Copy>(wait: Wait<C>, again: bool) -> Next<C>
     ensures { result ≡ look_or_queue wait again }
 {
     if wait.limits.is_some() {
-        Next::On(Walk::InWait(wait, WaitPlace::LookIn(again)))
+        Next::On(Walk::InWait(wait, WaitPlace::InQueuing(again, QueuePlace::LookIn)))
     } else {
-        Next::On(Walk::InWait(wait, WaitPlace::Load(again)))
+        Next::On(Walk::InWait(wait, WaitPlace::InQueuing(again, QueuePlace::Load)))
     }
 }
 
@@ -80,9 +84,9 @@ fn queue_by<C: Copy>(wait: Wait<C>, again: bool, word: Word) -> Next<C>
     ensures { result ≡ queue_by wait again word }
 {
     if word.spin {
-        Next::Idle(Walk::InWait(wait, WaitPlace::Load(again)))
+        Next::Idle(Walk::InWait(wait, WaitPlace::InQueuing(again, QueuePlace::Load)))
     } else {
-        Next::On(Walk::InWait(wait, WaitPlace::Take(again, word)))
+        Next::On(Walk::InWait(wait, WaitPlace::InQueuing(again, QueuePlace::Take(word))))
     }
 }
 
@@ -113,9 +117,148 @@ fn leave_by<C: Copy>(wait: Wait<C>, cause: Cause, word: Word) -> Next<C>
     ensures { result ≡ leave_by wait cause word }
 {
     if word.spin {
-        Next::Idle(Walk::InWait(wait, WaitPlace::LeaveLoad(cause)))
+        Next::Idle(Walk::InWait(wait, WaitPlace::InLeaving(cause, LeavePlace::LeaveLoad)))
     } else {
-        Next::On(Walk::InWait(wait, WaitPlace::TakeToLeave(cause, word)))
+        Next::On(Walk::InWait(
+            wait,
+            WaitPlace::InLeaving(cause, LeavePlace::TakeToLeave(word)),
+        ))
+    }
+}
+
+/// The step that tells of a condition.
+fn judge<C: Copy>(on: Subject<C>, i: u8) -> Act<C>
+    ensures { result ≡ judge_of on i }
+{
+    match on {
+        Subject::OnCondition(cond) => Act::JudgeMet(i, cond),
+        Subject::OnVariable(_) => Act::LoadCell(i),
+    }
+}
+
+/// Where a wait with the queues goes that loads cells for its scan and has loaded so many.
+fn load_place<const N: usize>(last: Word, loaded: usize) -> QueuePlace
+    requires { N ≤ 16 }
+    ensures { result ≡ load_place N last loaded }
+{
+    if loaded < N {
+        QueuePlace::LoadToScan(last, loaded as u8)
+    } else {
+        QueuePlace::QueueToWait(last)
+    }
+}
+
+/// Where a wait goes that has the queues and has set its flag. One for a condition has loaded the
+/// row already; another does where some waiter has a condition.
+fn armed_place<C: Copy, const N: usize>(on: Subject<C>, last: Word) -> QueuePlace
+    requires { N ≤ 16 }
+    ensures { result ≡ armed_place N on last }
+{
+    match on {
+        Subject::OnVariable(_) if last.cond => load_place::<N>(last, 0),
+        _ => QueuePlace::QueueToWait(last),
+    }
+}
+
+impl QueuePlace {
+    /// The step that the place wants next.
+    fn want<C: Copy>(self, wait: Wait<C>, again: bool) -> Act<C>
+        ensures { result ≡ want_queuing wait again self }
+    {
+        match self {
+            QueuePlace::LookIn => Act::Look(wait.limits, again),
+            QueuePlace::Load => Act::LoadWord,
+            QueuePlace::Take(last) => Act::TakeQueues(Taking::ToChange, last),
+            QueuePlace::ArmToWait(_) => Act::ArmFlag,
+            QueuePlace::LoadToScan(_, i) => Act::LoadCell(i),
+            QueuePlace::QueueToWait(last) => Act::WaitReturning(wait, again, last),
+        }
+    }
+
+    /// Where the wait goes with what its step found.
+    fn got<C: Copy, const N: usize>(self, wait: Wait<C>, again: bool, found: Found) -> Next<C>
+        requires { N ≤ 16 }
+        ensures { result ≡ got_queuing N wait again self found }
+    {
+        match (self, found) {
+            (QueuePlace::LookIn, Found::Looked(None)) => {
+                Next::On(Walk::InWait(wait, WaitPlace::InQueuing(again, QueuePlace::Load)))
+            }
+            (QueuePlace::LookIn, Found::Looked(Some(cause))) => {
+                Next::Done(Reply::Answered(answer_of(cause)))
+            }
+            (QueuePlace::Load, Found::Saw(word)) => queue_by(wait, again, word),
+            (QueuePlace::Take(_), Found::Saw(word)) => queue_by(wait, again, word),
+            (QueuePlace::Take(last), Found::Made) => {
+                let place = QueuePlace::ArmToWait(last.taken(Taking::ToChange));
+                Next::On(Walk::InWait(wait, WaitPlace::InQueuing(again, place)))
+            }
+            (QueuePlace::ArmToWait(last), Found::Made) => {
+                let place = armed_place::<C, N>(wait.on, last);
+                Next::On(Walk::InWait(wait, WaitPlace::InQueuing(again, place)))
+            }
+            (QueuePlace::LoadToScan(last, i), Found::Cell(_)) => {
+                let place = load_place::<N>(last, i as usize + 1);
+                Next::On(Walk::InWait(wait, WaitPlace::InQueuing(again, place)))
+            }
+            (QueuePlace::QueueToWait(_), Found::Saw(word)) => {
+                let place = QueuePlace::QueueToWait(word);
+                Next::On(Walk::InWait(wait, WaitPlace::InQueuing(again, place)))
+            }
+            (QueuePlace::QueueToWait(_), Found::Scanned { owes, .. }) => pay_waiting(wait, owes),
+            (place, _) => Next::On(Walk::InWait(wait, WaitPlace::InQueuing(again, place))),
+        }
+    }
+}
+
+impl LeavePlace {
+    /// The step that the place wants next.
+    fn want<C: Copy>(self, wait: Wait<C>) -> Act<C>
+        ensures { result ≡ want_leaving wait self }
+    {
+        match self {
+            LeavePlace::LeaveLoad => Act::LoadWord,
+            LeavePlace::TakeToLeave(last) => Act::TakeQueues(Taking::ToChange, last),
+            LeavePlace::Leave(last) => Act::ReturnQueues(Change::LeaveSelf(wait.on.home()), last),
+            LeavePlace::AwaitWakeToLeave => Act::LoadFlag,
+        }
+    }
+
+    /// Where the wait goes with what its step found.
+    fn got<C: Copy>(self, wait: Wait<C>, cause: Cause, found: Found) -> Next<C>
+        ensures { result ≡ got_leaving wait cause self found }
+    {
+        match (self, found) {
+            (LeavePlace::LeaveLoad, Found::Saw(word)) => leave_by(wait, cause, word),
+            (LeavePlace::TakeToLeave(_), Found::Saw(word)) => leave_by(wait, cause, word),
+            (LeavePlace::TakeToLeave(last), Found::Made) => {
+                let place = LeavePlace::Leave(last.taken(Taking::ToChange));
+                Next::On(Walk::InWait(wait, WaitPlace::InLeaving(cause, place)))
+            }
+            (LeavePlace::Leave(_), Found::Saw(word)) => {
+                Next::On(Walk::InWait(wait, WaitPlace::InLeaving(cause, LeavePlace::Leave(word))))
+            }
+            (LeavePlace::Leave(_), Found::Left(stood)) => {
+                if stood {
+                    let aim = Aim::ForWait(wait, Some(cause));
+                    Next::On(Walk::InAcquire(aim, AcquirePlace::AcquireLoad(Arrival::AsFresh)))
+                } else {
+                    let place = LeavePlace::AwaitWakeToLeave;
+                    Next::On(Walk::InWait(wait, WaitPlace::InLeaving(cause, place)))
+                }
+            }
+            (LeavePlace::AwaitWakeToLeave, Found::Flag(value)) => {
+                if value == 1 {
+                    let place = LeavePlace::AwaitWakeToLeave;
+                    Next::Idle(Walk::InWait(wait, WaitPlace::InLeaving(cause, place)))
+                } else {
+                    let aim = Aim::ForWait(wait, wait.on.kept(cause));
+                    let place = AcquirePlace::AcquireLoad(arrival_of(value));
+                    Next::On(Walk::InAcquire(aim, place))
+                }
+            }
+            (place, _) => Next::On(Walk::InWait(wait, WaitPlace::InLeaving(cause, place))),
+        }
     }
 }
 
@@ -126,177 +269,49 @@ impl WaitPlace {
     {
         match self {
             WaitPlace::TestCells(_, i) => Act::LoadCell(i),
-            WaitPlace::TestLast(_, i) => Act::JudgeMet(i, wait.cond),
-            WaitPlace::LookIn(again) => Act::Look(wait.limits, again),
-            WaitPlace::Load(_) => Act::LoadWord,
-            WaitPlace::Take(_, last) => Act::TakeQueues(Taking::ToChange, last),
-            WaitPlace::ArmToWait(_, _) => Act::ArmFlag,
-            WaitPlace::QueueToWait(again, last) => Act::WaitReturning(wait, again, last),
-            WaitPlace::PayInWait => Act::PayWake,
+            WaitPlace::TestLast(_, i) => judge(wait.on, i),
+            WaitPlace::InQueuing(again, place) => place.want(wait, again),
+            WaitPlace::PayInWait => Act::PayWake(0),
             WaitPlace::AwaitWakeInWait => Act::LoadFlag,
             WaitPlace::LookOut => Act::Look(wait.limits, false),
-            WaitPlace::LeaveLoad(_) => Act::LoadWord,
-            WaitPlace::TakeToLeave(_, last) => Act::TakeQueues(Taking::ToChange, last),
-            WaitPlace::Leave(_, last) => Act::ReturnQueues(Change::LeaveSelf, last),
-            WaitPlace::AwaitWakeToLeave(_) => Act::LoadFlag,
+            WaitPlace::InLeaving(_, place) => place.want(wait),
         }
     }
 
-    /// Where the wait goes with this word, loaded or found by a compare-exchange that failed.
-    pub(crate) fn got_word<C: Copy, const N: usize>(self, wait: Wait<C>, word: Word) -> Next<C>
-        ensures { result ≡ got_waiting N wait self (Found.Saw word) }
-    {
-        match self {
-            WaitPlace::Load(again) => queue_by(wait, again, word),
-            WaitPlace::Take(again, _) => queue_by(wait, again, word),
-            WaitPlace::QueueToWait(again, _) => Next::On(Walk::InWait(
-                wait,
-                WaitPlace::QueueToWait(again, word),
-            )),
-            WaitPlace::LeaveLoad(cause) => leave_by(wait, cause, word),
-            WaitPlace::TakeToLeave(cause, _) => leave_by(wait, cause, word),
-            WaitPlace::Leave(cause, _) => Next::On(Walk::InWait(
-                wait,
-                WaitPlace::Leave(cause, word),
-            )),
-            place => Next::On(Walk::InWait(wait, place)),
-        }
-    }
-
-    /// Where the wait goes when its exchange or its store was made.
-    pub(crate) fn got_made<C: Copy, const N: usize>(self, wait: Wait<C>) -> Next<C>
-        ensures { result ≡ got_waiting N wait self Found.Made }
-    {
-        match self {
-            WaitPlace::Take(again, last) => {
-                let word = last.taken(Taking::ToChange);
-                Next::On(Walk::InWait(wait, WaitPlace::ArmToWait(again, word)))
-            }
-            WaitPlace::ArmToWait(again, last) => Next::On(Walk::InWait(
-                wait,
-                WaitPlace::QueueToWait(again, last),
-            )),
-            WaitPlace::TakeToLeave(cause, last) => {
-                let word = last.taken(Taking::ToChange);
-                Next::On(Walk::InWait(wait, WaitPlace::Leave(cause, word)))
-            }
-            place => Next::On(Walk::InWait(wait, place)),
-        }
-    }
-
-    /// Where the wait goes with a cell's value.
-    pub(crate) fn got_cell<C: Copy, const N: usize>(self, wait: Wait<C>, value: u64) -> Next<C>
+    /// Where the wait goes with what its step found.
+    pub(crate) fn got<C: Copy, const N: usize>(self, wait: Wait<C>, found: Found) -> Next<C>
         requires { N ≤ 16 }
-        ensures { result ≡ got_waiting N wait self (Found.Cell value) }
+        ensures { result ≡ got_waiting N wait self found }
     {
-        match self {
-            WaitPlace::TestCells(visit, i) => {
+        match (self, found) {
+            (WaitPlace::TestCells(visit, i), Found::Cell(_)) => {
                 Next::On(test_place::<C, N>(wait, visit, i as usize + 1))
             }
-            place => Next::On(Walk::InWait(wait, place)),
-        }
-    }
-
-    /// Where the wait goes when it is told whether its condition is true.
-    pub(crate) fn got_met<C: Copy, const N: usize>(self, wait: Wait<C>, is_met: bool) -> Next<C>
-        ensures { result ≡ got_waiting N wait self (Found.Tested is_met) }
-    {
-        match self {
-            WaitPlace::TestLast(visit, _) => {
+            (WaitPlace::TestLast(visit, _), Found::Tested(is_met)) => {
                 if is_met {
                     Next::Done(Reply::Answered(Answer::Met))
                 } else {
                     unmet_by(wait, visit)
                 }
             }
-            place => Next::On(Walk::InWait(wait, place)),
-        }
-    }
-
-    /// Where the wait goes when it has queued after a scan, and owes wakes or none.
-    pub(crate) fn got_scanned<C: Copy, const N: usize>(
-        self,
-        wait: Wait<C>,
-        owes: bool,
-        tests: u32,
-    ) -> Next<C>
-        ensures { result ≡ got_waiting N wait self (Found.Scanned owes tests) }
-    {
-        match self {
-            WaitPlace::QueueToWait(_, _) => pay_waiting(wait, owes),
-            place => Next::On(Walk::InWait(wait, place)),
-        }
-    }
-
-    /// Where the wait goes when it has paid a wake, and owes more or none.
-    pub(crate) fn got_paid<C: Copy, const N: usize>(self, wait: Wait<C>, owes: bool) -> Next<C>
-        ensures { result ≡ got_waiting N wait self (Found.Paid owes) }
-    {
-        match self {
-            WaitPlace::PayInWait => pay_waiting(wait, owes),
-            place => Next::On(Walk::InWait(wait, place)),
-        }
-    }
-
-    /// Where the wait goes when it has put the queues back without itself.
-    pub(crate) fn got_left<C: Copy, const N: usize>(self, wait: Wait<C>, stood: bool) -> Next<C>
-        ensures { result ≡ got_waiting N wait self (Found.Left stood) }
-    {
-        match self {
-            WaitPlace::Leave(cause, _) => {
-                if stood {
-                    Next::On(Walk::AcquireLoad(Aim::ForWait(wait, Some(cause)), false))
-                } else {
-                    Next::On(Walk::InWait(wait, WaitPlace::AwaitWakeToLeave(cause)))
-                }
-            }
-            place => Next::On(Walk::InWait(wait, place)),
-        }
-    }
-
-    /// Where the wait goes with the value of its seat's flag.
-    pub(crate) fn got_flag<C: Copy, const N: usize>(self, wait: Wait<C>, value: u8) -> Next<C>
-        ensures { result ≡ got_waiting N wait self (Found.Flag value) }
-    {
-        match self {
-            WaitPlace::AwaitWakeInWait => {
-                if value == 0 {
-                    Next::On(Walk::AcquireLoad(Aim::ForWait(wait, None), true))
-                } else {
+            (WaitPlace::InQueuing(again, place), found) => place.got::<C, N>(wait, again, found),
+            (WaitPlace::PayInWait, Found::Paid { owes }) => pay_waiting(wait, owes),
+            (WaitPlace::AwaitWakeInWait, Found::Flag(value)) => {
+                if value == 1 {
                     rest_or_look(wait)
-                }
-            }
-            WaitPlace::AwaitWakeToLeave(cause) => {
-                if value == 0 {
-                    Next::On(Walk::AcquireLoad(Aim::ForWait(wait, Some(cause)), true))
                 } else {
-                    Next::Idle(Walk::InWait(wait, WaitPlace::AwaitWakeToLeave(cause)))
+                    let aim = Aim::ForWait(wait, None);
+                    let place = AcquirePlace::AcquireLoad(arrival_of(value));
+                    Next::On(Walk::InAcquire(aim, place))
                 }
             }
-            place => Next::On(Walk::InWait(wait, place)),
-        }
-    }
-
-    /// Where the wait goes with what a look has shown.
-    pub(crate) fn got_looked<C: Copy, const N: usize>(
-        self,
-        wait: Wait<C>,
-        cause: Option<Cause>,
-    ) -> Next<C>
-        ensures { result ≡ got_waiting N wait self (Found.Looked cause) }
-    {
-        match (self, cause) {
-            (WaitPlace::LookIn(again), None) => {
-                Next::On(Walk::InWait(wait, WaitPlace::Load(again)))
+            (WaitPlace::LookOut, Found::Looked(None)) => {
+                Next::Idle(Walk::InWait(wait, WaitPlace::AwaitWakeInWait))
             }
-            (WaitPlace::LookIn(_), Some(cause)) => Next::Done(Reply::Answered(answer_of(cause))),
-            (WaitPlace::LookOut, None) => Next::Idle(Walk::InWait(
-                wait,
-                WaitPlace::AwaitWakeInWait,
-            )),
-            (WaitPlace::LookOut, Some(cause)) => {
-                Next::On(Walk::InWait(wait, WaitPlace::LeaveLoad(cause)))
+            (WaitPlace::LookOut, Found::Looked(Some(cause))) => {
+                Next::On(Walk::InWait(wait, WaitPlace::InLeaving(cause, LeavePlace::LeaveLoad)))
             }
+            (WaitPlace::InLeaving(cause, place), found) => place.got(wait, cause, found),
             (place, _) => Next::On(Walk::InWait(wait, place)),
         }
     }

@@ -36,7 +36,7 @@
 //! about to queue.
 
 ghost use Rattle.std.specs.Prelude.{◌≡◌, ◌≢◌, ◌<◌, true, false};
-ghost use Rattle.ns_word.specs.Words.{may_acquire, needs_scan, word_acquired, word_taken, word_returned, word_released, word_released_returning};
+ghost use Rattle.ns_word.specs.Words.{is_held, is_woken, may_acquire, needs_scan, word_acquired, word_taken, word_returned, word_released, word_released_returning};
 
 use ns_model::event::Mode;
 
@@ -88,9 +88,29 @@ pub enum Releasing {
 pub enum Taking {
     /// To change what the lock list holds; the word tells of that as they are put back.
     ToChange,
-    /// To queue oneself in this mode, of which the word tells at once. The flag tells whether one
-    /// was woken from the lock list before.
-    ToQueue(Mode, bool),
+    /// To queue oneself in this mode, of which the word tells at once.
+    ToQueue(Mode, Arrival),
+}
+
+/// How a seat comes to acquire.
+#[derive(Clone, Copy, Debug, PartialEq, Eq)]
+pub enum Arrival {
+    /// It has not waited in the lock list for this, or has left it by itself.
+    AsFresh,
+    /// It was woken from the lock list.
+    AsWoken,
+}
+
+impl Arrival {
+    /// Whether the seat was woken.
+    pub fn is_woken(self) -> bool
+        ensures { result ≡ is_woken self }
+    {
+        match self {
+            Arrival::AsFresh => false,
+            Arrival::AsWoken => true,
+        }
+    }
 }
 
 impl Word {
@@ -106,14 +126,14 @@ impl Word {
         readers: 0,
     };
 
-    /// Whether a lock with this word may be acquired in the mode, fresh or `woken` from the lock
-    /// list. A fresh reader stands back where a writer waits; a woken one passes.
-    pub fn may_acquire(self, mode: Mode, woken: bool) -> bool
-        ensures { result ≡ may_acquire mode woken self }
+    /// Whether a lock with this word may be acquired in the mode. A fresh reader stands back where
+    /// a writer waits; a woken one passes.
+    pub fn may_acquire(self, mode: Mode, arrival: Arrival) -> bool
+        ensures { result ≡ may_acquire mode arrival self }
     {
         match mode {
             Mode::Write => !self.write && self.readers == 0,
-            Mode::Read => !self.write && (woken || !self.writer_waits),
+            Mode::Read => !self.write && (arrival.is_woken() || !self.writer_waits),
         }
     }
 
@@ -139,14 +159,14 @@ impl Word {
         self == other
     }
 
-    /// The word after an acquire in the mode. One that was `woken` is on its way no more.
+    /// The word after an acquire in the mode. One that was woken is on its way no more.
     ///
     /// Needs a count of readers below 255; the law keeps it at 64 or below.
-    pub fn acquired(self, mode: Mode, woken: bool) -> Word
+    pub fn acquired(self, mode: Mode, arrival: Arrival) -> Word
         requires { self.readers < 255 }
-        ensures { result ≡ word_acquired mode woken self }
+        ensures { result ≡ word_acquired mode arrival self }
     {
-        let desig = self.desig && !woken;
+        let desig = self.desig && !arrival.is_woken();
         match mode {
             Mode::Write => Word {
                 write: true,
@@ -167,10 +187,10 @@ impl Word {
     {
         match taking {
             Taking::ToChange => Word { spin: true, ..self },
-            Taking::ToQueue(mode, woken) => Word {
+            Taking::ToQueue(mode, arrival) => Word {
                 spin: true,
                 waiting: true,
-                desig: self.desig && !woken,
+                desig: self.desig && !arrival.is_woken(),
                 writer_waits: self.writer_waits || mode.is_write(),
                 all_false: false,
                 ..self
@@ -178,16 +198,24 @@ impl Word {
         }
     }
 
-    /// The word after the queues were put back, with a lock list that these bits tell of.
-    pub fn returned(self, bits: Bits) -> Word
-        ensures { result ≡ word_returned bits self }
+    /// Whether somebody holds the lock.
+    pub fn is_held(self) -> bool
+        ensures { result ≡ is_held self }
+    {
+        self.write || self.readers > 0
+    }
+
+    /// The word after the queues were put back, with a lock list that these bits tell of. `moved`
+    /// says whether somebody was moved there, who has no condition.
+    pub fn returned(self, moved: bool, bits: Bits) -> Word
+        ensures { result ≡ word_returned moved bits self }
     {
         Word {
             spin: false,
             waiting: bits.waiting,
             cond: bits.conditional,
             writer_waits: bits.writer_waits,
-            all_false: self.all_false && bits.waiting,
+            all_false: self.all_false && bits.waiting && !moved,
             ..self
         }
     }

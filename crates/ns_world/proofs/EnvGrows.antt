@@ -1,5 +1,5 @@
 -- Each step extends what has happened to the clock and the notes.
-use Rattle.std.proofs.Common.{◌≡◌, ℕ, ◌<◌, inl, inr, List, [], ◌++◌, Some, None, length, slice_get, slice_set, refl, ap, sym, ◌∙◌, subst}
+use Rattle.std.proofs.Common.{ℕ, ◌<◌, inl, inr, List, [], ◌++◌, Some, None, length, slice_set, refl, sym, ◌∙◌, subst}
 use Rattle.std.proofs.lemmas.List.{append-nil}
 use Rattle.std.proofs.lemmas.Option.{slice_get_within}
 use Rattle.ns_model.specs.declared.environment.EnvEvent.{EnvEvent}
@@ -13,7 +13,7 @@ use Rattle.ns_world.specs.declared.step.Step.{Step}
 use Rattle.ns_world.specs.declared.step.Step.TheVariants.{Went, Idle, Finished, Nothing}
 use Rattle.ns_world.specs.Asks.{env_state}
 use Rattle.ns_world.specs.Looks.{look_of, note_in}
-use Rattle.ns_world.specs.World.{Now, Goes, Asks, Looks, LookGoes, Moves, StepOf, IsLawfulWorld, LedTo}
+use Rattle.ns_world.specs.World.{Now, Goes, LookGoes, Moves, StepOf, IsLawfulWorld, LedTo}
 use Rattle.ns_world.proofs.Looking.{first_if, noted}
 use Rattle.ns_world.proofs.Worlds.{env_begins, set_same, set_again}
 

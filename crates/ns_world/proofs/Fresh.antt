@@ -78,7 +78,6 @@ module _ (C : Type 0) (N : ℕ) where
   lawful_new truths n few = record {
     few = rw (length_views 0 n) few;
     numbered = numbered 0 n;
-    no_variables = refl;
     lawful = rw (length_views 0 n) (lawful_fresh C N truths n few);
     as_many = many None n ∙ sym (length_views 0 n);
     right = λ seat view asking at asks. subst (λ w. AsksFor w asking) (sym (no_walk 0 n seat view at)) tt;

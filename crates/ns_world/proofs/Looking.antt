@@ -9,33 +9,45 @@ use Rattle.ns_word.specs.declared.limits.Cause.{Cause}
 use Rattle.ns_word.specs.declared.limits.Cause.TheVariants.{Expired}
 use Rattle.ns_word.specs.declared.word.Word.{Word}
 use Rattle.ns_word.specs.declared.word.Releasing.{Releasing}
+use Rattle.ns_word.specs.declared.word.Arrival.{Arrival}
+use Rattle.ns_word.specs.declared.word.Arrival.TheVariants.{AsFresh}
+use Rattle.ns_word.specs.declared.wait.Subject.{Subject}
+use Rattle.ns_word.specs.declared.wait.Subject.TheVariants.{OnCondition, OnVariable}
 use Rattle.ns_word.specs.declared.wait.Wait.{Wait}
 use Rattle.ns_word.specs.declared.wait.Aim.{Aim}
 use Rattle.ns_word.specs.declared.wait.Aim.TheVariants.{ForLock, ForWait}
 use Rattle.ns_word.specs.declared.wait.Visit.{Visit}
 use Rattle.ns_word.specs.declared.wait.Visit.TheVariants.{OnEntry, OnReturn}
 use Rattle.ns_word.specs.declared.wait.WaitPlace.{WaitPlace}
-use Rattle.ns_word.specs.declared.wait.WaitPlace.TheVariants.{TestCells, TestLast, LookIn, Load, Take, ArmToWait, QueueToWait, PayInWait, AwaitWakeInWait, LookOut, LeaveLoad, TakeToLeave, Leave, AwaitWakeToLeave}
-use Rattle.ns_word.specs.declared.walk.Walk.{Walk}
-use Rattle.ns_word.specs.declared.walk.Walk.TheVariants.{TryLoad, TryAcquire, AcquireLoad, AcquireExchange, TakeToQueue, Arm, Queue, AwaitWake, QuietCells, QuietLast, ReleaseLoad, ReleaseExchange, TakeToScan, ScanCells, ScanAndRelease, Pay, GetLoad, SetLoad, SetStore, InWait}
-use Rattle.ns_word.specs.declared.walk.Next.{Next}
-use Rattle.ns_word.specs.declared.walk.Next.TheVariants.{On}
-use Rattle.ns_word.specs.declared.act.Act.{Act}
-use Rattle.ns_word.specs.declared.act.Act.TheVariants.{Look}
-use Rattle.ns_word.specs.declared.act.Found.{Found}
-use Rattle.ns_word.specs.declared.act.Found.TheVariants.{Saw, Made, Cell, Quiet, Tested, Scanned, Paid, Left, Flag, Looked}
-use Rattle.ns_word.specs.declared.env_act.EnvAct.{EnvAct}
-use Rattle.ns_word.specs.declared.env_act.EnvAct.TheVariants.{LoadNext, TakeNext, StoreNote, NotifyNote, MoveClock, LoadClock, LoadNote}
-use Rattle.ns_word.specs.declared.env_act.EnvFound.{EnvFound}
-use Rattle.ns_word.specs.declared.env_act.EnvFound.TheVariants.{NextNumber, Taken, Stored, Clock, Note}
+use Rattle.ns_word.specs.declared.wait.WaitPlace.TheVariants.{TestCells, TestLast, InQueuing, PayInWait, AwaitWakeInWait, LookOut, InLeaving}
+use Rattle.ns_word.specs.declared.wait.QueuePlace.TheVariants.{LookIn, Load, Take, ArmToWait, LoadToScan, QueueToWait}
+use Rattle.ns_word.specs.declared.wait.LeavePlace.TheVariants.{LeaveLoad, TakeToLeave, Leave, AwaitWakeToLeave}
+use Rattle.ns_word.specs.declared.try_walk.TryPlace.TheVariants.{TryLoad, TryAcquire}
+use Rattle.ns_word.specs.declared.acquire_walk.AcquirePlace.TheVariants.{AcquireLoad, AcquireExchange, TakeToQueue, Arm, Queue, AwaitWake}
+use Rattle.ns_word.specs.declared.release_walk.ReleasePlace.TheVariants.{ReleaseLoad, ReleaseExchange, TakeToScan, ScanCells, ScanAndRelease, Pay}
+use Rattle.ns_word.specs.declared.cell_walk.CellPlace.TheVariants.{GetLoad, SetLoad, SetStore, QuietCells, QuietLast}
 use Rattle.ns_word.specs.declared.env_walk.Chain.TheVariants.{ForLook}
 use Rattle.ns_word.specs.declared.env_walk.EnvWalk.{EnvWalk}
 use Rattle.ns_word.specs.declared.env_walk.EnvWalk.TheVariants.{ClockLoad, NoteLoad}
 use Rattle.ns_word.specs.declared.env_walk.EnvNext.{EnvNext}
 use Rattle.ns_word.specs.declared.env_walk.EnvNext.TheVariants.{Go, Shown}
+use Rattle.ns_word.specs.declared.walk.Walk.{Walk}
+use Rattle.ns_word.specs.declared.signal_walk.SignalPlace.TheVariants.{SignalLoad, TakeToWake, WakeAndReturn, PayTheWoken}
+use Rattle.ns_word.specs.declared.walk.Walk.TheVariants.{InTry, InAcquire, InRelease, InCells, InWait, InSignal}
+use Rattle.ns_word.specs.declared.walk.Next.{Next}
+use Rattle.ns_word.specs.declared.walk.Next.TheVariants.{On}
+use Rattle.ns_word.specs.declared.act.Act.{Act}
+use Rattle.ns_word.specs.declared.act.Act.TheVariants.{Look}
+use Rattle.ns_word.specs.declared.act.Found.{Found}
+use Rattle.ns_word.specs.declared.act.Found.TheVariants.{Saw, Made, Cell, Quiet, Tested, Scanned, Paid, Left, Woke, Flag, Looked}
+use Rattle.ns_word.specs.declared.env_act.EnvAct.{EnvAct}
+use Rattle.ns_word.specs.declared.env_act.EnvAct.TheVariants.{LoadNext, TakeNext, StoreNote, NotifyNote, MoveClock, LoadClock, LoadNote}
+use Rattle.ns_word.specs.declared.env_act.EnvFound.{EnvFound}
+use Rattle.ns_word.specs.declared.env_act.EnvFound.TheVariants.{NextNumber, Taken, Stored, Clock, Note}
 use Rattle.ns_word.specs.EnvWalks.{standing_of, env_want_of, env_got_of, passed, up_to, stopped}
 use Rattle.ns_word.specs.EnvSteps.{EnvPlain, EnvEffect, IfMade, IsFirstAsk, events_of}
-use Rattle.ns_word.specs.Walks.{want_of, got_of, got_waiting, walk_after, acquire_by, acquired_for, release_by, test_place, unmet_by}
+use Rattle.ns_word.proofs.Answers.{look_of_act, try_looks_not, acquire_looks_not, release_looks_not, cells_look_not, leaver_looks_not, judge_looks_not, signal_looks_not}
+use Rattle.ns_word.specs.Walks.{want_trying, want_acquiring, want_releasing, want_in_cells, want_leaving, want_signaling, judge_of, want_of, got_of, got_waiting, walk_after, acquire_by, acquired_for, back_with, release_by, test_place, unmet_by}
 use Rattle.ns_word.specs.Words.{may_acquire, needs_scan}
 use Rattle.ns_word.specs.Waits.{is_limited, mode_for}
 use Rattle.ns_model.specs.Truths.{Truths}
@@ -57,8 +69,8 @@ by_walks true p q = p
 by_walks false p q = q
 
 module _ {C : Type 0} (N : ℕ) (P : Option ℕ → Type 0) where
-  acquire_noted : (aim : Aim C) (woken : Bool) (word : Word) → P (note_for aim) → Keeps P (acquire_by aim woken word)
-  acquire_noted aim woken word p = by_two (may_acquire (mode_for aim) woken word) (record { note = p }) (by_two word.spin (record { note = p }) (record { note = p }))
+  acquire_noted : (aim : Aim C) (arrival : Arrival) (word : Word) → P (note_for aim) → Keeps P (acquire_by aim arrival word)
+  acquire_noted aim arrival word p = by_two (may_acquire (mode_for aim) arrival word) (record { note = p }) (by_two word.spin (record { note = p }) (record { note = p }))
 
   release_noted : (releasing : Releasing) (word : Word) → P None → Keeps {C = C} P (release_by releasing word)
   release_noted releasing word none = by_two (not (needs_scan releasing word)) (record { note = none }) (by_two word.spin (record { note = none }) (record { note = none }))
@@ -66,9 +78,13 @@ module _ {C : Type 0} (N : ℕ) (P : Option ℕ → Type 0) where
   test_noted : (wait : Wait C) (visit : Visit) (loaded : ℕ) → P wait.limits.note → Keeps P (On (test_place N wait visit loaded))
   test_noted wait visit loaded p = by_walks (nat_lt loaded (N - 1)) (record { note = p }) (record { note = p })
 
+  back_noted : (on : Subject C) (wait : Wait C) (kept : Option Cause) → P None → P wait.limits.note → Keeps P (back_with N on wait kept)
+  back_noted (OnCondition c) wait kept none p = test_noted wait (OnReturn kept) 0 p
+  back_noted (OnVariable k) wait kept none p = record { note = none }
+
   acquired_noted : (aim : Aim C) → P None → P (note_for aim) → Keeps P (acquired_for N aim)
   acquired_noted (ForLock mode) none p = record { note = none }
-  acquired_noted (ForWait wait kept) none p = test_noted wait (OnReturn kept) 0 p
+  acquired_noted (ForWait wait kept) none p = back_noted wait.on wait kept none p
 
   unmet_noted : (wait : Wait C) (visit : Visit) → P None → P wait.limits.note → Keeps P (unmet_by wait visit)
   unmet_noted wait OnEntry none p = by_two (is_limited wait.limits) (record { note = p }) (record { note = p })
@@ -79,54 +95,61 @@ module _ {C : Type 0} (N : ℕ) (P : Option ℕ → Type 0) where
   wait_noted wait (TestCells visit i) (Cell v) none p = test_noted wait visit (i + 1) p
   wait_noted wait (TestLast visit i) (Tested true) none p = record { note = none }
   wait_noted wait (TestLast visit i) (Tested false) none p = unmet_noted wait visit none p
-  wait_noted wait (LookIn again) (Looked None) none p = record { note = p }
-  wait_noted wait (LookIn again) (Looked (Some cause)) none p = record { note = none }
-  wait_noted wait (Load again) (Saw word) none p = by_two word.spin (record { note = p }) (record { note = p })
-  wait_noted wait (Take again last) (Saw word) none p = by_two word.spin (record { note = p }) (record { note = p })
-  wait_noted wait (Take again last) Made none p = record { note = p }
-  wait_noted wait (ArmToWait again last) Made none p = record { note = p }
-  wait_noted wait (QueueToWait again last) (Saw word) none p = record { note = p }
-  wait_noted wait (QueueToWait again last) (Scanned owes tests) none p = by_two owes (record { note = p }) (record { note = p })
+  wait_noted wait (InQueuing again LookIn) (Looked None) none p = record { note = p }
+  wait_noted wait (InQueuing again LookIn) (Looked (Some cause)) none p = record { note = none }
+  wait_noted wait (InQueuing again Load) (Saw word) none p = by_two word.spin (record { note = p }) (record { note = p })
+  wait_noted wait (InQueuing again (Take last)) (Saw word) none p = by_two word.spin (record { note = p }) (record { note = p })
+  wait_noted wait (InQueuing again (Take last)) Made none p = record { note = p }
+  wait_noted wait (InQueuing again (ArmToWait last)) Made none p = record { note = p }
+  wait_noted wait (InQueuing again (LoadToScan last i)) (Cell v) none p = record { note = p }
+  wait_noted wait (InQueuing again (QueueToWait last)) (Saw word) none p = record { note = p }
+  wait_noted wait (InQueuing again (QueueToWait last)) (Scanned owes tests) none p = by_two owes (record { note = p }) (record { note = p })
   wait_noted wait PayInWait (Paid owes) none p = by_two owes (record { note = p }) (record { note = p })
-  wait_noted wait AwaitWakeInWait (Flag v) none p = by_two (v == 0) (record { note = p }) (by_two (is_limited wait.limits) (record { note = p }) (record { note = p }))
+  wait_noted wait AwaitWakeInWait (Flag v) none p = by_two (v == 1) (by_two (is_limited wait.limits) (record { note = p }) (record { note = p })) (record { note = p })
   wait_noted wait LookOut (Looked None) none p = record { note = p }
   wait_noted wait LookOut (Looked (Some cause)) none p = record { note = p }
-  wait_noted wait (LeaveLoad cause) (Saw word) none p = by_two word.spin (record { note = p }) (record { note = p })
-  wait_noted wait (TakeToLeave cause last) (Saw word) none p = by_two word.spin (record { note = p }) (record { note = p })
-  wait_noted wait (TakeToLeave cause last) Made none p = record { note = p }
-  wait_noted wait (Leave cause last) (Saw word) none p = record { note = p }
-  wait_noted wait (Leave cause last) (Left stood) none p = by_two stood (record { note = p }) (record { note = p })
-  wait_noted wait (AwaitWakeToLeave cause) (Flag v) none p = by_two (v == 0) (record { note = p }) (record { note = p })
+  wait_noted wait (InLeaving cause LeaveLoad) (Saw word) none p = by_two word.spin (record { note = p }) (record { note = p })
+  wait_noted wait (InLeaving cause (TakeToLeave last)) (Saw word) none p = by_two word.spin (record { note = p }) (record { note = p })
+  wait_noted wait (InLeaving cause (TakeToLeave last)) Made none p = record { note = p }
+  wait_noted wait (InLeaving cause (Leave last)) (Saw word) none p = record { note = p }
+  wait_noted wait (InLeaving cause (Leave last)) (Left stood) none p = by_two stood (record { note = p }) (record { note = p })
+  wait_noted wait (InLeaving cause AwaitWakeToLeave) (Flag v) none p = by_two (v == 1) (record { note = p }) (record { note = p })
   wait_noted wait place found none p = record { note = p }
 
   walk_noted : (walk : Walk C) (found : Found) → P None → P (note_in (Some walk)) → Keeps P (got_of N walk found)
-  walk_noted (TryLoad mode) (Saw word) none p = by_two (may_acquire mode false word) (record { note = none }) (record { note = none })
-  walk_noted (TryAcquire mode last) (Saw word) none p = record { note = none }
-  walk_noted (TryAcquire mode last) Made none p = record { note = none }
-  walk_noted (AcquireLoad aim woken) (Saw word) none p = acquire_noted aim woken word p
-  walk_noted (AcquireExchange aim woken last) (Saw word) none p = acquire_noted aim woken word p
-  walk_noted (AcquireExchange aim woken last) Made none p = acquired_noted aim none p
-  walk_noted (TakeToQueue aim woken last) (Saw word) none p = acquire_noted aim woken word p
-  walk_noted (TakeToQueue aim woken last) Made none p = record { note = p }
-  walk_noted (Arm aim woken last) Made none p = record { note = p }
-  walk_noted (Queue aim woken last) (Saw word) none p = record { note = p }
-  walk_noted (Queue aim woken last) Made none p = record { note = p }
-  walk_noted (AwaitWake aim) (Flag v) none p = by_two (v == 0) (record { note = p }) (record { note = p })
-  walk_noted (QuietCells i) (Cell v) none p = by_walks (nat_lt (i + 1) (N - 1)) (record { note = none }) (record { note = none })
-  walk_noted (QuietLast i) (Quiet is_quiet) none p = by_two is_quiet (record { note = none }) (record { note = none })
-  walk_noted (ReleaseLoad releasing) (Saw word) none p = release_noted releasing word none
-  walk_noted (ReleaseExchange releasing last) (Saw word) none p = release_noted releasing word none
-  walk_noted (ReleaseExchange releasing last) Made none p = record { note = none }
-  walk_noted (TakeToScan releasing last) (Saw word) none p = release_noted releasing word none
-  walk_noted (TakeToScan releasing last) Made none p = by_walks last.cond (by_walks (nat_lt 0 N) (record { note = none }) (record { note = none })) (record { note = none })
-  walk_noted (ScanCells releasing last i) (Cell v) none p = by_walks (nat_lt (i + 1) N) (record { note = none }) (record { note = none })
-  walk_noted (ScanAndRelease releasing last) (Saw word) none p = record { note = none }
-  walk_noted (ScanAndRelease releasing last) (Scanned owes tests) none p = by_two owes (record { note = none }) (record { note = none })
-  walk_noted Pay (Paid owes) none p = by_two owes (record { note = none }) (record { note = none })
-  walk_noted (GetLoad i) (Cell v) none p = record { note = none }
-  walk_noted (SetLoad i v) (Cell w) none p = record { note = none }
-  walk_noted (SetStore i v) Made none p = record { note = none }
+  walk_noted (InTry mode TryLoad) (Saw word) none p = by_two (may_acquire mode AsFresh word) (record { note = none }) (record { note = none })
+  walk_noted (InTry mode (TryAcquire last)) (Saw word) none p = record { note = none }
+  walk_noted (InTry mode (TryAcquire last)) Made none p = record { note = none }
+  walk_noted (InAcquire aim (AcquireLoad arrival)) (Saw word) none p = acquire_noted aim arrival word p
+  walk_noted (InAcquire aim (AcquireExchange arrival last)) (Saw word) none p = acquire_noted aim arrival word p
+  walk_noted (InAcquire aim (AcquireExchange arrival last)) Made none p = acquired_noted aim none p
+  walk_noted (InAcquire aim (TakeToQueue arrival last)) (Saw word) none p = acquire_noted aim arrival word p
+  walk_noted (InAcquire aim (TakeToQueue arrival last)) Made none p = record { note = p }
+  walk_noted (InAcquire aim (Arm arrival last)) Made none p = record { note = p }
+  walk_noted (InAcquire aim (Queue arrival last)) (Saw word) none p = record { note = p }
+  walk_noted (InAcquire aim (Queue arrival last)) Made none p = record { note = p }
+  walk_noted (InAcquire aim AwaitWake) (Flag v) none p = by_two (v == 1) (record { note = p }) (record { note = p })
+  walk_noted (InCells (QuietCells i)) (Cell v) none p = record { note = none }
+  walk_noted (InCells (QuietLast i)) (Quiet is_quiet) none p = by_two is_quiet (record { note = none }) (record { note = none })
+  walk_noted (InRelease releasing ReleaseLoad) (Saw word) none p = release_noted releasing word none
+  walk_noted (InRelease releasing (ReleaseExchange last)) (Saw word) none p = release_noted releasing word none
+  walk_noted (InRelease releasing (ReleaseExchange last)) Made none p = record { note = none }
+  walk_noted (InRelease releasing (TakeToScan last)) (Saw word) none p = release_noted releasing word none
+  walk_noted (InRelease releasing (TakeToScan last)) Made none p = record { note = none }
+  walk_noted (InRelease releasing (ScanCells last i)) (Cell v) none p = record { note = none }
+  walk_noted (InRelease releasing (ScanAndRelease last)) (Saw word) none p = record { note = none }
+  walk_noted (InRelease releasing (ScanAndRelease last)) (Scanned owes tests) none p = by_two owes (record { note = none }) (record { note = none })
+  walk_noted (InRelease releasing Pay) (Paid owes) none p = by_two owes (record { note = none }) (record { note = none })
+  walk_noted (InCells (GetLoad i)) (Cell v) none p = record { note = none }
+  walk_noted (InCells (SetLoad i v)) (Cell w) none p = record { note = none }
+  walk_noted (InCells (SetStore i v)) Made none p = record { note = none }
   walk_noted (InWait wait place) found none p = wait_noted wait place found none p
+  walk_noted (InSignal waking k SignalLoad) (Saw word) none p = by_two word.spin (record { note = none }) (record { note = none })
+  walk_noted (InSignal waking k (TakeToWake last)) (Saw word) none p = by_two word.spin (record { note = none }) (record { note = none })
+  walk_noted (InSignal waking k (TakeToWake last)) Made none p = record { note = none }
+  walk_noted (InSignal waking k (WakeAndReturn last)) (Saw word) none p = record { note = none }
+  walk_noted (InSignal waking k (WakeAndReturn last)) (Woke owes) none p = by_two owes (record { note = none }) (record { note = none })
+  walk_noted (InSignal waking k PayTheWoken) (Paid owes) none p = by_two owes (record { note = none }) (record { note = none })
   walk_noted walk found none p = record { note = p }
 
   pub noted : (walk : Walk C) (found : Found) → P None → P (note_in (Some walk)) → P (note_in (walk_after (got_of N walk found)))
@@ -164,10 +187,28 @@ FirstIf notes None = Unit {0}
 FirstIf notes (Some place) = IsFirstAsk notes place
 
 module _ {C : Type 0} where
+  no_look : (notes : ℕ → NoteStanding) (act : Act C) → look_of_act act ≡ None → FirstIf notes (look_place act)
+  no_look notes (Look limits again) e = absurd (cc)
+  no_look notes act e = tt
+
   first_look : (notes : ℕ → NoteStanding) (walk : Walk C) → IfMade notes (note_in (Some walk)) → FirstIf notes (look_place (want_of walk))
-  first_look notes (InWait wait (LookIn again)) p = p
+  first_look notes (InWait wait (InQueuing again LookIn)) p = p
   first_look notes (InWait wait LookOut) p = p
-  first_look notes walk p = tt
+  first_look notes (InWait wait (TestCells visit i)) p = tt
+  first_look notes (InWait wait (TestLast visit i)) p = no_look notes (judge_of wait.on i) (judge_looks_not wait.on i)
+  first_look notes (InWait wait (InQueuing again Load)) p = tt
+  first_look notes (InWait wait (InQueuing again (Take last))) p = tt
+  first_look notes (InWait wait (InQueuing again (ArmToWait last))) p = tt
+  first_look notes (InWait wait (InQueuing again (LoadToScan last i))) p = tt
+  first_look notes (InWait wait (InQueuing again (QueueToWait last))) p = tt
+  first_look notes (InWait wait PayInWait) p = tt
+  first_look notes (InWait wait AwaitWakeInWait) p = tt
+  first_look notes (InWait wait (InLeaving cause place)) p = no_look notes (want_leaving wait place) (leaver_looks_not wait place)
+  first_look notes (InTry mode place) p = no_look notes (want_trying mode place) (try_looks_not C mode place)
+  first_look notes (InAcquire aim place) p = no_look notes (want_acquiring aim place) (acquire_looks_not aim place)
+  first_look notes (InRelease releasing place) p = no_look notes (want_releasing releasing place) (release_looks_not C releasing place)
+  first_look notes (InCells place) p = no_look notes (want_in_cells place) (cells_look_not C place)
+  first_look notes (InSignal waking k place) p = no_look notes (want_signaling waking k place) (signal_looks_not C waking k place)
 
   pub first_if : (notes : ℕ → NoteStanding) (walk : Option (Walk C)) → IfMade notes (note_in walk) → FirstIf notes (look_of walk)
   first_if notes None p = tt

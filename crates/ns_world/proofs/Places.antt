@@ -1,22 +1,27 @@
 -- Where calls begin, and what acts may be made.
-use Rattle.std.proofs.Common.{◌≡◌, ℕ, ◌-◌, ◌≤◌, Bool, true, false, cond, Option, Some, None, List, [], ◌∷◌, refl, arith, nat_lt}
+use Rattle.std.proofs.Common.{◌≡◌, ℕ, ◌-◌, ◌<◌, ◌≤◌, Bool, true, false, cond, Option, Some, None, List, [], ◌∷◌, refl, arith, nat_lt}
 use Rattle.std.proofs.lemmas.Bool.Decides.{nat_tests}
 use Rattle.ns_model.specs.declared.event.Mode.{Mode}
 use Rattle.ns_model.specs.declared.event.Mode.TheVariants.{Write, Read}
 use Rattle.ns_word.specs.declared.view.Held.{Held}
 use Rattle.ns_word.specs.declared.word.Releasing.TheVariants.{Writer, Reader}
+use Rattle.ns_word.specs.declared.limits.Limits.{Limits}
+use Rattle.ns_word.specs.declared.wait.Subject.{Subject}
+use Rattle.ns_word.specs.declared.wait.Subject.TheVariants.{OnCondition, OnVariable}
 use Rattle.ns_word.specs.declared.wait.Wait.{Wait as WaitFor}
 use Rattle.ns_word.specs.declared.wait.Visit.TheVariants.{OnEntry}
-use Rattle.ns_word.specs.declared.wait.WaitPlace.TheVariants.{TestCells, TestLast}
-use Rattle.ns_word.specs.declared.walk.Walk.TheVariants.{QuietCells, QuietLast, InWait}
+use Rattle.ns_word.specs.declared.wait.WaitPlace.TheVariants.{TestCells, TestLast, InQueuing}
+use Rattle.ns_word.specs.declared.wait.QueuePlace.TheVariants.{Load}
+use Rattle.ns_word.specs.declared.cell_walk.CellPlace.TheVariants.{QuietCells, QuietLast}
+use Rattle.ns_word.specs.declared.walk.Walk.TheVariants.{InCells, InWait}
 use Rattle.ns_word.specs.declared.act.Act.{Act}
 use Rattle.ns_word.specs.declared.act.Act.TheVariants.{LoadWord, Acquire, TakeQueues, ReturnQueues, Release, ReleaseReturning, WaitReturning, LoadCell, JudgeQuiet, JudgeMet, StoreCell, ArmFlag, PayWake, LoadFlag, Look}
 use Rattle.ns_model.specs.Truths.{Truths}
 use Rattle.ns_word.specs.Steps.{Part}
-use Rattle.ns_word.specs.Places.{HasMode, CanLeave, PlaceFits, ActFits, OwesOne}
+use Rattle.ns_word.specs.Places.{HasMode, IsSettled, CanLeave, PlaceFits, ActFits, MayWait, OwesOne}
 use Rattle.ns_word.specs.Begins.{IsFirst}
 use Rattle.ns_world.specs.declared.call.Call.{Call}
-use Rattle.ns_world.specs.declared.call.Call.TheVariants.{Lock, RLock, TryLock, TryRLock, Unlock, RUnlock, UnlockQuiet, Get, Set, Wait, NewNote, Notify, Advance, IsNotified, Expiry, NoteWait}
+use Rattle.ns_world.specs.declared.call.Call.TheVariants.{Lock, RLock, TryLock, TryRLock, Unlock, RUnlock, UnlockQuiet, Get, Set, Wait, CvWait, Signal, Broadcast, NewNote, Notify, Advance, IsNotified, Expiry, NoteWait}
 use Rattle.ns_model.specs.Environments.{NoteStanding}
 use Rattle.ns_word.specs.EnvSteps.{IfMade, IsFirstAsk}
 use Rattle.ns_word.specs.Walks.{want_of}
@@ -43,50 +48,64 @@ module _ {C : Type 0} {N : ℕ} (truths : Truths C) (notes : ℕ → NoteStandin
   has_mode mode None e = absurd (cc)
   has_mode mode (Some held) e = cc
 
-  can_write : (held : Option (Held C N)) → mode_of held ≡ Some Write → CanLeave truths Writer held
-  can_write None e = absurd (cc)
-  can_write (Some held) e = (cc, tt)
+  can_write : (held : Option (Held C N)) → mode_of held ≡ Some Write → IsSettled truths held → CanLeave truths Writer held
+  can_write None e settled = absurd (cc)
+  can_write (Some held) e settled = (cc, tt, settled)
 
-  can_read : (held : Option (Held C N)) → mode_of held ≡ Some Read → CanLeave truths Reader held
-  can_read None e = absurd (cc)
-  can_read (Some held) e = (cc, tt)
+  can_read : (held : Option (Held C N)) → mode_of held ≡ Some Read → IsSettled truths held → CanLeave truths Reader held
+  can_read None e settled = absurd (cc)
+  can_read (Some held) e settled = (cc, tt, settled)
 
-  quiet_fits : (held : Option (Held C N)) (more : Bool) → nat_lt 0 (N - 1) ≡ more → 1 ≤ N → HasMode Write held →
-      StartFits truths notes (OnLock (cond more (QuietCells 0) (QuietLast (N - 1)))) held
-  quiet_fits held true e some mode = (refl, (mode, grind (arith, nat_tests)), tt, refl)
-  quiet_fits held false e some mode = (grind (arith, nat_tests), (mode, omega (arith, some)), tt, refl)
+  quiet_fits : (held : Option (Held C N)) (more : Bool) → nat_lt 0 (N - 1) ≡ more → 1 ≤ N → HasMode Write held → IsSettled truths held →
+      StartFits truths notes (OnLock (InCells (cond more (QuietCells 0) (QuietLast (N - 1))))) held
+  quiet_fits held true e some mode settled = (refl, ((mode, grind (arith, nat_tests)), settled), tt, refl)
+  quiet_fits held false e some mode settled = (grind (arith, nat_tests), ((mode, omega (arith, some)), settled), tt, refl)
 
-  wait_fits : (wait : WaitFor C) (held : Held C N) (more : Bool) → nat_lt 0 (N - 1) ≡ more → 1 ≤ N → held.mode ≡ wait.mode → IfMade notes wait.limits.note →
-      StartFits truths notes (OnLock (cond more (InWait wait (TestCells OnEntry 0)) (InWait wait (TestLast OnEntry (N - 1))))) (Some held)
-  wait_fits wait held true e some mode made = (refl, (mode, grind (arith, nat_tests)), made, refl)
-  wait_fits wait held false e some mode made = (grind (arith, nat_tests), (mode, omega (arith, some)), made, refl)
+  -- a wait in the mode of the section in hand
+  abbrev wait_for : Held C N → Subject C → Limits → WaitFor C
+  wait_for held on limits = record { mode = held.mode; on = on; limits = limits }
+
+  wait_fits : (c : C) (limits : Limits) (held : Held C N) (more : Bool) → nat_lt 0 (N - 1) ≡ more → 1 ≤ N → IfMade notes limits.note → IsSettled truths (Some held) →
+      StartFits truths notes (OnLock (cond more (InWait (wait_for held (OnCondition c) limits) (TestCells OnEntry 0)) (InWait (wait_for held (OnCondition c) limits) (TestLast OnEntry (N - 1))))) (Some held)
+  wait_fits c limits held true e some made settled = (refl, (((refl, settled), grind (arith, nat_tests), tt), tt), made, refl)
+  wait_fits c limits held false e some made settled = (grind (arith, nat_tests), (((refl, settled), omega (arith, some), tt), tt), made, refl)
+
+  cv_wait_fits : (k : ℕ) (limits : Limits) (held : Held C N) → k < 4 → IfMade notes limits.note → IsSettled truths (Some held) →
+      StartFits truths notes (OnLock (InWait (wait_for held (OnVariable k) limits) (InQueuing false Load))) (Some held)
+  cv_wait_fits k limits held few made settled =
+      let may : MayWait truths (wait_for held (OnVariable k) limits) false held = record { mode = refl; unmet = few; settled = λ e. settled; back = λ e. absurd (cc) } in
+      ((refl, tt), ((may, tt), tt), made, refl)
 
   -- a call whose need is met begins at the first place of a walk: on the lock, at one that goes with the section in hand; on the clock and the notes, at one whose notes are made
-  pub start_fits : (call : Call C) (held : Option (Held C N)) → 1 ≤ N → CallInRange N call → CallFits notes call (mode_of held) → StartFits truths notes (start_of N (mode_of held) call) held
-  start_fits Lock held some range fits = (refl, nothing held fits, tt, refl)
-  start_fits RLock held some range fits = (refl, nothing held fits, tt, refl)
-  start_fits TryLock held some range fits = (tt, nothing held fits, tt, refl)
-  start_fits TryRLock held some range fits = (tt, nothing held fits, tt, refl)
-  start_fits Unlock held some range fits = (tt, can_write held fits, tt, refl)
-  start_fits RUnlock held some range fits = (tt, can_read held fits, tt, refl)
-  start_fits UnlockQuiet held some range fits = quiet_fits held (nat_lt 0 (N - 1)) refl some (has_mode Write held fits)
-  start_fits (Get i) None some range fits = absurd (cc)
-  start_fits (Get i) (Some held) some range fits = (tt, (refl, range), tt, refl)
-  start_fits (Set i v) held some range fits = (tt, (has_mode Write held fits, range), tt, refl)
-  start_fits (Wait c limits) None some range fits = absurd (cc (fits.0))
-  start_fits (Wait c limits) (Some held) some range fits = wait_fits (record { mode = held.mode; cond = c; limits = limits }) held (nat_lt 0 (N - 1)) refl some refl fits.1
-  start_fits (NewNote parent deadline) held some range fits = fits
-  start_fits (Notify note) held some range fits = fits
-  start_fits (Advance moment) held some range fits = tt
-  start_fits (IsNotified note) held some range fits = fits
-  start_fits (Expiry note) held some range fits = (refl, refl, fits)
-  start_fits (NoteWait note deadline) held some range fits = fits
+  pub start_fits : (call : Call C) (held : Option (Held C N)) → 1 ≤ N → CallInRange N call → CallFits notes call (mode_of held) → IsSettled truths held → StartFits truths notes (start_of N (mode_of held) call) held
+  start_fits Lock held some range fits settled = (refl, (nothing held fits, tt, tt), tt, refl)
+  start_fits RLock held some range fits settled = (refl, (nothing held fits, tt, tt), tt, refl)
+  start_fits TryLock held some range fits settled = (tt, (nothing held fits, tt), tt, refl)
+  start_fits TryRLock held some range fits settled = (tt, (nothing held fits, tt), tt, refl)
+  start_fits Unlock held some range fits settled = (tt, can_write held fits settled, tt, refl)
+  start_fits RUnlock held some range fits settled = (tt, can_read held fits settled, tt, refl)
+  start_fits UnlockQuiet held some range fits settled = quiet_fits held (nat_lt 0 (N - 1)) refl some (has_mode Write held fits) settled
+  start_fits (Get i) None some range fits settled = absurd (cc)
+  start_fits (Get i) (Some held) some range fits settled = (tt, ((refl, range), settled), tt, refl)
+  start_fits (Set i v) held some range fits settled = (tt, ((has_mode Write held fits, range), settled), tt, refl)
+  start_fits (Wait c limits) None some range fits settled = absurd (cc (fits.0))
+  start_fits (Wait c limits) (Some held) some range fits settled = wait_fits c limits held (nat_lt 0 (N - 1)) refl some fits.1 settled
+  start_fits (CvWait k limits) None some range fits settled = absurd (cc (fits.0))
+  start_fits (CvWait k limits) (Some held) some range fits settled = cv_wait_fits k limits held range.0 fits.1 settled
+  start_fits (Signal k) held some range fits settled = (tt, (tt, range, settled), tt, refl)
+  start_fits (Broadcast k) held some range fits settled = (tt, (tt, range, settled), tt, refl)
+  start_fits (NewNote parent deadline) held some range fits settled = fits
+  start_fits (Notify note) held some range fits settled = fits
+  start_fits (Advance moment) held some range fits settled = tt
+  start_fits (IsNotified note) held some range fits settled = fits
+  start_fits (Expiry note) held some range fits settled = (refl, refl, fits)
+  start_fits (NoteWait note deadline) held some range fits settled = fits
 
 module _ {C : Type 0} {N : ℕ} (truths : Truths C) where
   -- what may be made by one of few seats may be by one of more
   pub fits_more : (few many seat : ℕ) (act : Act C) (part : Part C N) → few ≤ many → ActFits truths few seat act part → ActFits truths many seat act part
   fits_more few many seat LoadWord part le p = p
-  fits_more few many seat (Acquire aim woken last) part le p = p
+  fits_more few many seat (Acquire aim arrival last) part le p = p
   fits_more few many seat (TakeQueues taking last) part le p = p
   fits_more few many seat (ReturnQueues change last) part le p = (omega (arith, le, p.0), p.1)
   fits_more few many seat (Release releasing last) part le p = p
@@ -97,6 +116,6 @@ module _ {C : Type 0} {N : ℕ} (truths : Truths C) where
   fits_more few many seat (JudgeMet i c) part le p = p
   fits_more few many seat (StoreCell i v) part le p = p
   fits_more few many seat ArmFlag part le p = omega (arith, le, p)
-  fits_more few many seat PayWake part le p = owes_more few many part.owed le p
+  fits_more few many seat (PayWake value) part le p = owes_more few many part.owed le p
   fits_more few many seat LoadFlag part le p = omega (arith, le, p)
   fits_more few many seat (Look limits again) part le p = p

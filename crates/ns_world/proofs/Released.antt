@@ -56,10 +56,9 @@ module _ {C : Type 0} {N : ℕ} (truths : Truths C) (seat : ℕ) (releasing : Re
   scanned queues queues' owed owed' None held' owes tests bits can grows same becomes over left woken some tell count = absurd can
   scanned queues queues' owed owed' (Some held) held' owes tests bits can grows same becomes over left woken some tell count =
       let owing : owes ≡ has_some (woken_of (meets_at truths row) queues.lock) = some ∙ ap has_some woken ∙ some_seats (woken_of (meets_at truths row) queues.lock) in
-      let lock : queues'.lock ≡ left_of (meets_at truths row) queues.lock = ap (λ q. q.lock) left in
       record {
         commits = section_of truths.holds seat held Plain ∷ [];
-        effect = (held, refl, can.0, sym same, rw (becomes, over, tell, lock, woken, owing) refl, some ∙ ap has_some woken, count, refl);
+        effect = (held, refl, can.0, sym same, rw (becomes, over, tell, left, woken, owing) refl, some ∙ ap has_some woken, count, refl);
         grows = grows;
       }
 

@@ -1,5 +1,6 @@
 -- What a lawful world gives to those who show it.
-use Rattle.std.proofs.Common.{◌≡◌, ℕ, suc, ◌+◌, ◌<◌, ◌≤◌, Bool, true, false, List, [], ◌∷◌, ◌++◌, Some, None, length, map, get_or, take, drop, slice_get, sum_by, refl, ap, sym, ◌∙◌, arith, cond, inl, inr}
+use Rattle.std.proofs.Common.{◌≡◌, ℕ, suc, ◌+◌, ◌<◌, ◌≤◌, Bool, true, false, List, [], ◌∷◌, ◌++◌, Some, None, length, map, get_or, take, drop, slice_get, Option, refl, ap, sym, ◌∙◌, arith, cond, inl, inr}
+use Rattle.std.specs.Prelude.{IfSome}
 use Rattle.std.proofs.lemmas.Option.{slice_get-get_or, slice_get_within}
 use Rattle.std.proofs.lemmas.Bool.{cases_eq}
 use Rattle.std.proofs.lemmas.List.{length-append, length-map}
@@ -11,13 +12,15 @@ use Rattle.ns_queue.specs.Waiters.{times_in}
 use Rattle.ns_queue.proofs.Seats.{times_in-cons, few}
 use Rattle.ns_word.specs.declared.word.Word.{Word}
 use Rattle.ns_word.specs.declared.view.SeatView.{SeatView}
+use Rattle.ns_word.specs.declared.walk.Walk.{Walk}
+use Rattle.ns_word.specs.Places.{HasList}
 use Rattle.ns_word.specs.Lists.{times_among}
 use Rattle.ns_word.specs.Walks.{has_armed}
 use Rattle.ns_word.specs.Views.{owed_to, walk_at}
 use Rattle.ns_model.specs.Truths.{Truths}
 use Rattle.ns_word.specs.Steps.{State}
 use Rattle.ns_word.specs.Lawful.{IsLawful, is_unwoken}
-use Rattle.ns_word.proofs.Acts.{view_fits, stands_nowhere}
+use Rattle.ns_word.proofs.Acts.{view_fits, stands_nowhere, has_list}
 use Rattle.ns_word.proofs.Ranges.{placed_below}
 use Rattle.ns_word.proofs.Waits.{unqueued}
 use Rattle.ns_world.specs.declared.environment.Environment.{Environment}
@@ -50,9 +53,15 @@ module _ {C : Type 0} {N : ℕ} (truths : Truths C) (word : Word) (row : List �
     -- one that is about to queue stands nowhere
     pub nowhere : has_armed seat.walk ≡ true → times seat.number queues ≡ 0
     nowhere armed =
-        let none : times_in seat.number queues.lock ≡ 0 = stands_nowhere truths (length (map view_of seats)) lawful.few history state (map view_of (take i seats)) (view_of seat) (map view_of (drop (suc i) seats)) parts lawful.lawful (unqueued seat.walk armed) in
-        let others : sum_by (times_in seat.number) queues.cvs ≡ 0 = rw lawful.no_variables refl in
-        omega (arith, none, others)
+        stands_nowhere truths (length (map view_of seats)) lawful.few history state (map view_of (take i seats)) (view_of seat) (map view_of (drop (suc i) seats)) parts lawful.lawful (unqueued seat.walk armed)
+
+    listed_by : (walk : Option (Walk C)) → seat.walk ≡ walk → IfSome walk HasList
+    listed_by None e = tt
+    listed_by (Some walk) e = has_list truths (length (map view_of seats)) lawful.few history state (map view_of (take i seats)) (view_of seat) (map view_of (drop (suc i) seats)) parts lawful.lawful walk e
+
+    -- the list that its walk names is one that there is
+    pub listed : IfSome seat.walk HasList
+    listed = listed_by seat.walk refl
 
   pub few_seats : length seats ≤ 64
   few_seats = omega (arith, lawful.few, length-map seats view_of)
@@ -104,7 +113,7 @@ module _ {C : Type 0} {N : ℕ} where
   wakes_few truths seats h s most p =
       let long = length_owing s.views in
       let some = few seats (owing s.views)
-      (λ seat. let sum : times_in seat s.lock + owed_to seat s.views ≡ cond (is_unwoken (walk_at seat s.views) (s.flags seat)) 1 0 = p.waiters_placed.placed seat in
+      (λ seat. let sum : times seat s.lists + owed_to seat s.views ≡ cond (is_unwoken (walk_at seat s.views) (s.flags seat)) 1 0 = p.waiters_placed.placed seat in
       omega (arith, times_owing seat s.views, sum, one_most (is_unwoken (walk_at seat s.views) (s.flags seat))))
       (λ seat high. times_owing seat s.views ∙ none_owed truths seats h s p seat high) in
       omega (arith, long, some, most)

@@ -5,20 +5,22 @@ use Rattle.std.proofs.lemmas.List.{length-set}
 use Rattle.std.proofs.lemmas.Option.{slice_get_within}
 use Rattle.ns_word.specs.declared.view.SeatView.{SeatView}
 use Rattle.ns_word.specs.declared.word.Word.{Word}
-use Rattle.ns_word.specs.declared.walk.Reply.TheVariants as TheReply
-use Rattle.ns_word.specs.declared.walk.Walk.TheVariants.{QuietCells, QuietLast, InWait}
-use Rattle.ns_word.specs.Walks.{want_of}
-use Rattle.ns_word.specs.declared.wait.Wait.{Wait as Waits}
-use Rattle.ns_word.specs.declared.wait.Visit.TheVariants.{OnEntry}
 use Rattle.ns_word.specs.declared.wait.WaitPlace.TheVariants.{TestCells, TestLast}
-use Rattle.ns_model.specs.declared.event.Mode.{Mode}
+use Rattle.ns_word.specs.declared.cell_walk.CellPlace.TheVariants.{QuietCells, QuietLast}
 use Rattle.ns_word.specs.declared.env_walk.EnvNext.{EnvNext}
 use Rattle.ns_word.specs.declared.env_walk.EnvNext.TheVariants.{Go, Repeat, Over, Shown}
+use Rattle.ns_word.specs.declared.walk.Walk.TheVariants.{InCells, InWait}
+use Rattle.ns_word.specs.declared.walk.Reply.TheVariants as TheReply
+use Rattle.ns_word.specs.Walks.{want_of}
+use Rattle.ns_word.specs.declared.limits.Limits.{Limits}
+use Rattle.ns_word.specs.declared.wait.Subject.TheVariants.{OnCondition}
+use Rattle.ns_word.specs.declared.wait.Visit.TheVariants.{OnEntry}
+use Rattle.ns_model.specs.declared.event.Mode.{Mode}
 use Rattle.ns_word.specs.EnvWalks.{env_got_of}
 use Rattle.ns_world.specs.declared.call.Call.{Call}
 use Rattle.ns_world.specs.declared.call.Start.{Start}
 use Rattle.ns_world.specs.declared.call.Start.TheVariants.{OnLock, Ask}
-use Rattle.ns_world.specs.declared.call.Call.TheVariants.{Lock, RLock, TryLock, TryRLock, Unlock, RUnlock, UnlockQuiet, Get, Set, Wait, NewNote, Notify, Advance, IsNotified, Expiry, NoteWait}
+use Rattle.ns_world.specs.declared.call.Call.TheVariants.{Lock, RLock, TryLock, TryRLock, Unlock, RUnlock, UnlockQuiet, Get, Set, Wait, CvWait, Signal, Broadcast, NewNote, Notify, Advance, IsNotified, Expiry, NoteWait}
 use Rattle.ns_world.specs.declared.fault.Fault.{Fault}
 use Rattle.ns_world.specs.declared.fault.Fault.TheVariants.{OutOfMemory, NoSuchSeat, TooManySeats, StepLimit}
 use Rattle.ns_world.specs.declared.step.Begun.TheVariants.{Misuse}
@@ -37,15 +39,16 @@ abbrev StartCommits : {C : Type 0} → Start C → Word → Type 0
 StartCommits (OnLock walk) word = Commits (want_of walk) word
 StartCommits (Ask walk) word = ⊥
 
-quiet_apart : (C : Type 0) (N : ℕ) (more : Bool) (word : Word) → Commits (want_of {C = C} (cond more (QuietCells 0) (QuietLast (N - 1)))) word → ⊥
+quiet_apart : (C : Type 0) (N : ℕ) (more : Bool) (word : Word) → Commits (want_of {C = C} (InCells (cond more (QuietCells 0) (QuietLast (N - 1))))) word → ⊥
 quiet_apart C N true word p = p
 quiet_apart C N false word p = p
 
-wait_apart : {C : Type 0} (N : ℕ) (wait : Waits C) (more : Bool) (word : Word) → Commits (want_of (cond more (InWait wait (TestCells OnEntry 0)) (InWait wait (TestLast OnEntry (N - 1))))) word → ⊥
-wait_apart N wait true word p = p
-wait_apart N wait false word p = p
+wait_apart : {C : Type 0} (N : ℕ) (mode : Mode) (c : C) (limits : Limits) (more : Bool) (word : Word) →
+    Commits (want_of (cond more (InWait (record { mode = mode; on = OnCondition c; limits = limits }) (TestCells OnEntry 0)) (InWait (record { mode = mode; on = OnCondition c; limits = limits }) (TestLast OnEntry (N - 1))))) word → ⊥
+wait_apart N mode c limits true word p = p
+wait_apart N mode c limits false word p = p
 
--- no call's first step is a release
+-- no call's first step commits an event
 starts_apart : {C : Type 0} (N : ℕ) (mode : Option Mode) (call : Call C) (word : Word) → StartCommits (start_of N mode call) word → ⊥
 starts_apart N mode Lock word p = p
 starts_apart N mode RLock word p = p
@@ -56,7 +59,10 @@ starts_apart N mode RUnlock word p = p
 starts_apart {C} N mode UnlockQuiet word p = quiet_apart C N (nat_lt 0 (N - 1)) word p
 starts_apart N mode (Get i) word p = p
 starts_apart N mode (Set i v) word p = p
-starts_apart N mode (Wait c limits) word p = wait_apart N (record { mode = mode_waited mode; cond = c; limits = limits }) (nat_lt 0 (N - 1)) word p
+starts_apart N mode (Wait c limits) word p = wait_apart N (mode_waited mode) c limits (nat_lt 0 (N - 1)) word p
+starts_apart N mode (CvWait k limits) word p = p
+starts_apart N mode (Signal k) word p = p
+starts_apart N mode (Broadcast k) word p = p
 starts_apart N mode (NewNote parent deadline) word p = p
 starts_apart N mode (Notify note) word p = p
 starts_apart N mode (Advance moment) word p = p

@@ -23,10 +23,10 @@ use Rattle.ns_word.specs.EnvSteps.{EnvPlain, EnvBegins, EnvStep, EnvActFits, Env
 use Rattle.ns_word.specs.Walks.{want_of, got_of, walk_after}
 use Rattle.ns_model.specs.Truths.{Truths, QuietKeeps}
 use Rattle.ns_word.specs.Steps.{Effect, MayShow}
-use Rattle.ns_word.specs.Places.{PlaceFits, ActFits}
+use Rattle.ns_word.specs.Places.{IsSettled, PlaceFits, ActFits}
 use Rattle.ns_word.specs.Begins.{IsFirst, Begins}
 use Rattle.ns_word.specs.Lawful.{IsLawful}
-use Rattle.ns_word.proofs.Acts.{act_fits}
+use Rattle.ns_word.proofs.Acts.{act_fits, view_fits}
 use Rattle.ns_word.proofs.Dispatch.{keeps}
 use Rattle.ns_word.proofs.Starts.{begins}
 use Rattle.ns_word.proofs.EnvKeeps.{set_here, set_there, keeps_env}
@@ -136,7 +136,6 @@ lawful_env : {C : Type 0} {N : ℕ} (old : Now C N) (env : EnvPlain) (askings : 
 lawful_env old env askings tests events same right noted keeps lawful = record {
   few = lawful.few;
   numbered = lawful.numbered;
-  no_variables = lawful.no_variables;
   lawful = lawful.lawful;
   as_many = same ∙ lawful.as_many;
   right = right;
@@ -216,6 +215,12 @@ module _ {C : Type 0} {N : ℕ} (truths : Truths C) (some : 0 < N) (quiet : Quie
   noted_here : IfMade (plain_of env).notes (note_in (get_or seats i d).walk)
   noted_here = lawful.noted i (view_of (get_or seats i d)) (got-map view_of seats i d within)
 
+  -- between calls the section in hand is settled
+  pub settled_here : (get_or seats i d).walk ≡ None → IsSettled truths (get_or seats i d).held
+  settled_here over =
+      let fits = view_fits truths (length (map view_of seats)) lawful.few history (now_with truths word row queues flags env seats history).state front (view_of (get_or seats i d)) back apart lawful.lawful in
+      subst (λ w. PlaceFits truths w (get_or seats i d).held) over fits.place
+
   -- the step that the seat's walk wants may be made
   pub act_here : (walk : Walk C) → (get_or seats i d).walk ≡ Some walk → ActFits truths 64 (get_or seats i d).number (want_of walk) (seat_part word row queues flags (get_or seats i d))
   act_here walk e =
@@ -229,7 +234,6 @@ module _ {C : Type 0} {N : ℕ} (truths : Truths C) (some : 0 < N) (quiet : Quie
       ap (λ n. record { seat = n; walk = next.walk; held = next.held; owed = next.owed.items }) same ∙ ap (λ w. record { seat = (get_or seats i d).number; walk = w; held = next.held; owed = next.owed.items }) goes
 
   module _ (walk : Walk C) (walks : (get_or seats i d).walk ≡ Some walk) (word' : Word) (row' : List ℕ) (queues' : Lists C) (flags' : List ℕ) (next : Seat C N) (history' : List (Event C N)) (step : Step)
-      (others : queues'.cvs ≡ queues.cvs)
       (p : Performs truths (seat_part word row queues flags (get_or seats i d)) (get_or seats i d) history walk (seat_part word' row' queues' flags' next) next history' step) where
     abbrev after : Option (Walk C)
     after = walk_after (got_of N walk p.found)
@@ -258,7 +262,6 @@ module _ {C : Type 0} {N : ℕ} (truths : Truths C) (some : 0 < N) (quiet : Quie
       };
       others = map-set view_of seats i next ∙ ap (slice_set (map view_of seats) i) (led walk next p.found p.number p.goes);
       means = refl;
-      variables = others;
       tests = map-set (λ s. s.tests) seats i next ∙ ap (slice_set (map (λ s. s.tests) seats) i) (p.tests ∙ ap (tests_after p.found) (sym (index-map (λ s. s.tests) seats i d within)));
       grows = p.grows;
       answers = p.answers;
@@ -288,7 +291,6 @@ module _ {C : Type 0} {N : ℕ} (truths : Truths C) (some : 0 < N) (quiet : Quie
         record {
           few = rw same lawful.few;
           numbered = rw (map-set view_of seats i next) (numbers_stay 0 (map view_of seats) i (view_of next) (p.number ∙ number_here ∙ sym (zero-add i)) lawful.numbered);
-          no_variables = others ∙ lawful.no_variables;
           lawful = subst (λ n. IsLawful truths n history' new.state) (sym same) (subst (λ h. IsLawful truths (length (map view_of seats)) h new.state) (sym goes.grows) kept);
           as_many = ap length asks_become ∙ length-set (map (λ s. s.asking) seats) i _ ∙ lawful.as_many ∙ sym same;
           right = subst (λ (vs : List (SeatView C N)). StandRight vs new.asking) (sym (map-set view_of seats i next)) (subst (λ (ws : List (Option EnvWalk)). StandRight (slice_set (map view_of seats) i (view_of next)) ws) (sym asks_become)
@@ -325,7 +327,6 @@ module _ {C : Type 0} {N : ℕ} (truths : Truths C) (some : 0 < N) (quiet : Quie
       record {
         few = rw same lawful.few;
         numbered = rw (map-set view_of seats i next) (numbers_stay 0 (map view_of seats) i (view_of next) (ap (λ v. v.seat) is ∙ number_here ∙ sym (zero-add i)) lawful.numbered);
-        no_variables = lawful.no_variables;
         lawful = subst (λ n. IsLawful truths n history new.state) (sym same) kept;
         as_many = ap length (asks_stay next asks) ∙ lawful.as_many ∙ sym same;
         right = subst (λ (vs : List (SeatView C N)). StandRight vs new.asking) (sym (map-set view_of seats i next)) (subst (λ (ws : List (Option EnvWalk)). StandRight (slice_set (map view_of seats) i (view_of next)) ws) (set_same (map (λ s. s.asking) seats) i None (asks_at ∙ ap Some unasked) ∙ sym (asks_stay next asks))
@@ -476,12 +477,12 @@ module _ {C : Type 0} {N : ℕ} (truths : Truths C) (some : 0 < N) (quiet : Quie
         found = p.found;
         effect = seen_effect;
         goes = subst (λ n. LookGoes n (now_with truths word row queues flags env seats history) (now_with truths word row queues flags env' (slice_set seats i next) history) i step) (sym sees)
-            (subst (λ (w : Now C N). LookGoes (Shown cause) (now_with truths word row queues flags env seats history) w i step) (sym same_now) (goes_here walk walks word row queues flags next history step refl performs, refl));
+            (subst (λ (w : Now C N). LookGoes (Shown cause) (now_with truths word row queues flags env seats history) w i step) (sym same_now) (goes_here walk walks word row queues flags next history step performs, refl));
       }
 
       lawful_over : IsLawfulWorld (now_with truths word row queues flags env' (slice_set seats i next) history)
       lawful_over =
-          subst IsLawfulWorld (sym same_now) (lawful_after walk walks word row queues flags next history step refl performs (lawful.events ++ [])
+          subst IsLawfulWorld (sym same_now) (lawful_after walk walks word row queues flags next history step performs (lawful.events ++ [])
           (subst (λ n. IsLawfulEnv (lawful.events ++ []) (env_state (plain_of env) (slice_set (map (λ s. s.asking) seats) i (env_walk_after n)))) sees kept_env))
 
     looked_by : (n : EnvNext) → env_got_of place p.found ≡ n → SeatLooks n (get_or seats i d) walk next step →

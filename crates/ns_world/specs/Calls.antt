@@ -1,21 +1,28 @@
 -- Where a call begins, and the section that it needs.
-use Rattle.std.specs.Prelude.{◌≡◌, ℕ, ◌<◌, ◌^◌, true, false, Option, Some, None, IsSome, IfSome}
+use Rattle.std.specs.Prelude.{◌≡◌, ℕ, ◌<◌, ◌^◌, true, Option, Some, None, IsSome, IfSome}
 use Rattle.ns_model.specs.declared.event.Mode.{Mode}
 use Rattle.ns_model.specs.declared.event.Mode.TheVariants.{Write, Read}
 use Rattle.ns_word.specs.declared.view.Held.{Held}
+use Rattle.ns_word.specs.declared.word.Arrival.TheVariants.{AsFresh}
 use Rattle.ns_word.specs.declared.word.Releasing.TheVariants.{Writer, Reader}
-use Rattle.ns_word.specs.declared.walk.Walk.TheVariants.{TryLoad, AcquireLoad, ReleaseLoad, GetLoad, SetLoad}
-use Rattle.ns_word.specs.declared.env_walk.Chain.TheVariants.{ForIsNotified, ForNoteWait}
-use Rattle.ns_word.specs.declared.env_walk.EnvWalk.TheVariants.{NextLoad, Notifying, Advancing, ClockLoad, ExpiryLoad}
 use Rattle.ns_model.specs.Environments.{NoteStanding}
 use Rattle.ns_word.specs.declared.wait.Aim.TheVariants.{ForLock}
-use Rattle.ns_word.specs.declared.wait.Visit.TheVariants.{OnEntry}
-use Rattle.ns_word.specs.Walks.{quiet_place, test_place}
+use Rattle.ns_word.specs.declared.try_walk.TryPlace.TheVariants.{TryLoad}
+use Rattle.ns_word.specs.declared.acquire_walk.AcquirePlace.TheVariants.{AcquireLoad}
+use Rattle.ns_word.specs.declared.release_walk.ReleasePlace.TheVariants.{ReleaseLoad}
+use Rattle.ns_word.specs.declared.cell_walk.CellPlace.TheVariants.{GetLoad, SetLoad}
+use Rattle.ns_word.specs.declared.env_walk.Chain.TheVariants.{ForIsNotified, ForNoteWait}
+use Rattle.ns_word.specs.declared.env_walk.EnvWalk.TheVariants.{NextLoad, Notifying, Advancing, ClockLoad, ExpiryLoad}
+use Rattle.ns_word.specs.declared.wait.Subject.TheVariants.{OnCondition, OnVariable}
+use Rattle.ns_word.specs.declared.act.Waking.TheVariants.{Signaling, Broadcasting}
+use Rattle.ns_word.specs.declared.signal_walk.SignalPlace.TheVariants.{SignalLoad}
+use Rattle.ns_word.specs.declared.walk.Walk.TheVariants.{InTry, InAcquire, InRelease, InCells, InSignal}
+use Rattle.ns_word.specs.Walks.{quiet_first, wait_first}
 use Rattle.ns_word.specs.EnvSteps.{IfMade}
 use Rattle.ns_world.specs.declared.call.Start.{Start}
 use Rattle.ns_world.specs.declared.call.Start.TheVariants.{OnLock, Ask}
 use Rattle.ns_world.specs.declared.call.Call.{Call}
-use Rattle.ns_world.specs.declared.call.Call.TheVariants.{Lock, RLock, TryLock, TryRLock, Unlock, RUnlock, UnlockQuiet, Get, Set, Wait, NewNote, Notify, Advance, IsNotified, Expiry, NoteWait}
+use Rattle.ns_world.specs.declared.call.Call.TheVariants.{Lock, RLock, TryLock, TryRLock, Unlock, RUnlock, UnlockQuiet, Get, Set, Wait, CvWait, Signal, Broadcast, NewNote, Notify, Advance, IsNotified, Expiry, NoteWait}
 
 -- the mode of the section that a wait leaves
 abbrev pub mode_waited : Option Mode → Mode
@@ -24,16 +31,19 @@ mode_waited (Some mode) = mode
 
 -- the first place of the call's walk, over a row of N cells, with a section in hand of this mode, or with none
 abbrev pub start_of : {C : Type 0} → ℕ → Option Mode → Call C → Start C
-start_of N mode Lock = OnLock (AcquireLoad (ForLock Write) false)
-start_of N mode RLock = OnLock (AcquireLoad (ForLock Read) false)
-start_of N mode TryLock = OnLock (TryLoad Write)
-start_of N mode TryRLock = OnLock (TryLoad Read)
-start_of N mode Unlock = OnLock (ReleaseLoad Writer)
-start_of N mode RUnlock = OnLock (ReleaseLoad Reader)
-start_of N mode UnlockQuiet = OnLock (quiet_place N 0)
-start_of N mode (Get i) = OnLock (GetLoad i)
-start_of N mode (Set i v) = OnLock (SetLoad i v)
-start_of N mode (Wait c limits) = OnLock (test_place N (record { mode = mode_waited mode; cond = c; limits = limits }) OnEntry 0)
+start_of N mode Lock = OnLock (InAcquire (ForLock Write) (AcquireLoad AsFresh))
+start_of N mode RLock = OnLock (InAcquire (ForLock Read) (AcquireLoad AsFresh))
+start_of N mode TryLock = OnLock (InTry Write TryLoad)
+start_of N mode TryRLock = OnLock (InTry Read TryLoad)
+start_of N mode Unlock = OnLock (InRelease Writer ReleaseLoad)
+start_of N mode RUnlock = OnLock (InRelease Reader ReleaseLoad)
+start_of N mode UnlockQuiet = OnLock (quiet_first N)
+start_of N mode (Get i) = OnLock (InCells (GetLoad i))
+start_of N mode (Set i v) = OnLock (InCells (SetLoad i v))
+start_of N mode (Wait c limits) = OnLock (wait_first N (record { mode = mode_waited mode; on = OnCondition c; limits = limits }))
+start_of N mode (CvWait k limits) = OnLock (wait_first N (record { mode = mode_waited mode; on = OnVariable k; limits = limits }))
+start_of N mode (Signal k) = OnLock (InSignal Signaling k SignalLoad)
+start_of N mode (Broadcast k) = OnLock (InSignal Broadcasting k SignalLoad)
 start_of N mode (NewNote parent deadline) = Ask (NextLoad parent deadline)
 start_of N mode (Notify note) = Ask (Notifying note)
 start_of N mode (Advance moment) = Ask (Advancing moment)
@@ -41,7 +51,7 @@ start_of N mode (IsNotified note) = Ask (ClockLoad (ForIsNotified note))
 start_of N mode (Expiry note) = Ask (ExpiryLoad note note None)
 start_of N mode (NoteWait note deadline) = Ask (ClockLoad (ForNoteWait note deadline))
 
--- a call on the lock, whose need is met by a section of this mode, or by none
+-- A call on the lock, whose need is met by a section of this mode, or by none. One that wakes needs nothing.
 abbrev pub SectionFits : {C : Type 0} → Call C → Option Mode → Type 0
 SectionFits Lock mode = mode ≡ None
 SectionFits RLock mode = mode ≡ None
@@ -52,6 +62,8 @@ SectionFits RUnlock mode = mode ≡ Some Read
 SectionFits UnlockQuiet mode = mode ≡ Some Write
 SectionFits (Get i) mode = IsSome mode
 SectionFits (Set i v) mode = mode ≡ Some Write
+SectionFits (Signal k) mode = Unit {0}
+SectionFits (Broadcast k) mode = Unit {0}
 SectionFits call mode = ⊥
 
 -- The call's need is met: on the lock by the section in hand, on the clock and the notes by notes that are made, whatever is in hand, and of a wait by both.
@@ -63,6 +75,7 @@ CallFits notes (IsNotified note) mode = (notes note).made ≡ true
 CallFits notes (Expiry note) mode = (notes note).made ≡ true
 CallFits notes (NoteWait note deadline) mode = (notes note).made ≡ true
 CallFits notes (Wait c limits) mode = IsSome mode × IfMade notes limits.note
+CallFits notes (CvWait k limits) mode = IsSome mode × IfMade notes limits.note
 CallFits notes call mode = SectionFits call mode
 
 -- the mode of the section in hand, if there is one
@@ -74,11 +87,15 @@ mode_of (Some held) = Some held.mode
 abbrev pub IsNoteNumber : ℕ → Type 0
 IsNoteNumber note = note < 64
 
+-- a number that a condition variable has
+abbrev pub IsVariable : ℕ → Type 0
+IsVariable k = k < 4
+
 -- a moment that the clock may come to
 abbrev pub IsMoment : ℕ → Type 0
 IsMoment moment = moment < 2 ^ 54
 
--- the call's cell, if it names one, is one of n, its notes are of 64, and its moments are below 2^54
+-- the call's cell, if it names one, is one of n, its variable one of 4, its notes are of 64, and its moments are below 2^54
 abbrev pub CallInRange : {C : Type 0} → ℕ → Call C → Type 0
 CallInRange n Lock = Unit {0}
 CallInRange n RLock = Unit {0}
@@ -90,6 +107,9 @@ CallInRange n UnlockQuiet = Unit {0}
 CallInRange n (Get i) = i < n
 CallInRange n (Set i v) = i < n
 CallInRange n (Wait c limits) = IfSome limits.note IsNoteNumber × IfSome limits.deadline IsMoment
+CallInRange n (CvWait k limits) = IsVariable k × IfSome limits.note IsNoteNumber × IfSome limits.deadline IsMoment
+CallInRange n (Signal k) = IsVariable k
+CallInRange n (Broadcast k) = IsVariable k
 CallInRange n (NewNote parent deadline) = IfSome parent IsNoteNumber × IfSome deadline IsMoment
 CallInRange n (Notify note) = IsNoteNumber note
 CallInRange n (Advance moment) = IsMoment moment

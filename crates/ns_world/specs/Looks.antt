@@ -3,13 +3,13 @@ use Rattle.std.specs.Prelude.{◌≡◌, ℕ, Bool, false, Option, None, Some, I
 use Rattle.ns_word.specs.declared.limits.Limits.{Limits}
 use Rattle.ns_word.specs.declared.wait.Aim.{Aim}
 use Rattle.ns_word.specs.declared.wait.Aim.TheVariants.{ForLock, ForWait}
-use Rattle.ns_word.specs.declared.walk.Walk.{Walk}
-use Rattle.ns_word.specs.declared.walk.Walk.TheVariants.{AcquireLoad, AcquireExchange, TakeToQueue, Arm, Queue, AwaitWake, InWait}
-use Rattle.ns_word.specs.declared.act.Act.{Act}
-use Rattle.ns_word.specs.declared.act.Act.TheVariants.{Look}
 use Rattle.ns_word.specs.declared.env_walk.Chain.TheVariants.{ForLook}
 use Rattle.ns_word.specs.declared.env_walk.EnvWalk.{EnvWalk}
 use Rattle.ns_word.specs.declared.env_walk.EnvWalk.TheVariants.{ClockLoad, NoteLoad}
+use Rattle.ns_word.specs.declared.walk.Walk.{Walk}
+use Rattle.ns_word.specs.declared.walk.Walk.TheVariants.{InAcquire, InWait}
+use Rattle.ns_word.specs.declared.act.Act.{Act}
+use Rattle.ns_word.specs.declared.act.Act.TheVariants.{Look}
 use Rattle.ns_word.specs.Walks.{want_of}
 
 -- what a look goes by, where the act is one
@@ -51,11 +51,6 @@ note_for (ForWait wait kept) = wait.limits.note
 
 -- the note that may end the wait of a seat at this place, if it is in a wait and a note was given
 abbrev pub note_in : {C : Type 0} → Option (Walk C) → Option ℕ
-note_in (Some (AcquireLoad aim woken)) = note_for aim
-note_in (Some (AcquireExchange aim woken last)) = note_for aim
-note_in (Some (TakeToQueue aim woken last)) = note_for aim
-note_in (Some (Arm aim woken last)) = note_for aim
-note_in (Some (Queue aim woken last)) = note_for aim
-note_in (Some (AwaitWake aim)) = note_for aim
+note_in (Some (InAcquire aim place)) = note_for aim
 note_in (Some (InWait wait place)) = wait.limits.note
 note_in walk = None

@@ -10,8 +10,6 @@ use Rattle.ns_word.specs.declared.env_walk.EnvWalk.{EnvWalk}
 use Rattle.ns_word.specs.declared.walk.Next.{Next}
 use Rattle.ns_word.specs.declared.walk.Next.TheVariants.{On, Done}
 use Rattle.ns_word.specs.declared.walk.Next.TheVariants as TheNext
-use Rattle.ns_word.specs.declared.act.Change.{Change}
-use Rattle.ns_word.specs.declared.act.Change.TheVariants.{QueueSelf, LeaveSelf}
 use Rattle.ns_word.specs.declared.act.Act.{Act}
 use Rattle.ns_word.specs.declared.act.Found.{Found}
 use Rattle.ns_word.specs.declared.act.Found.TheVariants.{Scanned}
@@ -33,12 +31,7 @@ flag_at flags seat = get_or flags seat 0
 
 -- the parts of a world that one step of one seat reads and writes, as the machine sees them
 abbrev pub part : {C : Type 0} {N : ℕ} → Word → List ℕ → Lists C → List ℕ → Option (Held C N) → List ℕ → Part C N
-part word row queues flags held owed = record { word = word; row = row; lock = queues.lock; flags = flag_at flags; held = held; owed = owed }
-
--- a seat puts itself into the lock list
-abbrev pub IsQueuing : Change → Type 0
-IsQueuing (QueueSelf mode woken) = Unit {0}
-IsQueuing LeaveSelf = ⊥
+part word row queues flags held owed = record { word = word; row = row; lists = queues; flags = flag_at flags; held = held; owed = owed }
 
 -- the act was made, and what it commits stands at the end of the history
 pub record Makes {C : Type 0} {N : ℕ} (truths : Truths C) (seat : ℕ) (act : Act C) (old : Part C N) (history : List (Event C N)) (found : Found) (new : Part C N) (history' : List (Event C N)) : Type 0 where

@@ -3,7 +3,6 @@ use Rattle.std.specs.Prelude.{◌≡◌, ℕ, ◌+◌, ◌⊎◌, Bool, false, �
 use Rattle.std.specs.Option.{option_map_or}
 use Rattle.ns_model.specs.declared.environment.EnvEvent.{EnvEvent}
 use Rattle.ns_model.specs.declared.event.Event.{Event}
-use Rattle.ns_queue.specs.declared.waiter.Waiter.{Waiter}
 use Rattle.ns_queue.specs.Queues.{Lists}
 use Rattle.ns_word.specs.declared.view.SeatView.{SeatView}
 use Rattle.ns_word.specs.declared.word.Word.{Word}
@@ -33,11 +32,10 @@ use Rattle.ns_world.specs.Commits.{Commits}
 use Rattle.ns_world.specs.Looks.{AsksFor, look_of, looks_at, note_in}
 use Rattle.ns_world.specs.Performs.{view_of, flag_at, step_of, tests_after}
 
--- what the conditions mean, the lock and its seats, the lists of condition variables, how many conditions the scan of each seat's call tested, all that has happened, the clock and the notes, and each seat's place in a call on them
+-- what the conditions mean, the lock and its seats, how many conditions the scan of each seat's call tested, all that has happened, the clock and the notes, and each seat's place in a call on them
 pub record Now (C : Type 0) (N : ℕ) : Type 0 where
   pub truths : Truths C
   pub state : State C N
-  pub cvs : List (List (Waiter C))
   pub tests : List ℕ
   pub history : List (Event C N)
   pub env : EnvPlain
@@ -73,8 +71,7 @@ kept word row queues flags env seats history = record {
 abbrev pub now_of : {C : Type 0} {N : ℕ} → Truths C → Kept C N → Now C N
 now_of truths world = record {
   truths = truths;
-  state = record { word = world.word; row = world.row; lock = world.queues.lock; flags = flag_at world.flags; views = world.views };
-  cvs = world.queues.cvs;
+  state = record { word = world.word; row = world.row; lists = world.queues; flags = flag_at world.flags; views = world.views };
   tests = world.tests;
   history = world.history;
   env = plain_of world.env;
@@ -108,11 +105,10 @@ LedTo events world = IsLawfulEnv events (env_state world.env world.asking)
 abbrev pub HasEnvHistory : {C : Type 0} {N : ℕ} → Now C N → Type 0
 HasEnvHistory world = (events : List EnvEvent) × LedTo events world
 
--- A world has at most 64 seats, nobody waits for a condition variable yet, and it keeps the law of the lock with its history. Its clock and its notes are as some events of its seats leave them, and it keeps their law with these.
+-- A world has at most 64 seats, and it keeps the law of the lock with its history. Its clock and its notes are as some events of its seats leave them, and it keeps their law with these.
 pub record IsLawfulWorld {C : Type 0} {N : ℕ} (world : Now C N) : Type 0 where
   pub few : length world.state.views ≤ 64
   pub numbered : AreNumbered 0 world.state.views
-  pub no_variables : world.cvs ≡ replicate 4 []
   pub lawful : IsLawful world.truths (length world.state.views) world.history world.state
   pub as_many : length world.asking ≡ length world.state.views
   pub right : StandRight world.state.views world.asking
@@ -124,7 +120,7 @@ pub record IsLawfulWorld {C : Type 0} {N : ℕ} (world : Now C N) : Type 0 where
 
 -- a free lock over a row of zeros, a clock at 0 and no note, before any event
 abbrev pub fresh : {C : Type 0} {N : ℕ} → Truths C → ℕ → Now C N
-fresh {C} {N} truths seats = record { truths = truths; state = fresh_state {C = C} {N = N} seats; cvs = replicate 4 []; tests = replicate seats 0; history = []; env = fresh_plain; asking = replicate seats None }
+fresh {C} {N} truths seats = record { truths = truths; state = fresh_state {C = C} {N = N} seats; tests = replicate seats 0; history = []; env = fresh_plain; asking = replicate seats None }
 
 -- why no world is made: more than 64 seats, or want of memory where there are no more
 abbrev pub NewFault : ℕ → Fault → Type 0
@@ -168,7 +164,6 @@ pub record Goes {C : Type 0} {N : ℕ} (old new : Now C N) (seat : ℕ) (step : 
   pub makes : Steps old.truths old.state view found new.state commits
   pub others : new.state.views ≡ slice_set old.state.views seat (record { seat = view.seat; walk = walk_after (got_of N makes.walk found); held = makes.held; owed = makes.owed })
   pub means : new.truths ≡ old.truths
-  pub variables : new.cvs ≡ old.cvs
   pub tests : new.tests ≡ slice_set old.tests seat (tests_after found (slice_index old.tests seat))
   pub grows : new.history ≡ old.history ++ commits
   pub answers : step ≡ step_of (got_of N makes.walk found)
@@ -221,11 +216,11 @@ StepOf old new seat Went = Moves old new seat Went
 StepOf old new seat Idle = Moves old new seat Idle
 StepOf old new seat (Finished reply) = Moves old new seat (Finished reply)
 
--- the seat's next step is a release that finds the word that it has seen, and so commits an event
+-- The seat's next step finds the word that it has seen, and so may commit an event: a release, a call that wakes, or that a wait for a variable is left.
 abbrev pub CommitsNext : {C : Type 0} {N : ℕ} → Now C N → ℕ → Type 0
 CommitsNext world seat = (walking : IsWalking world seat) × Commits (want_of walking.walk) world.state.word
 
--- Why a step is refused: the number is no seat's, or there was no memory for the event of a release that finds the word that it has seen.
+-- Why a step is refused: the number is no seat's, or there was no memory for the event that it commits.
 abbrev pub StepFault : {C : Type 0} {N : ℕ} → Now C N → ℕ → Fault → Type 0
 StepFault old seat NoSuchSeat = length old.state.views ≤ seat
 StepFault old seat OutOfMemory = CommitsNext old seat

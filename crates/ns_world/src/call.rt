@@ -2,14 +2,16 @@
 
 ghost use Rattle.std.specs.Prelude.{◌≡◌, ◌≤◌, ⊤, MatchOption, Some, None, ◌&&◌, is_some, if◌then◌else◌};
 ghost use Rattle.ns_world.specs.Asks.{note_at};
-ghost use Rattle.ns_world.specs.Calls.{start_of, CallFits, SectionFits};
+ghost use Rattle.ns_word.specs.Walks.{wait_first};
+ghost use Rattle.ns_world.specs.Calls.{mode_waited, start_of, CallFits, SectionFits};
 
 use crate::environment::{is_made, is_made_or_none};
 use ns_model::event::Mode;
+use ns_word::act::Waking;
 use ns_word::env_act::NoteState;
 use ns_word::env_walk::{Chain, EnvWalk};
 use ns_word::limits::Limits;
-use ns_word::wait::{Aim, Wait};
+use ns_word::wait::{Subject, Wait};
 use ns_word::walk::Walk;
 use ns_word::word::Releasing;
 use std::alloc::AllocError;
@@ -44,6 +46,19 @@ pub enum Call<C> {
     /// the deadline had come. Where that is so as the call begins, nothing is released; else the
     /// section is left, and another one is in hand on return.
     Wait(C, Limits),
+    /// Waits for the condition variable of this number until a signal or a broadcast wakes it, and has a
+    /// section in the same mode in hand then. Needs a section in hand, and the note, if one is given,
+    /// made. Answers `Answered`: `Met` where it was woken; else `Canceled` where the note was notified,
+    /// or `TimedOut` where the deadline had come. The section is left in each case, and another one is
+    /// in hand on return.
+    CvWait(u8, Limits),
+    /// Wakes at least one of those who wait for the condition variable of this number, if anybody does:
+    /// the first, and if that one reads, every other reader and the first writer. Needs no section, and
+    /// leaves one that is in hand as it is. Answers `Ok`.
+    Signal(u8),
+    /// Wakes everybody who waits for the condition variable of this number. Needs no section, and
+    /// leaves one that is in hand as it is. Answers `Ok`.
+    Broadcast(u8),
     /// Makes a note, below a parent that is made, if one is given, and with a deadline, in ticks,
     /// if one is given. Answers its `Number`, or `NotesFull` where 64 are taken.
     NewNote(Option<u8>, Option<u64>),
@@ -100,16 +115,16 @@ fn ask<C: Copy>(met: bool, walk: EnvWalk) -> Option<Start<C>>
 /// A wait begins where it may leave a section in this mode, and its note is made.
 fn wait<C: Copy, const N: usize>(
     mode: Option<Mode>,
-    cond: C,
+    on: Subject<C>,
     limits: Limits,
     met: bool,
 ) -> Option<Start<C>>
     requires { N ≤ 16 }
-    ensures { result ≡ (if met && is_some mode then Some (start_of N mode (Call.Wait cond limits)) else None) }
+    ensures { result ≡ (if met && is_some mode then Some (Start.OnLock (wait_first N (record { mode = mode_waited mode; on = on; limits = limits }))) else None) }
 {
     let mode = mode?;
     if met {
-        let wait = Wait { mode, cond, limits };
+        let wait = Wait { mode, on, limits };
         Some(Start::OnLock(Walk::wait::<N>(wait)))
     } else {
         None
@@ -154,7 +169,12 @@ impl<C: Copy> Call<C> {
                 )
             }
             Call::Wait(cond, limits) => {
-                wait::<C, N>(mode, cond, limits, is_made_or_none(notes, limits.note))
+                let met = is_made_or_none(notes, limits.note);
+                wait::<C, N>(mode, Subject::OnCondition(cond), limits, met)
+            }
+            Call::CvWait(k, limits) => {
+                let met = is_made_or_none(notes, limits.note);
+                wait::<C, N>(mode, Subject::OnVariable(k), limits, met)
             }
             call => call.start_lock::<N>(mode),
         }
@@ -166,15 +186,17 @@ impl<C: Copy> Call<C> {
         ensures { MatchOption result (SectionFits self mode → ⊥) (λ start. (start ≡ start_of N mode self) × SectionFits self mode) }
     {
         let walk = match (self, mode) {
-            (Call::Lock, None) => Walk::AcquireLoad(Aim::ForLock(Mode::Write), false),
-            (Call::RLock, None) => Walk::AcquireLoad(Aim::ForLock(Mode::Read), false),
-            (Call::TryLock, None) => Walk::TryLoad(Mode::Write),
-            (Call::TryRLock, None) => Walk::TryLoad(Mode::Read),
-            (Call::Unlock, Some(Mode::Write)) => Walk::ReleaseLoad(Releasing::Writer),
-            (Call::RUnlock, Some(Mode::Read)) => Walk::ReleaseLoad(Releasing::Reader),
+            (Call::Lock, None) => Walk::lock(Mode::Write),
+            (Call::RLock, None) => Walk::lock(Mode::Read),
+            (Call::TryLock, None) => Walk::try_lock(Mode::Write),
+            (Call::TryRLock, None) => Walk::try_lock(Mode::Read),
+            (Call::Unlock, Some(Mode::Write)) => Walk::release(Releasing::Writer),
+            (Call::RUnlock, Some(Mode::Read)) => Walk::release(Releasing::Reader),
             (Call::UnlockQuiet, Some(Mode::Write)) => Walk::quiet_release::<N>(),
-            (Call::Get(i), Some(_)) => Walk::GetLoad(i),
-            (Call::Set(i, value), Some(Mode::Write)) => Walk::SetLoad(i, value),
+            (Call::Get(i), Some(_)) => Walk::get(i),
+            (Call::Set(i, value), Some(Mode::Write)) => Walk::set(i, value),
+            (Call::Signal(k), _) => Walk::signal(Waking::Signaling, k),
+            (Call::Broadcast(k), _) => Walk::signal(Waking::Broadcasting, k),
             _ => return None,
         };
         Some(Start::OnLock(walk))

@@ -2,41 +2,25 @@
 //! made; any other changes nothing.
 
 ghost use Rattle.std.specs.Prelude.{◌≡◌, ◌<◌, ◌++◌, ◌∷◌, ℕ, true, false, nat_lt, None, List, [], replicate, IsSome, IfSome, IfOk, OnOk, OnErr, if◌then◌else◌};
-ghost use Rattle.ns_model.specs.declared.event.Exit.TheVariants.{CondWait};
-ghost use Rattle.ns_queue.specs.Queues.{times};
-ghost use Rattle.ns_queue.specs.Scans.{woken_of, tests_of};
-ghost use Rattle.ns_queue.specs.Waiters.{seats_of, times_in, without_in};
-ghost use Rattle.ns_word.specs.Lists.{bits_of, queued};
-ghost use Rattle.ns_word.specs.Places.{CanLeave, CanWait};
-ghost use Rattle.ns_word.specs.Steps.{changed, change_found, entry_of, opening_for, section_of, waited_in, Effect};
+ghost use Rattle.ns_queue.specs.Queues.{IsList, times};
+ghost use Rattle.ns_word.specs.Places.{CanLeave, CanWait, ChangeFits, IsInRange};
+ghost use Rattle.ns_word.specs.Steps.{change_commits, entry_of, exit_for, opening_for, section_of, Effect};
 ghost use Rattle.ns_word.specs.Waits.{mode_for};
-ghost use Rattle.ns_word.specs.Words.{releasing_of, may_acquire};
-ghost use Rattle.ns_world.specs.Performs.{part, IsQueuing, IsSeat, Makes};
+ghost use Rattle.ns_word.specs.Words.{is_woken, releasing_of, may_acquire};
+ghost use Rattle.ns_world.specs.Commits.{MayCommit};
+ghost use Rattle.ns_world.specs.Performs.{part, IsSeat, Makes};
 
 use crate::room::Seated;
 use crate::seat::Seat;
 use ns_model::event::{Answer, Entry, Event, Exit, Mode};
 use ns_queue::queues::Queues;
-use ns_queue::scan::Scan;
-use ns_queue::waiter::{Waiter, Which};
-use ns_word::act::{Act, Change, Found};
-use ns_word::limits::Cause;
+use ns_queue::waiter::Which;
+use ns_word::act::{Act, Change, Found, Waking};
+use ns_word::hand::{bits, leave_self, queue_self, scan_and_queue, wake_waiters};
 use ns_word::view::{Held, Opening};
-use ns_word::wait::{Aim, Wait, answer_of};
-use ns_word::word::{Bits, Releasing, Taking, Word};
+use ns_word::wait::{Aim, Subject, Wait, answer_kept, answer_of};
+use ns_word::word::{Arrival, Releasing, Taking, Word};
 use std::alloc::AllocError;
-
-/// What the lock list holds.
-fn bits<C: Seated<N>, const N: usize>(queues: &Queues<C, N>) -> Bits
-    ensures { result ≡ bits_of queues.now.lock }
-{
-    let (waiting, conditional, writer_waits) = queues.bits();
-    Bits {
-        waiting,
-        conditional,
-        writer_waits,
-    }
-}
 
 /// How a section begins that is acquired for this.
 fn opening_for<C: Seated<N>, const N: usize>(aim: Aim<C>) -> Opening<C>
@@ -44,30 +28,30 @@ fn opening_for<C: Seated<N>, const N: usize>(aim: Aim<C>) -> Opening<C>
 {
     match aim {
         Aim::ForLock(_) => Opening::Locked,
-        Aim::ForWait(wait, kept) => Opening::CameBack(wait.cond, kept.unwrap_or(Cause::Expired)),
+        Aim::ForWait(wait, kept) => Opening::CameBack(wait.on, kept),
     }
 }
 
-/// Acquires for this, fresh or woken.
+/// Acquires for this.
 pub(crate) fn acquire<C: Seated<N>, const N: usize>(
     word: &mut Word,
     row: &[u64; N],
     held: &mut Option<Held<C, N>>,
     aim: Aim<C>,
-    woken: bool,
+    arrival: Arrival,
     last: Word,
 ) -> Found
     requires free { held.old ≡ None }
-    requires may { may_acquire (mode_for aim) woken last ≡ true }
+    requires may { may_acquire (mode_for aim) arrival last ≡ true }
     requires few { word.old.readers < 64 }
-    ensures { (seat : ℕ) (queues : _) (flags owed : List ℕ) → Effect C.means seat (Act.Acquire aim woken last) (part word.old row.now queues flags held.old owed) result (part word.new row.now queues flags held.new owed) [] }
+    ensures { (seat : ℕ) (queues : _) (flags owed : List ℕ) → Effect C.means seat (Act.Acquire aim arrival last) (part word.old row.now queues flags held.old owed) result (part word.new row.now queues flags held.new owed) [] }
 {
     let unchanged = word.is_same(last);
     if !unchanged {
         return Found::Saw(*word);
     }
     let mode = aim.mode();
-    *word = word.acquired(mode, woken);
+    *word = word.acquired(mode, arrival);
     *held = Some(Held {
         mode,
         entry: opening_for(aim),
@@ -93,113 +77,178 @@ pub(crate) fn take_queues<C: Seated<N>, const N: usize>(
     Found::Made
 }
 
-/// Puts a waiter into the lock list, at the front or at the back.
-pub(crate) fn queue<C: Seated<N>, const N: usize>(
-    queues: &mut Queues<C, N>,
-    waiter: Waiter<C>,
-    front: bool,
-)
-    requires below { waiter.seat < 64 }
-    requires free { times waiter.seat queues.old ≡ 0 }
-    ensures lock { queues.new.lock ≡ queued waiter.seat waiter.mode waiter.cond front queues.old.lock }
-    ensures others { queues.new.cvs ≡ queues.old.cvs }
-{
-    if front {
-        queues.push_front(waiter);
-    } else {
-        queues.push_back(Which::Lock, waiter);
-    }
-}
-
-/// Puts the seat into the lock list, without condition: at the front if it was woken, else at the
-/// back.
-pub(crate) fn queue_self<C: Seated<N>, const N: usize>(
-    queues: &mut Queues<C, N>,
-    seat: u8,
-    mode: Mode,
-    woken: bool,
-)
-    requires below { seat < 64 }
-    requires free { times seat queues.old ≡ 0 }
-    ensures lock { queues.new.lock ≡ queued seat mode None woken queues.old.lock }
-    ensures others { queues.new.cvs ≡ queues.old.cvs }
-{
-    let waiter = Waiter {
-        seat,
-        mode,
-        cond: None,
-    };
-    queue(queues, waiter, woken);
-}
-
-/// Takes the seat out of the lock list, and answers whether it stood there.
-pub(crate) fn remove_self<C: Seated<N>, const N: usize>(queues: &mut Queues<C, N>, seat: u8) -> bool
-    requires { queues.old.cvs ≡ replicate 4 [] }
-    ensures stood { result ≡ nat_lt 0 (times_in seat queues.old.lock) }
-    ensures lock { queues.new.lock ≡ without_in seat queues.old.lock }
-    ensures others { queues.new.cvs ≡ queues.old.cvs }
-{
-    queues.remove(seat)
-}
-
-/// Changes the lock list in hand, and tells what is found where it is put back.
-fn change_queues<C: Seated<N>, const N: usize>(
-    queues: &mut Queues<C, N>,
-    seat: u8,
-    change: Change,
-) -> Found
-    requires below { seat < 64 }
-    requires free { IsQueuing change → times seat queues.old ≡ 0 }
-    requires no_variables { queues.old.cvs ≡ replicate 4 [] }
-    ensures found { result ≡ change_found seat change queues.old.lock }
-    ensures lock { queues.new.lock ≡ changed seat change queues.old.lock }
-    ensures others { queues.new.cvs ≡ queues.old.cvs }
-{
-    match change {
-        Change::QueueSelf(mode, woken) => {
-            queue_self(queues, seat, mode, woken);
-            Found::Made
-        }
-        Change::LeaveSelf => Found::Left(remove_self(queues, seat)),
-    }
-}
-
-/// Changes the lock list in hand, and puts the queues back, which clears the spinlock bit.
-pub(crate) fn return_queues<C: Seated<N>, const N: usize>(
+/// Puts the seat into the lock list, and puts the queues back, which clears the spinlock bit.
+fn return_queued<C: Seated<N>, const N: usize>(
     word: &mut Word,
     queues: &mut Queues<C, N>,
     seat: u8,
-    change: Change,
+    mode: Mode,
+    arrival: Arrival,
     last: Word,
 ) -> Found
     requires below { seat < 64 }
-    requires free { IsQueuing change → times seat queues.old ≡ 0 }
-    requires no_variables { queues.old.cvs ≡ replicate 4 [] }
-    ensures made { (row flags owed : List ℕ) (held : _) → Effect {N = N} C.means seat (Act.ReturnQueues change last) (part word.old row queues.old flags held owed) result (part word.new row queues.new flags held owed) [] }
-    ensures others { queues.new.cvs ≡ queues.old.cvs }
+    requires free { times seat queues.old ≡ 0 }
+    ensures { (row flags owed : List ℕ) (held : _) → Effect {N = N} C.means seat (Act.ReturnQueues (Change.QueueSelf mode arrival) last) (part word.old row queues.old flags held owed) result (part word.new row queues.new flags held owed) [] }
 {
     if !word.is_same(last) {
         return Found::Saw(*word);
     }
-    let found = change_queues(queues, seat, change);
-    *word = last.returned(bits(queues));
-    found
+    queue_self(queues, seat, mode, arrival);
+    *word = last.returned(false, bits(queues));
+    Found::Made
 }
 
-/// How the section is said to begin in the history. A wait that came back is said to have met its
-/// condition where that is true of the row that the section began at.
+/// Commits that the seat leaves this list, where it is a variable's and the seat still stands
+/// there. Where the event is refused, nothing has changed.
+fn commit_leave<C: Seated<N>, const N: usize>(
+    queues: &Queues<C, N>,
+    seat: u8,
+    history: &mut Vec<Event<C, N>>,
+    which: Which,
+) -> Result<(), AllocError>
+    requires { IsList which }
+    ensures ok { OnOk result (history.new.items ≡ history.old.items ++ change_commits seat (Change.LeaveSelf which) queues.now) }
+    ensures err { OnErr result (MayCommit (Change.LeaveSelf which) × (history.new.items ≡ history.old.items)) }
+{
+    if let Which::Cv(k) = which {
+        if queues.stands(which, seat) {
+            history.push(Event::Leave { who: seat, k })?;
+        }
+    }
+    Ok(())
+}
+
+/// Takes the seat out of this list, if it still stands there, and puts the queues back, which
+/// clears the spinlock bit. That a wait for a variable was left is committed; where the event is
+/// refused, nothing has changed.
+fn return_left<C: Seated<N>, const N: usize>(
+    word: &mut Word,
+    queues: &mut Queues<C, N>,
+    seat: u8,
+    history: &mut Vec<Event<C, N>>,
+    which: Which,
+    last: Word,
+) -> Result<Found, AllocError>
+    requires { IsList which }
+    ensures ok { IfOk result (λ found. (row flags owed : List ℕ) (held : _) → Makes C.means seat (Act.ReturnQueues (Change.LeaveSelf which) last) (part word.old row queues.old flags held owed) history.old.items found (part word.new row queues.new flags held owed) history.new.items) }
+    ensures err { OnErr result (MayCommit (Change.LeaveSelf which) × (last ≡ word.old) × (word.new ≡ word.old) × (queues.new ≡ queues.old) × (history.new.items ≡ history.old.items)) }
+{
+    if !word.is_same(last) {
+        return Ok(Found::Saw(*word));
+    }
+    commit_leave(queues, seat, history, which)?;
+    let stood = leave_self(queues, seat, which);
+    *word = last.returned(false, bits(queues));
+    Ok(Found::Left(stood))
+}
+
+/// Commits a call that wakes, with those whom it takes. Where the event is refused, nothing has
+/// changed.
+fn commit_wake<C: Seated<N>, const N: usize>(
+    queues: &Queues<C, N>,
+    seat: u8,
+    history: &mut Vec<Event<C, N>>,
+    waking: Waking,
+    k: u8,
+) -> Result<(), AllocError>
+    requires { k < 4 }
+    ensures ok { OnOk result (history.new.items ≡ history.old.items ++ change_commits seat (Change.WakeWaiters waking k) queues.now) }
+    ensures err { OnErr result (history.new.items ≡ history.old.items) }
+{
+    let event = match waking {
+        Waking::Signaling => Event::Signal {
+            who: seat,
+            k,
+            woken: queues.signaled_set(k),
+        },
+        Waking::Broadcasting => Event::Broadcast {
+            who: seat,
+            k,
+            woken: queues.waiting_set(k),
+        },
+    };
+    history.push(event)?;
+    Ok(())
+}
+
+/// Takes those out of the list of the variable whom the call wakes, puts the queues back, which
+/// clears the spinlock bit, and commits the call. Where the lock is held they stand at the back of
+/// the lock list then, else the seat owes them their wakes. Where the event is refused, nothing has
+/// changed.
+fn return_waking<C: Seated<N>, const N: usize>(
+    word: &mut Word,
+    queues: &mut Queues<C, N>,
+    seat: &mut Seat<C, N>,
+    history: &mut Vec<Event<C, N>>,
+    waking: Waking,
+    k: u8,
+    last: Word,
+) -> Result<Found, AllocError>
+    requires { k < 4 }
+    ensures ok { IfOk result (λ found. (row flags : List ℕ) → Makes C.means seat.old.number (Act.ReturnQueues (Change.WakeWaiters waking k) last) (part word.old row queues.old flags seat.old.held seat.old.owed.items) history.old.items found (part word.new row queues.new flags seat.new.held seat.new.owed.items) history.new.items) }
+    ensures kept { IsSeat seat.old.number seat.old.walk seat.old.asking seat.old.tests seat.new }
+    ensures err { OnErr result ((last ≡ word.old) × (word.new ≡ word.old) × (queues.new ≡ queues.old) × (seat.new ≡ seat.old) × (history.new.items ≡ history.old.items)) }
+{
+    if !word.is_same(last) {
+        return Ok(Found::Saw(*word));
+    }
+    commit_wake(queues, seat.number, history, waking, k)?;
+    let some = !queues.waiters(Which::Cv(k)).is_empty();
+    let held = last.is_held();
+    seat.owed = wake_waiters(queues, waking, k, held);
+    *word = last.returned(held & some, bits(queues));
+    Ok(Found::Woke { owes: !held & some })
+}
+
+/// Changes the lists in hand, and puts the queues back, which clears the spinlock bit. Where the
+/// change is an event that is refused, nothing has changed.
+pub(crate) fn return_queues<C: Seated<N>, const N: usize>(
+    word: &mut Word,
+    queues: &mut Queues<C, N>,
+    seat: &mut Seat<C, N>,
+    history: &mut Vec<Event<C, N>>,
+    change: Change,
+    last: Word,
+) -> Result<Found, AllocError>
+    requires below { seat.old.number < 64 }
+    requires fits { (row flags : List ℕ) → ChangeFits seat.old.number change (part word.old row queues.old flags seat.old.held seat.old.owed.items) }
+    ensures ok { IfOk result (λ found. (row flags : List ℕ) → Makes C.means seat.old.number (Act.ReturnQueues change last) (part word.old row queues.old flags seat.old.held seat.old.owed.items) history.old.items found (part word.new row queues.new flags seat.new.held seat.new.owed.items) history.new.items) }
+    ensures kept { IsSeat seat.old.number seat.old.walk seat.old.asking seat.old.tests seat.new }
+    ensures err { OnErr result (MayCommit change × (last ≡ word.old) × (word.new ≡ word.old) × (queues.new ≡ queues.old) × (seat.new ≡ seat.old) × (history.new.items ≡ history.old.items)) }
+{
+    match change {
+        Change::QueueSelf(mode, arrival) => Ok(return_queued(
+            word,
+            queues,
+            seat.number,
+            mode,
+            arrival,
+            last,
+        )),
+        Change::LeaveSelf(which) => return_left(word, queues, seat.number, history, which, last),
+        Change::WakeWaiters(waking, k) => {
+            return_waking(word, queues, seat, history, waking, k, last)
+        }
+    }
+}
+
+/// How the section is said to begin in the history. A wait for a condition that came back is said to
+/// have met it where it is true of the row that the section began at, or where nothing has ended the
+/// wait. A wait for a variable says what it was ended by, or that it was woken.
 fn entry<C: Seated<N>, const N: usize>(section: &Held<C, N>) -> Entry<C>
     ensures { result ≡ entry_of C.means.holds section.now.before section.now.entry }
 {
     match section.entry {
         Opening::Locked => Entry::Plain,
-        Opening::CameBack(cond, cause) => {
+        Opening::CameBack(Subject::OnCondition(cond), None) => Entry::Waited(cond, Answer::Met),
+        Opening::CameBack(Subject::OnCondition(cond), Some(cause)) => {
             if cond.test(&section.before) {
                 Entry::Waited(cond, Answer::Met)
             } else {
                 Entry::Waited(cond, answer_of(cause))
             }
         }
+        Opening::CameBack(Subject::OnVariable(k), kept) => Entry::AfterCv(k, answer_kept(kept)),
     }
 }
 
@@ -267,7 +316,6 @@ pub(crate) fn release_returning<C: Seated<N>, const N: usize>(
     requires { CanLeave C.means releasing seat.old.held }
     ensures ok { IfOk result (λ found. (flags : List ℕ) → Makes C.means seat.old.number (Act.ReleaseReturning releasing last) (part word.old row.now queues.old flags seat.old.held seat.old.owed.items) history.old.items found (part word.new row.now queues.new flags seat.new.held seat.new.owed.items) history.new.items) }
     ensures kept { IsSeat seat.old.number seat.old.walk seat.old.asking seat.old.tests seat.new }
-    ensures others { queues.new.cvs ≡ queues.old.cvs }
     ensures err { OnErr result ((last ≡ word.old) × (word.new ≡ word.old) × (queues.new ≡ queues.old) × (seat.new ≡ seat.old) × (history.new.items ≡ history.old.items)) }
 {
     if !word.is_same(last) {
@@ -294,17 +342,27 @@ fn leaving_of(mode: Mode) -> Releasing
     }
 }
 
+/// How a section ends that is left for such a wait.
+fn exit_for<C: Copy>(on: Subject<C>) -> Exit<C>
+    ensures { result ≡ exit_for on }
+{
+    match on {
+        Subject::OnCondition(cond) => Exit::CondWait(cond),
+        Subject::OnVariable(k) => Exit::CvWait(k),
+    }
+}
+
 /// Ends the section in hand for a wait. One that queues again commits nothing: the section that it
 /// came back with has shown nothing to its caller.
 fn leave_section<C: Seated<N>, const N: usize>(
     seat: u8,
     held: &mut Option<Held<C, N>>,
     history: &mut Vec<Event<C, N>>,
-    cond: C,
+    on: Subject<C>,
     again: bool,
 ) -> Result<(), AllocError>
     requires { IsSome held.old }
-    ensures ok { OnOk result (IfSome held.old (λ section. history.new.items ≡ history.old.items ++ (if again then [] else section_of C.means.holds seat section (CondWait cond) ∷ []))) }
+    ensures ok { OnOk result (IfSome held.old (λ section. history.new.items ≡ history.old.items ++ (if again then [] else section_of C.means.holds seat section (exit_for on) ∷ []))) }
     ensures over { OnOk result (held.new ≡ None) }
     ensures err { OnErr result ((again ≡ false) × (held.new ≡ held.old) × (history.new.items ≡ history.old.items)) }
 {
@@ -312,36 +370,11 @@ fn leave_section<C: Seated<N>, const N: usize>(
         *held = None;
         return Ok(());
     }
-    commit(seat, held, history, Exit::CondWait(cond))
+    commit(seat, held, history, exit_for(on))
 }
 
-/// The lock list that a wait puts back: as a scan at this row leaves it, with the wait in it.
-pub(crate) fn scan_and_queue<C: Seated<N>, const N: usize>(
-    queues: &mut Queues<C, N>,
-    row: &[u64; N],
-    seat: u8,
-    wait: Wait<C>,
-    again: bool,
-) -> Scan
-    requires below { seat < 64 }
-    requires free { times seat queues.old ≡ 0 }
-    ensures woken { result.woken.items ≡ seats_of (woken_of (λ c. C.means.holds c row.now) queues.old.lock) }
-    ensures lock { queues.new.lock ≡ waited_in C.means seat wait again row.now queues.old.lock }
-    ensures others { queues.new.cvs ≡ queues.old.cvs }
-    ensures tests { result.tests ≡ tests_of C.means.same (λ c. C.means.holds c row.now) queues.old.lock }
-{
-    let scan = queues.scan(row);
-    let waiter = Waiter {
-        seat,
-        mode: wait.mode,
-        cond: Some(wait.cond),
-    };
-    queue(queues, waiter, again);
-    scan
-}
-
-/// Takes those out of the lock list whom a scan at this row wakes, puts the wait in, clears the
-/// spinlock bit, releases the section and commits it, unless the wait queues again; the seat then
+/// Takes those out of the lock list whom a scan at this row wakes, puts the wait into its list, clears
+/// the spinlock bit, releases the section and commits it, unless the wait queues again; the seat then
 /// owes the wakes. Where the event is refused, nothing has changed.
 pub(crate) fn wait_returning<C: Seated<N>, const N: usize>(
     word: &mut Word,
@@ -354,17 +387,17 @@ pub(crate) fn wait_returning<C: Seated<N>, const N: usize>(
     last: Word,
 ) -> Result<Found, AllocError>
     requires can { CanWait C.means wait again seat.old.held }
+    requires list { IsInRange wait.on }
     requires below { seat.old.number < 64 }
     requires free { times seat.old.number queues.old ≡ 0 }
     ensures ok { IfOk result (λ found. (flags : List ℕ) → Makes C.means seat.old.number (Act.WaitReturning wait again last) (part word.old row.now queues.old flags seat.old.held seat.old.owed.items) history.old.items found (part word.new row.now queues.new flags seat.new.held seat.new.owed.items) history.new.items) }
     ensures kept { IsSeat seat.old.number seat.old.walk seat.old.asking seat.old.tests seat.new }
-    ensures others { queues.new.cvs ≡ queues.old.cvs }
     ensures err { OnErr result ((again ≡ false) × (last ≡ word.old) × (word.new ≡ word.old) × (queues.new ≡ queues.old) × (seat.new ≡ seat.old) × (history.new.items ≡ history.old.items)) }
 {
     if !word.is_same(last) {
         return Ok(Found::Saw(*word));
     }
-    leave_section(seat.number, &mut seat.held, history, wait.cond, again)?;
+    leave_section(seat.number, &mut seat.held, history, wait.on, again)?;
     let scan = scan_and_queue(queues, row, seat.number, wait, again);
     let owes = !scan.woken.is_empty();
     *word = last.released_returning(leaving_of(wait.mode), owes, bits(queues));

@@ -1,5 +1,5 @@
-//! A plain world of one lock, a clock and notes: the lock's word and row, up to 64 seats, and all
-//! that has happened to the row.
+//! A plain world of one lock, its condition variables, a clock and notes: the lock's word and row, up
+//! to 64 seats, and all that has happened to the row and the variables.
 //!
 //! A world steps the call machine of `ns_word` on plain data, one atomic step at a time, in
 //! whatever order it is told to. It keeps the machine's law as its own invariant: see

@@ -27,7 +27,7 @@ fn opening_by<C: Seated<N>, const N: usize>(entry: Opening<C>, cause: Cause) -> 
 {
     match entry {
         Opening::Locked => Opening::Locked,
-        Opening::CameBack(cond, _) => Opening::CameBack(cond, cause),
+        Opening::CameBack(on, _) => Opening::CameBack(on, Some(cause)),
     }
 }
 

@@ -1,6 +1,6 @@
 //! One atomic step on the parts of a world, as the seat's walk wants it.
 
-ghost use Rattle.std.specs.Prelude.{◌≡◌, ◌<◌, ◌≤◌, Some, None, IsSome, IfOk, OnErr, ℕ, List, [], replicate};
+ghost use Rattle.std.specs.Prelude.{◌≡◌, ◌<◌, ◌≤◌, Some, None, IsSome, IfOk, OnErr, ℕ, List, []};
 ghost use Rattle.ns_model.specs.declared.event.Mode.TheVariants.{Write};
 ghost use Rattle.ns_word.specs.Places.{ActFits, HasMode, OwesOne};
 ghost use Rattle.ns_word.specs.Steps.{Effect};
@@ -63,16 +63,17 @@ fn judge_met<C: Seated<N>, const N: usize>(held: &Option<Held<C, N>>, i: u8, con
     Found::Tested(cond.test(&section.row))
 }
 
-/// Clears the flag of the first to whom a wake is owed.
+/// Stores this value into the flag of the first to whom a wake is owed.
 fn pay_wake<C: Seated<N>, const N: usize>(
     flags: &mut [u8; 64],
     owed: &mut ArrayVec<u8, 64>,
+    value: u8,
 ) -> Found
     requires { OwesOne 64 owed.old.items }
-    ensures { (seat : ℕ) (word row queues held : _) → Effect {N = N} C.means seat Act.PayWake (part word row queues flags.old held owed.old.items) result (part word row queues flags.new held owed.new.items) [] }
+    ensures { (seat : ℕ) (word row queues held : _) → Effect {N = N} C.means seat (Act.PayWake value) (part word row queues flags.old held owed.old.items) result (part word row queues flags.new held owed.new.items) [] }
 {
     let woken = owed.remove(0);
-    flags[woken as usize] = 0;
+    flags[woken as usize] = value;
     Found::Paid {
         owes: !owed.is_empty(),
     }
@@ -99,18 +100,16 @@ fn make<C: Seated<N>, const N: usize>(
 ) -> Result<Found, AllocError>
     requires fits { ActFits C.means 64 seat.old.number act (seat_part word.old row.old queues.old flags.old seat.old) }
     requires inside { looks_at act ≡ None }
-    requires no_variables { queues.old.cvs ≡ replicate 4 [] }
     ensures ok { IfOk result (λ found. Makes C.means seat.old.number act (seat_part word.old row.old queues.old flags.old seat.old) history.old.items found (seat_part word.new row.new queues.new flags.new seat.new) history.new.items) }
     ensures kept { IsSeat seat.old.number seat.old.walk seat.old.asking seat.old.tests seat.new }
-    ensures others { queues.new.cvs ≡ queues.old.cvs }
     ensures err { OnErr result ((Commits act word.old) × (word.new ≡ word.old) × (row.new ≡ row.old) × (queues.new ≡ queues.old) × (flags.new ≡ flags.old) × (seat.new ≡ seat.old) × (history.new.items ≡ history.old.items)) }
 {
     let found = match act {
         Act::LoadWord => Found::Saw(*word),
-        Act::Acquire(aim, woken, last) => acquire(word, row, &mut seat.held, aim, woken, last),
+        Act::Acquire(aim, arrival, last) => acquire(word, row, &mut seat.held, aim, arrival, last),
         Act::TakeQueues(taking, last) => take_queues::<C, N>(word, taking, last),
         Act::ReturnQueues(change, last) => {
-            return_queues(word, queues, seat.number, change, last)
+            return_queues(word, queues, seat, history, change, last)?
         }
         Act::Release(releasing, last) => {
             release(seat.number, word, &mut seat.held, history, releasing, last)?
@@ -126,7 +125,7 @@ fn make<C: Seated<N>, const N: usize>(
         Act::JudgeMet(i, cond) => judge_met(&seat.held, i, cond),
         Act::StoreCell(i, value) => store(row, &mut seat.held, i, value),
         Act::ArmFlag => arm_flag::<C, N>(flags, seat.number),
-        Act::PayWake => pay_wake::<C, N>(flags, &mut seat.owed),
+        Act::PayWake(value) => pay_wake::<C, N>(flags, &mut seat.owed, value),
         Act::LoadFlag => Found::Flag(flags[seat.number as usize]),
         Act::Look(_, _) => unreachable!(),
     };
@@ -183,8 +182,8 @@ pub(crate) fn settle<C: Seated<N>, const N: usize>(seat: &mut Seat<C, N>, next: 
     }
 }
 
-/// Makes the step that the seat's walk wants, which is one on the lock and no look. Only a release takes memory, for its event; where
-/// that is refused, nothing has changed.
+/// Makes the step that the seat's walk wants, which is one on the lock and no look. Only a step that
+/// commits an event takes memory, for that event; where it is refused, nothing has changed.
 pub(crate) fn perform<C: Seated<N>, const N: usize>(
     word: &mut Word,
     row: &mut [u64; N],
@@ -197,9 +196,7 @@ pub(crate) fn perform<C: Seated<N>, const N: usize>(
     requires walks { seat.old.walk ≡ Some walk }
     requires fits { ActFits C.means 64 seat.old.number (want_of walk) (seat_part word.old row.old queues.old flags.old seat.old) }
     requires inside { looks_at (want_of walk) ≡ None }
-    requires no_variables { queues.old.cvs ≡ replicate 4 [] }
     ensures ok { IfOk result (λ step. Performs C.means (seat_part word.old row.old queues.old flags.old seat.old) seat.old history.old.items walk (seat_part word.new row.new queues.new flags.new seat.new) seat.new history.new.items step) }
-    ensures others { queues.new.cvs ≡ queues.old.cvs }
     ensures err { OnErr result ((Commits (want_of walk) word.old) × (word.new ≡ word.old) × (row.new ≡ row.old) × (queues.new ≡ queues.old) × (flags.new ≡ flags.old) × (seat.new ≡ seat.old) × (history.new.items ≡ history.old.items)) }
 {
     let found = make(word, row, queues, flags, seat, history, walk.want())?;

@@ -184,7 +184,8 @@ impl<C: Seated<N>, const N: usize> World<C, N> {
     /// progress.
     ///
     /// Needs a world with no call in progress, lists of at most 256 calls, and calls whose cells
-    /// are below `N`, whose notes are below 64, and whose moments are below 2^54. Refuses an item
+    /// are below `N`, whose condition variables are below 4, whose notes are below 64, and whose moments
+    /// are below 2^54. Refuses an item
     /// whose thread is no seat (`NoSuchSeat`), the turn after `limit` turns (`StepLimit`), and want
     /// of memory (`OutOfMemory`), for the event of the next turn or for the line of the call that the
     /// last turn finished; the world is then as the last turn left it.

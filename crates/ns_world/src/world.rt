@@ -1,6 +1,6 @@
 //! The world: a lock, its row, a clock, notes, and the seats, one step at a time.
 
-ghost use Rattle.std.specs.Prelude.{◌≡◌, ◌≤◌, ◌<◌, ℕ, [], length, map, slice_index, MatchResult, IfOk, IfErr, All};
+ghost use Rattle.std.specs.Prelude.{◌≡◌, ◌≤◌, ◌<◌, ℕ, length, map, slice_index, MatchResult, IfOk, IfErr};
 ghost use Rattle.std.specs.List.{flat_map};
 ghost use Rattle.ns_model.specs.Histories.{IsLegal, IsBySeats};
 ghost use Rattle.ns_model.specs.Seats.{is_in};
@@ -8,7 +8,7 @@ ghost use Rattle.ns_queue.specs.Waiters.{shown_of};
 ghost use Rattle.ns_word.specs.Lawful.{IsLawful};
 ghost use Rattle.ns_world.specs.Begins.{BeginAnswers, BeginFault};
 ghost use Rattle.ns_world.specs.Calls.{CallInRange};
-ghost use Rattle.ns_world.specs.Shows.{lock_shown, wakes_owed};
+ghost use Rattle.ns_world.specs.Shows.{lists_shown, wakes_owed};
 ghost use Rattle.ns_world.specs.World.{fresh, now_of, is_busy, HasEnvHistory, NewFault, StepOf, StepFault};
 
 use crate::call::Call;
@@ -18,21 +18,21 @@ use crate::packed::unpacked;
 use crate::room::Seated;
 use crate::seat::Seat;
 use crate::seats::{busy_seats, new_seats};
-use crate::shows::{owed_wakes, shown_lock};
+use crate::shows::{owed_wakes, shown, shown_queues};
 use crate::step::{Begun, Step, begin_at, step_at};
 use arrayvec::ArrayVec;
 use ns_model::condition::Condition;
 use ns_model::event::Event;
 use ns_model::seats::Seats;
 use ns_queue::queues::Queues;
-use ns_queue::waiter::Shown;
+use ns_queue::waiter::{Shown, Which};
 use ns_word::codec::encode;
 use ns_word::word::Word;
 use std::alloc::Global;
 use std::marker::Model;
 
-/// A lock with a row of `N` cells, a clock, up to 64 notes, up to 64 seats, and all that has
-/// happened to the row.
+/// A lock with a row of `N` cells, four condition variables, a clock, up to 64 notes, up to 64 seats,
+/// and all that has happened to the row and the variables.
 ///
 /// Its contracts speak of the word, the row, each seat's view, the history, the clock, the notes,
 /// and each seat's place in a call on these. Between any two calls the law of the lock holds of
@@ -70,7 +70,7 @@ pub struct State<const N: usize> {
     /// Who stands in the lock list, front first: as the caller that has the queues in its hand has
     /// it, else as it stands at home.
     pub lock: ArrayVec<Shown, 64>,
-    /// Who waits for each condition variable, front first. No call of a world waits for one yet.
+    /// Who waits for each condition variable, front first: likewise.
     pub cvs: [ArrayVec<Shown, 64>; 4],
     /// The wakes that are owed: who owes one, and whom; by the seats that owe them, then in the
     /// order in which each pays.
@@ -109,9 +109,9 @@ impl<C: Seated<N>, const N: usize> World<C, N> {
 
     /// Begins a call of the seat, which makes no step yet. `Misuse` and `Busy` change nothing.
     ///
-    /// Needs a call whose cell is below `N`, whose notes are below 64, and whose moments are below
-    /// 2^54. Refuses a number that is no seat's (`NoSuchSeat`),
-    /// and then nothing has changed.
+    /// Needs a call whose cell is below `N`, whose condition variable is below 4, whose notes are below
+    /// 64, and whose moments are below 2^54. Refuses a number that is no seat's (`NoSuchSeat`), and then
+    /// nothing has changed.
     pub fn begin(&mut self, seat: u8, call: Call<C>) -> Result<Begun, Fault>
         requires { CallInRange N call }
         ensures ok { IfOk result (λ begun. BeginAnswers (now_of C.means self.old) (now_of C.means self.new) seat call begun) }
@@ -133,7 +133,7 @@ impl<C: Seated<N>, const N: usize> World<C, N> {
     /// Makes one atomic step of the seat's call, if one is in progress.
     ///
     /// Refuses a number that is no seat's (`NoSuchSeat`), and want of memory (`OutOfMemory`),
-    /// which can only come where a release is made, whose event is to be kept; then nothing has
+    /// which can only come where a step commits an event, which is to be kept; then nothing has
     /// changed. A step on the clock or the notes takes no memory.
     pub fn step(&mut self, seat: u8) -> Result<Step, Fault>
         ensures ok { IfOk result (λ step. StepOf (now_of C.means self.old) (now_of C.means self.new) seat step) }
@@ -164,22 +164,23 @@ impl<C: Seated<N>, const N: usize> World<C, N> {
     /// notes.
     pub fn state(&self) -> State<N>
         ensures word { result.word ≡ self.now.word }
-        ensures lock { result.lock.items ≡ map shown_of (lock_shown (now_of C.means self.now)) }
-        ensures variables { All (λ list. list.items ≡ []) result.cvs }
+        ensures lock { result.lock.items ≡ map shown_of (lists_shown (now_of C.means self.now)).lock }
+        ensures variables { map (λ list. list.items) result.cvs ≡ map (map shown_of) (lists_shown (now_of C.means self.now)).cvs }
         ensures owed { result.owed.items ≡ wakes_owed self.now.views }
         ensures row { result.row ≡ self.now.row }
         ensures busy { (seat : ℕ) → is_in result.busy seat ≡ is_busy self.now.views self.now.asking seat }
         ensures lawful { IsLawful C.means (length self.now.views) self.now.history (now_of C.means self.now).state }
         ensures env_lawful { HasEnvHistory (now_of C.means self.now) }
     {
+        let queues = shown_queues(&self.queues, &self.seats, &self.row);
         State {
             word: unpacked(self.word),
-            lock: shown_lock(&self.queues, &self.seats, &self.row),
+            lock: shown(&queues, Which::Lock),
             cvs: [
-                ArrayVec::new(),
-                ArrayVec::new(),
-                ArrayVec::new(),
-                ArrayVec::new(),
+                shown(&queues, Which::Cv(0)),
+                shown(&queues, Which::Cv(1)),
+                shown(&queues, Which::Cv(2)),
+                shown(&queues, Which::Cv(3)),
             ],
             owed: owed_wakes(&self.seats),
             row: self.row,

@@ -4,5 +4,5 @@ use Rattle.ns_replay.proofs.script.script_in.Goals as goal
 
 pub overflow_cast-len : goal.overflow_cast-len
 overflow_cast-len c =
-    let few = few_lists _ c.in_ok-threads.threads.items c.in_ok-threads.ensures in
+    let few = few_lists _ _ c.in_ok-threads.threads.items c.in_ok-threads.ensures in
     omega (arith, few, c.len.ensures)

@@ -1,4 +1,3 @@
-use Rattle.ns_queue.specs.Queues.{Lists}
 use Rattle.std.proofs.Common.{refl, sym, ◌∙◌, ap, not, rules}
 use Rattle.std.proofs.lemmas.Result.{err_from_is_err_and}
 use Rattle.ns_world.proofs.Released.{scanned, missed, some_left, can_some}
@@ -36,9 +35,6 @@ returns-clause-kept g c = record { number = refl; walk = refl; asking = refl; te
 
 pub returns-in_err-commit-clause-ok : goal.returns-in_err-commit-clause-ok
 returns-in_err-commit-clause-ok g c = let p = err_from_is_err_and c.from_residual.result c.from_residual.ensures.1 in rw p.1 tt
-
-pub returns-clause-others : goal.returns-clause-others
-returns-clause-others g c = ap (λ (q : Lists _). q.cvs) c.scan-scan.ensures.left
 
 pub scan-scan-requires : goal.scan-scan-requires
 scan-scan-requires g c = (search rules, search rules)

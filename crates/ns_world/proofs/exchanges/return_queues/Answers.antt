@@ -1,8 +1,34 @@
-use Rattle.std.proofs.Common.{refl, sym}
-use Rattle.ns_world.proofs.Waited.{returned}
+use Rattle.std.proofs.Common.{rules, [], refl, sym}
+use Rattle.std.proofs.lemmas.List.{append-nil}
+use Rattle.ns_world.proofs.Waited.{on_ok, on_err}
 use Rattle.ns_world.proofs.exchanges.return_queues.Goals as goal
 
-pub returns-clause-made : goal.returns-clause-made
-returns-clause-made g c = λ row flags owed held.
-    returned g.C.Condition.means c.args.seat c.args.change c.args.last c.args.word.now c.returned.result row flags owed held c.args.queues.now c.change_queues-found.new.queues c.change_queues-found.result c.bits.result
-    (sym (c.if-not-is_same.ensures.same refl)) c.change_queues-found.ensures.found c.change_queues-found.ensures.lock c.bits.ensures c.returned.ensures
+pub return_queued-requires : goal.return_queued-requires
+return_queued-requires g c = let fits = rw c.in-QueueSelf.is at (c.requires.fits [] []) in (search rules, (c.requires.below, fits))
+
+pub return_left-requires : goal.return_left-requires
+return_left-requires g c = let fits = rw c.in-LeaveSelf.is at (c.requires.fits [] []) in (search rules, (g.met.C.Fits.event_fits, fits))
+
+pub return_waking-requires : goal.return_waking-requires
+return_waking-requires g c = let fits = rw c.in-WakeWaiters.is at (c.requires.fits [] []) in (search rules, (g.met.C.Seated.seat_fits, (g.met.C.Fits.event_fits, fits)))
+
+pub returns-in-QueueSelf-clause-ok : goal.returns-in-QueueSelf-clause-ok
+returns-in-QueueSelf-clause-ok g c = rw c.in-QueueSelf.is (λ row flags. record { commits = []; effect = c.return_queued.ensures row flags c.args.seat.now.owed.items c.args.seat.now.held; grows = sym (append-nil _) })
+
+pub returns-in-QueueSelf-clause-kept : goal.returns-in-QueueSelf-clause-kept
+returns-in-QueueSelf-clause-kept g c = record { number = refl; walk = refl; asking = refl; tests = refl }
+
+pub returns-in-LeaveSelf-clause-kept : goal.returns-in-LeaveSelf-clause-kept
+returns-in-LeaveSelf-clause-kept g c = record { number = refl; walk = refl; asking = refl; tests = refl }
+
+pub returns-in-LeaveSelf-clause-ok : goal.returns-in-LeaveSelf-clause-ok
+returns-in-LeaveSelf-clause-ok g c = rw c.in-LeaveSelf.is (on_ok c.return_left.result (λ found p row flags. p row flags c.args.seat.now.owed.items c.args.seat.now.held) c.return_left.ensures.ok)
+
+pub returns-in-LeaveSelf-clause-err : goal.returns-in-LeaveSelf-clause-err
+returns-in-LeaveSelf-clause-err g c = rw c.in-LeaveSelf.is (on_err c.return_left.result (λ p. (p.0, p.1, p.2, p.3, refl, p.4)) c.return_left.ensures.err)
+
+pub returns-in-WakeWaiters-clause-ok : goal.returns-in-WakeWaiters-clause-ok
+returns-in-WakeWaiters-clause-ok g c = rw c.in-WakeWaiters.is c.return_waking.ensures.ok
+
+pub returns-in-WakeWaiters-clause-err : goal.returns-in-WakeWaiters-clause-err
+returns-in-WakeWaiters-clause-err g c = rw c.in-WakeWaiters.is (on_err c.return_waking.result (λ p. (tt, p.0, p.1, p.2, p.3, p.4)) c.return_waking.ensures.err)

@@ -23,7 +23,7 @@ returns-clause-ok g c = λ flags.
     waited _ c.args.seat.now.number c.args.wait c.args.again c.args.last c.args.word.now c.released_returning.result c.args.row.now flags c.args.history.now.items c.leave_section.new.history.items
     c.args.queues.now c.scan_and_queue-scan.new.queues c.args.seat.now.owed.items c.scan_and_queue-scan.result.woken.items c.args.seat.now.held c.leave_section.new.held (not c.is_empty-owes.result) c.scan_and_queue-scan.result.tests c.bits.result
     c.requires.can c.in_ok-leave_section.ensures.ok (c.if-not-is_same.ensures.same refl) (rw (← c.leaving_of.ensures) c.released_returning.ensures) c.in_ok-leave_section.ensures.over
-    c.scan_and_queue-scan.ensures.lock c.scan_and_queue-scan.ensures.woken (ap not c.is_empty-owes.ensures ∙ some_left _) c.bits.ensures c.scan_and_queue-scan.ensures.tests
+    c.scan_and_queue-scan.ensures.lists c.scan_and_queue-scan.ensures.woken (ap not c.is_empty-owes.ensures ∙ some_left _) c.bits.ensures c.scan_and_queue-scan.ensures.tests
 
 pub returns-then-not-is_same-clause-kept : goal.returns-then-not-is_same-clause-kept
 returns-then-not-is_same-clause-kept g c = record { number = refl; walk = refl; asking = refl; tests = refl }
@@ -37,8 +37,5 @@ returns-clause-kept g c = record { number = refl; walk = refl; asking = refl; te
 pub returns-in_err-leave_section-clause-ok : goal.returns-in_err-leave_section-clause-ok
 returns-in_err-leave_section-clause-ok g c = let p = err_from_is_err_and c.from_residual.result c.from_residual.ensures.1 in rw p.1 tt
 
-pub returns-clause-others : goal.returns-clause-others
-returns-clause-others g c = c.scan_and_queue-scan.ensures.others
-
 pub scan_and_queue-scan-requires : goal.scan_and_queue-scan-requires
-scan_and_queue-scan-requires g c = (search rules, (search rules, (c.requires.below, c.requires.free)))
+scan_and_queue-scan-requires g c = (search rules, (search rules, (c.requires.list, (c.requires.below, c.requires.free))))

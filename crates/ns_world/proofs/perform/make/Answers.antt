@@ -1,16 +1,14 @@
 use Rattle.std.proofs.lemmas.Result.{err_from_is_err_and}
 use Rattle.std.proofs.Common.{rules, [], refl, sym}
 use Rattle.std.proofs.lemmas.List.{append-nil}
-use Rattle.ns_world.proofs.Waited.{free_change, free_here}
+use Rattle.ns_world.proofs.Waited.{can_in_range, fits_there}
 use Rattle.ns_world.proofs.perform.make.Goals as goal
 
 pub acquire-found-requires : goal.acquire-found-requires
 acquire-found-requires g c = let fits = rw c.in-Acquire.is at c.requires.fits in (search rules, (g.met.C.Fits.held_fits, (fits.0, (fits.1, fits.2))))
 
-pub return_queues-found-requires : goal.return_queues-found-requires
-return_queues-found-requires g c =
-    let fits = rw c.in-ReturnQueues.is at c.requires.fits in
-    (search rules, (fits.0, (free_change c.args.seat.now.number c.in-ReturnQueues.change c.args.word.now c.args.row.now c.args.flags.now c.args.seat.now.owed.items c.args.seat.now.held c.args.queues.now c.requires.no_variables fits.1, c.requires.no_variables)))
+pub return_queues-requires : goal.return_queues-requires
+return_queues-requires g c = let fits = rw c.in-ReturnQueues.is at c.requires.fits in (search rules, (g.met.C.Seated.seat_fits, (g.met.C.Fits.event_fits, (fits.0, λ row flags. fits_there c.args.seat.now.number c.in-ReturnQueues.change c.args.word.now c.args.row.now row c.args.flags.now flags c.args.seat.now.held c.args.seat.now.owed.items c.args.queues.now fits.1))))
 
 pub release-requires : goal.release-requires
 release-requires g c = (g.met.C.Fits.held_fits, (g.met.C.Fits.event_fits, rw c.in-Release.is at c.requires.fits))
@@ -21,7 +19,7 @@ release_returning-requires g c = (search rules, (search rules, (g.met.C.Seated.s
 pub wait_returning-requires : goal.wait_returning-requires
 wait_returning-requires g c =
     let fits = rw c.in-WaitReturning.is at c.requires.fits in
-    (search rules, (search rules, (g.met.C.Seated.seat_fits, (g.met.C.Fits.event_fits, (fits.0, (fits.2, free_here c.args.seat.now.number c.args.queues.now c.requires.no_variables fits.3))))))
+    (search rules, (search rules, (g.met.C.Seated.seat_fits, (g.met.C.Fits.event_fits, (fits.0, (can_in_range g.C.Condition.means c.in-WaitReturning.wait c.in-WaitReturning.again c.args.seat.now.held fits.0, (fits.2, fits.3)))))))
 
 pub judge-found-requires : goal.judge-found-requires
 judge-found-requires g c = (g.met.C.Fits.held_fits, (rw c.in-JudgeQuiet.is at c.requires.fits).0)
@@ -52,12 +50,20 @@ returns-in-TakeQueues-clause-ok g c = rw c.in-TakeQueues.is (record {
   grows = sym (append-nil _);
 })
 
-pub returns-in-ReturnQueues-clause-ok : goal.returns-in-ReturnQueues-clause-ok
-returns-in-ReturnQueues-clause-ok g c = rw c.in-ReturnQueues.is (record {
-  commits = [];
-  effect = c.return_queues-found.ensures.made c.args.row.now c.args.flags.now c.args.seat.now.owed.items c.args.seat.now.held;
-  grows = sym (append-nil _);
-})
+pub returns-in_ok-found-in-ReturnQueues-clause-ok : goal.returns-in_ok-found-in-ReturnQueues-clause-ok
+returns-in_ok-found-in-ReturnQueues-clause-ok g c = rw c.in-ReturnQueues.is (c.in_ok-found-in-ReturnQueues.ensures.ok c.args.row.now c.args.flags.now)
+
+pub returns-in_ok-found-in-ReturnQueues-clause-kept : goal.returns-in_ok-found-in-ReturnQueues-clause-kept
+returns-in_ok-found-in-ReturnQueues-clause-kept g c = c.in_ok-found-in-ReturnQueues.ensures.kept
+
+pub returns-in_err-found-in-ReturnQueues-clause-kept : goal.returns-in_err-found-in-ReturnQueues-clause-kept
+returns-in_err-found-in-ReturnQueues-clause-kept g c = c.in_err-found-in-ReturnQueues.ensures.kept
+
+pub returns-in_ok-found-in-ReturnQueues-clause-err : goal.returns-in_ok-found-in-ReturnQueues-clause-err
+returns-in_ok-found-in-ReturnQueues-clause-err g c = tt
+
+pub returns-in_err-found-in-ReturnQueues-clause-ok : goal.returns-in_err-found-in-ReturnQueues-clause-ok
+returns-in_err-found-in-ReturnQueues-clause-ok g c = let p = err_from_is_err_and c.from_residual.result c.from_residual.ensures.1 in rw p.1 tt
 
 pub returns-in_ok-found-in-Release-clause-ok : goal.returns-in_ok-found-in-Release-clause-ok
 returns-in_ok-found-in-Release-clause-ok g c =
@@ -116,17 +122,11 @@ returns-in-LoadWord-clause-err g c = tt
 pub returns-in-LoadWord-clause-kept : goal.returns-in-LoadWord-clause-kept
 returns-in-LoadWord-clause-kept g c = record { number = refl; walk = refl; asking = refl; tests = refl }
 
-pub returns-in-LoadWord-clause-others : goal.returns-in-LoadWord-clause-others
-returns-in-LoadWord-clause-others g c = refl
-
 pub returns-in-Acquire-clause-err : goal.returns-in-Acquire-clause-err
 returns-in-Acquire-clause-err g c = tt
 
 pub returns-in-Acquire-clause-kept : goal.returns-in-Acquire-clause-kept
 returns-in-Acquire-clause-kept g c = record { number = refl; walk = refl; asking = refl; tests = refl }
-
-pub returns-in-Acquire-clause-others : goal.returns-in-Acquire-clause-others
-returns-in-Acquire-clause-others g c = refl
 
 pub returns-in-TakeQueues-clause-err : goal.returns-in-TakeQueues-clause-err
 returns-in-TakeQueues-clause-err g c = tt
@@ -134,26 +134,11 @@ returns-in-TakeQueues-clause-err g c = tt
 pub returns-in-TakeQueues-clause-kept : goal.returns-in-TakeQueues-clause-kept
 returns-in-TakeQueues-clause-kept g c = record { number = refl; walk = refl; asking = refl; tests = refl }
 
-pub returns-in-TakeQueues-clause-others : goal.returns-in-TakeQueues-clause-others
-returns-in-TakeQueues-clause-others g c = refl
-
-pub returns-in-ReturnQueues-clause-err : goal.returns-in-ReturnQueues-clause-err
-returns-in-ReturnQueues-clause-err g c = tt
-
-pub returns-in-ReturnQueues-clause-kept : goal.returns-in-ReturnQueues-clause-kept
-returns-in-ReturnQueues-clause-kept g c = record { number = refl; walk = refl; asking = refl; tests = refl }
-
-pub returns-in-ReturnQueues-clause-others : goal.returns-in-ReturnQueues-clause-others
-returns-in-ReturnQueues-clause-others g c = c.return_queues-found.ensures.others
-
 pub returns-in-LoadCell-clause-err : goal.returns-in-LoadCell-clause-err
 returns-in-LoadCell-clause-err g c = tt
 
 pub returns-in-LoadCell-clause-kept : goal.returns-in-LoadCell-clause-kept
 returns-in-LoadCell-clause-kept g c = record { number = refl; walk = refl; asking = refl; tests = refl }
-
-pub returns-in-LoadCell-clause-others : goal.returns-in-LoadCell-clause-others
-returns-in-LoadCell-clause-others g c = refl
 
 pub returns-in-JudgeQuiet-clause-err : goal.returns-in-JudgeQuiet-clause-err
 returns-in-JudgeQuiet-clause-err g c = tt
@@ -161,17 +146,11 @@ returns-in-JudgeQuiet-clause-err g c = tt
 pub returns-in-JudgeQuiet-clause-kept : goal.returns-in-JudgeQuiet-clause-kept
 returns-in-JudgeQuiet-clause-kept g c = record { number = refl; walk = refl; asking = refl; tests = refl }
 
-pub returns-in-JudgeQuiet-clause-others : goal.returns-in-JudgeQuiet-clause-others
-returns-in-JudgeQuiet-clause-others g c = refl
-
 pub returns-in-StoreCell-clause-err : goal.returns-in-StoreCell-clause-err
 returns-in-StoreCell-clause-err g c = tt
 
 pub returns-in-StoreCell-clause-kept : goal.returns-in-StoreCell-clause-kept
 returns-in-StoreCell-clause-kept g c = record { number = refl; walk = refl; asking = refl; tests = refl }
-
-pub returns-in-StoreCell-clause-others : goal.returns-in-StoreCell-clause-others
-returns-in-StoreCell-clause-others g c = refl
 
 pub returns-in-ArmFlag-clause-err : goal.returns-in-ArmFlag-clause-err
 returns-in-ArmFlag-clause-err g c = tt
@@ -179,17 +158,11 @@ returns-in-ArmFlag-clause-err g c = tt
 pub returns-in-ArmFlag-clause-kept : goal.returns-in-ArmFlag-clause-kept
 returns-in-ArmFlag-clause-kept g c = record { number = refl; walk = refl; asking = refl; tests = refl }
 
-pub returns-in-ArmFlag-clause-others : goal.returns-in-ArmFlag-clause-others
-returns-in-ArmFlag-clause-others g c = refl
-
 pub returns-in-PayWake-clause-err : goal.returns-in-PayWake-clause-err
 returns-in-PayWake-clause-err g c = tt
 
 pub returns-in-PayWake-clause-kept : goal.returns-in-PayWake-clause-kept
 returns-in-PayWake-clause-kept g c = record { number = refl; walk = refl; asking = refl; tests = refl }
-
-pub returns-in-PayWake-clause-others : goal.returns-in-PayWake-clause-others
-returns-in-PayWake-clause-others g c = refl
 
 pub returns-in-LoadFlag-clause-err : goal.returns-in-LoadFlag-clause-err
 returns-in-LoadFlag-clause-err g c = tt
@@ -197,47 +170,29 @@ returns-in-LoadFlag-clause-err g c = tt
 pub returns-in-LoadFlag-clause-kept : goal.returns-in-LoadFlag-clause-kept
 returns-in-LoadFlag-clause-kept g c = record { number = refl; walk = refl; asking = refl; tests = refl }
 
-pub returns-in-LoadFlag-clause-others : goal.returns-in-LoadFlag-clause-others
-returns-in-LoadFlag-clause-others g c = refl
-
 pub returns-in-JudgeMet-clause-err : goal.returns-in-JudgeMet-clause-err
 returns-in-JudgeMet-clause-err g c = tt
 
 pub returns-in-JudgeMet-clause-kept : goal.returns-in-JudgeMet-clause-kept
 returns-in-JudgeMet-clause-kept g c = record { number = refl; walk = refl; asking = refl; tests = refl }
 
-pub returns-in-JudgeMet-clause-others : goal.returns-in-JudgeMet-clause-others
-returns-in-JudgeMet-clause-others g c = refl
-
 pub returns-in_ok-found-in-Release-clause-kept : goal.returns-in_ok-found-in-Release-clause-kept
 returns-in_ok-found-in-Release-clause-kept g c = record { number = refl; walk = refl; asking = refl; tests = refl }
 
-pub returns-in_ok-found-in-Release-clause-others : goal.returns-in_ok-found-in-Release-clause-others
-returns-in_ok-found-in-Release-clause-others g c = refl
-
 pub returns-in_err-found-in-Release-clause-kept : goal.returns-in_err-found-in-Release-clause-kept
 returns-in_err-found-in-Release-clause-kept g c = record { number = refl; walk = refl; asking = refl; tests = refl }
-
-pub returns-in_err-found-in-Release-clause-others : goal.returns-in_err-found-in-Release-clause-others
-returns-in_err-found-in-Release-clause-others g c = refl
 
 pub returns-in_ok-found-in-Release-clause-err : goal.returns-in_ok-found-in-Release-clause-err
 returns-in_ok-found-in-Release-clause-err g c = tt
 
 pub returns-in_err-found-in-Release-clause-ok : goal.returns-in_err-found-in-Release-clause-ok
-returns-in_err-found-in-Release-clause-ok g c = let p = err_from_is_err_and c.from_residual.result c.from_residual.ensures.1 in rw p.1 tt
+returns-in_err-found-in-Release-clause-ok g c = let p = err_from_is_err_and c.from_residual-in_err-found-in-Release.result c.from_residual-in_err-found-in-Release.ensures.1 in rw p.1 tt
 
 pub returns-in_ok-found-in-ReleaseReturning-clause-kept : goal.returns-in_ok-found-in-ReleaseReturning-clause-kept
 returns-in_ok-found-in-ReleaseReturning-clause-kept g c = c.in_ok-found-in-ReleaseReturning.ensures.kept
 
-pub returns-in_ok-found-in-ReleaseReturning-clause-others : goal.returns-in_ok-found-in-ReleaseReturning-clause-others
-returns-in_ok-found-in-ReleaseReturning-clause-others g c = c.in_ok-found-in-ReleaseReturning.ensures.others
-
 pub returns-in_err-found-in-ReleaseReturning-clause-kept : goal.returns-in_err-found-in-ReleaseReturning-clause-kept
 returns-in_err-found-in-ReleaseReturning-clause-kept g c = c.in_err-found-in-ReleaseReturning.ensures.kept
-
-pub returns-in_err-found-in-ReleaseReturning-clause-others : goal.returns-in_err-found-in-ReleaseReturning-clause-others
-returns-in_err-found-in-ReleaseReturning-clause-others g c = c.in_err-found-in-ReleaseReturning.ensures.others
 
 pub returns-in_ok-found-in-ReleaseReturning-clause-err : goal.returns-in_ok-found-in-ReleaseReturning-clause-err
 returns-in_ok-found-in-ReleaseReturning-clause-err g c = tt
@@ -248,14 +203,8 @@ returns-in_err-found-in-ReleaseReturning-clause-ok g c = let p = err_from_is_err
 pub returns-in_ok-found-in-WaitReturning-clause-kept : goal.returns-in_ok-found-in-WaitReturning-clause-kept
 returns-in_ok-found-in-WaitReturning-clause-kept g c = c.in_ok-found-in-WaitReturning.ensures.kept
 
-pub returns-in_ok-found-in-WaitReturning-clause-others : goal.returns-in_ok-found-in-WaitReturning-clause-others
-returns-in_ok-found-in-WaitReturning-clause-others g c = c.in_ok-found-in-WaitReturning.ensures.others
-
 pub returns-in_err-found-in-WaitReturning-clause-kept : goal.returns-in_err-found-in-WaitReturning-clause-kept
 returns-in_err-found-in-WaitReturning-clause-kept g c = c.in_err-found-in-WaitReturning.ensures.kept
-
-pub returns-in_err-found-in-WaitReturning-clause-others : goal.returns-in_err-found-in-WaitReturning-clause-others
-returns-in_err-found-in-WaitReturning-clause-others g c = c.in_err-found-in-WaitReturning.ensures.others
 
 pub returns-in_ok-found-in-WaitReturning-clause-err : goal.returns-in_ok-found-in-WaitReturning-clause-err
 returns-in_ok-found-in-WaitReturning-clause-err g c = tt

@@ -5,7 +5,7 @@ use Rattle.ns_world.specs.Performs.{step_of, tests_after}
 use Rattle.ns_world.proofs.perform.perform.Goals as goal
 
 pub make-requires : goal.make-requires
-make-requires g c = (search rules, (search rules, (g.met.C.Seated.seat_fits, (g.met.C.Fits.event_fits, (rw c.want.ensures c.requires.fits, (rw c.want.ensures c.requires.inside, c.requires.no_variables))))))
+make-requires g c = (search rules, (search rules, (g.met.C.Seated.seat_fits, (g.met.C.Fits.event_fits, (rw c.want.ensures c.requires.fits, rw c.want.ensures c.requires.inside)))))
 
 pub returns-clause-ok : goal.returns-clause-ok
 returns-clause-ok g c =

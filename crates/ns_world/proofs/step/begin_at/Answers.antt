@@ -6,7 +6,9 @@ use Rattle.ns_world.specs.Performs.{view_of}
 use Rattle.ns_world.proofs.Mapped.{got-map}
 use Rattle.ns_world.proofs.Placed.{busy_here, idle_walk, idle_ask, starts_here}
 use Rattle.ns_world.proofs.Places.{StartFits, start_fits}
-use Rattle.ns_world.proofs.Worlds.{lawful_placed, past_views, same_element, asks_unasked}
+use Rattle.ns_world.specs.declared.seat.Seat.{Seat}
+use Rattle.ns_word.specs.Places.{IsSettled}
+use Rattle.ns_world.proofs.Worlds.{settled_here, lawful_placed, past_views, same_element, asks_unasked}
 use Rattle.ns_world.proofs.step.begin_at.Goals as goal
 
 pub returns-then-at-len-clause-err : goal.returns-then-at-len-clause-err
@@ -41,7 +43,8 @@ returns-in-Some-clause-lawful g c =
     let walk = idle_walk c.index-seat.result.now.walk c.index-seat.result.now.asking idle in
     let ask = idle_ask c.index-seat.result.now.walk c.index-seat.result.now.asking idle in
     let fits = subst (λ m. CallFits (note_at c.args.env.now.notes) c.args.call m) c.mode_of.ensures c.in-Some.ensures.1 in
-    let place = start_fits g.C.Condition.means (note_at c.args.env.now.notes) c.args.call c.index-seat.result.now.held g.met.C.Condition.has_cells.0 c.requires.range fits in
+    let settled = subst (λ (s : Seat _ _). IsSettled g.C.Condition.means s.held) (sym (same ∙ is)) (settled_here g.C.Condition.means g.met.C.Condition.has_cells.0 g.met.C.Condition.quiet_keeps (word_of c.args.word.now) c.args.row.now c.args.queues.now c.args.flags.now c.args.env.now c.args.seats.now.items c.args.history.now.items c.requires.lawful c.args.number seat within (rw (same, is) at walk)) in
+    let place = start_fits g.C.Condition.means (note_at c.args.env.now.notes) c.args.call c.index-seat.result.now.held g.met.C.Condition.has_cells.0 c.requires.range fits settled in
     let begins = subst (λ s. StartFits g.C.Condition.means (note_at c.args.env.now.notes) s c.index-seat.result.now.held) (sym (rw c.mode_of.ensures at c.in-Some.ensures.0)) place in
     rw (c.place.ensures, is) (lawful_placed g.C.Condition.means g.met.C.Condition.has_cells.0 g.met.C.Condition.quiet_keeps (word_of c.args.word.now) c.args.row.now c.args.queues.now c.args.flags.now c.args.env.now c.args.seats.now.items c.args.history.now.items c.requires.lawful c.args.number seat within
     c.in-Some.start (rw (same, is) at walk) (rw (same, is) at ask) (rw (same, is) at begins))

@@ -54,7 +54,7 @@ perform-requires g c =
     let act = act_here g.C.Condition.means g.met.C.Condition.has_cells.0 g.met.C.Condition.quiet_keeps (word_of c.args.word.now) c.args.row.now c.args.queues.now c.args.flags.now c.args.env.now c.args.seats.now.items c.args.history.now.items c.requires c.args.number seat within c.in-Some-walk.walk (rw c.index_mut-2.ensures.value at walks) in
     let unasked = rw (same_element c.args.seats.now.items c.args.number c.index.result.now seat within c.index.ensures c.index_mut-2.ensures.value, c.index_mut-2.ensures.value) at c.in_default.is in
     let inside = inside_here g.C.Condition.means g.met.C.Condition.has_cells.0 g.met.C.Condition.quiet_keeps (word_of c.args.word.now) c.args.row.now c.args.queues.now c.args.flags.now c.args.env.now c.args.seats.now.items c.args.history.now.items c.requires c.args.number seat within c.in-Some-walk.walk (rw c.index_mut-2.ensures.value at walks) unasked in
-    (search rules, (search rules, (g.met.C.Seated.seat_fits, (g.met.C.Fits.event_fits, (walks, (rw (c.unpacked-found.ensures, c.index_mut-2.ensures.value) act, (inside, c.requires.no_variables)))))))
+    (search rules, (search rules, (g.met.C.Seated.seat_fits, (g.met.C.Fits.event_fits, (walks, (rw (c.unpacked-found.ensures, c.index_mut-2.ensures.value) act, inside))))))
 
 pub returns-in_default-walk-clause-ok : goal.returns-in_default-walk-clause-ok
 returns-in_default-walk-clause-ok g c =
@@ -75,7 +75,7 @@ encode-requires g c =
     let within : c.args.number < length c.args.seats.now.items = omega arith in
     let same = same_element c.args.seats.now.items c.args.number c.index-2.result.now seat within c.index-2.ensures c.index_mut-2.ensures.value in
     let unasked = rw (same_element c.args.seats.now.items c.args.number c.index.result.now seat within c.index.ensures c.index_mut-2.ensures.value, c.index_mut-2.ensures.value) at c.in_default.is in
-    packable _ (lawful_after g.C.Condition.means g.met.C.Condition.has_cells.0 g.met.C.Condition.quiet_keeps (word_of c.args.word.now) c.args.row.now c.args.queues.now c.args.flags.now c.args.env.now c.args.seats.now.items c.args.history.now.items c.requires c.args.number seat within c.in-Some-walk.walk (rw (same, c.index_mut-2.ensures.value) at c.in-Some-walk.is) c.perform.new.word c.perform.new.row c.perform.new.queues c.perform.new.flags c.perform.new.seat c.perform.new.history.items c.in-Ok.step c.in-Ok.ensures.others
+    packable _ (lawful_after g.C.Condition.means g.met.C.Condition.has_cells.0 g.met.C.Condition.quiet_keeps (word_of c.args.word.now) c.args.row.now c.args.queues.now c.args.flags.now c.args.env.now c.args.seats.now.items c.args.history.now.items c.requires c.args.number seat within c.in-Some-walk.walk (rw (same, c.index_mut-2.ensures.value) at c.in-Some-walk.is) c.perform.new.word c.perform.new.row c.perform.new.queues c.perform.new.flags c.perform.new.seat c.perform.new.history.items c.in-Ok.step
     (rw (← c.index_mut-2.ensures.value, ← c.unpacked-found.ensures) c.in-Ok.ensures.ok) _ (unasked_cleared g.C.Condition.means g.met.C.Condition.has_cells.0 g.met.C.Condition.quiet_keeps (word_of c.args.word.now) c.args.row.now c.args.queues.now c.args.flags.now c.args.env.now c.args.seats.now.items c.args.history.now.items c.requires c.args.number seat within unasked))
 
 pub returns-in-Ok-clause-ok : goal.returns-in-Ok-clause-ok
@@ -85,7 +85,7 @@ returns-in-Ok-clause-ok g c =
     let same = same_element c.args.seats.now.items c.args.number c.index-2.result.now seat within c.index-2.ensures c.index_mut-2.ensures.value in
     let unasked = rw (same_element c.args.seats.now.items c.args.number c.index.result.now seat within c.index.ensures c.index_mut-2.ensures.value, c.index_mut-2.ensures.value) at c.in_default.is in
     rw (c.encode.ensures, decoded c.perform.new.word) (told _ _ c.args.number c.in-Ok.step (inl (
-    acts_here g.C.Condition.means g.met.C.Condition.has_cells.0 g.met.C.Condition.quiet_keeps (word_of c.args.word.now) c.args.row.now c.args.queues.now c.args.flags.now c.args.env.now c.args.seats.now.items c.args.history.now.items c.requires c.args.number seat within c.in-Some-walk.walk (rw (same, c.index_mut-2.ensures.value) at c.in-Some-walk.is) c.perform.new.word c.perform.new.row c.perform.new.queues c.perform.new.flags c.perform.new.seat c.perform.new.history.items c.in-Ok.step c.in-Ok.ensures.others
+    acts_here g.C.Condition.means g.met.C.Condition.has_cells.0 g.met.C.Condition.quiet_keeps (word_of c.args.word.now) c.args.row.now c.args.queues.now c.args.flags.now c.args.env.now c.args.seats.now.items c.args.history.now.items c.requires c.args.number seat within c.in-Some-walk.walk (rw (same, c.index_mut-2.ensures.value) at c.in-Some-walk.is) c.perform.new.word c.perform.new.row c.perform.new.queues c.perform.new.flags c.perform.new.seat c.perform.new.history.items c.in-Ok.step
     (rw (← c.index_mut-2.ensures.value, ← c.unpacked-found.ensures) c.in-Ok.ensures.ok)
     unasked
     )))
@@ -96,7 +96,7 @@ returns-in-Ok-clause-lawful g c =
     let within : c.args.number < length c.args.seats.now.items = omega arith in
     let same = same_element c.args.seats.now.items c.args.number c.index-2.result.now seat within c.index-2.ensures c.index_mut-2.ensures.value in
     let unasked = rw (same_element c.args.seats.now.items c.args.number c.index.result.now seat within c.index.ensures c.index_mut-2.ensures.value, c.index_mut-2.ensures.value) at c.in_default.is in
-    rw (c.encode.ensures, decoded c.perform.new.word) (lawful_after g.C.Condition.means g.met.C.Condition.has_cells.0 g.met.C.Condition.quiet_keeps (word_of c.args.word.now) c.args.row.now c.args.queues.now c.args.flags.now c.args.env.now c.args.seats.now.items c.args.history.now.items c.requires c.args.number seat within c.in-Some-walk.walk (rw (same, c.index_mut-2.ensures.value) at c.in-Some-walk.is) c.perform.new.word c.perform.new.row c.perform.new.queues c.perform.new.flags c.perform.new.seat c.perform.new.history.items c.in-Ok.step c.in-Ok.ensures.others
+    rw (c.encode.ensures, decoded c.perform.new.word) (lawful_after g.C.Condition.means g.met.C.Condition.has_cells.0 g.met.C.Condition.quiet_keeps (word_of c.args.word.now) c.args.row.now c.args.queues.now c.args.flags.now c.args.env.now c.args.seats.now.items c.args.history.now.items c.requires c.args.number seat within c.in-Some-walk.walk (rw (same, c.index_mut-2.ensures.value) at c.in-Some-walk.is) c.perform.new.word c.perform.new.row c.perform.new.queues c.perform.new.flags c.perform.new.seat c.perform.new.history.items c.in-Ok.step
     (rw (← c.index_mut-2.ensures.value, ← c.unpacked-found.ensures) c.in-Ok.ensures.ok) _ (unasked_cleared g.C.Condition.means g.met.C.Condition.has_cells.0 g.met.C.Condition.quiet_keeps (word_of c.args.word.now) c.args.row.now c.args.queues.now c.args.flags.now c.args.env.now c.args.seats.now.items c.args.history.now.items c.requires c.args.number seat within unasked))
 
 pub returns-in-Err-clause-lawful : goal.returns-in-Err-clause-lawful

@@ -1,23 +1,26 @@
-use Rattle.std.proofs.Common.{rules, refl}
+use Rattle.std.proofs.Common.{◌≡◌, length, map, rules, refl, ap, ◌∙◌}
 use Rattle.ns_word.specs.Codec.{word_of}
-use Rattle.ns_world.proofs.Lists.{all_empty}
+use Rattle.ns_queue.specs.Queues.{Lists}
+use Rattle.ns_queue.specs.Waiters.{shown_of}
+use Rattle.ns_world.specs.Performs.{view_of}
+use Rattle.ns_world.proofs.Lists.{each_shown, shown_four}
 use Rattle.ns_world.proofs.Packable.{packable}
-use Rattle.ns_world.proofs.States.{number_below, nowhere, few_seats, wakes_few}
+use Rattle.ns_world.proofs.States.{listed, number_below, nowhere, few_seats, wakes_few}
 use Rattle.ns_world.proofs.world.World.state.Goals as goal
 
 pub unpacked-requires : goal.unpacked-requires
 unpacked-requires g c = packable _ c.self.invariant
 
-pub shown_lock-requires : goal.shown_lock-requires
-shown_lock-requires g c = (
+pub shown_queues-queues-requires : goal.shown_queues-queues-requires
+shown_queues-queues-requires g c = (
   search rules,
   (
     g.met.C.Seated.seat_fits,
     (
       search rules,
-      (
-        c.self.invariant.no_variables,
-        rw c.deref.ensures.value (
+      rw c.deref.ensures.value (
+        λ i seat at. listed g.C.Condition.means (word_of c.self.inside.word) c.self.inside.row c.self.inside.queues c.self.inside.flags c.self.inside.env c.self.inside.seats.items c.self.inside.history.items c.self.invariant i seat at,
+        (
           λ i seat at. number_below g.C.Condition.means (word_of c.self.inside.word) c.self.inside.row c.self.inside.queues c.self.inside.flags c.self.inside.env c.self.inside.seats.items c.self.inside.history.items c.self.invariant i seat at,
           λ i seat at. nowhere g.C.Condition.means (word_of c.self.inside.word) c.self.inside.row c.self.inside.queues c.self.inside.flags c.self.inside.env c.self.inside.seats.items c.self.inside.history.items c.self.invariant i seat at,
         ),
@@ -36,13 +39,17 @@ pub returns-clause-busy : goal.returns-clause-busy
 returns-clause-busy g c = λ seat. rw (← c.self.view_is) (rw c.deref-3.ensures.value at (c.busy_seats.ensures seat))
 
 pub returns-clause-variables : goal.returns-clause-variables
-returns-clause-variables g c = all_empty c.new.result c.new-2.result c.new-3.result c.new-4.result c.new.ensures c.new-2.ensures c.new-3.ensures c.new-4.ensures
+returns-clause-variables g c =
+    let queues = c.shown_queues-queues.result in
+    let same = rw c.deref.ensures.value at c.shown_queues-queues.ensures in
+    let four : length queues.cvs ≡ 4 = ap (λ (lists : Lists _). length lists.cvs) same ∙ shown_four g.C.Condition.means c.self.inside.row c.self.inside.queues (map view_of c.self.inside.seats.items) ∙ c.self.invariant.lawful.waiters_placed.four in
+    rw (← c.self.view_is) (each_shown queues.cvs c.shown-2.result c.shown-3.result c.shown-4.result c.shown-5.result four c.shown-2.ensures c.shown-3.ensures c.shown-4.ensures c.shown-5.ensures ∙ ap (λ (lists : Lists _). map (map shown_of) lists.cvs) same)
 
 pub returns-clause-word : goal.returns-clause-word
 returns-clause-word g c = rw (← c.self.view_is) c.unpacked.ensures
 
 pub returns-clause-lock : goal.returns-clause-lock
-returns-clause-lock g c = rw (← c.self.view_is) (rw c.deref.ensures.value at c.shown_lock.ensures)
+returns-clause-lock g c = rw (← c.self.view_is) (c.shown.ensures ∙ ap (λ (lists : Lists _). map shown_of lists.lock) (rw c.deref.ensures.value at c.shown_queues-queues.ensures))
 
 pub returns-clause-owed : goal.returns-clause-owed
 returns-clause-owed g c = rw (← c.self.view_is) (rw c.deref-2.ensures.value at c.owed_wakes.ensures)

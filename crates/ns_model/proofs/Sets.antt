@@ -1,0 +1,43 @@
+-- Sets of seats, seat by seat.
+use Rattle.std.proofs.Common.{◌≡◌, ◌≢◌, ℕ, ◌<◌, ◌^◌, true, false, ◌||◌, inl, inr, eqb, List, [], ◌∷◌, refl, ap, sym, ◌∙◌, arith, bit_or}
+use Rattle.std.specs.Int.{bit_at}
+use Rattle.std.specs.List.{list_any}
+use Rattle.std.proofs.lemmas.Bool.{cases_eq, ne_eqb, eq-eqb}
+use Rattle.std.proofs.lemmas.Nat.Bits.{bit_at_or, bit_at-zero, bit_at-lt, bit_at-pow_same, bit_at-pow_other, same_from_bits}
+use Rattle.ns_model.specs.declared.seats.Seats.{Seats}
+use Rattle.ns_model.specs.Seats.{is_in, seats_in}
+
+same_bit : (a b : ℕ) → a < 2 → b < 2 → eqb a 1 ≡ eqb b 1 → a ≡ b
+same_bit a b low small same =
+    elim (cases_eq a 1) [
+      | inl e ↦ elim (cases_eq b 1) [ inl f ↦ omega arith | inr ne ↦ let t = sym (eq-eqb a 1 e) ∙ same ∙ ne_eqb b 1 ne in absurd (cc) ]
+      | inr ne ↦ elim (cases_eq b 1) [ inl f ↦ let t = sym (ne_eqb a 1 ne) ∙ same ∙ eq-eqb b 1 f in absurd (cc) | inr other ↦ omega arith ]
+    ]
+
+-- sets that agree at each seat are one
+pub same_seats : (a b : Seats) → ((seat : ℕ) → is_in a seat ≡ is_in b seat) → a ≡ b
+same_seats a b same =
+    let number : a.0 ≡ b.0 = same_from_bits a.0 b.0 (λ i. same_bit (bit_at a.0 i) (bit_at b.0 i) (bit_at-lt a.0 i) (bit_at-lt b.0 i) (same i)) in
+    λ i. record { 0 = number i }
+
+-- no seat is in the empty set
+pub none_in : (seat : ℕ) → is_in (seats_in []) seat ≡ false
+none_in seat = rw (bit_at-zero seat) refl
+
+in_same : (s seat : ℕ) → eqb (bit_at (bit_or s (2 ^ seat)) seat) 1 ≡ true
+in_same s seat = eq-eqb _ 1 (bit_at_or s (2 ^ seat) seat ∙ rw (bit_at-pow_same seat) (omega (arith, bit_at-lt s seat)))
+
+in_other : (s n seat : ℕ) → seat ≢ n → eqb (bit_at (bit_or s (2 ^ n)) seat) 1 ≡ eqb (bit_at s seat) 1
+in_other s n seat ne = ap (λ bit. eqb bit 1) (bit_at_or s (2 ^ n) seat ∙ rw (bit_at-pow_other n seat ne) (omega arith))
+
+-- one seat more
+pub in_more : (n : ℕ) (seats : List ℕ) (seat : ℕ) → is_in (seats_in (n ∷ seats)) seat ≡ (eqb n seat || is_in (seats_in seats) seat)
+in_more n seats seat = elim (cases_eq n seat) [
+  | inl e ↦ rw (eq-eqb n seat e, e) (in_same (seats_in seats).0 seat)
+  | inr ne ↦ rw (ne_eqb n seat ne) (in_other (seats_in seats).0 n seat (λ e. ne (sym e)))
+]
+
+-- a seat is in the set just where it is one of these
+pub in_seats : (seats : List ℕ) (seat : ℕ) → is_in (seats_in seats) seat ≡ list_any (λ n. eqb n seat) seats
+in_seats [] seat = none_in seat
+in_seats (n ∷ seats) seat = in_more n seats seat ∙ ap (λ rest. eqb n seat || rest) (in_seats seats seat)

@@ -1,0 +1,30 @@
+-- Waiters put at the back of the lock list, one after the other, and the seats in one of the lists.
+use Rattle.std.proofs.Common.{◌≡◌, ℕ, ◌+◌, ◌≤◌, ◌<◌, eqb, List, ◌++◌, length, get_or, take, ap, sym, arith}
+use Rattle.std.proofs.lemmas.List.Sums.{sum_by_more_le}
+use Rattle.std.proofs.lemmas.Bool.{eq-eqb}
+use Rattle.arrayvec.specs.ArrayVec.{ArrayVec}
+use Rattle.ns_queue.specs.declared.waiter.Waiter.{Waiter}
+use Rattle.ns_queue.specs.declared.waiter.Which.TheVariants.{Lock, Cv}
+use Rattle.ns_queue.specs.Waiters.{HaveSeats, times_in}
+use Rattle.ns_queue.specs.Queues.{Lists, IsOrderly, times, with_waiters}
+use Rattle.ns_queue.specs.Signals.{signaled_of}
+use Rattle.ns_queue.proofs.Seats.{one_if, times_in-append}
+use Rattle.ns_queue.proofs.Inside.{shape, list_at}
+use Rattle.ns_queue.proofs.Parts.{below_in}
+use Rattle.ns_queue.proofs.Taken.{times_signaled}
+
+module _ {C : Type 0} where
+  -- the next of them stands nowhere yet
+  pub next_free : (lists now : Lists C) (ws : List (Waiter C)) (i : ℕ) (w : Waiter C) → ((seat : ℕ) → times_in seat ws + times seat lists ≤ 1) → i < length ws → w ≡ get_or ws i w →
+      now ≡ with_waiters lists Lock (lists.lock ++ take i ws) → times w.seat now ≡ 0
+  next_free lists now ws i w once within is so_far =
+      let more : times_in w.seat (take i ws) + one_if (eqb (get_or ws i w).seat w.seat) ≤ times_in w.seat ws = sum_by_more_le (λ v. one_if (eqb v.seat w.seat)) ws i w within in
+      let one : ◌≡◌ {A = ℕ} (one_if (eqb (get_or ws i w).seat w.seat)) 1 = ap one_if (eq-eqb (get_or ws i w).seat w.seat (ap (λ v. v.seat) (sym is))) in
+      omega (arith, more, one, once w.seat, times_in-append w.seat lists.lock (take i ws), ap (times w.seat) so_far)
+
+  -- the waiters of a variable's list have seats, and so have those of them whom a signal takes
+  pub have_seats_at : (lock : List (Waiter C)) (cvs : List (ArrayVec (Waiter C))) (k : ℕ) (d : ArrayVec (Waiter C)) → IsOrderly (shape lock cvs) → k < 4 → HaveSeats (get_or cvs k d).items
+  have_seats_at lock cvs k d orderly low = rw (← list_at lock cvs k d orderly low) (below_in (shape lock cvs) (Cv k) orderly low)
+
+  pub have_signaled : (ws : List (Waiter C)) → HaveSeats ws → HaveSeats (signaled_of ws)
+  have_signaled ws low seat high = omega (arith, times_signaled ws seat, low seat high)

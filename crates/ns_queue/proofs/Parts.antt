@@ -1,0 +1,112 @@
+-- One of the five lists: read back, changed, and left by a seat.
+use Rattle.std.proofs.Common.{◌≡◌, ◌≢◌, ℕ, zero, suc, ◌+◌, ◌≤◌, ◌<◌, inl, inr, cond, eqb, List, [], ◌∷◌, length, get_or, set, map, refl, ap, ◌∙◌, arith}
+use Rattle.std.specs.List.{sum_by}
+use Rattle.std.proofs.lemmas.List.{length-set, get_or-set_same, get_or-set_other}
+use Rattle.std.proofs.lemmas.List.Sums.{sum_by-cons, get_or-le-sum_by}
+use Rattle.std.proofs.lemmas.Bool.{ne_eqb, eq-eqb, cases_eq}
+use Rattle.ns_queue.specs.declared.waiter.Waiter.{Waiter}
+use Rattle.ns_queue.specs.declared.waiter.Which.{Which}
+use Rattle.ns_queue.specs.declared.waiter.Which.TheVariants.{Lock, Cv}
+use Rattle.ns_queue.specs.Waiters.{times_in, without_in, HaveSeats}
+use Rattle.ns_queue.specs.Queues.{Lists, IsList, IsOrderly, times, waiters_of, with_waiters, without}
+use Rattle.ns_queue.proofs.Seats.{times_in-cons}
+use Rattle.ns_queue.proofs.Orders.{orderly_less, times_set, lock_times, cv_times}
+
+module _ {C : Type 0} where
+  -- ---- a list that was put
+
+  -- what was put into a list is read there
+  pub read_back : (lists : Lists C) (which : Which) (ws : List (Waiter C)) → length lists.cvs ≡ 4 → IsList which → waiters_of (with_waiters lists which ws) which ≡ ws
+  read_back lists Lock ws four low = refl
+  read_back lists (Cv k) ws four low = get_or-set_same lists.cvs k ws [] (omega (arith, four, low))
+
+  -- what was put into a list leaves every other list
+  pub read_other : (lists : Lists C) (which other : Which) (ws : List (Waiter C)) → other ≢ which → waiters_of (with_waiters lists which ws) other ≡ waiters_of lists other
+  read_other lists Lock Lock ws ne = absurd (ne refl)
+  read_other lists Lock (Cv j) ws ne = refl
+  read_other lists (Cv k) Lock ws ne = refl
+  read_other lists (Cv k) (Cv j) ws ne = get_or-set_other lists.cvs k j ws [] (λ e. ne (ap Cv e))
+
+  -- the same of two variables
+  pub read_apart : (lists : Lists C) (k j : ℕ) (ws : List (Waiter C)) → j ≢ k → waiters_of (with_waiters lists (Cv k) ws) (Cv j) ≡ waiters_of lists (Cv j)
+  read_apart lists k j ws ne = get_or-set_other lists.cvs k j ws [] ne
+
+  -- a variable's list in place of another leaves the lock's
+  pub lock_kept : (lists : Lists C) (k : ℕ) (ws : List (Waiter C)) → (with_waiters lists (Cv k) ws).lock ≡ lists.lock
+  lock_kept lists k ws = refl
+
+  -- the lock's list in place of another leaves those of the variables
+  pub cvs_kept : (lists : Lists C) (ws : List (Waiter C)) → (with_waiters lists Lock ws).cvs ≡ lists.cvs
+  cvs_kept lists ws = refl
+
+  -- and as many lists of variables as before
+  pub four_kept : (lists : Lists C) (which : Which) (ws : List (Waiter C)) → length (with_waiters lists which ws).cvs ≡ length lists.cvs
+  four_kept lists Lock ws = refl
+  four_kept lists (Cv k) ws = length-set lists.cvs k ws
+
+  -- ---- how often a seat stands there
+
+  -- a list in place of another
+  pub times_with : (lists : Lists C) (which : Which) (ws : List (Waiter C)) (seat : ℕ) → length lists.cvs ≡ 4 → IsList which →
+      times seat (with_waiters lists which ws) + times_in seat (waiters_of lists which) ≡ times seat lists + times_in seat ws
+  times_with lists Lock ws seat four low = omega arith
+  times_with lists (Cv k) ws seat four low = times_set lists k ws seat (omega (arith, four, low))
+
+  -- a seat stands in no list more often than in all of them
+  pub times_at_most : (lists : Lists C) (which : Which) (seat : ℕ) → length lists.cvs ≡ 4 → IsList which → times_in seat (waiters_of lists which) ≤ times seat lists
+  times_at_most lists Lock seat four low = lock_times lists seat
+  times_at_most lists (Cv k) seat four low = cv_times lists k seat (omega (arith, four, low))
+
+  -- in each of orderly lists a seat stands at most once
+  pub once_in : (lists : Lists C) (which : Which) → IsOrderly lists → IsList which → (seat : ℕ) → times_in seat (waiters_of lists which) ≤ 1
+  once_in lists which orderly is seat = omega (arith, times_at_most lists which seat orderly.four is, orderly.once seat)
+
+  -- and only seats below 64 do
+  pub below_in : (lists : Lists C) (which : Which) → IsOrderly lists → IsList which → HaveSeats (waiters_of lists which)
+  below_in lists which orderly is seat high = omega (arith, times_at_most lists which seat orderly.four is, orderly.below seat high)
+
+  -- lists stay orderly where no seat stands more often in one of them
+  pub orderly_with : (lists : Lists C) (which : Which) (ws : List (Waiter C)) → IsOrderly lists → IsList which → ((seat : ℕ) → times_in seat ws ≤ times_in seat (waiters_of lists which)) → IsOrderly (with_waiters lists which ws)
+  orderly_with lists which ws orderly is less =
+      orderly_less lists (with_waiters lists which ws) orderly (four_kept lists which ws ∙ orderly.four)
+      (λ seat. omega (arith, times_with lists which ws seat orderly.four is, less seat))
+
+  -- ---- a seat that stands in one of them is taken out of that one alone
+
+  -- a list without one who doesn't stand in it
+  pub none_without : (seat : ℕ) (ws : List (Waiter C)) → times_in seat ws ≡ 0 → without_in seat ws ≡ ws
+  none_without seat [] none = refl
+  none_without seat (w ∷ ws) none =
+      let sum = times_in-cons seat w ws in
+      elim (cases_eq w.seat seat) [
+        | inl same ↦ let one : ◌≡◌ {A = ℕ} (cond (eqb w.seat seat) 1 0) 1 = rw (eq-eqb w.seat seat same) refl in absurd (omega (arith, sum, one, none))
+        | inr other ↦ rw (ne_eqb w.seat seat other) (ap (λ vs. w ∷ vs) (none_without seat ws (omega (arith, sum, none))))
+      ]
+
+  lists_without : (seat : ℕ) (lists : List (List (Waiter C))) → sum_by (times_in seat) lists ≡ 0 → map (without_in seat) lists ≡ lists
+  lists_without seat [] none = refl
+  lists_without seat (ws ∷ lists) none =
+      let sum = sum_by-cons (times_in seat) ws lists in
+      rw (none_without seat ws (omega (arith, sum, none)), lists_without seat lists (omega (arith, sum, none))) refl
+
+  one_without : (seat k : ℕ) (lists : List (List (Waiter C))) → k < length lists → sum_by (times_in seat) lists ≤ 1 → 0 < times_in seat (get_or lists k []) →
+      map (without_in seat) lists ≡ set lists k (without_in seat (get_or lists k []))
+  one_without seat k [] within most here = refl
+  one_without seat zero (ws ∷ lists) within most here =
+      let sum = sum_by-cons (times_in seat) ws lists in
+      ap (λ (vs : List (List (Waiter C))). without_in seat ws ∷ vs) (lists_without seat lists (omega (arith, sum, most, here)))
+  one_without seat (suc k) (ws ∷ lists) within most here =
+      let sum = sum_by-cons (times_in seat) ws lists in
+      let part = get_or-le-sum_by (times_in seat) lists k [] (omega arith) in
+      rw (none_without seat ws (omega (arith, sum, most, here, part)))
+      (ap (λ (vs : List (List (Waiter C))). ws ∷ vs) (one_without seat k lists (omega arith) (omega (arith, sum, most)) here))
+
+  -- the lists without a seat differ in the list that it stood in
+  pub removed_of : (lists : Lists C) (which : Which) (seat : ℕ) → IsOrderly lists → IsList which → 0 < times_in seat (waiters_of lists which) →
+      without seat lists ≡ with_waiters lists which (without_in seat (waiters_of lists which))
+  removed_of lists Lock seat orderly is here =
+      rw (lists_without seat lists.cvs (omega (arith, orderly.once seat, here))) refl
+  removed_of lists (Cv k) seat orderly is here =
+      let within : k < length lists.cvs = omega (arith, orderly.four, is) in
+      let part = get_or-le-sum_by (times_in seat) lists.cvs k [] within in
+      rw (none_without seat lists.lock (omega (arith, orderly.once seat, here, part)), one_without seat k lists.cvs within (omega (arith, orderly.once seat)) here) refl

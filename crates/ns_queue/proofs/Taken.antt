@@ -1,0 +1,115 @@
+-- What a wake takes of a list, and what it leaves there.
+use Rattle.std.proofs.Common.{◌≡◌, ℕ, zero, suc, ◌+◌, ◌<◌, Bool, true, false, ◌||◌, inl, inr, eqb, nat_lt, List, [], ◌∷◌, length, get_or, take, ap, sym, ◌∙◌, arith, ◌≤◌, refl}
+use Rattle.std.proofs.Math.Bool.{or_comm}
+use Rattle.std.proofs.lemmas.Bool.{ltb-true, lt-ltb, ne_eqb, eq-eqb, cases_eq, cases_lt, le-ltb}
+use Rattle.std.proofs.lemmas.List.{take_more}
+use Rattle.ns_model.specs.declared.seats.Seats.{Seats}
+use Rattle.ns_model.specs.Seats.{is_in}
+use Rattle.ns_model.proofs.Sets.{same_seats, none_in, in_more}
+use Rattle.ns_model.specs.Tallies.{Every}
+use Rattle.ns_queue.specs.declared.waiter.Waiter.{Waiter}
+use Rattle.ns_queue.specs.declared.signal.Wanted.TheVariants.{Anybody}
+use Rattle.ns_queue.specs.Waiters.{times_in, seats_of, HaveSeats}
+use Rattle.ns_queue.specs.Signals.{signaled_of, unsignaled_of, taken_set}
+use Rattle.ns_queue.specs.Marks.{marked, unmarked, signal_marks}
+use Rattle.ns_queue.proofs.Seats.{one_if, times_in-cons, times_in_push}
+use Rattle.ns_queue.proofs.Meaning.{signal_takes, signal_leaves}
+
+module _ {C : Type 0} where
+  times_parted : (ms : List Bool) (ws : List (Waiter C)) (seat : ℕ) → times_in seat (marked ms ws) + times_in seat (unmarked ms ws) ≡ times_in seat ws
+  times_parted [] ws seat = omega arith
+  times_parted (m ∷ ms) [] seat = omega arith
+  times_parted (true ∷ ms) (w ∷ ws) seat = omega (arith, times_in-cons seat w ws, times_in-cons seat w (marked ms ws), times_parted ms ws seat)
+  times_parted (false ∷ ms) (w ∷ ws) seat = omega (arith, times_in-cons seat w ws, times_in-cons seat w (unmarked ms ws), times_parted ms ws seat)
+
+  -- a signal takes some and leaves the others
+  pub times_signaled : (ws : List (Waiter C)) (seat : ℕ) → times_in seat (signaled_of ws) + times_in seat (unsignaled_of ws) ≡ times_in seat ws
+  times_signaled ws seat = rw (← signal_takes ws, ← signal_leaves ws) (times_parted (signal_marks Anybody ws) ws seat)
+
+  -- whom a signal takes stands there once, where nobody stands in the list twice
+  pub once_signaled : (ws : List (Waiter C)) → ((seat : ℕ) → times_in seat ws ≤ 1) → (seat : ℕ) → times_in seat (signaled_of ws) ≤ 1
+  once_signaled ws once seat = omega (arith, times_signaled ws seat, once seat)
+
+  -- and has a seat below 64, where everybody in the list has
+  pub below_signaled : (ws : List (Waiter C)) → HaveSeats ws → HaveSeats (signaled_of ws)
+  below_signaled ws below seat high = omega (arith, times_signaled ws seat, below seat high)
+
+module _ {A : Type 0} (P : A → Type 0) where
+  every_marked : (ms : List Bool) (xs : List A) → Every P xs → Every P (marked ms xs)
+  every_marked [] xs p = tt
+  every_marked (m ∷ ms) [] p = tt
+  every_marked (true ∷ ms) (x ∷ xs) p = (p.0, every_marked ms xs p.1)
+  every_marked (false ∷ ms) (x ∷ xs) p = every_marked ms xs p.1
+
+  every_unmarked : (ms : List Bool) (xs : List A) → Every P xs → Every P (unmarked ms xs)
+  every_unmarked [] xs p = p
+  every_unmarked (m ∷ ms) [] p = tt
+  every_unmarked (true ∷ ms) (x ∷ xs) p = every_unmarked ms xs p.1
+  every_unmarked (false ∷ ms) (x ∷ xs) p = (p.0, every_unmarked ms xs p.1)
+
+module _ {C : Type 0} (P : Waiter C → Type 0) where
+  -- what holds of each waiter holds of those whom a signal takes
+  pub every_signaled : (ws : List (Waiter C)) → Every P ws → Every P (signaled_of ws)
+  every_signaled ws p = rw (← signal_takes ws) (every_marked P (signal_marks Anybody ws) ws p)
+
+  -- and of those whom it leaves
+  pub every_unsignaled : (ws : List (Waiter C)) → Every P ws → Every P (unsignaled_of ws)
+  every_unsignaled ws p = rw (← signal_leaves ws) (every_unmarked P (signal_marks Anybody ws) ws p)
+
+-- ---- the set of those taken
+
+some_more : (b : Bool) (n : ℕ) → nat_lt 0 (one_if b + n) ≡ (b || nat_lt 0 n)
+some_more true n = lt-ltb 0 _ (omega arith)
+some_more false n = ap (nat_lt 0) (omega arith)
+
+same_either : (a b : ℕ) → eqb a b ≡ eqb b a
+same_either a b = elim (cases_eq a b) [ inl e ↦ eq-eqb a b e ∙ sym (eq-eqb b a (sym e)) | inr ne ↦ ne_eqb a b ne ∙ sym (ne_eqb b a (λ e. ne (sym e))) ]
+
+module _ {C : Type 0} where
+  -- a seat is in the set just where it stands in the list
+  pub in_taken : (ws : List (Waiter C)) (seat : ℕ) → is_in (taken_set ws) seat ≡ nat_lt 0 (times_in seat ws)
+  in_taken [] seat = none_in seat
+  in_taken (w ∷ ws) seat = rw (in_more w.seat (seats_of ws) seat, in_taken ws seat, times_in-cons seat w ws) (sym (some_more (eqb w.seat seat) (times_in seat ws)))
+
+  -- who stands in the list is in the set
+  pub in_list : (ws : List (Waiter C)) (seat : ℕ) → 1 ≤ times_in seat ws → is_in (taken_set ws) seat ≡ true
+  in_list ws seat here = in_taken ws seat ∙ lt-ltb 0 (times_in seat ws) here
+
+  -- who doesn't stand in the list isn't in the set
+  pub not_in_list : (ws : List (Waiter C)) (seat : ℕ) → times_in seat ws ≡ 0 → is_in (taken_set ws) seat ≡ false
+  not_in_list ws seat none = in_taken ws seat ∙ le-ltb 0 (times_in seat ws) (omega (arith, none))
+
+  -- who is in the set stands in the list
+  pub in_stands : (ws : List (Waiter C)) (seat : ℕ) → is_in (taken_set ws) seat ≡ true → 1 ≤ times_in seat ws
+  in_stands ws seat is = ltb-true 0 (times_in seat ws) (sym (in_taken ws seat) ∙ is)
+
+  -- the first waiter's seat stands there once more than behind it
+  pub first_once : (w : Waiter C) (ws : List (Waiter C)) → times_in w.seat (w ∷ ws) ≡ 1 + times_in w.seat ws
+  first_once w ws = let one : ◌≡◌ {A = ℕ} (one_if (eqb w.seat w.seat)) 1 = ap one_if (eq-eqb w.seat w.seat refl) in omega (arith, times_in-cons w.seat w ws, one)
+
+  stands_at : (ws : List (Waiter C)) (i : ℕ) (w : Waiter C) → i < length ws → w ≡ get_or ws i w → 0 < times_in w.seat ws
+  stands_at [] i w within is = absurd (omega (arith, within))
+  stands_at (v ∷ ws) zero w within is =
+      let one : ◌≡◌ {A = ℕ} (one_if (eqb v.seat w.seat)) 1 = ap one_if (eq-eqb v.seat w.seat (ap (λ u. u.seat) (sym is))) in omega (arith, one, times_in-cons w.seat v ws)
+  stands_at (v ∷ ws) (suc i) w within is = omega (arith, times_in-cons w.seat v ws, stands_at ws i w (omega arith) is)
+
+  -- a waiter of the list has a seat below 64
+  pub low_at : (ws : List (Waiter C)) (i : ℕ) (w : Waiter C) → HaveSeats ws → i < length ws → w ≡ get_or ws i w → w.seat < 64
+  low_at ws i w low within is =
+      let here = stands_at ws i w within is in
+      elim (cases_lt w.seat 64) [ inl lt ↦ lt | inr high ↦ absurd (omega (arith, low w.seat high, here)) ]
+
+  count_on : (ws : List (Waiter C)) (i : ℕ) (w : Waiter C) (n : ℕ) → i < length ws → w ≡ get_or ws i w → times_in n (take (i + 1) ws) ≡ one_if (eqb n w.seat) + times_in n (take i ws)
+  count_on ws i w n within is =
+      let here = ap (λ v. one_if (eqb v.seat n)) is in
+      omega (arith, ap (times_in n) (take_more ws i w within), times_in_push (take i ws) (get_or ws i w) n, here, ap one_if (same_either n w.seat))
+
+  -- the set so far, and one waiter more
+  pub set_more : (ws : List (Waiter C)) (i : ℕ) (w : Waiter C) (old new : Seats) → i < length ws → w ≡ get_or ws i w → ((n : ℕ) → is_in new n ≡ (is_in old n || eqb n w.seat)) →
+      ((n : ℕ) → is_in old n ≡ nat_lt 0 (times_in n (take i ws))) → (n : ℕ) → is_in new n ≡ nat_lt 0 (times_in n (take (i + 1) ws))
+  set_more ws i w old new within is more before n =
+      more n ∙ or_comm (is_in old n) (eqb n w.seat) ∙ rw (before n, count_on ws i w n within is) (sym (some_more (eqb n w.seat) (times_in n (take i ws))))
+
+  -- a set that has just those who stand in the list is its set
+  pub set_whole : (ws : List (Waiter C)) (set : Seats) → ((n : ℕ) → is_in set n ≡ nat_lt 0 (times_in n ws)) → set ≡ taken_set ws
+  set_whole ws set each = same_seats set (taken_set ws) (λ n. each n ∙ sym (in_taken ws n))

@@ -1,0 +1,16 @@
+use Rattle.std.proofs.Common.{◌<◌, nat_lt, ap, ◌∙◌}
+use Rattle.std.proofs.lemmas.Bool.{ltb_from_iff}
+use Rattle.ns_queue.specs.Waiters.{times_in}
+use Rattle.ns_queue.proofs.Orders.{offset_fits}
+use Rattle.ns_queue.proofs.Inside.{list_at}
+use Rattle.ns_queue.proofs.queues.Queues.stands.Goals as goal
+
+pub offset_bounds-self-inside-k : goal.offset_bounds-self-inside-k
+offset_bounds-self-inside-k g c =
+    let low : c.in-Cv.k < 4 = rw c.in-Cv.is at c.requires in offset_fits c.in-Cv.k _ low g.met.C.Queueable.list_fits
+
+pub returns-in-Cv-clause-stands : goal.returns-in-Cv-clause-stands
+returns-in-Cv-clause-stands g c =
+    let low : c.in-Cv.k < 4 = rw c.in-Cv.is at c.requires in
+    rw (c.in-Cv.is, ← c.self.view_is, list_at _ _ c.in-Cv.k c.index-self-k.result c.self.invariant low)
+    (ltb_from_iff c.stands_in-in-Cv.ensures ∙ ap (λ ws. nat_lt 0 (times_in c.args.seat ws)) c.as_slice-in-Cv.ensures.value)

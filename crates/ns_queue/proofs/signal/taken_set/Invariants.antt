@@ -1,0 +1,8 @@
+use Rattle.std.proofs.Common.{◌≡◌, ℕ, take, nat_lt}
+use Rattle.ns_model.specs.Seats.{is_in}
+use Rattle.ns_queue.specs.Waiters.{times_in}
+use Rattle.ns_queue.proofs.signal.taken_set.Given as goal
+
+-- the seats so far
+abbrev pub invariant-loop-waiter : goal.invariant-loop-waiter
+invariant-loop-waiter g l = (n : ℕ) → is_in l.set n ≡ nat_lt 0 (times_in n (take l.waiter-index l.taken))

@@ -1,0 +1,267 @@
+-- What the steps leave of the lists of the variables.
+use Rattle.std.proofs.Common.{◌≡◌, ◌≢◌, ℕ, ◌+◌, ◌<◌, ◌≤◌, inl, inr, Bool, true, false, not, cond, eqb, List, [], ◌∷◌, ◌++◌, length, Option, None, Some, refl, ap, sym, ◌∙◌, subst, arith, eq-eqb}
+use Rattle.std.proofs.lemmas.Bool.{ne_eqb, eqb-true, both_ways, cases_eq}
+use Rattle.ns_model.specs.declared.event.Mode.{Mode}
+use Rattle.ns_model.specs.declared.phase.Phase.{Phase}
+use Rattle.ns_model.specs.declared.phase.Phase.TheVariants.{Idle, Cond, Waiting, Woken, Left}
+use Rattle.ns_model.specs.Phases.{is_waiting, woken_phase}
+use Rattle.ns_model.specs.Seats.{is_in}
+use Rattle.ns_model.specs.Tallies.{one_if, Every}
+use Rattle.ns_queue.specs.declared.waiter.Waiter.{Waiter}
+use Rattle.ns_queue.specs.declared.waiter.Which.TheVariants.{Cv}
+use Rattle.ns_queue.specs.Queues.{Lists, IsOrderly, times, waiters_of, with_waiters}
+use Rattle.ns_queue.specs.Waiters.{times_in, without_in, is_of}
+use Rattle.ns_queue.proofs.Seats.{times_in-cons, times_in-append}
+use Rattle.ns_queue.proofs.Parts.{read_back, read_apart, four_kept, times_with, times_at_most, once_in, below_in}
+use Rattle.ns_queue.specs.Signals.{taken_set}
+use Rattle.ns_queue.specs.Wakes.{WaitFor, AreWaiting, woken_phases}
+use Rattle.ns_queue.proofs.Taken.{in_list}
+use Rattle.ns_queue.proofs.Woken.{untaken_stays}
+use Rattle.ns_word.specs.declared.wait.Subject.TheVariants.{OnVariable}
+use Rattle.ns_word.specs.declared.view.Held.{Held}
+use Rattle.ns_word.specs.declared.view.SeatView.{SeatView}
+use Rattle.ns_word.specs.declared.walk.Walk.{Walk}
+use Rattle.ns_word.specs.Walks.{waits_in}
+use Rattle.ns_word.specs.Views.{walk_at, NoneIs}
+use Rattle.ns_word.specs.Lawful.{VariableWaiterFits, VariablesTell}
+use Rattle.ns_word.proofs.Scans.{times_without, times_others}
+use Rattle.ns_word.proofs.Views.{view_of, walk_here, walk_there}
+
+abbrev CvOf : {C : Type 0} → Lists C → ℕ → List (Waiter C)
+CvOf lists k = waiters_of lists (Cv k)
+
+module _ {C : Type 0} where
+  every_without : (P : Waiter C → Type 0) (who : ℕ) (ws : List (Waiter C)) → Every P ws → Every P (without_in who ws)
+  every_without P who [] p = tt
+  every_without P who (w ∷ ws) p = elim (is_of who w) as (λ b. Every P (cond (not b) (w ∷ without_in who ws) (without_in who ws))) [ true ↦ every_without P who ws p.1 | false ↦ (p.0, every_without P who ws p.1) ]
+
+  every_push : (P : Waiter C → Type 0) (ws : List (Waiter C)) (w : Waiter C) → Every P ws → P w → Every P (ws ++ w ∷ [])
+  every_push P [] w p q = (q, tt)
+  every_push P (v ∷ ws) w p q = (p.0, every_push P ws w p.1 q)
+
+  -- a waiter that stands in a list is one of it
+  pub one_of : (P : Waiter C → Type 0) (seat : ℕ) (ws : List (Waiter C)) → 1 ≤ times_in seat ws → Every P ws → (w : Waiter C) × (w.seat ≡ seat) × P w
+  one_of P seat [] some p = absurd (omega (arith, some))
+  one_of P seat (w ∷ ws) some p = elim (cases_eq w.seat seat) [
+    | inl e ↦ (w, e, p.0)
+    | inr ne ↦ let none : one_if (eqb w.seat seat) ≡ 0 = rw (ne_eqb w.seat seat ne) refl in one_of P seat ws (omega (arith, times_in-cons seat w ws, some, none)) p.1
+  ]
+
+  -- a seat that stands in one of the lists stands in no other
+  apart_in : (lists : Lists C) → length lists.cvs ≡ 4 → (who k j : ℕ) → k < 4 → j < 4 → k ≢ j → times who lists ≤ 1 → 1 ≤ times_in who (CvOf lists j) → times_in who (CvOf lists k) ≡ 0
+  apart_in lists four who k j few low ne once stood =
+      let emptied = with_waiters lists (Cv j) [] in
+      let gone = times_with lists (Cv j) [] who four low in
+      let most = times_at_most emptied (Cv k) who (four_kept lists (Cv j) [] ∙ four) few in
+      let same : times_in who (CvOf emptied k) ≡ times_in who (CvOf lists k) = ap (times_in who) (read_apart lists j k [] ne) in
+      omega (arith, gone, most, same, once, stood)
+
+module _ {C : Type 0} {N : ℕ} where
+  -- a list whose waiters' seats go where they were, by place and by history
+  every_moves : (phases phases' : ℕ → Phase C) (views views' : List (SeatView C N)) (k : ℕ) (ws : List (Waiter C)) →
+      ((seat : ℕ) → 1 ≤ times_in seat ws → (waits_in (walk_at seat views') ≡ waits_in (walk_at seat views)) × (phases' seat ≡ phases seat)) →
+      Every (VariableWaiterFits phases views k) ws → Every (VariableWaiterFits phases' views' k) ws
+  every_moves phases phases' views views' k [] same p = tt
+  every_moves phases phases' views views' k (w ∷ ws) same p =
+      let here = same w.seat (let one : one_if (eqb w.seat w.seat) ≡ 1 = rw (eq-eqb w.seat w.seat refl) refl in omega (arith, times_in-cons w.seat w ws, one)) in (
+        record { stands = here.0 ∙ p.0.stands; waits = here.1 ∙ p.0.waits; plain = p.0.plain },
+        every_moves phases phases' views views' k ws (λ seat some. same seat (omega (arith, times_in-cons seat w ws, some))) p.1,
+      )
+
+  module _ (front : List (SeatView C N)) (who : ℕ) (walk : Option (Walk C)) (held : Option (Held C N)) (owed : List ℕ) (walk' : Option (Walk C)) (held' : Option (Held C N)) (owed' : List ℕ) (back : List (SeatView C N)) where
+    abbrev olds : List (SeatView C N)
+    olds = front ++ view_of who walk held owed ∷ back
+
+    abbrev news : List (SeatView C N)
+    news = front ++ view_of who walk' held' owed' ∷ back
+
+    there : (seat : ℕ) → who ≢ seat → waits_in (walk_at seat news) ≡ waits_in (walk_at seat olds)
+    there seat ne = ap waits_in (walk_there seat front (view_of who walk held owed) (view_of who walk' held' owed') back ne refl)
+
+    here : NoneIs who front → waits_in walk' ≡ waits_in walk → waits_in (walk_at who news) ≡ waits_in (walk_at who olds)
+    here apart same = ap waits_in (walk_here front (view_of who walk' held' owed') back apart) ∙ same ∙ sym (ap waits_in (walk_here front (view_of who walk held owed) back apart))
+
+    -- the seat waits as before, and so does every other, by the same history
+    pub tell_same : (phases : ℕ → Phase C) (lists lists' : Lists C) → NoneIs who front → lists'.cvs ≡ lists.cvs → waits_in walk' ≡ waits_in walk → VariablesTell phases lists olds → VariablesTell phases lists' news
+    tell_same phases lists lists' apart cvs same p =
+        let at_k : (k : ℕ) → CvOf lists' k ≡ CvOf lists k = λ k. ap (λ (c : List (List (Waiter C))). waiters_of (record { lock = lists.lock; cvs = c }) (Cv k)) cvs in
+        record {
+          own = λ k low. subst (λ ws. Every (VariableWaiterFits phases news k) ws) (sym (at_k k))
+              (every_moves phases phases olds news k (CvOf lists k) (λ seat some. elim (cases_eq who seat) [ inl e ↦ (subst (λ s. waits_in (walk_at s news) ≡ waits_in (walk_at s olds)) e (here apart same), refl) | inr ne ↦ (there seat ne, refl) ]) (p.own k low));
+          all = λ k seat mode e. let was = p.all k seat mode e in (was.0, subst (λ ws. 1 ≤ times_in seat ws) (sym (at_k k)) was.1);
+        }
+
+    -- the seat stands in no variable's list, and waits for none after it either
+    pub tell_moves : (phases phases' : ℕ → Phase C) (lists lists' : Lists C) → length lists.cvs ≡ 4 → lists'.cvs ≡ lists.cvs → times who lists ≡ 0 → ((seat : ℕ) → who ≢ seat → phases' seat ≡ phases seat) → ((k : ℕ) (mode : Mode) → phases' who ≡ Waiting k mode → ⊥) →
+        VariablesTell phases lists olds → VariablesTell phases' lists' news
+    tell_moves phases phases' lists lists' four cvs none others idle p =
+        let at_k : (k : ℕ) → CvOf lists' k ≡ CvOf lists k = λ k. ap (λ (c : List (List (Waiter C))). waiters_of (record { lock = lists.lock; cvs = c }) (Cv k)) cvs in
+        record {
+          own = λ k low. subst (λ ws. Every (VariableWaiterFits phases' news k) ws) (sym (at_k k))
+              (every_moves phases phases' olds news k (CvOf lists k)
+              (λ seat some. let other : who ≢ seat = λ e. let most = times_at_most lists (Cv k) seat four low in let zero : times seat lists ≡ 0 = subst (λ s. times s lists ≡ 0) e none in absurd (omega (arith, most, zero, some)) in (there seat other, others seat other)) (p.own k low));
+          all = λ k seat mode e. elim (cases_eq who seat) [
+            | inl same ↦ absurd (idle k mode (subst (λ s. phases' s ≡ Waiting k mode) (sym same) e))
+            | inr ne ↦ let was = p.all k seat mode (sym (others seat ne) ∙ e) in (was.0, subst (λ ws. 1 ≤ times_in seat ws) (sym (at_k k)) was.1)
+          ];
+        }
+
+    -- the seat goes to the back of a variable's list
+    pub tell_enters : (phases phases' : ℕ → Phase C) (lists lists' : Lists C) (j : ℕ) (mode : Mode) → NoneIs who front → length lists.cvs ≡ 4 → length lists'.cvs ≡ 4 → j < 4 → times who lists ≡ 0 →
+        lists'.cvs ≡ (with_waiters lists (Cv j) (CvOf lists j ++ record { seat = who; mode = mode; cond = None } ∷ [])).cvs →
+        waits_in walk' ≡ Some (record { mode = mode; on = Some (OnVariable j) }) → phases' who ≡ Waiting j mode → ((seat : ℕ) → who ≢ seat → phases' seat ≡ phases seat) →
+        VariablesTell phases lists olds → VariablesTell phases' lists' news
+    tell_enters phases phases' lists lists' j mode apart four four' low none cvs stance phase others p =
+        let w : Waiter C = record { seat = who; mode = mode; cond = None } in
+        let put = with_waiters lists (Cv j) (CvOf lists j ++ w ∷ []) in
+        let at_k : (k : ℕ) → CvOf lists' k ≡ CvOf put k = λ k. ap (λ (c : List (List (Waiter C))). waiters_of (record { lock = lists.lock; cvs = c }) (Cv k)) cvs in
+        let at_j : CvOf lists' j ≡ CvOf lists j ++ w ∷ [] = at_k j ∙ read_back lists (Cv j) (CvOf lists j ++ w ∷ []) four low in
+        let at_other : (k : ℕ) → k ≢ j → CvOf lists' k ≡ CvOf lists k = λ k ne. at_k k ∙ read_apart lists j k (CvOf lists j ++ w ∷ []) ne in
+        let moved : (k : ℕ) → k < 4 → Every (VariableWaiterFits phases' news k) (CvOf lists k) = λ k few. every_moves phases phases' olds news k (CvOf lists k)
+        (λ seat some. let other : who ≢ seat = λ e. let most = times_at_most lists (Cv k) seat four few in let zero : times seat lists ≡ 0 = subst (λ s. times s lists ≡ 0) e none in absurd (omega (arith, most, zero, some)) in (there seat other, others seat other)) (p.own k few) in
+        record {
+          own = λ k few. elim (cases_eq k j) [
+            | inl e ↦ subst (λ i. Every (VariableWaiterFits phases' news i) (CvOf lists' i)) (sym e)
+                (subst (λ ws. Every (VariableWaiterFits phases' news j) ws) (sym at_j) (every_push (VariableWaiterFits phases' news j) (CvOf lists j) w (moved j low)
+                (record { stands = ap waits_in (walk_here front (view_of who walk' held' owed') back apart) ∙ stance; waits = phase; plain = refl })))
+            | inr ne ↦ subst (λ ws. Every (VariableWaiterFits phases' news k) ws) (sym (at_other k ne)) (moved k few)
+          ];
+          all = λ k seat m e. elim (cases_eq who seat) [
+            | inl same ↦
+                let is : Waiting k m ≡ Waiting j mode = sym e ∙ subst (λ s. phases' s ≡ Waiting j mode) same phase in
+                let number : k ≡ j = cc in
+                let self : one_if (eqb who seat) ≡ 1 = rw (eq-eqb who seat same) refl in
+                (subst (λ i. i < 4) (sym number) low, subst (λ i. 1 ≤ times_in seat (CvOf lists' i)) (sym number) (subst (λ ws. 1 ≤ times_in seat ws) (sym at_j) (omega (arith, times_in-append seat (CvOf lists j) (w ∷ []), times_in-cons seat w [], self))))
+            | inr ne ↦
+                let was = p.all k seat m (sym (others seat ne) ∙ e) in (
+                  was.0,
+                  elim (cases_eq k j) [
+                    | inl number ↦ subst (λ i. 1 ≤ times_in seat (CvOf lists' i)) (sym number) (subst (λ ws. 1 ≤ times_in seat ws) (sym at_j)
+                        (let some : 1 ≤ times_in seat (CvOf lists j) = subst (λ i. 1 ≤ times_in seat (CvOf lists i)) number was.1 in omega (arith, times_in-append seat (CvOf lists j) (w ∷ []), some)))
+                    | inr other ↦ subst (λ ws. 1 ≤ times_in seat ws) (sym (at_other k other)) was.1
+                  ],
+                )
+          ];
+        }
+
+    -- the seat takes itself out of a variable's list, and waits for none after that
+    pub tell_leaves : (phases phases' : ℕ → Phase C) (lists : Lists C) (j : ℕ) → length lists.cvs ≡ 4 → j < 4 → times who lists ≤ 1 → 1 ≤ times_in who (CvOf lists j) →
+        ((seat : ℕ) → who ≢ seat → phases' seat ≡ phases seat) → ((k : ℕ) (mode : Mode) → phases' who ≡ Waiting k mode → ⊥) →
+        VariablesTell phases lists olds → VariablesTell phases' (with_waiters lists (Cv j) (without_in who (CvOf lists j))) news
+    tell_leaves phases phases' lists j four low once stood others idle p =
+        let lists' = with_waiters lists (Cv j) (without_in who (CvOf lists j)) in
+        let at_j : CvOf lists' j ≡ without_in who (CvOf lists j) = read_back lists (Cv j) (without_in who (CvOf lists j)) four low in
+        let at_other : (k : ℕ) → k ≢ j → CvOf lists' k ≡ CvOf lists k = λ k ne. read_apart lists j k (without_in who (CvOf lists j)) ne in
+        let gone : (k : ℕ) → k < 4 → k ≢ j → times_in who (CvOf lists k) ≡ 0 = λ k few ne. apart_in lists four who k j few low ne once stood in
+        record {
+          own = λ k few. elim (cases_eq k j) [
+            | inl e ↦ subst (λ i. Every (VariableWaiterFits phases' news i) (CvOf lists' i)) (sym e)
+                (subst (λ ws. Every (VariableWaiterFits phases' news j) ws) (sym at_j)
+                (every_moves phases phases' olds news j (without_in who (CvOf lists j))
+                (λ seat some. let other : who ≢ seat = λ same. let zero : times_in seat (without_in who (CvOf lists j)) ≡ 0 = subst (λ s. times_in s (without_in who (CvOf lists j)) ≡ 0) same (times_without who (CvOf lists j)) in absurd (omega (arith, zero, some)) in (there seat other, others seat other))
+                (every_without (VariableWaiterFits phases olds j) who (CvOf lists j) (p.own j low))))
+            | inr ne ↦ subst (λ ws. Every (VariableWaiterFits phases' news k) ws) (sym (at_other k ne))
+                (every_moves phases phases' olds news k (CvOf lists k)
+                (λ seat some. let other : who ≢ seat = λ same. let zero : times_in seat (CvOf lists k) ≡ 0 = subst (λ s. times_in s (CvOf lists k) ≡ 0) same (gone k few ne) in absurd (omega (arith, zero, some)) in (there seat other, others seat other)) (p.own k few))
+          ];
+          all = λ k seat m e. elim (cases_eq who seat) [
+            | inl same ↦ absurd (idle k m (subst (λ s. phases' s ≡ Waiting k m) (sym same) e))
+            | inr ne ↦
+                let was = p.all k seat m (sym (others seat ne) ∙ e) in (
+                  was.0,
+                  elim (cases_eq k j) [
+                    | inl number ↦ subst (λ i. 1 ≤ times_in seat (CvOf lists' i)) (sym number) (subst (λ ws. 1 ≤ times_in seat ws) (sym at_j)
+                        (rw (times_others seat who (CvOf lists j) ne) (subst (λ i. 1 ≤ times_in seat (CvOf lists i)) number was.1)))
+                    | inr other ↦ subst (λ ws. 1 ≤ times_in seat ws) (sym (at_other k other)) was.1
+                  ],
+                )
+          ];
+        }
+
+-- ---- a call wakes some of a variable's waiters
+
+module _ {C : Type 0} where
+  -- a wake makes nobody wait
+  still_waiting : (b : Bool) (phase : Phase C) (k : ℕ) (mode : Mode) → cond b (woken_phase phase) phase ≡ Waiting k mode → (b ≡ false) × (phase ≡ Waiting k mode)
+  still_waiting false phase k mode e = (refl, e)
+  still_waiting true Idle k mode e = absurd (cc)
+  still_waiting true (Cond c m) k mode e = absurd (cc)
+  still_waiting true (Waiting j m) k mode e = absurd (cc)
+  still_waiting true (Woken j m) k mode e = absurd (cc)
+  still_waiting true (Left j m) k mode e = absurd (cc)
+
+module _ {C : Type 0} {N : ℕ} where
+  -- other lists
+  pub tell_lists : (phases : ℕ → Phase C) (lists lists' : Lists C) (views : List (SeatView C N)) → lists'.cvs ≡ lists.cvs → VariablesTell phases lists views → VariablesTell phases lists' views
+  tell_lists phases lists lists' views cvs p =
+      let at_k : (k : ℕ) → CvOf lists' k ≡ CvOf lists k = λ k. ap (λ (c : List (List (Waiter C))). waiters_of (record { lock = lists.lock; cvs = c }) (Cv k)) cvs in
+      record {
+        own = λ k low. subst (λ ws. Every (VariableWaiterFits phases views k) ws) (sym (at_k k)) (p.own k low);
+        all = λ k seat mode e. let was = p.all k seat mode e in (was.0, subst (λ ws. 1 ≤ times_in seat ws) (sym (at_k k)) was.1);
+      }
+
+  waits_of : (phases : ℕ → Phase C) (views : List (SeatView C N)) (k : ℕ) (ws : List (Waiter C)) → Every (VariableWaiterFits phases views k) ws → WaitFor k phases ws
+  waits_of phases views k [] p = tt
+  waits_of phases views k (w ∷ ws) p = (p.0.waits, waits_of phases views k ws p.1)
+
+  -- the waiters of a variable's list are those who wait for it
+  pub are_waiting : (phases : ℕ → Phase C) (lists : Lists C) (views : List (SeatView C N)) (k : ℕ) → IsOrderly lists → k < 4 → VariablesTell phases lists views → AreWaiting k phases (CvOf lists k)
+  are_waiting phases lists views k orderly low p = record {
+    own = waits_of phases views k (CvOf lists k) (p.own k low);
+    once = once_in lists (Cv k) orderly low;
+    all = λ seat e. let mode = waiting_mode (phases seat) k e in (p.all k seat mode.0 mode.1).1;
+    below = below_in lists (Cv k) orderly low;
+  } where
+    waiting_mode : (phase : Phase C) (k : ℕ) → is_waiting k phase ≡ true → (mode : Mode) × (phase ≡ Waiting k mode)
+    waiting_mode (Waiting j mode) k e = (mode, ap (λ n. Waiting n mode) (eqb-true j k e))
+    waiting_mode Idle k e = absurd (cc)
+    waiting_mode (Cond c mode) k e = absurd (cc)
+    waiting_mode (Woken j mode) k e = absurd (cc)
+    waiting_mode (Left j mode) k e = absurd (cc)
+
+  module _ (front : List (SeatView C N)) (who : ℕ) (walk : Option (Walk C)) (held : Option (Held C N)) (owed : List ℕ) (walk' : Option (Walk C)) (held' : Option (Held C N)) (owed' : List ℕ) (back : List (SeatView C N)) where
+    -- those who are taken from the list of k are woken, and the others stay
+    pub tell_taken : (phases : ℕ → Phase C) (lists lists' : Lists C) (k : ℕ) (taken kept : List (Waiter C)) → IsOrderly lists → k < 4 → times who lists ≡ 0 →
+        lists'.cvs ≡ (with_waiters lists (Cv k) kept).cvs → ((seat : ℕ) → times_in seat taken + times_in seat kept ≡ times_in seat (CvOf lists k)) →
+        Every (VariableWaiterFits phases (front ++ view_of who walk held owed ∷ back) k) taken → Every (VariableWaiterFits phases (front ++ view_of who walk held owed ∷ back) k) kept →
+        VariablesTell phases lists (front ++ view_of who walk held owed ∷ back) →
+        VariablesTell (woken_phases (taken_set taken) phases) lists' (front ++ view_of who walk' held' owed' ∷ back)
+    tell_taken phases lists lists' k taken kept orderly low none cvs parts takes keeps p =
+        let four = orderly.four in
+        let put = with_waiters lists (Cv k) kept in
+        let at_i : (i : ℕ) → CvOf lists' i ≡ CvOf put i = λ i. ap (λ (c : List (List (Waiter C))). waiters_of (record { lock = lists.lock; cvs = c }) (Cv i)) cvs in
+        let at_k : CvOf lists' k ≡ kept = at_i k ∙ read_back lists (Cv k) kept four low in
+        let at_other : (i : ℕ) → i ≢ k → CvOf lists' i ≡ CvOf lists i = λ i ne. at_i i ∙ read_apart lists k i kept ne in
+        let once : (seat : ℕ) → times_in seat (CvOf lists k) ≤ 1 = once_in lists (Cv k) orderly low in
+        let stays : (seat : ℕ) → times_in seat taken ≡ 0 → woken_phases (taken_set taken) phases seat ≡ phases seat = λ seat zero. untaken_stays k phases taken (waits_of phases (front ++ view_of who walk held owed ∷ back) k taken takes) seat zero in
+        let apart_who : (i : ℕ) → i < 4 → (seat : ℕ) → 1 ≤ times_in seat (CvOf lists i) → who ≢ seat = λ i few seat some e. let most = times_at_most lists (Cv i) seat four few in let zero : times seat lists ≡ 0 = subst (λ s. times s lists ≡ 0) e none in absurd (omega (arith, most, zero, some)) in
+        record {
+          own = λ i few. elim (cases_eq i k) [
+            | inl e ↦ subst (λ n. Every (VariableWaiterFits (woken_phases (taken_set taken) phases) (front ++ view_of who walk' held' owed' ∷ back) n) (CvOf lists' n)) (sym e)
+                (subst (λ ws. Every (VariableWaiterFits (woken_phases (taken_set taken) phases) (front ++ view_of who walk' held' owed' ∷ back) k) ws) (sym at_k)
+                (every_moves phases (woken_phases (taken_set taken) phases) (front ++ view_of who walk held owed ∷ back) (front ++ view_of who walk' held' owed' ∷ back) k kept
+                (λ seat some. (there front who walk held owed walk' held' owed' back seat (apart_who k low seat (omega (arith, parts seat, some))), stays seat (omega (arith, parts seat, once seat, some)))) keeps))
+            | inr ne ↦ subst (λ ws. Every (VariableWaiterFits (woken_phases (taken_set taken) phases) (front ++ view_of who walk' held' owed' ∷ back) i) ws) (sym (at_other i ne))
+                (every_moves phases (woken_phases (taken_set taken) phases) (front ++ view_of who walk held owed ∷ back) (front ++ view_of who walk' held' owed' ∷ back) i (CvOf lists i)
+                (λ seat some. (
+                  there front who walk held owed walk' held' owed' back seat (apart_who i few seat some),
+                  stays seat (let sum = parts seat in let alone : times_in seat (CvOf lists k) ≡ 0 = apart_in lists four seat k i low few (λ e. ne (sym e)) (orderly.once seat) some in omega (arith, sum, alone)),
+                )) (p.own i few))
+          ];
+          all = λ i seat mode e.
+              let was = still_waiting (is_in (taken_set taken) seat) (phases seat) i mode e in
+              let stood = p.all i seat mode was.1 in (
+                stood.0,
+                elim (cases_eq i k) [
+                  | inl number ↦ subst (λ n. 1 ≤ times_in seat (CvOf lists' n)) (sym number) (subst (λ ws. 1 ≤ times_in seat ws) (sym at_k)
+                      (let zero : times_in seat taken ≡ 0 = untaken seat taken was.0 in let some : 1 ≤ times_in seat (CvOf lists k) = subst (λ n. 1 ≤ times_in seat (CvOf lists n)) number stood.1 in omega (arith, parts seat, zero, some)))
+                  | inr other ↦ subst (λ ws. 1 ≤ times_in seat ws) (sym (at_other i other)) stood.1
+                ],
+              );
+        }
+      where
+        untaken : (seat : ℕ) (ws : List (Waiter C)) → is_in (taken_set ws) seat ≡ false → times_in seat ws ≡ 0
+        untaken seat ws e = elim (cases_eq (times_in seat ws) 0) [
+          | inl zero ↦ zero
+          | inr some ↦ absurd (both_ways (is_in (taken_set ws) seat) e (in_list ws seat (omega (arith, some))))
+        ]

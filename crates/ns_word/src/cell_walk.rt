@@ -1,0 +1,77 @@
+//! What a section does with its row: it reads a cell, writes one, or is judged quiet.
+
+ghost use Rattle.std.specs.Prelude.{◌≡◌, ◌≤◌};
+ghost use Rattle.ns_word.specs.Walks.{want_in_cells, got_in_cells, quiet_place};
+
+use crate::act::{Act, Found};
+use crate::release_walk::ReleasePlace;
+use crate::walk::{Next, Reply, Walk};
+use crate::word::Releasing;
+
+/// A place in a call on the row of the section in hand.
+#[derive(Clone, Copy)]
+pub enum CellPlace {
+    /// A read of a cell.
+    GetLoad(u8),
+    /// A write that is about to load the cell's old value.
+    SetLoad(u8, u64),
+    /// A write that is about to store the value.
+    SetStore(u8, u64),
+    /// A quiet release that is about to load this cell, which isn't the last.
+    QuietCells(u8),
+    /// A quiet release that is about to load this cell, the last.
+    QuietLast(u8),
+}
+
+/// Where a quiet release goes that has loaded so many cells.
+pub(crate) fn quiet_place<const N: usize>(loaded: usize) -> CellPlace
+    requires { N ≤ 16 }
+    ensures { result ≡ quiet_place N loaded }
+{
+    let last = N.saturating_sub(1);
+    if loaded < last {
+        CellPlace::QuietCells(loaded as u8)
+    } else {
+        CellPlace::QuietLast(last as u8)
+    }
+}
+
+impl CellPlace {
+    /// The step that the place wants next.
+    pub(crate) fn want<C: Copy>(self) -> Act<C>
+        ensures { result ≡ want_in_cells self }
+    {
+        match self {
+            CellPlace::GetLoad(i) => Act::LoadCell(i),
+            CellPlace::SetLoad(i, _) => Act::LoadCell(i),
+            CellPlace::SetStore(i, value) => Act::StoreCell(i, value),
+            CellPlace::QuietCells(i) => Act::LoadCell(i),
+            CellPlace::QuietLast(i) => Act::JudgeQuiet(i),
+        }
+    }
+
+    /// Where the call goes with what its step found.
+    pub(crate) fn got<C: Copy, const N: usize>(self, found: Found) -> Next<C>
+        requires { N ≤ 16 }
+        ensures { result ≡ got_in_cells N self found }
+    {
+        match (self, found) {
+            (CellPlace::GetLoad(_), Found::Cell(value)) => Next::Done(Reply::Number(value)),
+            (CellPlace::SetLoad(i, value), Found::Cell(_)) => {
+                Next::On(Walk::InCells(CellPlace::SetStore(i, value)))
+            }
+            (CellPlace::SetStore(_, _), Found::Made) => Next::Done(Reply::Succeeded),
+            (CellPlace::QuietCells(i), Found::Cell(_)) => {
+                Next::On(Walk::InCells(quiet_place::<N>(i as usize + 1)))
+            }
+            (CellPlace::QuietLast(_), Found::Quiet(is_quiet)) => {
+                if is_quiet {
+                    Next::On(Walk::InRelease(Releasing::QuietWriter, ReleasePlace::ReleaseLoad))
+                } else {
+                    Next::Done(Reply::Noisy)
+                }
+            }
+            (place, _) => Next::On(Walk::InCells(place)),
+        }
+    }
+}
