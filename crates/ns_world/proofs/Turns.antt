@@ -3,6 +3,7 @@ use Rattle.std.proofs.Common.{◌≡◌, ℕ, ◌-◌, ◌≤◌, nat_lt, inl, i
 use Rattle.std.specs.Prelude.{IfOk, IfErr}
 use Rattle.std.proofs.lemmas.List.{length-set}
 use Rattle.std.proofs.lemmas.Option.{slice_get_within}
+use Rattle.ns_queue.specs.Queues.{Lists}
 use Rattle.ns_word.specs.declared.view.SeatView.{SeatView}
 use Rattle.ns_word.specs.declared.word.Word.{Word}
 use Rattle.ns_word.specs.declared.wait.WaitPlace.TheVariants.{TestCells, TestLast}
@@ -35,40 +36,40 @@ use Rattle.ns_world.proofs.Busy.{or_true, both, walking_at, walking_set_same, wa
 use Rattle.ns_word.proofs.EnvKeeps.{set_here}
 
 -- the first step of a call may commit an event
-abbrev StartCommits : {C : Type 0} → Start C → Word → Type 0
-StartCommits (OnLock walk) word = Commits (want_of walk) word
-StartCommits (Ask walk) word = ⊥
+abbrev StartCommits : {C : Type 0} → ℕ → Start C → Word → Lists C → Type 0
+StartCommits seat (OnLock walk) word lists = Commits seat (want_of walk) word lists
+StartCommits seat (Ask walk) word lists = ⊥
 
-quiet_apart : (C : Type 0) (N : ℕ) (more : Bool) (word : Word) → Commits (want_of {C = C} (InCells (cond more (QuietCells 0) (QuietLast (N - 1))))) word → ⊥
-quiet_apart C N true word p = p
-quiet_apart C N false word p = p
+quiet_apart : (C : Type 0) (N : ℕ) (more : Bool) (seat : ℕ) (word : Word) (lists : Lists C) → Commits seat (want_of {C = C} (InCells (cond more (QuietCells 0) (QuietLast (N - 1))))) word lists → ⊥
+quiet_apart C N true seat word lists p = p
+quiet_apart C N false seat word lists p = p
 
-wait_apart : {C : Type 0} (N : ℕ) (mode : Mode) (c : C) (limits : Limits) (more : Bool) (word : Word) →
-    Commits (want_of (cond more (InWait (record { mode = mode; on = OnCondition c; limits = limits }) (TestCells OnEntry 0)) (InWait (record { mode = mode; on = OnCondition c; limits = limits }) (TestLast OnEntry (N - 1))))) word → ⊥
-wait_apart N mode c limits true word p = p
-wait_apart N mode c limits false word p = p
+wait_apart : {C : Type 0} (N : ℕ) (mode : Mode) (c : C) (limits : Limits) (more : Bool) (seat : ℕ) (word : Word) (lists : Lists C) →
+    Commits seat (want_of (cond more (InWait (record { mode = mode; on = OnCondition c; limits = limits }) (TestCells OnEntry 0)) (InWait (record { mode = mode; on = OnCondition c; limits = limits }) (TestLast OnEntry (N - 1))))) word lists → ⊥
+wait_apart N mode c limits true seat word lists p = p
+wait_apart N mode c limits false seat word lists p = p
 
 -- no call's first step commits an event
-starts_apart : {C : Type 0} (N : ℕ) (mode : Option Mode) (call : Call C) (word : Word) → StartCommits (start_of N mode call) word → ⊥
-starts_apart N mode Lock word p = p
-starts_apart N mode RLock word p = p
-starts_apart N mode TryLock word p = p
-starts_apart N mode TryRLock word p = p
-starts_apart N mode Unlock word p = p
-starts_apart N mode RUnlock word p = p
-starts_apart {C} N mode UnlockQuiet word p = quiet_apart C N (nat_lt 0 (N - 1)) word p
-starts_apart N mode (Get i) word p = p
-starts_apart N mode (Set i v) word p = p
-starts_apart N mode (Wait c limits) word p = wait_apart N (mode_waited mode) c limits (nat_lt 0 (N - 1)) word p
-starts_apart N mode (CvWait k limits) word p = p
-starts_apart N mode (Signal k) word p = p
-starts_apart N mode (Broadcast k) word p = p
-starts_apart N mode (NewNote parent deadline) word p = p
-starts_apart N mode (Notify note) word p = p
-starts_apart N mode (Advance moment) word p = p
-starts_apart N mode (IsNotified note) word p = p
-starts_apart N mode (Expiry note) word p = p
-starts_apart N mode (NoteWait note deadline) word p = p
+starts_apart : {C : Type 0} (N : ℕ) (mode : Option Mode) (call : Call C) (seat : ℕ) (word : Word) (lists : Lists C) → StartCommits seat (start_of N mode call) word lists → ⊥
+starts_apart N mode Lock seat word lists p = p
+starts_apart N mode RLock seat word lists p = p
+starts_apart N mode TryLock seat word lists p = p
+starts_apart N mode TryRLock seat word lists p = p
+starts_apart N mode Unlock seat word lists p = p
+starts_apart N mode RUnlock seat word lists p = p
+starts_apart {C} N mode UnlockQuiet seat word lists p = quiet_apart C N (nat_lt 0 (N - 1)) seat word lists p
+starts_apart N mode (Get i) seat word lists p = p
+starts_apart N mode (Set i v) seat word lists p = p
+starts_apart N mode (Wait c limits) seat word lists p = wait_apart N (mode_waited mode) c limits (nat_lt 0 (N - 1)) seat word lists p
+starts_apart N mode (CvWait k limits) seat word lists p = p
+starts_apart N mode (Signal k) seat word lists p = p
+starts_apart N mode (Broadcast k) seat word lists p = p
+starts_apart N mode (NewNote parent deadline) seat word lists p = p
+starts_apart N mode (Notify note) seat word lists p = p
+starts_apart N mode (Advance moment) seat word lists p = p
+starts_apart N mode (IsNotified note) seat word lists p = p
+starts_apart N mode (Expiry note) seat word lists p = p
+starts_apart N mode (NoteWait note deadline) seat word lists p = p
 
 -- what holds of an answer's value, and of its fault, as something else
 pub map_ok : {X E : Type 0} {P Q : X → Type 0} (r : Result X E) → ((x : X) → P x → Q x) → IfOk r P → IfOk r Q
@@ -153,7 +154,7 @@ module _ {C : Type 0} {N : ℕ} where
       absurd (cc)
 
   -- a seat at the first place of a call is about to make no release
-  begun_steps : (old begun : Now C N) (seat : ℕ) (view : SeatView C N) (start : Start C) → slice_get old.state.views seat ≡ Some view → view.walk ≡ None → begun ≡ begun_at old seat view start → (w : IsWalking begun seat) → Commits (want_of w.walk) begun.state.word → StartCommits start begun.state.word
+  begun_steps : (old begun : Now C N) (seat : ℕ) (view : SeatView C N) (start : Start C) → slice_get old.state.views seat ≡ Some view → view.walk ≡ None → begun ≡ begun_at old seat view start → (w : IsWalking begun seat) → Commits seat (want_of w.walk) begun.state.word begun.state.lists → StartCommits seat start begun.state.word begun.state.lists
   begun_steps old begun seat view (OnLock walk) at idle begins w p =
       let next : SeatView C N = record view { walk = Some walk } in
       let here : slice_get begun.state.views seat ≡ Some next = ap (λ (world : Now C N). slice_get world.state.views seat) begins ∙ set_here old.state.views seat next (slice_get_within old.state.views seat view at) in
@@ -161,7 +162,7 @@ module _ {C : Type 0} {N : ℕ} where
       let is : w.view ≡ next = cc in
       let walks : Some w.walk ≡ Some walk = sym w.walks ∙ ap (λ (v : SeatView C N). v.walk) is in
       let place : w.walk ≡ walk = cc in
-      subst (λ x. Commits (want_of x) begun.state.word) place p
+      subst (λ x. Commits seat (want_of x) begun.state.word begun.state.lists) place p
   begun_steps old begun seat view (Ask walk) at idle begins w p =
       let same : Some w.view ≡ Some view = sym w.at ∙ ap (λ (world : Now C N). slice_get world.state.views seat) begins ∙ at in
       let is : w.view ≡ view = cc in
@@ -170,7 +171,7 @@ module _ {C : Type 0} {N : ℕ} where
 
   -- a call's first step is never refused
   pub started_steps : (old begun : Now C N) (seat : ℕ) (call : Call C) (fault : Fault) → Starts old begun seat call → StepFault begun seat fault → ⊥
-  started_steps old begun seat call OutOfMemory s p = starts_apart N (mode_of s.view.held) call begun.state.word (begun_steps old begun seat s.view (start_of N (mode_of s.view.held) call) s.at s.idle s.begins p.0 p.1)
+  started_steps old begun seat call OutOfMemory s p = starts_apart N (mode_of s.view.held) call seat begun.state.word begun.state.lists (begun_steps old begun seat s.view (start_of N (mode_of s.view.held) call) s.at s.idle s.begins p.0 p.1)
   started_steps old begun seat call NoSuchSeat s p =
       let within = slice_get_within old.state.views seat s.view s.at in
       let same : length begun.state.views ≡ length old.state.views = ap (λ (world : Now C N). length world.state.views) s.begins ∙ begun_stays old seat s.view (start_of N (mode_of s.view.held) call) in

@@ -1,5 +1,7 @@
 -- Which acts commit an event.
-use Rattle.std.specs.Prelude.{◌≡◌, false}
+use Rattle.std.specs.Prelude.{◌≡◌, ℕ, nat_lt, false, true}
+use Rattle.ns_queue.specs.Queues.{Lists, waiters_of}
+use Rattle.ns_queue.specs.Waiters.{times_in}
 use Rattle.ns_queue.specs.declared.waiter.Which.TheVariants.{Cv}
 use Rattle.ns_word.specs.declared.word.Word.{Word}
 use Rattle.ns_word.specs.declared.act.Change.{Change}
@@ -7,16 +9,16 @@ use Rattle.ns_word.specs.declared.act.Change.TheVariants.{LeaveSelf, WakeWaiters
 use Rattle.ns_word.specs.declared.act.Act.{Act}
 use Rattle.ns_word.specs.declared.act.Act.TheVariants.{ReturnQueues, Release, ReleaseReturning, WaitReturning}
 
--- the change may be an event: a signal, a broadcast, or that a wait for a variable is left, of which it isn't asked here whether it still stands in its list
-abbrev pub MayCommit : Change → Type 0
-MayCommit (LeaveSelf (Cv k)) = Unit {0}
-MayCommit (WakeWaiters waking k) = Unit {0}
-MayCommit change = ⊥
+-- the change of the lists by this seat is an event: a signal, a broadcast, or that a wait for a variable is left in whose list the seat still stands
+abbrev pub IsEvent : {C : Type 0} → ℕ → Change → Lists C → Type 0
+IsEvent seat (LeaveSelf (Cv k)) lists = nat_lt 0 (times_in seat (waiters_of lists (Cv k))) ≡ true
+IsEvent seat (WakeWaiters waking k) lists = Unit {0}
+IsEvent seat change lists = ⊥
 
--- the act may commit an event where it finds this word
-abbrev pub Commits : {C : Type 0} → Act C → Word → Type 0
-Commits (ReturnQueues change last) word = MayCommit change × (last ≡ word)
-Commits (Release releasing last) word = last ≡ word
-Commits (ReleaseReturning releasing last) word = last ≡ word
-Commits (WaitReturning wait again last) word = (again ≡ false) × (last ≡ word)
-Commits act word = ⊥
+-- the act by this seat commits an event where it finds this word and these lists
+abbrev pub Commits : {C : Type 0} → ℕ → Act C → Word → Lists C → Type 0
+Commits seat (ReturnQueues change last) word lists = IsEvent seat change lists × (last ≡ word)
+Commits seat (Release releasing last) word lists = last ≡ word
+Commits seat (ReleaseReturning releasing last) word lists = last ≡ word
+Commits seat (WaitReturning wait again last) word lists = (again ≡ false) × (last ≡ word)
+Commits seat act word lists = ⊥

@@ -216,9 +216,9 @@ StepOf old new seat Went = Moves old new seat Went
 StepOf old new seat Idle = Moves old new seat Idle
 StepOf old new seat (Finished reply) = Moves old new seat (Finished reply)
 
--- The seat's next step finds the word that it has seen, and so may commit an event: a release, a call that wakes, or that a wait for a variable is left.
+-- The seat's next step finds the word that it has seen, and so commits an event: a release, a call that wakes, or that a wait for a variable is left in whose list it still stands.
 abbrev pub CommitsNext : {C : Type 0} {N : ℕ} → Now C N → ℕ → Type 0
-CommitsNext world seat = (walking : IsWalking world seat) × Commits (want_of walking.walk) world.state.word
+CommitsNext world seat = (walking : IsWalking world seat) × Commits seat (want_of walking.walk) world.state.word world.state.lists
 
 -- Why a step is refused: the number is no seat's, or there was no memory for the event that it commits.
 abbrev pub StepFault : {C : Type 0} {N : ℕ} → Now C N → ℕ → Fault → Type 0

@@ -7,7 +7,7 @@ ghost use Rattle.ns_word.specs.Places.{CanLeave, CanWait, ChangeFits, IsInRange}
 ghost use Rattle.ns_word.specs.Steps.{change_commits, entry_of, exit_for, opening_for, section_of, Effect};
 ghost use Rattle.ns_word.specs.Waits.{mode_for};
 ghost use Rattle.ns_word.specs.Words.{is_woken, releasing_of, may_acquire};
-ghost use Rattle.ns_world.specs.Commits.{MayCommit};
+ghost use Rattle.ns_world.specs.Commits.{IsEvent};
 ghost use Rattle.ns_world.specs.Performs.{part, IsSeat, Makes};
 
 use crate::room::Seated;
@@ -108,7 +108,7 @@ fn commit_leave<C: Seated<N>, const N: usize>(
 ) -> Result<(), AllocError>
     requires { IsList which }
     ensures ok { OnOk result (history.new.items ≡ history.old.items ++ change_commits seat (Change.LeaveSelf which) queues.now) }
-    ensures err { OnErr result (MayCommit (Change.LeaveSelf which) × (history.new.items ≡ history.old.items)) }
+    ensures err { OnErr result (IsEvent seat (Change.LeaveSelf which) queues.now × (history.new.items ≡ history.old.items)) }
 {
     if let Which::Cv(k) = which {
         if queues.stands(which, seat) {
@@ -131,7 +131,7 @@ fn return_left<C: Seated<N>, const N: usize>(
 ) -> Result<Found, AllocError>
     requires { IsList which }
     ensures ok { IfOk result (λ found. (row flags owed : List ℕ) (held : _) → Makes C.means seat (Act.ReturnQueues (Change.LeaveSelf which) last) (part word.old row queues.old flags held owed) history.old.items found (part word.new row queues.new flags held owed) history.new.items) }
-    ensures err { OnErr result (MayCommit (Change.LeaveSelf which) × (last ≡ word.old) × (word.new ≡ word.old) × (queues.new ≡ queues.old) × (history.new.items ≡ history.old.items)) }
+    ensures err { OnErr result (IsEvent seat (Change.LeaveSelf which) queues.old × (last ≡ word.old) × (word.new ≡ word.old) × (queues.new ≡ queues.old) × (history.new.items ≡ history.old.items)) }
 {
     if !word.is_same(last) {
         return Ok(Found::Saw(*word));
@@ -214,7 +214,7 @@ pub(crate) fn return_queues<C: Seated<N>, const N: usize>(
     requires fits { (row flags : List ℕ) → ChangeFits seat.old.number change (part word.old row queues.old flags seat.old.held seat.old.owed.items) }
     ensures ok { IfOk result (λ found. (row flags : List ℕ) → Makes C.means seat.old.number (Act.ReturnQueues change last) (part word.old row queues.old flags seat.old.held seat.old.owed.items) history.old.items found (part word.new row queues.new flags seat.new.held seat.new.owed.items) history.new.items) }
     ensures kept { IsSeat seat.old.number seat.old.walk seat.old.asking seat.old.tests seat.new }
-    ensures err { OnErr result (MayCommit change × (last ≡ word.old) × (word.new ≡ word.old) × (queues.new ≡ queues.old) × (seat.new ≡ seat.old) × (history.new.items ≡ history.old.items)) }
+    ensures err { OnErr result (IsEvent seat.old.number change queues.old × (last ≡ word.old) × (word.new ≡ word.old) × (queues.new ≡ queues.old) × (seat.new ≡ seat.old) × (history.new.items ≡ history.old.items)) }
 {
     match change {
         Change::QueueSelf(mode, arrival) => Ok(return_queued(

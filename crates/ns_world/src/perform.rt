@@ -102,7 +102,7 @@ fn make<C: Seated<N>, const N: usize>(
     requires inside { looks_at act ≡ None }
     ensures ok { IfOk result (λ found. Makes C.means seat.old.number act (seat_part word.old row.old queues.old flags.old seat.old) history.old.items found (seat_part word.new row.new queues.new flags.new seat.new) history.new.items) }
     ensures kept { IsSeat seat.old.number seat.old.walk seat.old.asking seat.old.tests seat.new }
-    ensures err { OnErr result ((Commits act word.old) × (word.new ≡ word.old) × (row.new ≡ row.old) × (queues.new ≡ queues.old) × (flags.new ≡ flags.old) × (seat.new ≡ seat.old) × (history.new.items ≡ history.old.items)) }
+    ensures err { OnErr result ((Commits seat.old.number act word.old queues.old) × (word.new ≡ word.old) × (row.new ≡ row.old) × (queues.new ≡ queues.old) × (flags.new ≡ flags.old) × (seat.new ≡ seat.old) × (history.new.items ≡ history.old.items)) }
 {
     let found = match act {
         Act::LoadWord => Found::Saw(*word),
@@ -197,7 +197,7 @@ pub(crate) fn perform<C: Seated<N>, const N: usize>(
     requires fits { ActFits C.means 64 seat.old.number (want_of walk) (seat_part word.old row.old queues.old flags.old seat.old) }
     requires inside { looks_at (want_of walk) ≡ None }
     ensures ok { IfOk result (λ step. Performs C.means (seat_part word.old row.old queues.old flags.old seat.old) seat.old history.old.items walk (seat_part word.new row.new queues.new flags.new seat.new) seat.new history.new.items step) }
-    ensures err { OnErr result ((Commits (want_of walk) word.old) × (word.new ≡ word.old) × (row.new ≡ row.old) × (queues.new ≡ queues.old) × (flags.new ≡ flags.old) × (seat.new ≡ seat.old) × (history.new.items ≡ history.old.items)) }
+    ensures err { OnErr result ((Commits seat.old.number (want_of walk) word.old queues.old) × (word.new ≡ word.old) × (row.new ≡ row.old) × (queues.new ≡ queues.old) × (flags.new ≡ flags.old) × (seat.new ≡ seat.old) × (history.new.items ≡ history.old.items)) }
 {
     let found = make(word, row, queues, flags, seat, history, walk.want())?;
     seat.tests = tests_after(found, seat.tests);

@@ -1,12 +1,14 @@
-use Rattle.std.proofs.Common.{◌<◌, ◌≤◌, Some, length, rules, arith, refl, inl}
+use Rattle.std.proofs.Common.{◌≡◌, ◌<◌, ◌≤◌, ◌∙◌, Some, length, rules, arith, refl, inl, ap, subst}
 use Rattle.std.proofs.lemmas.List.{set-get_or}
 use Rattle.ns_word.specs.Codec.{word_of}
 use Rattle.ns_word.proofs.Codes.{decoded}
+use Rattle.ns_word.specs.Walks.{want_of}
+use Rattle.ns_world.specs.Commits.{Commits}
 use Rattle.ns_world.specs.Performs.{view_of}
 use Rattle.ns_world.specs.World.{now_with}
 use Rattle.ns_world.proofs.Mapped.{got-map}
 use Rattle.ns_world.proofs.Packable.{packable}
-use Rattle.ns_world.proofs.Worlds.{act_here, ask_here, asks_for, inside_here, acts_here, moved_here, asks_unasked, unasked_cleared, past_views, lawful_after, same_element, told}
+use Rattle.ns_world.proofs.Worlds.{act_here, ask_here, asks_for, inside_here, number_here, acts_here, moved_here, asks_unasked, unasked_cleared, past_views, lawful_after, same_element, told}
 use Rattle.ns_world.proofs.step.step_at.Goals as goal
 
 pub returns-then-at-len-clause-err : goal.returns-then-at-len-clause-err
@@ -110,6 +112,7 @@ returns-in-Err-clause-err g c =
     let seat = c.index_mut-2.result.now in
     let within : c.args.number < length c.args.seats.now.items = omega arith in
     let same = same_element c.args.seats.now.items c.args.number c.index-2.result.now seat within c.index-2.ensures c.index_mut-2.ensures.value in
+    let number : seat.number ≡ c.args.number = ap (λ x. x.number) c.index_mut-2.ensures.value ∙ number_here g.C.Condition.means g.met.C.Condition.has_cells.0 g.met.C.Condition.quiet_keeps (word_of c.args.word.now) c.args.row.now c.args.queues.now c.args.flags.now c.args.env.now c.args.seats.now.items c.args.history.now.items c.requires c.args.number seat within in
     let err = c.in-Err.ensures.err in (
       rw (err.2, err.3, err.4, err.5, err.6, c.index_mut-2.ensures.value, set-get_or c.args.seats.now.items c.args.number seat) refl,
       (
@@ -119,7 +122,7 @@ returns-in-Err-clause-err g c =
           walk = c.in-Some-walk.walk;
           walks = rw same at c.in-Some-walk.is;
         },
-        rw c.unpacked-found.ensures at err.0,
+        subst (λ n. Commits n (want_of c.in-Some-walk.walk) (word_of c.args.word.now) c.args.queues.now) number (rw (c.unpacked-found.ensures) at err.0),
       ),
     )
 
