@@ -95,7 +95,7 @@ module _ {C : Type 0} {N : ℕ} (truths : Truths C) (seats : ℕ) (few : seats �
   owes_one [] e some = absurd (cc)
   owes_one (x ∷ xs) e some =
       let one : times_among x view.owed ≡ 1 + times_among x xs = ap (times_among x) e ∙ rw (eq-eqb x x refl) refl in
-      owed_below truths seats h s p front view back split x (omega (arith, one))
+      owed_below truths seats h s p.waiters_placed p.one_history.each front view back split x (omega (arith, one))
 
   judges : (on : Subject C) (i : ℕ) → IsSome view.held → i < N → ActFits truths seats view.seat (judge_of on i) (part_of s view.held view.owed)
   judges (OnCondition c) i some less = (some, less)

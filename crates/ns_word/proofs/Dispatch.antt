@@ -4,6 +4,7 @@ use Rattle.std.proofs.lemmas.Bool.{ltb-true, ltb-false, both_ways}
 use Rattle.std.proofs.lemmas.List.{append-nil, set-get_or}
 use Rattle.ns_model.specs.declared.event.Mode.{Mode}
 use Rattle.ns_model.specs.declared.event.Mode.TheVariants.{Write, Read}
+use Rattle.ns_model.specs.declared.event.Exit.{Exit}
 use Rattle.ns_model.specs.declared.event.Exit.TheVariants.{Plain, CondWait, CvWait}
 use Rattle.ns_model.specs.declared.event.Event.{Event}
 use Rattle.ns_model.specs.declared.event.Event.TheVariants as TheEvent
@@ -11,6 +12,7 @@ use Rattle.ns_model.specs.declared.phase.Phase.{Phase}
 use Rattle.ns_model.specs.declared.phase.Phase.TheVariants.{Cond, Waiting}
 use Rattle.ns_model.specs.Histories.{standing_after, standing_next, IsLegalEvent, who_of}
 use Rattle.ns_model.specs.Tallies.{Every}
+use Rattle.ns_model.proofs.Tallies.{every_parts, every_join}
 use Rattle.ns_queue.specs.declared.waiter.Waiter.{Waiter}
 use Rattle.ns_queue.specs.declared.waiter.Which.{Which}
 use Rattle.ns_queue.specs.declared.waiter.Which.TheVariants.{Lock, Cv}
@@ -66,7 +68,9 @@ use Rattle.ns_word.specs.Walks.{want_waiting, want_signaling, judge_of, want_of,
 use Rattle.ns_word.specs.Views.{NoneIs}
 use Rattle.ns_model.specs.Truths.{Truths, QuietKeeps}
 use Rattle.ns_word.specs.Steps.{State, Part, Effect, Step, MayShow, section_of, opening_for, newly_held, held_after, flags_with, meets_at, with_lock, waited_in, taken_by, kept_by, moved_to, changed, moves, owed_after, change_found, wake_of, leave_of}
+use Rattle.ns_word.specs.Seen.{HasNumber, word_seen}
 use Rattle.ns_word.specs.Places.{PlaceFits, IsInRange, HasMode, IsSettledBy, IsSettled, CanLeave, IsLeft, MayWait, CanWait, AimFits}
+use Rattle.ns_word.specs.Finds.{row_in}
 use Rattle.ns_word.specs.Lawful.{IsExpected, VariableWaiterFits, IsLawful, phase_before}
 use Rattle.ns_word.proofs.Groups.{Homed, Known, Groups, groups_of, lawful_by}
 use Rattle.ns_word.proofs.Knows.{nothing_called, rests as known_rests, takes as known_takes}
@@ -74,8 +78,9 @@ use Rattle.ns_word.proofs.Views.{view_of, each_parts}
 use Rattle.ns_word.proofs.Variables.{are_waiting}
 use Rattle.ns_word.proofs.Ranges.{lists_orderly}
 use Rattle.ns_word.proofs.Safes.{section, same_section}
+use Rattle.ns_word.proofs.Seen.{packable, found_fits, seen_next}
 use Rattle.ns_word.proofs.Keeps.{Same, Stays, none_of, rests, acquires, stores, releases, takes, arms, enqueues, withdraws, returns, leaves as leaves_variable, scans, waits, waits_on, waits_for, wakes, sees, wakes_waiters}
-use Rattle.ns_word.proofs.Leads.{row_in, Leads, none_settled, shown_settled, try_leads, acquire_leads, acquired_leads, test_leads, met_leads, shown_section, queue_leads, leave_leads, rest_leads, pay_waiting_leads, release_leads, scan_leads, taken_leads, quiet_leads, judged_leads, pay_leads, calm_release, load_leads, armed_leads, signal_leads, pay_woken_leads}
+use Rattle.ns_word.proofs.Leads.{Leads, none_settled, shown_settled, try_leads, acquire_leads, acquired_leads, test_leads, met_leads, shown_section, queue_leads, leave_leads, rest_leads, pay_waiting_leads, release_leads, scan_leads, taken_leads, quiet_leads, judged_leads, pay_leads, calm_release, load_leads, armed_leads, signal_leads, pay_woken_leads}
 
 -- whether one that leaves found itself in the list
 abbrev stood_in : Found → Bool
@@ -221,15 +226,21 @@ module _ {C : Type 0} {N : ℕ} (truths : Truths C) (seats : ℕ) (h : List (Eve
       (sees truths seats h front who (Some walk) to back part.word part.row part.lists part.flags part.owed (λ one. absurd (both_ways (eqb v 1) z (eq-eqb v 1 (same ∙ one)))) pay
       (refl, tt, given) (sym pay) (sym s) refl refl refl (sym q) (subst (λ flag. is_on_way (Some walk) flag 0 ≡ true → is_on_way to flag 0 ≡ true) same (way_seen (Some walk) aim v w)) phase (with_held walk part None none p))))
 
+  -- the section in hand, with this as its mode
+  in_its_mode : (walk : Walk C) (part : Part C N) (held : Held C N) (mode : Mode) → part.held ≡ Some held → held.mode ≡ mode → Groups truths seats h (at part (Some walk)) →
+      Groups truths seats h (at (record part { held = Some (section mode held.entry held.before held.row) }) (Some walk))
+  in_its_mode walk part held mode e m p = with_held walk part (Some (section mode held.entry held.before held.row)) (e ∙ ap (λ x. Some (section x held.entry held.before held.row)) m) p
+
+  -- and what is committed of it
+  said_of : (held : Held C N) (mode : Mode) (exit : Exit C) (commits : List (Event C N)) → held.mode ≡ mode → commits ≡ section_of truths.holds who held exit ∷ [] → commits ≡ section_of truths.holds who (section mode held.entry held.before held.row) exit ∷ []
+  said_of held mode exit commits m e = e ∙ ap (λ x. section_of truths.holds who (section x held.entry held.before held.row) exit ∷ []) m
+
   -- the section in hand, in the mode that it is left in
   leaves : (walk : Walk C) (releasing : Releasing) (part : Part C N) (held : Held C N) → part.held ≡ Some held → held.mode ≡ mode_released releasing → CanLeave truths releasing part.held →
       Groups truths seats h (at part (Some walk)) →
       Groups truths seats h (at (record part { held = Some (section (mode_released releasing) held.entry held.before held.row) }) (Some walk)) × IsLeft {N = N} truths releasing (section held.mode held.entry held.before held.row) × IsSettledBy truths.holds held.before held.entry
-  leaves walk releasing part held e m can p = (
-    with_held walk part (Some (section (mode_released releasing) held.entry held.before held.row)) (e ∙ ap (λ x. Some (section x held.entry held.before held.row)) m) p,
-    (subst (λ x. CanLeave truths releasing x) e can).1,
-    (subst (λ x. CanLeave truths releasing x) e can).2,
-  )
+  leaves walk releasing part held e m can p =
+      let left = subst (λ x. CanLeave truths releasing x) e can in (in_its_mode walk part held (mode_released releasing) e m p, left.1, left.2)
 
   -- a wait with the queues takes itself from its list
   withdrawn : (mode : Mode) (on : Subject C) (limits : Limits) (cause : Cause) (last : Word) (stood : Bool) (part next : Part C N) (commits : List (Event C N)) → ltb 0 (times_in who (waiters_of part.lists (home_of on))) ≡ stood → last ≡ part.word →
@@ -284,59 +295,46 @@ module _ {C : Type 0} {N : ℕ} (truths : Truths C) (seats : ℕ) (h : List (Eve
   tested mode (OnVariable k) limits visit i found part next commits e p =
       absurd ((place (InWait (record { mode = mode; on = OnVariable k; limits = limits }) (TestLast visit i)) part p).0.2)
 
+  -- what a wait puts back that queues, where this is the word
+  abbrev put_back : Wait C → Bool → Part C N → Word → Part C N
+  put_back wait again part word =
+      let woken = woken_of (meets_at truths part.row) part.lists.lock in let lists = waited_in truths who wait again part.row part.lists in
+      record part { word = word_released_returning (releasing_of wait.mode) (has_some woken) (bits_of lists.lock) word; lists = lists; held = None; owed = seats_of woken }
+
   -- a wait queues, and leaves its section; one that queues again says nothing of it
   queued_up : (mode : Mode) (on : Subject C) (limits : Limits) (again : Bool) (last : Word) (owes : Bool) (tests : ℕ) (part next : Part C N) (commits : List (Event C N)) → seats ≤ 64 → let wait : Wait C = record { mode = mode; on = on; limits = limits } in
       Effect truths who (WaitReturning wait again last) part (Scanned owes tests) next commits → Groups truths seats h (at part (Some (InWait wait (InQueuing again (QueueToWait last))))) → Kept commits next (walk_after (pay_waiting wait owes))
   queued_up mode (OnCondition c) limits false last owes tests part next commits few e p =
       let wait : Wait C = record { mode = mode; on = OnCondition c; limits = limits } in
       let held = e.0 in
-      let releasing = releasing_of mode in
-      let took = has_some (woken_of (meets_at truths part.row) part.lists.lock) in
-      let owed = seats_of (woken_of (meets_at truths part.row) part.lists.lock) in
-      let lists = waited_in truths who wait false part.row part.lists in
       let walk = InWait wait (InQueuing false (QueueToWait last)) in
       let to = pay_waiting_leads {C = C} {N = N} truths wait None owes in
       let may : MayWait truths wait false held = subst (λ x. CanWait truths wait false x) e.1 (place walk part p).0.0 in
-      moved (walk_after (pay_waiting wait owes)) (record part { word = word_released_returning releasing took (bits_of lists.lock) part.word; lists = lists; held = None; owed = owed }) next
-      (section_of truths.holds who (section mode held.entry held.before held.row) (CondWait c) ∷ []) commits
-      (e.4 ∙ ap (λ word. record part { word = word_released_returning releasing took (bits_of lists.lock) word; lists = lists; held = None; owed = owed }) e.3)
-      (e.7 ∙ ap (λ m. section_of truths.holds who (section m held.entry held.before held.row) (CondWait c) ∷ []) e.2)
-      (waits truths seats h front who (Some walk) (walk_after (pay_waiting wait owes)) back releasing mode c false part.word part.row part.lists part.flags held.entry held.before held.row part.owed few (may.settled refl)
-      may.unmet (left_mode mode) (subst (λ x. IsExpected x (Cond c mode)) (sym to.7) refl) (to.0 refl tt) refl (to.1 ∙ e.5) to.6 refl to.2 refl to.3 refl to.4 to.5 (λ flag n. refl)
-      (with_held walk part (Some (section mode held.entry held.before held.row)) (e.1 ∙ ap (λ m. Some (section m held.entry held.before held.row)) e.2) p))
+      moved (walk_after (pay_waiting wait owes)) (put_back wait false part part.word) next (section_of truths.holds who (section mode held.entry held.before held.row) (CondWait c) ∷ []) commits
+      (e.4 ∙ ap (put_back wait false part) e.3) (said_of held mode (CondWait c) commits e.2 e.7)
+      (waits truths seats h front who (Some walk) (walk_after (pay_waiting wait owes)) back (releasing_of mode) mode c false part.word part.row part.lists part.flags held.entry held.before held.row part.owed few (may.settled refl)
+      may.unmet (left_mode mode) (subst (λ x. IsExpected x (Cond c mode)) (sym to.7) refl) (to.0 refl tt) refl (to.1 ∙ e.5) to.6 refl to.2 refl to.3 refl to.4 to.5 (λ flag n. refl) (in_its_mode walk part held mode e.1 e.2 p))
   queued_up mode (OnCondition c) limits true last owes tests part next commits few e p =
       let wait : Wait C = record { mode = mode; on = OnCondition c; limits = limits } in
       let held = e.0 in
-      let releasing = releasing_of mode in
-      let took = has_some (woken_of (meets_at truths part.row) part.lists.lock) in
-      let owed = seats_of (woken_of (meets_at truths part.row) part.lists.lock) in
-      let lists = waited_in truths who wait true part.row part.lists in
       let walk = InWait wait (InQueuing true (QueueToWait last)) in
       let to = pay_waiting_leads {C = C} {N = N} truths wait None owes in
       let may : MayWait truths wait true held = subst (λ x. CanWait truths wait true x) e.1 (place walk part p).0.0 in
       let back_from = (may.back refl).1 in
-      moved (walk_after (pay_waiting wait owes)) (record part { word = word_released_returning releasing took (bits_of lists.lock) part.word; lists = lists; held = None; owed = owed }) next [] commits
-      (e.4 ∙ ap (λ word. record part { word = word_released_returning releasing took (bits_of lists.lock) word; lists = lists; held = None; owed = owed }) e.3) e.7
-      (none_more _ (waits_on truths seats h front who (Some walk) (walk_after (pay_waiting wait owes)) back releasing mode c true part.word part.row part.lists part.flags held.entry held.before held.row part.owed
+      moved (walk_after (pay_waiting wait owes)) (put_back wait true part part.word) next [] commits (e.4 ∙ ap (put_back wait true part) e.3) e.7
+      (none_more _ (waits_on truths seats h front who (Some walk) (walk_after (pay_waiting wait owes)) back (releasing_of mode) mode c true part.word part.row part.lists part.flags held.entry held.before held.row part.owed
       may.unmet (left_mode mode) back_from.cells (ap (λ entry. phase_before mode entry) back_from.entry) (subst (λ x. IsExpected x (Cond c mode)) (sym to.7) refl) (to.0 refl tt) refl (to.1 ∙ e.5) to.6 refl to.2 refl to.3 refl to.4 to.5 (λ flag n. refl)
-      (with_held walk part (Some (section mode held.entry held.before held.row)) (e.1 ∙ ap (λ m. Some (section m held.entry held.before held.row)) e.2) p)))
+      (in_its_mode walk part held mode e.1 e.2 p)))
   queued_up mode (OnVariable k) limits false last owes tests part next commits few e p =
       let wait : Wait C = record { mode = mode; on = OnVariable k; limits = limits } in
       let held = e.0 in
-      let releasing = releasing_of mode in
-      let took = has_some (woken_of (meets_at truths part.row) part.lists.lock) in
-      let owed = seats_of (woken_of (meets_at truths part.row) part.lists.lock) in
-      let lists = waited_in truths who wait false part.row part.lists in
       let walk = InWait wait (InQueuing false (QueueToWait last)) in
       let to = pay_waiting_leads {C = C} {N = N} truths wait None owes in
       let may : MayWait truths wait false held = subst (λ x. CanWait truths wait false x) e.1 (place walk part p).0.0 in
-      moved (walk_after (pay_waiting wait owes)) (record part { word = word_released_returning releasing took (bits_of lists.lock) part.word; lists = lists; held = None; owed = owed }) next
-      (section_of truths.holds who (section mode held.entry held.before held.row) (CvWait k) ∷ []) commits
-      (e.4 ∙ ap (λ word. record part { word = word_released_returning releasing took (bits_of lists.lock) word; lists = lists; held = None; owed = owed }) e.3)
-      (e.7 ∙ ap (λ m. section_of truths.holds who (section m held.entry held.before held.row) (CvWait k) ∷ []) e.2)
-      (waits_for truths seats h front who (Some walk) (walk_after (pay_waiting wait owes)) back releasing mode k part.word part.row part.lists part.flags held.entry held.before held.row part.owed few may.unmet (may.settled refl)
-      (left_mode mode) (subst (λ x. IsExpected x (Waiting k mode)) (sym to.7) (inl refl)) (to.0 refl may.unmet) refl (to.1 ∙ e.5) to.6 refl to.2 refl to.3 refl to.4 to.5 (λ flag n. refl)
-      (with_held walk part (Some (section mode held.entry held.before held.row)) (e.1 ∙ ap (λ m. Some (section m held.entry held.before held.row)) e.2) p))
+      moved (walk_after (pay_waiting wait owes)) (put_back wait false part part.word) next (section_of truths.holds who (section mode held.entry held.before held.row) (CvWait k) ∷ []) commits
+      (e.4 ∙ ap (put_back wait false part) e.3) (said_of held mode (CvWait k) commits e.2 e.7)
+      (waits_for truths seats h front who (Some walk) (walk_after (pay_waiting wait owes)) back (releasing_of mode) mode k part.word part.row part.lists part.flags held.entry held.before held.row part.owed few may.unmet (may.settled refl)
+      (left_mode mode) (subst (λ x. IsExpected x (Waiting k mode)) (sym to.7) (inl refl)) (to.0 refl may.unmet) refl (to.1 ∙ e.5) to.6 refl to.2 refl to.3 refl to.4 to.5 (λ flag n. refl) (in_its_mode walk part held mode e.1 e.2 p))
   queued_up mode (OnVariable k) limits true last owes tests part next commits few e p =
       let wait : Wait C = record { mode = mode; on = OnVariable k; limits = limits } in
       let walk = InWait wait (InQueuing true (QueueToWait last)) in
@@ -380,7 +378,7 @@ module _ {C : Type 0} {N : ℕ} (truths : Truths C) (seats : ℕ) (h : List (Eve
       let here = place walk part p in
       let fit = (each_parts truths seats (standing_after h) part.row front (view_of who (Some walk) part.held part.owed) back p.safe.one_history.each).1 in
       let to = pay_woken_leads truths waking k part.held owes in
-      let orderly = lists_orderly truths seats h (at part (Some walk)) (lawful_by truths seats h _ p) few in
+      let orderly = lists_orderly truths seats h (at part (Some walk)) p.placed p.safe.one_history.each few in
       let fits = p.told.own k here.1 in
       wakes_waiters truths seats h front who (Some walk) (walk_after (pay_woken waking k owes)) back (wake_of who waking k (taken_by waking ws)) k (taken_by waking ws) (kept_by waking ws) part.word part.row part.lists part.flags part.held part.owed owed' lock' moved few here.1
       (wake_by waking k (taken_by waking ws)) (wake_legal waking k ws (omega (arith, few, fit.in_range)) (are_waiting (standing_after h).phases part.lists _ k orderly here.1 p.told)) (wake_leaves waking k (taken_by waking ws))
@@ -547,7 +545,7 @@ module _ {C : Type 0} {N : ℕ} (truths : Truths C) (seats : ℕ) (h : List (Eve
       let start = leaves (InRelease releasing (ReleaseExchange last)) releasing part held e.1 e.2 fits.0 p in
       moved None (record part { word = word_released releasing part.word; held = None }) next (section_of truths.holds who (section (mode_released releasing) held.entry held.before held.row) Plain ∷ []) commits
       (e.4 ∙ ap (λ word. record part { word = word_released releasing word; held = None }) e.3)
-      (e.5 ∙ ap (λ m. section_of truths.holds who (section m held.entry held.before held.row) Plain ∷ []) e.2)
+      (said_of held (mode_released releasing) Plain commits e.2 e.5)
       (releases truths seats h front who (Some (InRelease releasing (ReleaseExchange last))) None back releasing part.word part.row part.lists part.flags held.entry held.before held.row part.owed refl refl few start.2 refl tt (refl, refl, refl, refl)
       (subst (λ word. needs_scan releasing word ≡ false) e.3 fits.1) refl (λ flag n f. f)
       (calm_release truths quiet releasing held.mode held.entry held.before held.row start.1) start.0)
@@ -585,7 +583,7 @@ module _ {C : Type 0} {N : ℕ} (truths : Truths C) (seats : ℕ) (h : List (Eve
       moved (walk_after (got_of N (InRelease releasing (ScanAndRelease last)) (Scanned owes tests))) (record part { word = word_released_returning releasing some (bits_of stay) part.word; lists = with_lock part.lists stay; held = None; owed = owed }) next
       (section_of truths.holds who (section (mode_released releasing) held.entry held.before held.row) Plain ∷ []) commits
       (e.4 ∙ ap (λ word. record part { word = word_released_returning releasing some (bits_of stay) word; lists = with_lock part.lists stay; held = None; owed = owed }) e.3)
-      (e.7 ∙ ap (λ m. section_of truths.holds who (section m held.entry held.before held.row) Plain ∷ []) e.2)
+      (said_of held (mode_released releasing) Plain commits e.2 e.7)
       (scans truths seats h front who (Some (InRelease releasing (ScanAndRelease last))) (walk_after (got_of N (InRelease releasing (ScanAndRelease last)) (Scanned owes tests))) back releasing part.word part.row part.lists part.flags held.entry held.before held.row part.owed few start.2 to.8 to.7
       (to.0 refl) refl (to.1 ∙ e.5) refl to.2 refl (ap is_some to.3) to.4 to.5 (λ flag n. refl) start.0)
   -- a wake
@@ -602,10 +600,13 @@ module _ {C : Type 0} {N : ℕ} (truths : Truths C) (seats : ℕ) (h : List (Eve
 
 pub keeps : {C : Type 0} {N : ℕ} (truths : Truths C) → 0 < N → QuietKeeps N truths → (seats : ℕ) (h : List (Event C N)) (old : State C N) (view : SeatView C N) (found : Found) (new : State C N) (commits : List (Event C N)) → seats ≤ 64 →
     Step truths old view found new commits → IsLawful truths seats h old → IsLawful truths seats (h ++ commits) new
-keeps truths some quiet seats h old view found new commits few step p =
+keeps {C} {N} truths some quiet seats h old view found new commits few step p =
     let start = subst (λ views. IsLawful truths seats h (record { word = old.word; row = old.row; lists = old.lists; flags = old.flags; views = views })) step.was p in
     let here = subst (λ walk. IsLawful truths seats h (record { word = old.word; row = old.row; lists = old.lists; flags = old.flags; views = step.front ++ view_of view.seat walk view.held view.owed ∷ step.back })) step.walks start in
     let after_all = by_walk truths seats h step.front view.seat step.back step.walk found
     (record { word = old.word; row = old.row; lists = old.lists; flags = old.flags; held = view.held; owed = view.owed })
     (record { word = new.word; row = new.row; lists = new.lists; flags = new.flags; held = step.held; owed = step.owed }) commits few some quiet step.effect (groups_of truths seats h _ here) in
-    subst (λ views. IsLawful truths seats (h ++ commits) (record { word = new.word; row = new.row; lists = new.lists; flags = new.flags; views = views })) (sym step.becomes) (lawful_by truths seats (h ++ commits) _ after_all)
+    let seen = every_parts (λ (v : SeatView C N). HasNumber (word_seen v.walk)) step.front (view_of view.seat (Some step.walk) view.held view.owed) step.back here.words_seen in
+    let found_has = found_fits truths view.seat (want_of step.walk) _ found _ commits (packable truths seats h old few p) step.effect in
+    let seen_after = every_join (λ (v : SeatView C N). HasNumber (word_seen v.walk)) step.front (view_of view.seat (walk_after (got_of N step.walk found)) step.held step.owed) step.back seen.0 (seen_next C N step.walk found found_has seen.1) seen.2 in
+    subst (λ views. IsLawful truths seats (h ++ commits) (record { word = new.word; row = new.row; lists = new.lists; flags = new.flags; views = views })) (sym step.becomes) (lawful_by truths seats (h ++ commits) _ after_all seen_after)

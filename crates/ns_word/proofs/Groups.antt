@@ -9,7 +9,7 @@ use Rattle.ns_word.specs.Lists.{has_some, bits_of}
 use Rattle.ns_word.specs.Views.{queuers, AreApart}
 use Rattle.ns_model.specs.Truths.{Truths}
 use Rattle.ns_word.specs.Steps.{State}
-use Rattle.ns_word.specs.Lawful.{OneWriter, ReadersCounted, OneHistory, SpinHeldOnce, bits_in, WaitersPlaced, WaitersOwn, VariablesTell, DesigOnItsWay, IdleWaitersFalse, AllfalseTrue, IsLawful}
+use Rattle.ns_word.specs.Lawful.{OneWriter, ReadersCounted, OneHistory, SpinHeldOnce, bits_in, WaitersPlaced, WaitersOwn, VariablesTell, DesigOnItsWay, IdleWaitersFalse, AllfalseTrue, WordsSeen, IsLawful}
 
 -- the sections
 pub record Safe {C : Type 0} {N : ℕ} (truths : Truths C) (seats : ℕ) (history : List (Event C N)) (word : Word) (row : List ℕ) (views : List (SeatView C N)) : Type 0 where
@@ -49,8 +49,8 @@ module _ {C : Type 0} {N : ℕ} (truths : Truths C) (seats : ℕ) (history : Lis
     known = record { on_way = p.desig_on_its_way; idle = p.allfalse_true; free = p.idle_waiters_false; empty = p.bits_tell.nobody };
   }
 
-  pub lawful_by : Groups truths seats history s → IsLawful truths seats history s
-  lawful_by p = record {
+  pub lawful_by : Groups truths seats history s → WordsSeen s.views → IsLawful truths seats history s
+  lawful_by p seen = record {
     one_writer = p.safe.one_writer;
     readers_counted = p.safe.count;
     one_history = p.safe.one_history;
@@ -63,4 +63,5 @@ module _ {C : Type 0} {N : ℕ} (truths : Truths C) (seats : ℕ) (history : Lis
     idle_waiters_false = p.known.free;
     allfalse_true = p.known.idle;
     apart = p.safe.apart;
+    words_seen = seen;
   }

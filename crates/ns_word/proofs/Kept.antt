@@ -41,7 +41,6 @@ use Rattle.ns_word.specs.declared.walk.Next.TheVariants.{On, Idle, Done}
 use Rattle.ns_word.specs.Words.{may_acquire, needs_scan}
 use Rattle.ns_word.specs.Waits.{answer_of, is_limited, kept_in, mode_for}
 use Rattle.ns_word.specs.Walks.{want_of, got_waiting, got_signaling, got_of, walk_after, unmet_by, look_or_queue, test_place, load_place, armed_place, acquire_by, back_with, acquired_for, release_by}
-use Rattle.ns_word.specs.Begins.{IsFirst}
 use Rattle.ns_model.specs.Truths.{Truths}
 use Rattle.ns_word.specs.Steps.{State, Part, Effect, Step, part_of}
 use Rattle.ns_word.specs.Answers.{comes_back, place_has_come_back, has_come_back, is_back, cause_for, cause_by, place_cause_kept, cause_kept}
@@ -210,21 +209,6 @@ module _ {C : Type 0} (N : ℕ) where
   pub answer_was_shown : (walk : Walk C) (found : Found) (cause : Cause) → got_of N walk found ≡ Done (Answered (answer_of cause)) → (cause_kept walk ≡ Some cause) ⊎ (found ≡ Looked (Some cause))
   answer_was_shown walk found cause e = shown_by walk found cause (ap next_cause e ∙ answer_back cause)
 
-  -- No call begins with one.
-  pub first_keeps_none : (walk : Walk C) → IsFirst N walk → cause_kept walk ≡ None
-  first_keeps_none (InAcquire (ForLock mode) (AcquireLoad arrival)) p = refl
-  first_keeps_none (InWait wait (TestCells OnEntry i)) p = refl
-  first_keeps_none (InWait wait (TestLast OnEntry i)) p = refl
-  first_keeps_none (InWait wait (InQueuing again Load)) p = refl
-  first_keeps_none (InSignal waking k SignalLoad) p = refl
-  first_keeps_none (InTry mode TryLoad) p = refl
-  first_keeps_none (InCells (QuietCells i)) p = refl
-  first_keeps_none (InCells (QuietLast i)) p = refl
-  first_keeps_none (InRelease releasing ReleaseLoad) p = refl
-  first_keeps_none (InCells (GetLoad i)) p = refl
-  first_keeps_none (InCells (SetLoad i v)) p = refl
-  first_keeps_none _ p = absurd p
-
 -- ---- a wait that has come back is met only by an acquire
 
 -- the call doesn't go on as such a wait
@@ -334,21 +318,6 @@ module _ {C : Type 0} (N : ℕ) where
   out_by (InWait wait place) found e a = waiting_out wait place found e
   out_by (InSignal waking k place) found e a = signaling_out C waking k place found
   out_by walk found e a = e
-
-  -- Nor does a call begin as such a wait.
-  pub first_is_out : (walk : Walk C) → IsFirst N walk → has_come_back walk ≡ false
-  first_is_out (InAcquire (ForLock mode) (AcquireLoad arrival)) p = refl
-  first_is_out (InWait wait (TestCells OnEntry i)) p = refl
-  first_is_out (InWait wait (TestLast OnEntry i)) p = refl
-  first_is_out (InWait wait (InQueuing again Load)) p = refl
-  first_is_out (InSignal waking k SignalLoad) p = refl
-  first_is_out (InTry mode TryLoad) p = refl
-  first_is_out (InCells (QuietCells i)) p = refl
-  first_is_out (InCells (QuietLast i)) p = refl
-  first_is_out (InRelease releasing ReleaseLoad) p = refl
-  first_is_out (InCells (GetLoad i)) p = refl
-  first_is_out (InCells (SetLoad i v)) p = refl
-  first_is_out _ p = absurd p
 
 module _ {C : Type 0} {N : ℕ} (truths : Truths C) where
   -- with a section in hand, nothing is acquired

@@ -1,5 +1,5 @@
 -- Where a decision leads: the place goes with the section in hand, and tells the same as the place before.
-use Rattle.std.proofs.Common.{◌≡◌, ℕ, ◌-◌, ◌<◌, Bool, true, false, not, cond, ltb, List, [], length, Option, None, Some, IsSome, refl, ap, sym, ◌∙◌, subst, arith}
+use Rattle.std.proofs.Common.{◌≡◌, ℕ, ◌-◌, ◌<◌, Bool, true, false, not, cond, ltb, List, length, Option, None, Some, IsSome, refl, ap, sym, ◌∙◌, subst, arith}
 use Rattle.std.proofs.lemmas.Bool.{ltb-true}
 use Rattle.ns_model.specs.declared.event.Mode.{Mode}
 use Rattle.ns_model.specs.declared.event.Mode.TheVariants.{Write, Read}
@@ -43,16 +43,12 @@ use Rattle.ns_model.specs.Truths.{Truths, QuietKeeps}
 use Rattle.ns_word.specs.Answers.{cause_by}
 use Rattle.ns_word.specs.Steps.{MayShow, newly_held, opening_by, held_after, meets_at}
 use Rattle.ns_word.specs.Places.{PlaceFits, IsForCondition, IsUnmet, IsInRange, HasMode, IsSettledBy, IsSettled, CanLeave, IsLeft, Tests, CanWait, AimFits}
+use Rattle.ns_word.specs.Finds.{row_in}
 use Rattle.ns_word.specs.Lawful.{IsExpected, phase_before}
 use Rattle.ns_word.proofs.Scans.{quiet_eligible}
 use Rattle.ns_word.proofs.Knows.{is_loud}
 use Rattle.ns_word.proofs.Keeps.{Same, Way, Stays}
 use Rattle.ns_word.proofs.Safes.{section, SameSection}
-
--- the row of the section in hand
-abbrev pub row_in : {C : Type 0} {N : ℕ} → Option (Held C N) → List ℕ
-row_in None = []
-row_in (Some held) = held.row
 
 -- a wait with its section in hand, and one that stands in the lock list
 abbrev pub inside : {C : Type 0} → Wait C → Option (Walk C)

@@ -7,6 +7,8 @@ pub mod EnvBegins
 pub mod EnvKeeps
 pub mod EnvLooks
 pub mod EnvRanges
+pub mod Finds
+pub mod Firsts
 pub mod Groups
 pub mod Hands
 pub mod Homes
@@ -15,12 +17,14 @@ pub mod Kept
 pub mod Knows
 pub mod Leads
 pub mod Made
+pub mod Numbers
 pub mod Owns
 pub mod Phases
 pub mod Ranges
 pub mod Safes
 pub mod Same
 pub mod Scans
+pub mod Seen
 pub mod Starts
 pub mod Tells
 pub mod Variables

@@ -62,23 +62,23 @@ module _ {C : Type 0} {N : ℕ} (lists : Lists C) (flags : ℕ → ℕ) (views :
       let sum : times seat lists + owed_to seat views ≡ one_if (is_unwoken (walk_at seat views) (flags seat)) = p.placed seat in
       due_awaits (walk_at seat views) (flags seat) (omega (arith, sum, some))
 
-module _ {C : Type 0} {N : ℕ} (truths : Truths C) (seats : ℕ) (h : List (Event C N)) (s : State C N) (p : IsLawful truths seats h s) where
+module _ {C : Type 0} {N : ℕ} (truths : Truths C) (seats : ℕ) (h : List (Event C N)) (s : State C N) (placed : WaitersPlaced s.lists s.flags s.views) (each : EachFits truths seats (standing_after h) s.row s.views) where
   -- no seat stands in the lists twice
   pub stands_once : (seat : ℕ) → times seat s.lists ≤ 1
   stands_once seat =
-      let sum : times seat s.lists + owed_to seat s.views ≡ one_if (is_unwoken (walk_at seat s.views) (s.flags seat)) = p.waiters_placed.placed seat in
+      let sum : times seat s.lists + owed_to seat s.views ≡ one_if (is_unwoken (walk_at seat s.views) (s.flags seat)) = placed.placed seat in
       let most = one_most (is_unwoken (walk_at seat s.views) (s.flags seat)) in
       omega (arith, sum, most)
 
   -- so none does in one of them
   pub once_in_list : (which : Which) → IsList which → (seat : ℕ) → times_in seat (waiters_of s.lists which) ≤ 1
-  once_in_list which is seat = omega (arith, times_at_most s.lists which seat p.waiters_placed.four is, stands_once seat)
+  once_in_list which is seat = omega (arith, times_at_most s.lists which seat placed.four is, stands_once seat)
 
   pub once_in_lock : (seat : ℕ) → times_in seat s.lists.lock ≤ 1
   once_in_lock seat = once_in_list Lock tt seat
 
   pub placed_below : (seat : ℕ) → 1 ≤ times seat s.lists + owed_to seat s.views → seat < seats
-  placed_below seat some = waiting_below truths seats (standing_after h) s.row seat s.views p.one_history.each (placed_awaits s.lists s.flags s.views seat p.waiters_placed some)
+  placed_below seat some = waiting_below truths seats (standing_after h) s.row seat s.views each (placed_awaits s.lists s.flags s.views seat placed some)
 
   -- and only seats do
   pub stands_below : (seat : ℕ) → seats ≤ seat → times seat s.lists ≡ 0
@@ -89,7 +89,7 @@ module _ {C : Type 0} {N : ℕ} (truths : Truths C) (seats : ℕ) (h : List (Eve
 
   -- so the lists are as they are kept
   pub lists_orderly : seats ≤ 64 → IsOrderly s.lists
-  lists_orderly few = record { four = p.waiters_placed.four; once = stands_once; below = λ seat high. stands_below seat (omega (arith, few, high)) }
+  lists_orderly few = record { four = placed.four; once = stands_once; below = λ seat high. stands_below seat (omega (arith, few, high)) }
 
   -- a seat that a view owes a wake is one
   pub owed_below : (front : List (SeatView C N)) (view : SeatView C N) (back : List (SeatView C N)) → s.views ≡ front ++ view ∷ back → (seat : ℕ) → 1 ≤ times_among seat view.owed → seat < seats

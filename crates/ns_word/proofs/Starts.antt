@@ -6,6 +6,7 @@ use Rattle.ns_model.specs.declared.event.Event.{Event}
 use Rattle.ns_model.specs.declared.phase.Phase.TheVariants.{Idle}
 use Rattle.ns_model.specs.Histories.{first_standing, first_row}
 use Rattle.ns_model.specs.Tallies.{Every}
+use Rattle.ns_model.proofs.Tallies.{every_parts, every_join}
 use Rattle.ns_queue.specs.declared.waiter.Waiter.{Waiter}
 use Rattle.ns_queue.specs.declared.waiter.Which.TheVariants.{Cv}
 use Rattle.ns_queue.specs.Queues.{waiters_of}
@@ -30,8 +31,10 @@ use Rattle.ns_word.specs.Views.{writers, readers, takers, queuers, owed_to, walk
 use Rattle.ns_model.specs.Truths.{Truths}
 use Rattle.ns_word.specs.Steps.{State}
 use Rattle.ns_word.specs.Places.{PlaceFits, Tests, CanWait}
-use Rattle.ns_word.specs.Lawful.{EachFits, VariableWaiterFits, IsLawful}
+use Rattle.ns_word.specs.Seen.{HasNumber, word_seen}
+use Rattle.ns_word.specs.Lawful.{WordsSeen, EachFits, VariableWaiterFits, IsLawful}
 use Rattle.ns_word.specs.Begins.{fresh_views, fresh_state, IsForVariable, IsFirst, Begins}
+use Rattle.ns_word.proofs.Firsts.{first_is_bare}
 use Rattle.ns_word.proofs.Groups.{groups_of, lawful_by}
 use Rattle.ns_word.proofs.Views.{view_of}
 use Rattle.ns_word.proofs.Safes.{same_section}
@@ -86,6 +89,10 @@ module _ (C : Type 0) (N : ℕ) where
   nobody_waits P (suc (suc (suc zero))) = tt
   nobody_waits P (suc (suc (suc (suc k)))) = tt
 
+  none_seen : (first n : ℕ) → WordsSeen (fresh first n)
+  none_seen first zero = tt
+  none_seen first (suc n) = (tt, none_seen (first + 1) n)
+
   pub lawful_fresh : (truths : Truths C) (seats : ℕ) → seats ≤ 64 → IsLawful truths seats [] (fresh_state {C = C} {N = N} seats)
   lawful_fresh truths seats few = record {
     one_writer = record { bit = no_writers 0 seats; alone = λ e. absurd (cc) };
@@ -112,6 +119,7 @@ module _ (C : Type 0) (N : ℕ) where
     idle_waiters_false = λ e f g. (refl, no_queuers 0 seats);
     allfalse_true = λ e. absurd (cc);
     apart = apart 0 seats;
+    words_seen = none_seen 0 seats;
   }
 
 -- a quiet release begins at the first cell
@@ -154,4 +162,6 @@ module _ {C : Type 0} {N : ℕ} (truths : Truths C) (seats : ℕ) (h : List (Eve
       let here = subst (λ w. IsLawful truths seats h (record { word = old.word; row = old.row; lists = old.lists; flags = old.flags; views = b.front ++ view_of view.seat w view.held view.owed ∷ b.back })) b.over start in
       let leads = first_place walk view.held b.first b.fits in
       let moved = rests truths seats h b.front view.seat None (Some walk) b.back old.word old.row old.lists old.flags view.held view.held view.owed refl leads.0 leads.1 leads.2 leads.3 (same_section None (Some walk) view.held leads.4) (groups_of truths seats h _ here) in
-      subst (λ s. IsLawful truths seats h s) (sym b.becomes) (lawful_by truths seats h _ moved)
+      let parts = every_parts (λ (v : SeatView C N). HasNumber (word_seen v.walk)) b.front (view_of view.seat None view.held view.owed) b.back here.words_seen in
+      let seen = every_join (λ (v : SeatView C N). HasNumber (word_seen v.walk)) b.front (view_of view.seat (Some walk) view.held view.owed) b.back parts.0 (subst HasNumber (sym (first_is_bare N walk b.first).unseen) tt) parts.2 in
+      subst (λ s. IsLawful truths seats h s) (sym b.becomes) (lawful_by truths seats h _ moved seen)

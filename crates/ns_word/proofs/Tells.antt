@@ -23,10 +23,10 @@ use Rattle.ns_word.specs.declared.act.Found.TheVariants.{Saw, Made, Cell, Quiet,
 use Rattle.ns_word.specs.Walks.{want_of, got_of, walk_after}
 use Rattle.ns_model.specs.Truths.{Truths, QuietKeeps}
 use Rattle.ns_word.specs.Steps.{State, Part, Effect, Step, leave_of, wake_of, change_commits}
-use Rattle.ns_word.specs.Begins.{IsFirst, FirstStep}
+use Rattle.ns_word.specs.Begins.{IsFirst, BeginsIf, SeatStep, view_in}
 use Rattle.ns_word.specs.Lawful.{IsLawful}
 use Rattle.ns_model.specs.Beginnings.{BeginsWith}
-use Rattle.ns_word.specs.Told.{Told, IsTold, nothing_told, told_after, AreBy, walk_over, LedBy, IsLed}
+use Rattle.ns_word.specs.Told.{Told, IsTold, nothing_told, told_after, calls_of, AreBy, walk_over, LedBy, IsLed}
 use Rattle.ns_word.proofs.Starts.{begins}
 use Rattle.ns_word.proofs.Dispatch.{keeps}
 
@@ -150,34 +150,40 @@ module _ {C : Type 0} {N : ℕ} where
   pub told_first : (holds : C → List ℕ → Bool) (seats seat : ℕ) → IsTold {C = C} {N = N} holds seats [] seat None nothing_told
   told_first holds seats seat = record { seen_of = ([], refl); legal = tt; by_seats = tt; own_of = refl; own_seen = refl; firsts = All-nil (IsFirst N); led = tt }
 
+module _ {C : Type 0} {N : ℕ} (truths : Truths C) where
+  -- where a call begins with the step, or goes on
+  led_if : (view : SeatView C N) (begun : Option (Walk C)) (between : State C N) (found : Found) (new : State C N) (commits : List (Event C N)) (old : State C N) → BeginsIf truths old view begun between → (step : Step truths between (view_in view begun) found new commits) →
+      (told : List (Walk C)) → IsLed N told view.walk → All (IsFirst N) (calls_of begun) × IsLed N (told ++ calls_of begun) (walk_after (got_of N step.walk found))
+  led_if view None between found new commits old start step told was =
+      let led : LedBy N told step.walk = subst (λ walk. IsLed N told walk) step.walks was in
+      (All-nil (IsFirst N), subst (λ begun. IsLed N begun (walk_after (got_of N step.walk found))) (sym (append-nil told)) (led_on N told step.walk found led))
+  led_if view (Some walk) between found new commits old start step told was =
+      let same : walk ≡ step.walk = cc (step.walks) in
+      (All-push (IsFirst N) [] walk (All-nil (IsFirst N)) start.first, led_from N told walk found (walk_after (got_of N step.walk found)) (ap (λ w. walk_after (got_of N w found)) same))
+
+  -- a view's number stays where its call begins
+  seat_in : (view : SeatView C N) (begun : Option (Walk C)) → (view_in view begun).seat ≡ view.seat
+  seat_in view None = refl
+  seat_in view (Some walk) = refl
+
+  pub seat_step_by : (old : State C N) (view : SeatView C N) (begun : Option (Walk C)) (found : Found) (new : State C N) (commits : List (Event C N)) → SeatStep truths old view begun found new commits → AreBy view.seat commits
+  seat_step_by old view begun found new commits made = subst (λ seat. AreBy seat commits) (seat_in view begun) (step_by truths made.between (view_in view begun) found new commits made.step)
+
 module _ {C : Type 0} {N : ℕ} (truths : Truths C) (cells : 0 < N) (quiet : QuietKeeps N truths) (seats : ℕ) (h : List (Event C N)) (few : seats ≤ 64) where
-  -- a call's first step
-  pub first_steps_keep : (old : State C N) (view : SeatView C N) (walk : Walk C) (found : Found) (new : State C N) (commits : List (Event C N)) →
-      FirstStep truths old view walk found new commits → IsLawful truths seats h old → IsLawful truths seats (h ++ commits) new
-  first_steps_keep old view walk found new commits step p =
-      keeps truths cells quiet seats h step.between (record view { walk = Some walk }) found new commits few step.step (begins truths seats h old view walk step.between step.begins p)
+  -- a lock stays lawful where a call begins, or none does
+  begins_if : (old : State C N) (view : SeatView C N) (begun : Option (Walk C)) (between : State C N) → BeginsIf truths old view begun between → IsLawful truths seats h old → IsLawful truths seats h between
+  begins_if old view None between same p = subst (IsLawful truths seats h) (sym same) p
+  begins_if old view (Some walk) between start p = begins truths seats h old view walk between start p
 
-  -- what a step tells its own seat, with the calls that it begins and what they lead to
-  tells : (old : State C N) (view : SeatView C N) (found : Found) (new : State C N) (commits : List (Event C N)) → Step truths old view found new commits → IsLawful truths seats h old →
-      (told : Told C N) (walk walk' : Option (Walk C)) (begun : List (Walk C)) → All (IsFirst N) begun → IsLed N (told.begun ++ begun) walk' →
-      IsTold truths.holds seats h view.seat walk told → IsTold truths.holds seats (h ++ commits) view.seat walk' (told_after h commits begun told) × BeginsWith (h ++ commits) told.seen
-  tells old view found new commits step p told walk walk' begun firsts led was =
-      let after_all = keeps truths cells quiet seats h old view found new commits few step p in
-      (told_here truths.holds seats h view.seat walk walk' commits begun told (step_by truths old view found new commits step) after_all.one_history.legal after_all.one_history.by_seats firsts led was, seen_grows h told.seen commits was.seen_of)
+  pub seat_steps_keep : (old : State C N) (view : SeatView C N) (begun : Option (Walk C)) (found : Found) (new : State C N) (commits : List (Event C N)) →
+      SeatStep truths old view begun found new commits → IsLawful truths seats h old → IsLawful truths seats (h ++ commits) new
+  seat_steps_keep old view begun found new commits made p =
+      keeps truths cells quiet seats h made.between (view_in view begun) found new commits few made.step (begins_if old view begun made.between made.begins p)
 
-  -- a step of a call in progress
-  pub step_tells : (old : State C N) (view : SeatView C N) (found : Found) (new : State C N) (commits : List (Event C N)) → (step : Step truths old view found new commits) → IsLawful truths seats h old →
+  pub seat_step_tells : (old : State C N) (view : SeatView C N) (begun : Option (Walk C)) (found : Found) (new : State C N) (commits : List (Event C N)) → (made : SeatStep truths old view begun found new commits) → IsLawful truths seats h old →
       (told : Told C N) → IsTold truths.holds seats h view.seat view.walk told →
-      IsTold truths.holds seats (h ++ commits) view.seat (walk_after (got_of N step.walk found)) (told_after h commits [] told) × BeginsWith (h ++ commits) told.seen
-  step_tells old view found new commits step p told was =
-      let led : LedBy N told.begun step.walk = subst (λ walk. IsLed N told.begun walk) step.walks was.led in
-      let on : IsLed N (told.begun ++ []) (walk_after (got_of N step.walk found)) = subst (λ begun. IsLed N begun (walk_after (got_of N step.walk found))) (sym (append-nil told.begun)) (led_on N told.begun step.walk found led) in
-      tells old view found new commits step p told view.walk (walk_after (got_of N step.walk found)) [] (All-nil (IsFirst N)) on was
-
-  -- a step with which a call begins
-  pub first_step_tells : (old : State C N) (view : SeatView C N) (walk : Walk C) (found : Found) (new : State C N) (commits : List (Event C N)) → FirstStep truths old view walk found new commits → IsLawful truths seats h old →
-      (told : Told C N) → IsTold truths.holds seats h view.seat view.walk told →
-      IsTold truths.holds seats (h ++ commits) view.seat (walk_after (got_of N walk found)) (told_after h commits (walk ∷ []) told) × BeginsWith (h ++ commits) told.seen
-  first_step_tells old view walk found new commits step p told was =
-      tells step.between (record view { walk = Some walk }) found new commits step.step (begins truths seats h old view walk step.between step.begins p) told view.walk (walk_after (got_of N walk found)) (walk ∷ []) (All-push (IsFirst N) [] walk (All-nil (IsFirst N)) step.begins.first)
-      (led_from N told.begun walk found (walk_after (got_of N walk found)) refl) was
+      IsTold truths.holds seats (h ++ commits) view.seat (walk_after (got_of N made.step.walk found)) (told_after h commits (calls_of begun) told) × BeginsWith (h ++ commits) told.seen
+  seat_step_tells old view begun found new commits made p told was =
+      let after_all = seat_steps_keep old view begun found new commits made p in
+      let led = led_if truths view begun made.between found new commits old made.begins made.step told.begun was.led in
+      (told_here truths.holds seats h view.seat view.walk (walk_after (got_of N made.step.walk found)) commits (calls_of begun) told (seat_step_by truths old view begun found new commits made) after_all.one_history.legal after_all.one_history.by_seats led.0 led.1 was, seen_grows h told.seen commits was.seen_of)

@@ -1,5 +1,5 @@
 -- How a lock begins, and how a seat's call begins.
-use Rattle.std.specs.Prelude.{◌≡◌, ℕ, zero, suc, ◌+◌, false, List, [], ◌∷◌, ◌++◌, replicate, None, Some}
+use Rattle.std.specs.Prelude.{◌≡◌, ℕ, zero, suc, ◌+◌, false, List, [], ◌∷◌, ◌++◌, replicate, Option, None, Some}
 use Rattle.ns_model.specs.declared.event.Event.{Event}
 use Rattle.ns_model.specs.Histories.{first_row}
 use Rattle.ns_word.specs.declared.word.Word.{Word}
@@ -66,8 +66,18 @@ pub record Begins {C : Type 0} {N : ℕ} (truths : Truths C) (old : State C N) (
   pub was : old.views ≡ front ++ view ∷ back
   pub becomes : new ≡ record old { views = front ++ record view { walk = Some walk } ∷ back }
 
--- A seat begins a call and makes its first step at once.
-pub record FirstStep {C : Type 0} {N : ℕ} (truths : Truths C) (old : State C N) (view : SeatView C N) (walk : Walk C) (found : Found) (new : State C N) (commits : List (Event C N)) : Type 0 where
+-- the same where it may begin none; then nothing changes
+abbrev pub BeginsIf : {C : Type 0} {N : ℕ} → Truths C → State C N → SeatView C N → Option (Walk C) → State C N → Type 0
+BeginsIf truths old view None new = new ≡ old
+BeginsIf truths old view (Some walk) new = Begins truths old view walk new
+
+-- the seat in the call that it begins, if it begins one
+abbrev pub view_in : {C : Type 0} {N : ℕ} → SeatView C N → Option (Walk C) → SeatView C N
+view_in view None = view
+view_in view (Some walk) = record view { walk = Some walk }
+
+-- A seat makes a step: the next of its call in progress, or the first of a call that it begins at once.
+pub record SeatStep {C : Type 0} {N : ℕ} (truths : Truths C) (old : State C N) (view : SeatView C N) (begun : Option (Walk C)) (found : Found) (new : State C N) (commits : List (Event C N)) : Type 0 where
   pub between : State C N
-  pub begins : Begins truths old view walk between
-  pub step : Step truths between (record view { walk = Some walk }) found new commits
+  pub begins : BeginsIf truths old view begun between
+  pub step : Step truths between (view_in view begun) found new commits

@@ -25,6 +25,7 @@ use Rattle.ns_word.specs.Lists.{has_some, has_eligible, bits_of}
 use Rattle.ns_word.specs.Walks.{Stance, Expected, has_armed, waits_in, awaits, pays, is_on_way, phase_by}
 use Rattle.ns_word.specs.Waits.{phase_kept}
 use Rattle.ns_word.specs.Views.{writers, readers, takers, queuers, owed_to, called_to, walk_at, AreApart}
+use Rattle.ns_word.specs.Seen.{HasNumber, word_seen}
 use Rattle.ns_word.specs.Places.{PlaceFits}
 use Rattle.ns_model.specs.Truths.{Truths}
 use Rattle.ns_word.specs.Steps.{State}
@@ -164,6 +165,10 @@ IdleWaitersFalse holds row word lock views = word.write ≡ false → word.reade
 abbrev pub AllfalseTrue : {C : Type 0} {N : ℕ} → (C → List ℕ → Bool) → List ℕ → Word → List (Waiter C) → List (SeatView C N) → Type 0
 AllfalseTrue holds row word lock views = word.all_false ≡ true → NobodyCouldGoOn holds row lock views
 
+-- The word that a seat has last seen has a number, so that an exchange can compare it with the lock's.
+abbrev pub WordsSeen : {C : Type 0} {N : ℕ} → List (SeatView C N) → Type 0
+WordsSeen views = Every (λ view. HasNumber (word_seen view.walk)) views
+
 -- The law, of a lock with so many seats, with this history of all that was committed.
 pub record IsLawful {C : Type 0} {N : ℕ} (truths : Truths C) (seats : ℕ) (history : List (Event C N)) (s : State C N) : Type 0 where
   pub one_writer : OneWriter s.word s.views
@@ -178,3 +183,4 @@ pub record IsLawful {C : Type 0} {N : ℕ} (truths : Truths C) (seats : ℕ) (hi
   pub idle_waiters_false : IdleWaitersFalse truths.holds (standing_after history).row s.word s.lists.lock s.views
   pub allfalse_true : AllfalseTrue truths.holds (standing_after history).row s.word s.lists.lock s.views
   pub apart : AreApart s.views
+  pub words_seen : WordsSeen s.views

@@ -4,10 +4,12 @@ pub mod Chains
 pub mod Codec
 pub mod EnvSteps
 pub mod EnvWalks
+pub mod Finds
 pub mod Lawful
 pub mod Lists
 pub mod Places
 pub mod Room
+pub mod Seen
 pub mod Steps
 pub mod Told
 pub mod Views

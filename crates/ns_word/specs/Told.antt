@@ -47,6 +47,11 @@ pub record IsTold {C : Type 0} {N : ℕ} (holds : C → List ℕ → Bool) (seat
   pub firsts : All (IsFirst N) told.begun
   pub led : IsLed N told.begun walk
 
+-- the call that a step begins, if it begins one
+abbrev pub calls_of : {C : Type 0} → Option (Walk C) → List (Walk C)
+calls_of None = []
+calls_of (Some walk) = walk ∷ []
+
 -- What a seat was told after a step of its own that commits these events, and begins these calls: none, or one where it is a call's first step. It has then seen the whole history. A step of another seat tells it nothing.
 abbrev pub told_after : {C : Type 0} {N : ℕ} → List (Event C N) → List (Event C N) → List (Walk C) → Told C N → Told C N
 told_after history commits begins told = record { seen = history ++ commits; mine = told.mine ++ commits; begun = told.begun ++ begins }

@@ -1,5 +1,5 @@
 -- What is counted over the seats' views, and one of them among the others.
-use Rattle.std.specs.Prelude.{◌≢◌, ℕ, ◌==◌, Bool, false, not, if◌then◌else◌, List, [], ◌∷◌, Option, None, Some}
+use Rattle.std.specs.Prelude.{◌≡◌, ◌≢◌, ℕ, ◌+◌, ◌==◌, Bool, false, not, if◌then◌else◌, List, [], ◌∷◌, Option, None, Some}
 use Rattle.ns_model.specs.Phases.{is_write}
 use Rattle.ns_model.specs.Tallies.{total, one_if}
 use Rattle.ns_word.specs.declared.view.Held.{Held}
@@ -56,3 +56,8 @@ NoneIs seat (view ∷ views) = (view.seat ≢ seat) × NoneIs seat views
 abbrev pub AreApart : {C : Type 0} {N : ℕ} → List (SeatView C N) → Type 0
 AreApart [] = Unit {0}
 AreApart (view ∷ views) = NoneIs view.seat views × AreApart views
+
+-- each view stands at its seat's number, counted from here on
+abbrev pub AreNumbered : {C : Type 0} {N : ℕ} → ℕ → List (SeatView C N) → Type 0
+AreNumbered first [] = Unit {0}
+AreNumbered first (view ∷ views) = (view.seat ≡ first) × AreNumbered (first + 1) views

@@ -2,7 +2,7 @@
 //! `specs/Codec.antt`, and nowhere else.
 //! The table of the bits, with the value of each, is at the head of `word.rt`.
 
-ghost use Rattle.std.specs.Prelude.{◌≡◌, ◌*◌, ◌<◌, Ok, MatchResult};
+ghost use Rattle.std.specs.Prelude.{◌≡◌, ◌*◌, ◌<◌, ◌≤◌, Ok, MatchResult};
 ghost use Rattle.ns_word.specs.Begins.{free_word};
 ghost use Rattle.ns_word.specs.Codec.{bit, number_of, word_of, is_set, IsPackable, IsBad};
 
@@ -34,7 +34,8 @@ pub struct BadWord;
 /// The value, if the bit is set.
 fn valued(b: bool, value: u64) -> u64
     requires { value < 128 }
-    ensures { result ≡ value * bit b }
+    ensures is { result ≡ value * bit b }
+    ensures most { result ≤ value }
 {
     if b { value } else { 0 }
 }
@@ -47,9 +48,9 @@ fn is_set(bits: u64, value: u64) -> bool
     bits / value % 2 == 1
 }
 
-/// The number of a word. Needs at most 64 readers, and none beside a writer.
+/// The number of a word. Each word has one, and [`decode`] gives it back unless the word has a
+/// writer beside readers, or more than 64 readers.
 pub fn encode(word: Word) -> u64
-    requires { IsPackable word }
     ensures { result ≡ number_of word }
 {
     valued(word.write, WRITE)
@@ -67,6 +68,17 @@ pub fn a_free_word_is_zero()
     ensures number { number_of Word.FREE ≡ 0 }
     ensures word { Word.FREE ≡ free_word }
 {}
+
+/// The word of a number that is one's, as a lawful lock's always is.
+pub fn unpacked(bits: u64) -> Word
+    requires { IsPackable (word_of bits) }
+    ensures { result ≡ word_of bits }
+{
+    match decode(bits) {
+        Ok(word) => word,
+        Err(_) => unreachable!(),
+    }
+}
 
 /// The word of a number, so that decoding undoes encoding. Refuses (`BadWord`) a number with a
 /// writer beside readers, and one with more than 64 readers, and no other.

@@ -24,12 +24,13 @@ ghost use Rattle.ns_word.specs.declared.walk.Reply.TheVariants.{Answered};
 ghost use Rattle.ns_word.specs.declared.act.Found.{Found};
 ghost use Rattle.ns_word.specs.declared.act.Found.TheVariants.{Looked};
 ghost use Rattle.ns_word.specs.Answers.{cause_kept, has_come_back, is_back};
-ghost use Rattle.ns_word.specs.Begins.{Begins, FirstStep, IsFirst, fresh_state};
+ghost use Rattle.ns_word.specs.Begins.{Begins, SeatStep, IsFirst, fresh_state};
 ghost use Rattle.ns_word.specs.Steps.{State, Step, entry_of};
+ghost use Rattle.ns_word.specs.Finds.{found_of, number_at, IsLook};
 ghost use Rattle.ns_word.specs.Lawful.{IsLawful};
-ghost use Rattle.ns_word.specs.Told.{Told, IsTold, nothing_told, told_after};
+ghost use Rattle.ns_word.specs.Told.{Told, IsTold, nothing_told, told_after, calls_of};
 ghost use Rattle.ns_word.specs.Waits.{answer_of};
-ghost use Rattle.ns_word.specs.Walks.{got_of, walk_after};
+ghost use Rattle.ns_word.specs.Walks.{want_of, got_of, walk_after};
 
 use ns_model::condition::Condition;
 
@@ -47,20 +48,22 @@ pub fn beginning_a_call_keeps_the_law<C: Condition<N>, const N: usize>()
         IsLawful C.means seats history new }
 {}
 
-/// A step of any of up to 64 seats keeps the law, and the history grows by what it commits.
+/// A step of any of up to 64 seats, the next of its call or the first of one that it begins, keeps
+/// the law, and the history grows by what it commits.
 pub fn steps_keep_the_law<C: Condition<N>, const N: usize>()
-    ensures { (seats : ℕ) (history : List (Event C N)) (old new : State C N) (view : SeatView C N) (found : Found) (commits : List (Event C N)) →
-        seats ≤ 64 → Step C.means old view found new commits →
+    ensures { (seats : ℕ) (history : List (Event C N)) (old new : State C N) (view : SeatView C N) (begun : Option (Walk C)) (found : Found) (commits : List (Event C N)) →
+        seats ≤ 64 → SeatStep C.means old view begun found new commits →
         IsLawful C.means seats history old →
         IsLawful C.means seats (history ++ commits) new }
 {}
 
-/// So does a step with which a call begins.
-pub fn first_steps_keep_the_law<C: Condition<N>, const N: usize>()
-    ensures { (seats : ℕ) (history : List (Event C N)) (old new : State C N) (view : SeatView C N) (walk : Walk C) (found : Found) (commits : List (Event C N)) →
-        seats ≤ 64 → FirstStep C.means old view walk found new commits →
-        IsLawful C.means seats history old →
-        IsLawful C.means seats (history ++ commits) new }
+/// A step that is no look finds what one word says, which it loads or compares: the rest is what
+/// its seat has already, its section, the wakes that it owes and the lists in its hand.
+pub fn steps_find_what_one_word_says<C: Condition<N>, const N: usize>()
+    ensures { (seats : ℕ) (history : List (Event C N)) (old new : State C N) (view : SeatView C N) (found : Found) (commits : List (Event C N)) →
+        seats ≤ 64 → (step : Step C.means old view found new commits) →
+        IsLawful C.means seats history old → (IsLook (want_of step.walk) → ⊥) →
+        found ≡ found_of C.means (want_of step.walk) view old.lists (number_at view.seat (want_of step.walk) old) }
 {}
 
 /// A waiter of the lock list that has a condition is in the wait for it, in its mode, by the
@@ -78,34 +81,18 @@ pub fn a_fresh_seat_was_told_nothing<C: Condition<N>, const N: usize>()
 
 /// What a seat is told by a step of its own: it has then seen the whole history, which begins with
 /// what it had seen, its own events grow by what the step commits, and the call that it goes on
-/// with is still the last that it has begun.
+/// with is the last that it has begun: with this step, if it is a call's first.
 pub fn steps_tell_their_seat<C: Condition<N>, const N: usize>()
-    ensures { (seats : ℕ) (history : List (Event C N)) (old new : State C N) (view : SeatView C N) (found : Found) (commits : List (Event C N)) (told : Told C N) →
-        seats ≤ 64 → (step : Step C.means old view found new commits) →
+    ensures { (seats : ℕ) (history : List (Event C N)) (old new : State C N) (view : SeatView C N) (begun : Option (Walk C)) (found : Found) (commits : List (Event C N)) (told : Told C N) →
+        seats ≤ 64 → (made : SeatStep C.means old view begun found new commits) →
         IsLawful C.means seats history old → IsTold C.means.holds seats history view.seat view.walk told →
-        IsTold C.means.holds seats (history ++ commits) view.seat (walk_after (got_of N step.walk found)) (told_after history commits [] told) × BeginsWith (history ++ commits) told.seen }
-{}
-
-/// What a seat is told by a step with which it begins a call: the same, and the call stands
-/// last among those that it has begun.
-pub fn first_steps_tell_their_seat<C: Condition<N>, const N: usize>()
-    ensures { (seats : ℕ) (history : List (Event C N)) (old new : State C N) (view : SeatView C N) (walk : Walk C) (found : Found) (commits : List (Event C N)) (told : Told C N) →
-        seats ≤ 64 → FirstStep C.means old view walk found new commits →
-        IsLawful C.means seats history old → IsTold C.means.holds seats history view.seat view.walk told →
-        IsTold C.means.holds seats (history ++ commits) view.seat (walk_after (got_of N walk found)) (told_after history commits (walk ∷ []) told) × BeginsWith (history ++ commits) told.seen }
+        IsTold C.means.holds seats (history ++ commits) view.seat (walk_after (got_of N made.step.walk found)) (told_after history commits (calls_of begun) told) × BeginsWith (history ++ commits) told.seen }
 {}
 
 /// What a seat was told stays true after the steps of others.
 pub fn steps_tell_no_other<C: Condition<N>, const N: usize>()
-    ensures { (seats : ℕ) (history : List (Event C N)) (old new : State C N) (view : SeatView C N) (found : Found) (commits : List (Event C N)) (other : ℕ) (walk : Option (Walk C)) (told : Told C N) →
-        Step C.means old view found new commits →
-        view.seat ≢ other → IsTold C.means.holds seats history other walk told → IsTold C.means.holds seats (history ++ commits) other walk told }
-{}
-
-/// And after those with which others begin a call.
-pub fn first_steps_tell_no_other<C: Condition<N>, const N: usize>()
-    ensures { (seats : ℕ) (history : List (Event C N)) (old new : State C N) (view : SeatView C N) (begun : Walk C) (found : Found) (commits : List (Event C N)) (other : ℕ) (walk : Option (Walk C)) (told : Told C N) →
-        FirstStep C.means old view begun found new commits →
+    ensures { (seats : ℕ) (history : List (Event C N)) (old new : State C N) (view : SeatView C N) (begun : Option (Walk C)) (found : Found) (commits : List (Event C N)) (other : ℕ) (walk : Option (Walk C)) (told : Told C N) →
+        SeatStep C.means old view begun found new commits →
         view.seat ≢ other → IsTold C.means.holds seats history other walk told → IsTold C.means.holds seats (history ++ commits) other walk told }
 {}
 

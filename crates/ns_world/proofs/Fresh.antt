@@ -13,7 +13,8 @@ use Rattle.ns_world.specs.Asks.{note_at}
 use Rattle.ns_world.specs.Performs.{view_of, flag_at}
 use Rattle.ns_word.specs.EnvSteps.{IfMade}
 use Rattle.ns_world.specs.Looks.{AsksFor, note_in}
-use Rattle.ns_world.specs.World.{AreNumbered, IsLawfulWorld, fresh}
+use Rattle.ns_word.specs.Views.{AreNumbered}
+use Rattle.ns_world.specs.World.{IsLawfulWorld, fresh}
 
 pub views_next : {C : Type 0} {N : ℕ} (first n : ℕ) → 0 < n → fresh_views {C = C} {N = N} first n ≡ record { seat = first; walk = None; held = None; owed = [] } ∷ fresh_views (first + 1) (n - 1)
 views_next first zero some = absurd (omega arith)

@@ -5,8 +5,6 @@ pub mod Fresh
 pub mod Lists
 pub mod Looking
 pub mod Mapped
-pub mod Numbers
-pub mod Packable
 pub mod Placed
 pub mod Places
 pub mod Released

@@ -1,7 +1,6 @@
 -- What a lawful world gives to those who show it.
-use Rattle.std.proofs.Common.{◌≡◌, ℕ, suc, ◌+◌, ◌<◌, ◌≤◌, Bool, true, false, List, [], ◌∷◌, ◌++◌, Some, None, length, map, get_or, take, drop, slice_get, Option, refl, ap, sym, ◌∙◌, arith, cond, inl, inr}
-use Rattle.std.specs.Prelude.{IfSome}
-use Rattle.std.proofs.lemmas.Option.{slice_get-get_or, slice_get_within}
+use Rattle.std.proofs.Common.{◌≡◌, ℕ, suc, ◌+◌, ◌<◌, ◌≤◌, Bool, true, false, List, [], ◌∷◌, ◌++◌, Some, None, length, map, take, drop, slice_get, Option, refl, ap, sym, ◌∙◌, arith, cond, inl, inr}
+use Rattle.std.specs.Prelude.{IfSome, option_map}
 use Rattle.std.proofs.lemmas.Bool.{cases_eq}
 use Rattle.std.proofs.lemmas.List.{length-append, length-map}
 use Rattle.ns_model.specs.declared.event.Mode.TheVariants.{Read}
@@ -28,36 +27,31 @@ use Rattle.ns_world.specs.declared.seat.Seat.{Seat}
 use Rattle.ns_world.specs.Performs.{view_of}
 use Rattle.ns_world.specs.Shows.{wakes_owed}
 use Rattle.ns_world.specs.World.{now_with, IsLawfulWorld}
-use Rattle.ns_world.proofs.Worlds.{split}
+use Rattle.ns_world.proofs.Mapped.{slice_get-map}
+use Rattle.ns_word.proofs.Numbers.{split_at}
 
 module _ {C : Type 0} {N : ℕ} (truths : Truths C) (word : Word) (row : List ℕ) (queues : Lists C) (flags : List ℕ) (env : Environment) (seats : List (Seat C N)) (history : List (Event C N)) (lawful : IsLawfulWorld (now_with truths word row queues flags env seats history)) where
   abbrev state : State C N
   state = (now_with truths word row queues flags env seats history).state
 
   module _ (i : ℕ) (seat : Seat C N) (at : slice_get seats i ≡ Some seat) where
-    within : i < length seats
-    within = slice_get_within seats i seat at
-
-    is : get_or seats i seat ≡ seat
-    is = let same : Some (get_or seats i seat) ≡ Some seat = sym (slice_get-get_or seats i seat within) ∙ at in cc
-
-    parts : map view_of seats ≡ map view_of (take i seats) ++ view_of seat ∷ map view_of (drop (suc i) seats)
-    parts = split seats i seat within ∙ ap (λ s. map view_of (take i seats) ++ view_of s ∷ map view_of (drop (suc i) seats)) is
+    at_view : slice_get (map view_of seats) i ≡ Some (view_of seat)
+    at_view = slice_get-map view_of seats i ∙ ap (option_map view_of) at
 
     -- a seat's number is one
     pub number_below : seat.number < 64
     number_below =
-        let fits = view_fits truths (length (map view_of seats)) lawful.few history state (map view_of (take i seats)) (view_of seat) (map view_of (drop (suc i) seats)) parts lawful.lawful in
+        let fits = view_fits truths (length (map view_of seats)) lawful.few history state (take i (map view_of seats)) (view_of seat) (drop (suc i) (map view_of seats)) (split_at (map view_of seats) i (view_of seat) at_view) lawful.lawful in
         omega (arith, fits.in_range, lawful.few)
 
     -- one that is about to queue stands nowhere
     pub nowhere : has_armed seat.walk ≡ true → times seat.number queues ≡ 0
     nowhere armed =
-        stands_nowhere truths (length (map view_of seats)) lawful.few history state (map view_of (take i seats)) (view_of seat) (map view_of (drop (suc i) seats)) parts lawful.lawful (unqueued seat.walk armed)
+        stands_nowhere truths (length (map view_of seats)) lawful.few history state (take i (map view_of seats)) (view_of seat) (drop (suc i) (map view_of seats)) (split_at (map view_of seats) i (view_of seat) at_view) lawful.lawful (unqueued seat.walk armed)
 
     listed_by : (walk : Option (Walk C)) → seat.walk ≡ walk → IfSome walk HasList
     listed_by None e = tt
-    listed_by (Some walk) e = has_list truths (length (map view_of seats)) lawful.few history state (map view_of (take i seats)) (view_of seat) (map view_of (drop (suc i) seats)) parts lawful.lawful walk e
+    listed_by (Some walk) e = has_list truths (length (map view_of seats)) lawful.few history state (take i (map view_of seats)) (view_of seat) (drop (suc i) (map view_of seats)) (split_at (map view_of seats) i (view_of seat) at_view) lawful.lawful walk e
 
     -- the list that its walk names is one that there is
     pub listed : IfSome seat.walk HasList
@@ -105,7 +99,7 @@ module _ {C : Type 0} {N : ℕ} where
   none_owed : (truths : Truths C) (seats : ℕ) (h : List (Event C N)) (s : State C N) → IsLawful truths seats h s → (seat : ℕ) → seats ≤ seat → owed_to seat s.views ≡ 0
   none_owed truths seats h s p seat high = elim (cases_eq (owed_to seat s.views) 0) [
     | inl none ↦ none
-    | inr some ↦ let low = placed_below truths seats h s p seat (omega (arith, some)) in absurd (omega (arith, low, high))
+    | inr some ↦ let low = placed_below truths seats h s p.waiters_placed p.one_history.each seat (omega (arith, some)) in absurd (omega (arith, low, high))
   ]
 
   -- no more wakes are owed than there are seats

@@ -1,8 +1,8 @@
 -- A seat's step and a call's beginning keep a world lawful.
-use Rattle.std.proofs.Common.{◌≡◌, ℕ, zero, suc, inl, inr, ◌<◌, ◌≤◌, List, [], ◌∷◌, ◌++◌, Option, Some, None, length, map, get_or, take, drop, slice_set, slice_get, refl, ap, sym, ◌∙◌, subst, drop-cons, zero-add, arith}
+use Rattle.std.proofs.Common.{◌≡◌, ℕ, zero, suc, inl, inr, ◌<◌, ◌≤◌, List, [], ◌∷◌, ◌++◌, Option, Some, None, length, map, get_or, take, drop, slice_set, slice_get, refl, ap, sym, ◌∙◌, subst, zero-add, arith}
 use Rattle.std.proofs.lemmas.Option.{slice_get-get_or}
 use Rattle.std.proofs.lemmas.Bool.{cases_eq}
-use Rattle.std.proofs.lemmas.List.{append-nil, set_split, set-get_or, take-append-drop, length-set, map-append, length-map}
+use Rattle.std.proofs.lemmas.List.{append-nil, set-get_or, length-set, length-map}
 use Rattle.ns_model.specs.declared.event.Event.{Event}
 use Rattle.ns_queue.specs.Queues.{Lists}
 use Rattle.ns_word.specs.declared.word.Word.{Word}
@@ -22,9 +22,9 @@ use Rattle.ns_word.specs.EnvWalks.{env_want_of, env_got_of, env_walk_after}
 use Rattle.ns_word.specs.EnvSteps.{EnvPlain, EnvBegins, EnvStep, EnvActFits, EnvEffect, IfMade, IsFirstAsk, IsLawfulEnv, events_of}
 use Rattle.ns_word.specs.Walks.{want_of, got_of, walk_after}
 use Rattle.ns_model.specs.Truths.{Truths, QuietKeeps}
-use Rattle.ns_word.specs.Steps.{Effect, MayShow}
+use Rattle.ns_word.specs.Steps.{State, Effect, MayShow}
 use Rattle.ns_word.specs.Places.{IsSettled, PlaceFits, ActFits}
-use Rattle.ns_word.specs.Begins.{IsFirst, Begins}
+use Rattle.ns_word.specs.Begins.{IsFirst}
 use Rattle.ns_word.specs.Lawful.{IsLawful}
 use Rattle.ns_word.proofs.Acts.{act_fits, view_fits}
 use Rattle.ns_word.proofs.Dispatch.{keeps}
@@ -47,7 +47,7 @@ use Rattle.ns_world.specs.Looked.{EnvMoves, LookStep, MovesFrom, SeatLooks, Sees
 use Rattle.ns_world.specs.World.{Now, now_with, Goes, Acts, Asks, Looks, LookGoes, Moves, StepOf, IsLawfulWorld, StandRight, NotesMade}
 use Rattle.ns_world.proofs.Looking.{FirstIf, LookLeads, first_if, if_made_stays, look_leads, look_stays, noted, right_here, shown_effect}
 use Rattle.ns_world.proofs.Mapped.{got-map, map-set, index-map}
-use Rattle.ns_world.proofs.Numbers.{number_at, numbers_stay}
+use Rattle.ns_word.proofs.Numbers.{number_at, numbers_stay, split_at, step_at, begin_at}
 use Rattle.ns_world.proofs.Places.{StartFits, fits_more}
 
 -- two reads of one element
@@ -144,10 +144,6 @@ lawful_env old env askings tests events same right noted keeps lawful = record {
   env_lawful = keeps;
 }
 
--- the views before a seat's, its own, and those behind it
-pub split : {C : Type 0} {N : ℕ} (seats : List (Seat C N)) (i : ℕ) (d : Seat C N) → i < length seats → map view_of seats ≡ map view_of (take i seats) ++ view_of (get_or seats i d) ∷ map view_of (drop (suc i) seats)
-split seats i d within = ap (map view_of) (sym (take-append-drop i seats) ∙ ap (λ rest. take i seats ++ rest) (drop-cons seats i d within)) ∙ map-append view_of (take i seats) (get_or seats i d ∷ drop (suc i) seats)
-
 module _ {C : Type 0} {N : ℕ} (truths : Truths C) (some : 0 < N) (quiet : QuietKeeps N truths) (word : Word) (row : List ℕ) (queues : Lists C) (flags : List ℕ) (env : Environment) (seats : List (Seat C N)) (history : List (Event C N)) (lawful : IsLawfulWorld (now_with truths word row queues flags env seats history)) (i : ℕ) (d : Seat C N) (within : i < length seats) where
   abbrev old : Now C N
   old = now_with truths word row queues flags env seats history
@@ -155,29 +151,14 @@ module _ {C : Type 0} {N : ℕ} (truths : Truths C) (some : 0 < N) (quiet : Quie
   abbrev seat : Seat C N
   seat = get_or seats i d
 
-  abbrev front : List (SeatView C N)
-  front = map view_of (take i seats)
-
-  abbrev back : List (SeatView C N)
-  back = map view_of (drop (suc i) seats)
-
   in_views : i < length (map view_of seats)
   in_views = omega (arith, within, length-map seats view_of)
 
-  apart : map view_of seats ≡ front ++ view_of (get_or seats i d) ∷ back
-  apart = split seats i d within
-
-  put : (next : Seat C N) → map view_of (slice_set seats i next) ≡ front ++ view_of next ∷ back
-  put next = ap (map view_of) (set_split seats i next within) ∙ map-append view_of (take i seats) (next ∷ drop (suc i) seats)
-
-  at_here : (get_or (map view_of seats) i (view_of d)).seat ≡ i
-  at_here = number_at 0 (map view_of seats) i (view_of d) in_views lawful.numbered ∙ zero-add i
+  at_here : slice_get (map view_of seats) i ≡ Some (view_of (get_or seats i d))
+  at_here = got-map view_of seats i d within
 
   pub number_here : (get_or seats i d).number ≡ i
-  number_here =
-      let same : Some (get_or (map view_of seats) i (view_of d)) ≡ Some (view_of (get_or seats i d)) = sym (slice_get-get_or (map view_of seats) i (view_of d) in_views) ∙ got-map view_of seats i d within in
-      let is : get_or (map view_of seats) i (view_of d) ≡ view_of (get_or seats i d) = cc in
-      sym (ap (λ v. v.seat) is) ∙ at_here
+  number_here = number_at (map view_of seats) i (view_of (get_or seats i d)) at_here lawful.numbered
 
   -- where the seat stands in a call on the clock and the notes
   asks_at : slice_get (map (λ s. s.asking) seats) i ≡ Some (get_or seats i d).asking
@@ -218,14 +199,14 @@ module _ {C : Type 0} {N : ℕ} (truths : Truths C) (some : 0 < N) (quiet : Quie
   -- between calls the section in hand is settled
   pub settled_here : (get_or seats i d).walk ≡ None → IsSettled truths (get_or seats i d).held
   settled_here over =
-      let fits = view_fits truths (length (map view_of seats)) lawful.few history (now_with truths word row queues flags env seats history).state front (view_of (get_or seats i d)) back apart lawful.lawful in
+      let fits = view_fits truths (length (map view_of seats)) lawful.few history (now_with truths word row queues flags env seats history).state (take i (map view_of seats)) (view_of (get_or seats i d)) (drop (suc i) (map view_of seats)) (split_at (map view_of seats) i (view_of (get_or seats i d)) at_here) lawful.lawful in
       subst (λ w. PlaceFits truths w (get_or seats i d).held) over fits.place
 
   -- the step that the seat's walk wants may be made
   pub act_here : (walk : Walk C) → (get_or seats i d).walk ≡ Some walk → ActFits truths 64 (get_or seats i d).number (want_of walk) (seat_part word row queues flags (get_or seats i d))
   act_here walk e =
       fits_more truths (length (map view_of seats)) 64 (get_or seats i d).number (want_of walk) (seat_part word row queues flags (get_or seats i d)) lawful.few
-      (act_fits truths (length (map view_of seats)) lawful.few history (now_with truths word row queues flags env seats history).state front (view_of (get_or seats i d)) back apart lawful.lawful walk e)
+      (act_fits truths (length (map view_of seats)) lawful.few history (now_with truths word row queues flags env seats history).state (take i (map view_of seats)) (view_of (get_or seats i d)) (drop (suc i) (map view_of seats)) (split_at (map view_of seats) i (view_of (get_or seats i d)) at_here) lawful.lawful walk e)
 
   -- the view after a step, part by part
   led : (walk : Walk C) (next : Seat C N) (found : Found) → next.number ≡ (get_or seats i d).number → next.walk ≡ walk_after (got_of N walk found) →
@@ -249,17 +230,8 @@ module _ {C : Type 0} {N : ℕ} (truths : Truths C) (some : 0 < N) (quiet : Quie
       number = number_here;
       found = p.found;
       commits = p.commits;
-      makes = record {
-        walk = walk;
-        walks = walks;
-        front = front;
-        back = back;
-        held = next.held;
-        owed = next.owed.items;
-        was = apart;
-        becomes = put next ∙ ap (λ v. front ++ v ∷ back) (led walk next p.found p.number p.goes);
-        effect = p.effect;
-      };
+      makes = step_at truths (now_with truths word row queues flags env seats history).state i (view_of (get_or seats i d)) at_here walk p.found (now_with truths word' row' queues' flags' env (slice_set seats i next) history').state next.held next.owed.items p.commits
+          walks (map-set view_of seats i next ∙ ap (slice_set (map view_of seats) i) (led walk next p.found p.number p.goes)) p.effect;
       others = map-set view_of seats i next ∙ ap (slice_set (map view_of seats) i) (led walk next p.found p.number p.goes);
       means = refl;
       tests = map-set (λ s. s.tests) seats i next ∙ ap (slice_set (map (λ s. s.tests) seats) i) (p.tests ∙ ap (tests_after p.found) (sym (index-map (λ s. s.tests) seats i d within)));
@@ -313,16 +285,9 @@ module _ {C : Type 0} {N : ℕ} (truths : Truths C) (some : 0 < N) (quiet : Quie
       view_of next ≡ record { seat = (get_or seats i d).number; walk = Some walk; held = (get_or seats i d).held; owed = (get_or seats i d).owed.items } → IfMade (plain_of env).notes (note_in (Some walk)) → looks_at (want_of walk) ≡ None → IsLawfulWorld (now_with truths word row queues flags env (slice_set seats i next) history)
   lawful_begun walk next over unasked asks first place is note inside =
       let new : Now C N = now_with truths word row queues flags env (slice_set seats i next) history in
-      let begun : Begins truths (now_with truths word row queues flags env seats history).state (view_of (get_or seats i d)) walk new.state = record {
-        over = over;
-        first = first;
-        fits = place;
-        front = front;
-        back = back;
-        was = apart;
-        becomes = ap (λ vs. record (now_with truths word row queues flags env seats history).state { views = vs }) (put next ∙ ap (λ v. front ++ v ∷ back) is);
-      } in
-      let kept = begins truths (length (map view_of seats)) history (now_with truths word row queues flags env seats history).state (view_of (get_or seats i d)) walk new.state begun lawful.lawful in
+      let old_state : State C N = (now_with truths word row queues flags env seats history).state in
+      let begun = begin_at truths old_state i (view_of (get_or seats i d)) at_here walk new.state over first place (ap (λ vs. record old_state { views = vs }) (map-set view_of seats i next ∙ ap (slice_set (map view_of seats) i) is)) in
+      let kept = begins truths (length (map view_of seats)) history old_state (view_of (get_or seats i d)) walk new.state begun lawful.lawful in
       let same : length (map view_of (slice_set seats i next)) ≡ length (map view_of seats) = length-map (slice_set seats i next) view_of ∙ length-set seats i next ∙ sym (length-map seats view_of) in
       record {
         few = rw same lawful.few;

@@ -1,5 +1,5 @@
 -- What a contract sees of a world, and a seat's step in it.
-use Rattle.std.specs.Prelude.{◌≡◌, ℕ, ◌+◌, ◌⊎◌, Bool, false, ◌||◌, ◌<◌, ◌≤◌, ◌++◌, List, [], ◌∷◌, map, replicate, Option, Some, None, is_some, slice_get, slice_set, slice_index, length}
+use Rattle.std.specs.Prelude.{◌≡◌, ℕ, ◌⊎◌, Bool, false, ◌||◌, ◌<◌, ◌≤◌, ◌++◌, List, [], map, replicate, Option, Some, None, is_some, slice_get, slice_set, slice_index, length}
 use Rattle.std.specs.Option.{option_map_or}
 use Rattle.ns_model.specs.declared.environment.EnvEvent.{EnvEvent}
 use Rattle.ns_model.specs.declared.event.Event.{Event}
@@ -16,6 +16,7 @@ use Rattle.ns_word.specs.Walks.{want_of, got_of, walk_after}
 use Rattle.ns_model.specs.Truths.{Truths}
 use Rattle.ns_word.specs.Steps.{State, Step as Steps}
 use Rattle.ns_word.specs.Lawful.{IsLawful}
+use Rattle.ns_word.specs.Views.{AreNumbered}
 use Rattle.ns_word.specs.Begins.{fresh_state}
 use Rattle.ns_word.specs.declared.env_walk.EnvNext.{EnvNext}
 use Rattle.ns_word.specs.declared.env_walk.EnvNext.TheVariants.{Go, Shown}
@@ -83,11 +84,6 @@ abbrev pub now_with : {C : Type 0} {N : ℕ} → Truths C → Word → List ℕ 
 now_with truths word row queues flags env seats history = now_of truths (kept word row queues flags env seats history)
 
 -- ---- what holds of every world
-
--- the views' numbers are their places
-abbrev pub AreNumbered : {C : Type 0} {N : ℕ} → ℕ → List (SeatView C N) → Type 0
-AreNumbered first [] = Unit {0}
-AreNumbered first (view ∷ views) = (view.seat ≡ first) × AreNumbered (first + 1) views
 
 -- each seat stands on the clock and the notes where it may
 abbrev pub StandRight : {C : Type 0} {N : ℕ} → List (SeatView C N) → List (Option EnvWalk) → Type 0

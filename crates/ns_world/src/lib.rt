@@ -25,7 +25,6 @@ mod exchanges;
 pub mod fault;
 pub mod law;
 mod looks;
-mod packed;
 mod perform;
 mod room;
 pub mod run;

@@ -10,14 +10,13 @@ use crate::call::{Call, Start};
 use crate::environment::Environment;
 use crate::fault::Fault;
 use crate::looks::step_env;
-use crate::packed::unpacked;
 use crate::perform::perform;
 use crate::room::Seated;
 use crate::seat::Seat;
 use crate::seats::is_busy;
 use ns_model::event::{Event, Mode};
 use ns_queue::queues::Queues;
-use ns_word::codec::encode;
+use ns_word::codec::{encode, unpacked};
 use ns_word::view::Held;
 use ns_word::walk::Reply;
 

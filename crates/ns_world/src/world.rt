@@ -14,7 +14,6 @@ ghost use Rattle.ns_world.specs.World.{fresh, now_of, is_busy, HasEnvHistory, Ne
 use crate::call::Call;
 use crate::environment::Environment;
 use crate::fault::Fault;
-use crate::packed::unpacked;
 use crate::room::Seated;
 use crate::seat::Seat;
 use crate::seats::{busy_seats, new_seats};
@@ -26,7 +25,7 @@ use ns_model::event::Event;
 use ns_model::seats::Seats;
 use ns_queue::queues::Queues;
 use ns_queue::waiter::{Shown, Which};
-use ns_word::codec::encode;
+use ns_word::codec::{encode, unpacked};
 use ns_word::word::Word;
 use std::alloc::Global;
 use std::marker::Model;

@@ -2,12 +2,11 @@ use Rattle.std.proofs.Common.{◌≡◌, ◌<◌, ◌≤◌, ◌∙◌, Some, le
 use Rattle.std.proofs.lemmas.List.{set-get_or}
 use Rattle.ns_word.specs.Codec.{word_of}
 use Rattle.ns_word.proofs.Codes.{decoded}
+use Rattle.ns_word.proofs.Seen.{packable}
 use Rattle.ns_word.specs.Walks.{want_of}
 use Rattle.ns_world.specs.Commits.{Commits}
 use Rattle.ns_world.specs.Performs.{view_of}
-use Rattle.ns_world.specs.World.{now_with}
 use Rattle.ns_world.proofs.Mapped.{got-map}
-use Rattle.ns_world.proofs.Packable.{packable}
 use Rattle.ns_world.proofs.Worlds.{act_here, ask_here, asks_for, inside_here, number_here, acts_here, moved_here, asks_unasked, unasked_cleared, past_views, lawful_after, same_element, told}
 use Rattle.ns_world.proofs.step.step_at.Goals as goal
 
@@ -45,7 +44,7 @@ returns-in-Some-clause-ok g c =
     (moved_here g.C.Condition.means g.met.C.Condition.has_cells.0 g.met.C.Condition.quiet_keeps (word_of c.args.word.now) c.args.row.now c.args.queues.now c.args.flags.now c.args.env.now c.args.seats.now.items c.args.history.now.items c.requires c.args.number seat within c.in-Some.place stands c.step_env.new.env c.step_env.new.seat c.step_env.result (rw (← c.index_mut.ensures.value) c.step_env.ensures)).0
 
 pub unpacked-found-requires : goal.unpacked-found-requires
-unpacked-found-requires g c = packable (now_with g.C.Condition.means (word_of c.args.word.now) c.args.row.now c.args.queues.now c.args.flags.now c.args.env.now c.args.seats.now.items c.args.history.now.items) c.requires
+unpacked-found-requires g c = packable _ _ _ _ c.requires.few c.requires.lawful
 
 pub perform-requires : goal.perform-requires
 perform-requires g c =
@@ -70,15 +69,6 @@ returns-in_default-walk-clause-ok g c =
         unasked = asks_unasked c.args.seats.now.items c.args.number c.index.result.now within c.index.ensures c.in_default.is;
       },
     )
-
-pub encode-requires : goal.encode-requires
-encode-requires g c =
-    let seat = c.index_mut-2.result.now in
-    let within : c.args.number < length c.args.seats.now.items = omega arith in
-    let same = same_element c.args.seats.now.items c.args.number c.index-2.result.now seat within c.index-2.ensures c.index_mut-2.ensures.value in
-    let unasked = rw (same_element c.args.seats.now.items c.args.number c.index.result.now seat within c.index.ensures c.index_mut-2.ensures.value, c.index_mut-2.ensures.value) at c.in_default.is in
-    packable _ (lawful_after g.C.Condition.means g.met.C.Condition.has_cells.0 g.met.C.Condition.quiet_keeps (word_of c.args.word.now) c.args.row.now c.args.queues.now c.args.flags.now c.args.env.now c.args.seats.now.items c.args.history.now.items c.requires c.args.number seat within c.in-Some-walk.walk (rw (same, c.index_mut-2.ensures.value) at c.in-Some-walk.is) c.perform.new.word c.perform.new.row c.perform.new.queues c.perform.new.flags c.perform.new.seat c.perform.new.history.items c.in-Ok.step
-    (rw (← c.index_mut-2.ensures.value, ← c.unpacked-found.ensures) c.in-Ok.ensures.ok) _ (unasked_cleared g.C.Condition.means g.met.C.Condition.has_cells.0 g.met.C.Condition.quiet_keeps (word_of c.args.word.now) c.args.row.now c.args.queues.now c.args.flags.now c.args.env.now c.args.seats.now.items c.args.history.now.items c.requires c.args.number seat within unasked))
 
 pub returns-in-Ok-clause-ok : goal.returns-in-Ok-clause-ok
 returns-in-Ok-clause-ok g c =

@@ -4,12 +4,12 @@ use Rattle.ns_queue.specs.Queues.{Lists}
 use Rattle.ns_queue.specs.Waiters.{shown_of}
 use Rattle.ns_world.specs.Performs.{view_of}
 use Rattle.ns_world.proofs.Lists.{each_shown, shown_four}
-use Rattle.ns_world.proofs.Packable.{packable}
+use Rattle.ns_word.proofs.Seen.{packable}
 use Rattle.ns_world.proofs.States.{listed, number_below, nowhere, few_seats, wakes_few}
 use Rattle.ns_world.proofs.world.World.state.Goals as goal
 
 pub unpacked-requires : goal.unpacked-requires
-unpacked-requires g c = packable _ c.self.invariant
+unpacked-requires g c = packable _ _ _ _ c.self.invariant.few c.self.invariant.lawful
 
 pub shown_queues-queues-requires : goal.shown_queues-queues-requires
 shown_queues-queues-requires g c = (

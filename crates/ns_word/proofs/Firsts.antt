@@ -1,0 +1,33 @@
+-- The first place of a call: nothing has been seen, kept or come back yet.
+use Rattle.std.proofs.Common.{◌≡◌, ℕ, false, None, Some, refl}
+use Rattle.ns_word.specs.declared.wait.Aim.TheVariants.{ForLock}
+use Rattle.ns_word.specs.declared.wait.Visit.TheVariants.{OnEntry}
+use Rattle.ns_word.specs.declared.wait.WaitPlace.TheVariants.{TestCells, TestLast, InQueuing}
+use Rattle.ns_word.specs.declared.wait.QueuePlace.TheVariants.{Load}
+use Rattle.ns_word.specs.declared.try_walk.TryPlace.TheVariants.{TryLoad}
+use Rattle.ns_word.specs.declared.acquire_walk.AcquirePlace.TheVariants.{AcquireLoad}
+use Rattle.ns_word.specs.declared.release_walk.ReleasePlace.TheVariants.{ReleaseLoad}
+use Rattle.ns_word.specs.declared.signal_walk.SignalPlace.TheVariants.{SignalLoad}
+use Rattle.ns_word.specs.declared.walk.Walk.{Walk}
+use Rattle.ns_word.specs.declared.walk.Walk.TheVariants.{InTry, InAcquire, InRelease, InCells, InWait, InSignal}
+use Rattle.ns_word.specs.Answers.{cause_kept, has_come_back}
+use Rattle.ns_word.specs.Begins.{IsFirst}
+use Rattle.ns_word.specs.Seen.{word_seen}
+
+-- no word was seen, no cause of a wait's end is kept, and no wait has come back
+pub record IsBare {C : Type 0} (walk : Walk C) : Type 0 where
+  pub unseen : word_seen (Some walk) ≡ None
+  pub unkept : cause_kept walk ≡ None
+  pub out : has_come_back walk ≡ false
+
+module _ {C : Type 0} (N : ℕ) where
+  pub first_is_bare : (walk : Walk C) → IsFirst N walk → IsBare walk
+  first_is_bare (InTry mode TryLoad) p = record { unseen = refl; unkept = refl; out = refl }
+  first_is_bare (InAcquire (ForLock mode) (AcquireLoad arrival)) p = record { unseen = refl; unkept = refl; out = refl }
+  first_is_bare (InRelease releasing ReleaseLoad) p = record { unseen = refl; unkept = refl; out = refl }
+  first_is_bare (InCells place) p = record { unseen = refl; unkept = refl; out = refl }
+  first_is_bare (InWait wait (TestCells OnEntry i)) p = record { unseen = refl; unkept = refl; out = refl }
+  first_is_bare (InWait wait (TestLast OnEntry i)) p = record { unseen = refl; unkept = refl; out = refl }
+  first_is_bare (InWait wait (InQueuing again Load)) p = record { unseen = refl; unkept = refl; out = refl }
+  first_is_bare (InSignal waking k SignalLoad) p = record { unseen = refl; unkept = refl; out = refl }
+  first_is_bare _ p = absurd p

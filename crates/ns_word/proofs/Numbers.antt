@@ -1,0 +1,65 @@
+-- Views that stand at their seats' numbers, and a step or a beginning by the number of its seat.
+use Rattle.std.proofs.Common.{◌≡◌, ℕ, zero, suc, ◌+◌, ◌∙◌, List, [], ◌∷◌, ◌++◌, None, Some, take, drop, slice_get, slice_set, refl, ap, arith, zero-add}
+use Rattle.ns_model.specs.declared.event.Event.{Event}
+use Rattle.ns_model.specs.Truths.{Truths}
+use Rattle.ns_word.specs.declared.view.SeatView.{SeatView}
+use Rattle.ns_word.specs.declared.walk.Walk.{Walk}
+use Rattle.ns_word.specs.declared.act.Found.{Found}
+use Rattle.ns_word.specs.Views.{AreNumbered}
+use Rattle.ns_word.specs.Walks.{want_of, got_of, walk_after}
+use Rattle.ns_word.specs.Steps.{State, Effect, Step, part_of}
+use Rattle.ns_word.specs.Begins.{Begins, IsFirst}
+use Rattle.ns_word.specs.Places.{PlaceFits}
+
+module _ {C : Type 0} {N : ℕ} where
+  pub number_from : (first : ℕ) (views : List (SeatView C N)) (i : ℕ) (view : SeatView C N) → slice_get views i ≡ Some view → AreNumbered first views → view.seat ≡ first + i
+  number_from first [] i view at p = absurd (cc)
+  number_from first (other ∷ views) zero view at p = let is : other ≡ view = cc in let same : other.seat ≡ view.seat = ap (λ (v : SeatView C N). v.seat) is in omega (arith, p.0, same)
+  number_from first (other ∷ views) (suc i) view at p = let rest = number_from (first + 1) views i view at p.1 in omega arith
+
+  pub number_at : (views : List (SeatView C N)) (i : ℕ) (view : SeatView C N) → slice_get views i ≡ Some view → AreNumbered 0 views → view.seat ≡ i
+  number_at views i view at p = number_from 0 views i view at p ∙ zero-add i
+
+  pub numbers_stay : (first : ℕ) (views : List (SeatView C N)) (i : ℕ) (next : SeatView C N) → next.seat ≡ first + i → AreNumbered first views → AreNumbered first (slice_set views i next)
+  numbers_stay first [] i next e p = tt
+  numbers_stay first (view ∷ views) zero next e p = (omega (arith, e), p.1)
+  numbers_stay first (view ∷ views) (suc i) next e p = (p.0, numbers_stay (first + 1) views i next (omega (arith, e)) p.1)
+
+-- a list before one of its elements, that element, and what stands behind it
+pub split_at : {X : Type 0} (xs : List X) (i : ℕ) (x : X) → slice_get xs i ≡ Some x → xs ≡ take i xs ++ x ∷ drop (suc i) xs
+split_at [] i x at = absurd (cc)
+split_at (y ∷ xs) zero x at = let is : y ≡ x = cc in ap (λ z. z ∷ xs) is
+split_at (y ∷ xs) (suc i) x at = ap (λ ys. y ∷ ys) (split_at xs i x at)
+
+pub set_at : {X : Type 0} (xs : List X) (i : ℕ) (x y : X) → slice_get xs i ≡ Some x → slice_set xs i y ≡ take i xs ++ y ∷ drop (suc i) xs
+set_at [] i x y at = absurd (cc)
+set_at (z ∷ xs) zero x y at = refl
+set_at (z ∷ xs) (suc i) x y at = ap (λ zs. z ∷ zs) (set_at xs i x y at)
+
+module _ {C : Type 0} {N : ℕ} (truths : Truths C) (old : State C N) (i : ℕ) (view : SeatView C N) (at : slice_get old.views i ≡ Some view) (walk : Walk C) where
+  -- the step whose effect is this, where the view at that number is set and no other
+  abbrev pub step_at : (found : Found) (new : State C N) (held : _) (owed : List ℕ) (commits : List (Event C N)) → view.walk ≡ Some walk →
+      new.views ≡ slice_set old.views i (record { seat = view.seat; walk = walk_after (got_of N walk found); held = held; owed = owed }) → Effect truths view.seat (want_of walk) (part_of old view.held view.owed) found (part_of new held owed) commits → Step truths old view found new commits
+  step_at found new held owed commits walks becomes effect = record {
+    walk = walk;
+    walks = walks;
+    front = take i old.views;
+    back = drop (suc i) old.views;
+    held = held;
+    owed = owed;
+    was = split_at old.views i view at;
+    becomes = becomes ∙ set_at old.views i view _ at;
+    effect = effect;
+  }
+
+  -- and so the beginning of a call
+  abbrev pub begin_at : (new : State C N) → view.walk ≡ None → IsFirst N walk → PlaceFits truths (Some walk) view.held → new ≡ record old { views = slice_set old.views i (record view { walk = Some walk }) } → Begins truths old view walk new
+  begin_at new over first fits becomes = record {
+    over = over;
+    first = first;
+    fits = fits;
+    front = take i old.views;
+    back = drop (suc i) old.views;
+    was = split_at old.views i view at;
+    becomes = becomes ∙ ap (λ vs. record old { views = vs }) (set_at old.views i view _ at);
+  }

@@ -1,6 +1,0 @@
-use Rattle.ns_word.proofs.Tells.{first_step_tells}
-use Rattle.ns_word.proofs.law.first_steps_tell_their_seat.Goals as goal
-
-pub returns : goal.returns
-returns g c = λ seats history old new view walk found commits told few step lawful was.
-    first_step_tells g.C.Condition.means g.met.C.Condition.has_cells.0 g.met.C.Condition.quiet_keeps seats history few old view walk found new commits step lawful told was

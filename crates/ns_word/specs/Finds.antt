@@ -1,0 +1,68 @@
+-- What a step finds, of the one word that it loads or compares and of what its seat has.
+use Rattle.std.specs.Prelude.{ℕ, false, ◌==◌, if◌then◌else◌, slice_index, List, [], ◌∷◌, Option, None, Some}
+use Rattle.ns_model.specs.Truths.{Truths}
+use Rattle.ns_queue.specs.declared.waiter.Waiter.{Waiter}
+use Rattle.ns_queue.specs.Queues.{Lists}
+use Rattle.ns_queue.specs.Scans.{woken_of, tests_of}
+use Rattle.ns_queue.specs.Waiters.{seats_of}
+use Rattle.ns_word.specs.declared.word.Word.{Word}
+use Rattle.ns_word.specs.declared.view.Held.{Held}
+use Rattle.ns_word.specs.declared.view.SeatView.{SeatView}
+use Rattle.ns_word.specs.declared.act.Act.{Act}
+use Rattle.ns_word.specs.declared.act.Act.TheVariants.{LoadWord, Acquire, TakeQueues, ReturnQueues, Release, ReleaseReturning, WaitReturning, LoadCell, JudgeQuiet, JudgeMet, StoreCell, ArmFlag, PayWake, LoadFlag, Look}
+use Rattle.ns_word.specs.declared.act.Found.{Found}
+use Rattle.ns_word.specs.declared.act.Found.TheVariants.{Saw, Made, Cell, Quiet, Tested, Scanned, Paid, Flag, Looked}
+use Rattle.ns_word.specs.Codec.{number_of, word_of}
+use Rattle.ns_word.specs.Lists.{has_some}
+use Rattle.ns_word.specs.Steps.{State, change_found, meets_at}
+
+-- the row of a section in hand, and the row that it began at
+abbrev pub row_in : {C : Type 0} {N : ℕ} → Option (Held C N) → List ℕ
+row_in None = []
+row_in (Some held) = held.row
+
+abbrev pub before_in : {C : Type 0} {N : ℕ} → Option (Held C N) → List ℕ
+before_in None = []
+before_in (Some held) = held.before
+
+-- the number that an act loads, or that its exchange compares; the others load none
+abbrev pub number_at : {C : Type 0} {N : ℕ} → ℕ → Act C → State C N → ℕ
+number_at seat (LoadCell i) s = slice_index s.row i
+number_at seat LoadFlag s = s.flags seat
+number_at seat act s = number_of s.word
+
+-- what an exchange finds at this number: that it is made, or the word that is there
+abbrev pub exchanged : ℕ → Word → Found → Found
+exchanged number last made = if number_of last == number then made else Saw (word_of number)
+
+-- what a scan of this list finds at this row
+abbrev pub scanned : {C : Type 0} → Truths C → List ℕ → List (Waiter C) → Found
+scanned truths row lock = Scanned (has_some (seats_of (woken_of (meets_at truths row) lock))) (tests_of truths.same (meets_at truths row) lock)
+
+-- whether wakes are owed behind the first
+abbrev pub owes_more : List ℕ → Found
+owes_more [] = Paid false
+owes_more (woken ∷ rest) = Paid (has_some rest)
+
+-- What the act of a seat finds: of the number that it loads or compares, of the seat's section and wakes, and of the lists, if it has them in hand. What a look shows stands in no word of the lock.
+abbrev pub found_of : {C : Type 0} {N : ℕ} → Truths C → Act C → SeatView C N → Lists C → ℕ → Found
+found_of truths LoadWord view lists number = Saw (word_of number)
+found_of truths (Acquire aim arrival last) view lists number = exchanged number last Made
+found_of truths (TakeQueues taking last) view lists number = exchanged number last Made
+found_of truths (ReturnQueues change last) view lists number = exchanged number last (change_found view.seat change last lists)
+found_of truths (Release releasing last) view lists number = exchanged number last Made
+found_of truths (ReleaseReturning releasing last) view lists number = exchanged number last (scanned truths (row_in view.held) lists.lock)
+found_of truths (WaitReturning wait again last) view lists number = exchanged number last (scanned truths (row_in view.held) lists.lock)
+found_of truths (LoadCell i) view lists number = Cell number
+found_of truths (JudgeQuiet i) view lists number = Quiet (truths.quiet (before_in view.held) (row_in view.held))
+found_of truths (JudgeMet i c) view lists number = Tested (truths.holds c (row_in view.held))
+found_of truths (StoreCell i v) view lists number = Made
+found_of truths ArmFlag view lists number = Made
+found_of truths (PayWake value) view lists number = owes_more view.owed
+found_of truths LoadFlag view lists number = Flag number
+found_of truths (Look limits again) view lists number = Looked None
+
+-- the act is a look
+abbrev pub IsLook : {C : Type 0} → Act C → Type 0
+IsLook (Look limits again) = Unit {0}
+IsLook act = ⊥
