@@ -20,6 +20,10 @@ reads w = not (is_write w.mode)
 abbrev pub has_condition : {C : Type 0} → Waiter C → Bool
 has_condition w = is_some w.cond
 
+-- whether the waiter has failed too often after being woken; its tries are counted up to here
+abbrev pub is_long : {C : Type 0} → Waiter C → Bool
+is_long w = w.tries == 30
+
 -- whether the waiter is this seat's
 abbrev pub is_of : {C : Type 0} → ℕ → Waiter C → Bool
 is_of seat w = w.seat == seat

@@ -13,6 +13,7 @@
 //!         seat,
 //!         mode,
 //!         cond: None,
+//!         tries: 0,
 //!     };
 //!     if !queues.holds(seat) {
 //!         queues.push_back(Which::Lock, waiter);

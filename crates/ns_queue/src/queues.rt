@@ -4,10 +4,10 @@ ghost use Rattle.std.specs.Prelude.{◌≡◌, ℕ, ◌+◌, ◌<◌, ◌≤◌,
 ghost use Rattle.std.specs.Bool.{OnFalse, OnTrue};
 ghost use Rattle.std.specs.List.{list_any};
 ghost use Rattle.ns_queue.specs.Queues.{IsList, IsOrderly, times, waiters_of, with_waiters, without};
-ghost use Rattle.ns_queue.specs.Waiters.{HaveSeats, has_condition, times_in, without_in, writes};
+ghost use Rattle.ns_queue.specs.Waiters.{HaveSeats, has_condition, is_long, times_in, without_in, writes};
 
 use crate::room::Queueable;
-use crate::waiter::{Waiter, Which};
+use crate::waiter::{LONG_TRIES, Waiter, Which};
 use arrayvec::ArrayVec;
 use std::marker::Model;
 
@@ -155,18 +155,21 @@ impl<C: Queueable<N>, const N: usize> Queues<C, N> {
         true
     }
 
-    /// What the lock list holds: whether somebody waits, whether somebody waits for a condition, and
-    /// whether a writer waits without one.
-    pub fn bits(&self) -> (bool, bool, bool)
+    /// What the lock list holds: whether somebody waits, whether somebody waits for a condition,
+    /// whether a writer waits without one, and whether somebody waits long, whose tries are
+    /// [`LONG_TRIES`].
+    pub fn bits(&self) -> (bool, bool, bool, bool)
         ensures waiting { IsTrue result.0 ↔ (0 < length self.now.lock) }
         ensures conditional { result.1 ≡ list_any has_condition self.now.lock }
         ensures writer_waits { result.2 ≡ list_any (λ w. writes w && not (has_condition w)) self.now.lock }
+        ensures long { result.3 ≡ list_any is_long self.now.lock }
     {
         let waiters = self.lock.as_slice();
         (
             !waiters.is_empty(),
             some_conditional(waiters),
             some_plain_writer(waiters),
+            some_long(waiters),
         )
     }
 }
@@ -189,6 +192,18 @@ fn some_plain_writer<C: Queueable<N>, const N: usize>(waiters: &[Waiter<C>]) -> 
 {
     for waiter in waiters {
         if waiter.mode.is_write() && waiter.cond.is_none() {
+            return true;
+        }
+    }
+    false
+}
+
+/// Whether a waiter of the list waits long.
+fn some_long<C: Queueable<N>, const N: usize>(waiters: &[Waiter<C>]) -> bool
+    ensures { result ≡ list_any is_long waiters.now }
+{
+    for waiter in waiters {
+        if waiter.tries == LONG_TRIES {
             return true;
         }
     }

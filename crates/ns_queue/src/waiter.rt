@@ -2,7 +2,11 @@
 
 use ns_model::event::Mode;
 
-/// One who waits: its seat, the mode that it waits in, and the condition that it waits for, if any.
+/// Tries are counted up to here: a waiter that has failed so often waits long.
+pub const LONG_TRIES: u8 = 30;
+
+/// One who waits: its seat, the mode that it waits in, the condition that it waits for, if any, and
+/// how often it has failed.
 #[derive(Clone, Copy)]
 pub struct Waiter<C> {
     /// A number below 64.
@@ -11,20 +15,24 @@ pub struct Waiter<C> {
     pub mode: Mode,
     /// The condition that it waits for.
     pub cond: Option<C>,
+    /// How often it has queued again in one acquire, after it was woken and could not acquire: at
+    /// most [`LONG_TRIES`].
+    pub tries: u8,
 }
 
-/// The blank that unused places of a list hold: seat 0, writing, without condition.
+/// The blank that unused places of a list hold: seat 0, writing, without condition, untried.
 impl<C> Default for Waiter<C> {
     ghost use Rattle.std.specs.Prelude.{◌≡◌, None};
     ghost use Rattle.ns_model.specs.declared.event.Mode.TheVariants.{Write};
 
-    ghost is_default = { λ w. w ≡ record { seat = 0; mode = Write; cond = None } };
+    ghost is_default = { λ w. w ≡ record { seat = 0; mode = Write; cond = None; tries = 0 } };
 
     fn default() -> Waiter<C> {
         Waiter {
             seat: 0,
             mode: Mode::Write,
             cond: None,
+            tries: 0,
         }
     }
 }

@@ -194,7 +194,7 @@ abbrev pub bits_text : Word → List ℕ
 bits_text word =
     bit_text (codes " write") word.write ++ bit_text (codes " spin") word.spin ++ bit_text (codes " wait") word.waiting
     ++ bit_text (codes " desig") word.desig ++ bit_text (codes " cond") word.cond ++ bit_text (codes " wwait") word.writer_waits
-    ++ bit_text (codes " allfalse") word.all_false
+    ++ bit_text (codes " allfalse") word.all_false ++ bit_text (codes " long") word.long
 
 -- the lock word: the bits that are set, and how many seats read
 abbrev pub word_text : Word → List ℕ

@@ -369,7 +369,8 @@ fn push_bits(out: &mut String, word: Word) -> Result<(), AllocError>
     push_bit(out, " desig", word.desig)?;
     push_bit(out, " cond", word.cond)?;
     push_bit(out, " wwait", word.writer_waits)?;
-    push_bit(out, " allfalse", word.all_false)
+    push_bit(out, " allfalse", word.all_false)?;
+    push_bit(out, " long", word.long)
 }
 
 /// The line of the lock word.

@@ -113,6 +113,7 @@ fn a_scan(rt: HostRuntime) {
             seat,
             mode,
             cond: None,
+            tries: 0,
         };
         if !queues.holds(seat) {
             queues.push_back(Which::Lock, waiter);

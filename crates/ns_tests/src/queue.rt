@@ -169,6 +169,7 @@ fn scan_table(rt: HostRuntime) {
                     seat,
                     mode: *mode,
                     cond,
+                    tries: 0,
                 },
             );
         }
@@ -194,6 +195,7 @@ fn signal_table(rt: HostRuntime) {
                     seat,
                     mode: *mode,
                     cond: condition(None, &counter),
+                    tries: 0,
                 },
             );
         }
@@ -219,6 +221,7 @@ fn crowd(step: u64) -> (u32, u32, usize) {
                 seat,
                 mode: Mode::Write,
                 cond,
+                tries: 0,
             },
         );
         value = value.wrapping_add(step);
@@ -246,6 +249,7 @@ fn one_after_another(rt: HostRuntime) {
             seat: 1,
             mode: Mode::Write,
             cond,
+            tries: 30,
         },
     );
     let cond = condition(Some((1, 1)), &counter);
@@ -254,14 +258,15 @@ fn one_after_another(rt: HostRuntime) {
             seat: 2,
             mode: Mode::Read,
             cond,
+            tries: 29,
         });
     }
     let waiters = queues.waiters(Which::Lock);
     assert_eq!(rt; seats(&waiters).as_slice(), [2, 1].as_slice());
-    assert!(rt; queues.bits() == (true, true, true));
+    assert!(rt; queues.bits() == (true, true, true, true));
     assert!(rt; queues.remove(1));
     assert!(rt; !queues.remove(1));
-    assert!(rt; queues.bits() == (true, true, false));
+    assert!(rt; queues.bits() == (true, true, false, false));
 }
 
 #[test]
@@ -271,6 +276,7 @@ fn shows(rt: HostRuntime) {
         seat: 5,
         mode: Mode::Read,
         cond: condition(Some((1, 1)), &counter),
+        tries: 0,
     };
     let shown = waiter.shown();
     assert!(rt;

@@ -42,11 +42,13 @@ fn new_words(rt: HostRuntime) {
         waiting: true,
         conditional: true,
         writer_waits: false,
+        long: false,
     };
     let nobody = Bits {
         waiting: false,
         conditional: false,
         writer_waits: false,
+        long: false,
     };
     assert_eq!(rt; Word::FREE.acquired(Mode::Write, Arrival::AsFresh), WRITING);
     assert_eq!(rt;
@@ -54,7 +56,7 @@ fn new_words(rt: HostRuntime) {
             desig: true,
             ..Word::FREE
         }
-        .acquired(Mode::Read, Arrival::AsWoken),
+        .acquired(Mode::Read, Arrival::AsWoken(0)),
         Word {
             readers: 1,
             ..Word::FREE
@@ -143,6 +145,13 @@ const ALL_WAIT_IN_VAIN: Word = Word {
     ..Word::FREE
 };
 
+/// One that has failed too often stands in the list.
+const WAITED_LONG_FOR: Word = Word {
+    waiting: true,
+    long: true,
+    ..Word::FREE
+};
+
 /// So many readers.
 fn read_by(readers: u8) -> Word {
     Word {
@@ -168,8 +177,9 @@ fn words_have_their_numbers(rt: HostRuntime) {
     assert!(rt; has_number(Word::FREE, 0));
     assert!(rt; has_number(writer, 1));
     assert!(rt; has_number(ALL_WAIT_IN_VAIN, 84));
-    assert!(rt; has_number(read_by(2), 256));
-    assert!(rt; has_number(read_by(64), 8192));
+    assert!(rt; has_number(WAITED_LONG_FOR, 132));
+    assert!(rt; has_number(read_by(2), 512));
+    assert!(rt; has_number(read_by(64), 16384));
 }
 
 #[test]
@@ -213,12 +223,31 @@ fn each_bit_has_its_value(rt: HostRuntime) {
             64
         )
     );
-    assert!(rt; has_number(read_by(1), 128));
+    assert!(rt; has_number(Word { long: true, ..free }, 128));
+    assert!(rt; has_number(read_by(1), 256));
 }
 
 #[test]
 fn others_are_refused(rt: HostRuntime) {
-    for bits in [129, 8320, 8193, u64::MAX] {
+    for bits in [257, 16640, 16385, u64::MAX] {
         assert!(rt; decode(bits) == Err(BadWord));
     }
+}
+
+/// A word that says that somebody waits long lets only those in who were woken, of either mode.
+#[test]
+fn a_long_wait_lets_nobody_fresh_in(rt: HostRuntime) {
+    for mode in [Mode::Write, Mode::Read] {
+        assert!(rt; !WAITED_LONG_FOR.may_acquire(mode, Arrival::AsFresh));
+        assert!(rt; WAITED_LONG_FOR.may_acquire(mode, Arrival::AsWoken(0)));
+    }
+}
+
+/// Only a woken one that queues again has failed once more, and none more than 30 times.
+#[test]
+fn tries_are_counted_up_to_thirty(rt: HostRuntime) {
+    assert!(rt; Arrival::AsFresh.tries() == 0);
+    assert!(rt; Arrival::AsWoken(0).tries() == 1);
+    assert!(rt; Arrival::AsWoken(29).tries() == 30);
+    assert!(rt; Arrival::AsWoken(30).tries() == 30);
 }

@@ -126,7 +126,7 @@ module _ {C : Type 0} {N : ℕ} (truths : Truths C) (seats : ℕ) (few : seats �
   fits_at (InAcquire aim (TakeToQueue arrival last)) e place owes = place.1.0
   fits_at (InAcquire aim (Arm arrival last)) e place owes = view_fits.in_range
   fits_at (InAcquire aim (Queue arrival last)) e place owes = (view_fits.in_range, stands_nowhere (ap awaits e))
-  fits_at (InAcquire aim AwaitWake) e place owes = view_fits.in_range
+  fits_at (InAcquire aim (AwaitWake tries)) e place owes = view_fits.in_range
   fits_at (InCells (QuietCells i)) e place owes = omega (arith, place.0.1)
   fits_at (InCells (QuietLast i)) e place owes = (place.0.0, omega (arith, place.0.1))
   fits_at (InRelease releasing ReleaseLoad) e place owes = tt

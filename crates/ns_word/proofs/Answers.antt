@@ -1,5 +1,5 @@
 -- What a wait answers is what its section is committed with.
-use Rattle.std.proofs.Common.{◌≡◌, ℕ, Bool, true, false, cond, eqb, List, Option, None, Some, slice_set, refl, ap, sym, ◌∙◌, subst}
+use Rattle.std.proofs.Common.{◌≡◌, ◌≢◌, ℕ, Bool, true, false, cond, eqb, List, Option, None, Some, slice_set, refl, ap, sym, ◌∙◌, subst}
 use Rattle.ns_model.specs.declared.event.Mode.{Mode}
 use Rattle.ns_model.specs.declared.event.Answer.{Answer}
 use Rattle.ns_model.specs.declared.event.Answer.TheVariants.{Met}
@@ -54,7 +54,7 @@ use Rattle.ns_word.specs.Walks.{judge_of, want_waiting, want_trying, want_acquir
 use Rattle.ns_word.specs.Words.{may_acquire}
 use Rattle.ns_model.specs.Truths.{Truths}
 use Rattle.ns_word.specs.Steps.{State, Part, Effect, Step, part_of, newly_held, entry_of, opening_by, held_after}
-use Rattle.ns_word.specs.Places.{PlaceFits, WaitFits, Tests, IsUnmet, MayWait, CanWait, ComesBack}
+use Rattle.ns_word.specs.Places.{PlaceFits, WaitFits, IsForCondition, Tests, IsUnmet, MayWait, CanWait, ComesBack}
 use Rattle.ns_word.specs.Lawful.{EachFits, IsLawful}
 use Rattle.ns_word.specs.Answers.{comes_back, place_has_come_back, has_come_back}
 use Rattle.ns_word.proofs.Views.{each_parts}
@@ -212,7 +212,7 @@ module _ {C : Type 0} (N : ℕ) (aim : Aim C) where
   acquires_on (Arm arrival last) Made e = refl
   acquires_on (Queue arrival last) (Saw word) e = refl
   acquires_on (Queue arrival last) Made e = refl
-  acquires_on AwaitWake (Flag v) e = either_on (eqb v 1) _ _ refl refl
+  acquires_on (AwaitWake tries) (Flag v) e = either_on (eqb v 1) _ _ refl refl
   acquires_on _ _ e = refl
 
 module _ {C : Type 0} {N : ℕ} (truths : Truths C) (wait : Wait C) (kept : Option Cause) (k : ℕ) where
@@ -239,6 +239,22 @@ variable_answers_rightly {C} {N} truths old new view found commits wait kept pla
     after_at truths wait kept k view.seat place (part_of old view.held view.owed) found (part_of new step.held step.owed) commits answer for
     (subst (λ walk. Effect truths view.seat (want_of walk) (part_of old view.held view.owed) found (part_of new step.held step.owed) commits) walks step.effect) (ap (λ walk. got_of N walk found) (sym walks) ∙ is)
 
+-- ---- and where it answers nothing
+
+module _ {C : Type 0} {N : ℕ} (truths : Truths C) (wait : Wait C) (k : ℕ) where
+  none_at : (place : WaitPlace) (held : Option (Held C N)) (found : Found) (answer : Answer) → wait.on ≡ OnVariable k → WaitFits truths wait place held → got_waiting N wait place found ≢ Done (Answered answer)
+  none_at (TestLast visit i) held found answer for p is = subst IsForCondition for p.2
+  none_at (InQueuing again LookIn) held found answer for p is = subst IsForCondition for p.1
+  none_at place held found answer for p is = goes_on_not (got_waiting N wait place found) (Answered answer) (others_on N wait place found refl) is
+
+-- A wait for a variable doesn't answer before it acquires again.
+pub variable_answers_back : {C : Type 0} {N : ℕ} (truths : Truths C) (seats : ℕ) (h : List (Event C N)) (old new : State C N) (view : SeatView C N) (found : Found) (commits : List (Event C N)) (wait : Wait C) (place : WaitPlace) (k : ℕ) (answer : Answer) →
+    (step : Step truths old view found new commits) → IsLawful truths seats h old → step.walk ≡ InWait wait place → wait.on ≡ OnVariable k → got_of N step.walk found ≢ Done (Answered answer)
+variable_answers_back {C} {N} truths seats h old new view found commits wait place k answer step lawful walks for is =
+    let fits = (each_parts truths seats (standing_after h) old.row step.front view step.back (subst (λ vs. EachFits truths seats (standing_after h) old.row vs) step.was lawful.one_history.each)).1 in
+    let here : PlaceFits truths (Some (InWait wait place)) view.held = subst (λ walk. PlaceFits truths walk view.held) (step.walks ∙ ap Some walks) fits.place in
+    none_at truths wait k place view.held found answer for here.0 (ap (λ walk. got_of N walk found) (sym walks) ∙ is)
+
 -- ---- from the answer to the commit
 
 -- what a look goes by, where the act is one, and whether its wait has come back
@@ -262,7 +278,7 @@ acquire_looks_not aim (AcquireExchange arrival last) = refl
 acquire_looks_not aim (TakeToQueue arrival last) = refl
 acquire_looks_not aim (Arm arrival last) = refl
 acquire_looks_not aim (Queue arrival last) = refl
-acquire_looks_not aim AwaitWake = refl
+acquire_looks_not aim (AwaitWake tries) = refl
 
 pub release_looks_not : (C : Type 0) (releasing : Releasing) (place : ReleasePlace) → look_of_act {C = C} (want_releasing releasing place) ≡ None
 release_looks_not C releasing ReleaseLoad = refl

@@ -61,7 +61,7 @@ use Rattle.ns_word.specs.declared.act.Found.{Found}
 use Rattle.ns_word.specs.declared.act.Found.TheVariants.{Saw, Made, Cell, Quiet, Tested, Scanned, Paid, Left, Woke, Flag, Looked}
 use Rattle.ns_word.specs.declared.walk.Next.{Next}
 use Rattle.ns_word.specs.declared.walk.Next.TheVariants.{On, Idle}
-use Rattle.ns_word.specs.Words.{is_held, is_woken, mode_released, releasing_of, may_acquire, needs_scan, word_acquired, word_released, word_taken, word_returned, word_released_returning}
+use Rattle.ns_word.specs.Words.{is_held, is_woken, tries_of, mode_released, releasing_of, may_acquire, needs_scan, word_acquired, word_released, word_taken, word_returned, word_released_returning}
 use Rattle.ns_word.specs.Lists.{has_some, bits_of, queued, times_among}
 use Rattle.ns_word.specs.Waits.{mode_for, phase_for, phase_kept, arrival_of, home_of, kept_in}
 use Rattle.ns_word.specs.Walks.{want_waiting, want_signaling, judge_of, want_of, got_waiting, got_leaving, got_signaling, got_of, walk_after, acquired_for, armed_place, pay_waiting, pay_woken, rest_or_look, pay_releasing, wait_has_queues, place_awaits, has_queues, is_queuing, has_armed, waits_in, awaits, was_woken, calls_from_lock, pays, is_on_way, phase_by, expected_for}
@@ -76,6 +76,7 @@ use Rattle.ns_word.proofs.Groups.{Homed, Known, Groups, groups_of, lawful_by}
 use Rattle.ns_word.proofs.Knows.{nothing_called, rests as known_rests, takes as known_takes}
 use Rattle.ns_word.proofs.Views.{view_of, each_parts}
 use Rattle.ns_word.proofs.Variables.{are_waiting}
+use Rattle.ns_word.proofs.Owns.{long_eligible}
 use Rattle.ns_word.proofs.Ranges.{lists_orderly}
 use Rattle.ns_word.proofs.Safes.{section, same_section}
 use Rattle.ns_word.proofs.Seen.{packable, found_fits, seen_next}
@@ -144,9 +145,9 @@ not_way false false z p q e = absurd (cc)
 not_way false true true p q e = absurd (cc)
 not_way false true false p q e = absurd (cc)
 
-way_seen : {C : Type 0} (walk : Option (Walk C)) (aim : Aim C) (v : ℕ) → was_woken walk ≡ false → is_on_way walk v 0 ≡ true → is_on_way (Some (InAcquire aim (AcquireLoad (arrival_of v)))) v 0 ≡ true
-way_seen walk aim v none e = go (eqb v 0) refl where
-  go : (b : Bool) → eqb v 0 ≡ b → is_on_way (Some (InAcquire aim (AcquireLoad (arrival_of v)))) v 0 ≡ true
+way_seen : {C : Type 0} (walk : Option (Walk C)) (aim : Aim C) (tries v : ℕ) → was_woken walk ≡ false → is_on_way walk v 0 ≡ true → is_on_way (Some (InAcquire aim (AcquireLoad (arrival_of tries v)))) v 0 ≡ true
+way_seen walk aim tries v none e = go (eqb v 0) refl where
+  go : (b : Bool) → eqb v 0 ≡ b → is_on_way (Some (InAcquire aim (AcquireLoad (arrival_of tries v)))) v 0 ≡ true
   go true z = rw z refl
   go false z = absurd (not_way (was_woken walk) (awaits walk) (eqb v 0) none z e)
 
@@ -215,16 +216,16 @@ module _ {C : Type 0} {N : ℕ} (truths : Truths C) (seats : ℕ) (h : List (Eve
       (none_more _ (takes truths seats h front who (Some walk) (Some walk') back taking part.word part.row part.lists part.flags part.held part.owed (ap (λ word. word.spin) (sym same) ∙ none) fits pay s s' a set stays knows p))
 
   -- a seat looks at its flag: cleared, it goes on to acquire, as woken where it was taken from the lock list; else where it waits on
-  checks : (walk : Walk C) (aim : Aim C) (other : Next C) (v : ℕ) (b : Bool) (part next : Part C N) (commits : List (Event C N)) → eqb v 1 ≡ b → v ≡ part.flags who → next ≡ part → commits ≡ [] → part.held ≡ None →
+  checks : (walk : Walk C) (aim : Aim C) (tries : ℕ) (other : Next C) (v : ℕ) (b : Bool) (part next : Part C N) (commits : List (Event C N)) → eqb v 1 ≡ b → v ≡ part.flags who → next ≡ part → commits ≡ [] → part.held ≡ None →
       pays (Some walk) ≡ false → has_queues (Some walk) ≡ false → was_woken (Some walk) ≡ false → is_queuing (Some walk) ≡ false →
       ((ph : Phase C) → ((k : ℕ) (mode : Mode) → ph ≡ Waiting k mode → ⊥) → IsExpected (phase_by (Some walk)) ph → ph ≡ phase_for aim) → AimFits aim → Leads truths (Some walk) (walk_after other) part.held →
-      Groups truths seats h (at part (Some walk)) → Kept commits next (walk_after (cond b other (On (InAcquire aim (AcquireLoad (arrival_of v))))))
-  checks walk aim other v true part next commits z same e f none pay s w q phase given leads p = finds walk (walk_after other) part next commits e f pay leads p
-  checks walk aim other v false part next commits z same e f none pay s w q phase given leads p =
-      let to : Option (Walk C) = Some (InAcquire aim (AcquireLoad (arrival_of v))) in
+      Groups truths seats h (at part (Some walk)) → Kept commits next (walk_after (cond b other (On (InAcquire aim (AcquireLoad (arrival_of tries v))))))
+  checks walk aim tries other v true part next commits z same e f none pay s w q phase given leads p = finds walk (walk_after other) part next commits e f pay leads p
+  checks walk aim tries other v false part next commits z same e f none pay s w q phase given leads p =
+      let to : Option (Walk C) = Some (InAcquire aim (AcquireLoad (arrival_of tries v))) in
       moved to part next [] commits e f (subst (λ x. Groups truths seats (h ++ []) (at (record part { held = x }) to)) (sym none) (none_more _
       (sees truths seats h front who (Some walk) to back part.word part.row part.lists part.flags part.owed (λ one. absurd (both_ways (eqb v 1) z (eq-eqb v 1 (same ∙ one)))) pay
-      (refl, tt, given) (sym pay) (sym s) refl refl refl (sym q) (subst (λ flag. is_on_way (Some walk) flag 0 ≡ true → is_on_way to flag 0 ≡ true) same (way_seen (Some walk) aim v w)) phase (with_held walk part None none p))))
+      (refl, tt, given) (sym pay) (sym s) refl refl refl (sym q) (subst (λ flag. is_on_way (Some walk) flag 0 ≡ true → is_on_way to flag 0 ≡ true) same (way_seen (Some walk) aim tries v w)) phase (with_held walk part None none p))))
 
   -- the section in hand, with this as its mode
   in_its_mode : (walk : Walk C) (part : Part C N) (held : Held C N) (mode : Mode) → part.held ≡ Some held → held.mode ≡ mode → Groups truths seats h (at part (Some walk)) →
@@ -280,7 +281,7 @@ module _ {C : Type 0} {N : ℕ} (truths : Truths C) (seats : ℕ) (h : List (Eve
       pays (Some (InWait wait to)) ≡ pays (Some (InWait wait from)) → wait_has_queues from ≡ false → wait_has_queues to ≡ true → place_awaits to ≡ place_awaits from → has_armed (Some (InWait wait to)) ≡ false →
       Groups truths seats h (at part (Some (InWait wait from))) → Kept commits next (Some (InWait wait to))
   wait_took wait from to last part next commits same none e f fits pay s s' a set p =
-      let waits = ap (λ b. cond b (Some (record { mode = wait.mode; on = Some wait.on })) None) a in
+      let waits = ap (λ b. cond b (Some (record { mode = wait.mode; on = Some wait.on; tries = 0 })) None) a in
       took (InWait wait from) (InWait wait to) ToChange last part next commits same none e f fits pay s s' waits set (λ n. refl)
       (λ apart homed known. known_rests truths.holds front who (Some (InWait wait from)) part.held part.owed (Some (InWait wait to)) part.held part.owed back part.word (word_taken ToChange part.word) (standing_after h).row part.lists.lock part.flags apart (λ seat. refl) refl refl refl refl refl refl
       (λ flag n g. subst (λ x. x ≡ true) (ap (λ w. is_some w && (eqb flag 0 || ltb 0 n)) (sym waits)) g) known) p
@@ -413,7 +414,7 @@ module _ {C : Type 0} {N : ℕ} (truths : Truths C) (seats : ℕ) (h : List (Eve
   by_wait wait (TestCells visit i) (Cell v) part next commits few some e p = finds (InWait wait (TestCells visit i)) _ part next commits e.1 e.2 refl (test_leads truths wait visit part.held (i + 1) some (place (InWait wait (TestCells visit i)) part p).0.0 (place (InWait wait (TestCells visit i)) part p).1 (place (InWait wait (TestCells visit i)) part p).0.2) p
   by_wait wait (TestLast visit i) found part next commits few some e p = tested wait.mode wait.on wait.limits visit i found part next commits e p
   -- it looks
-  by_wait wait (InQueuing again LookIn) (Looked None) part next commits few some e p = finds (InWait wait (InQueuing again LookIn)) _ part next commits e.1 e.2 refl (place (InWait wait (InQueuing again LookIn)) part p, (refl, refl, refl, refl), refl, λ flag n f. f, λ none. refl) p
+  by_wait wait (InQueuing again LookIn) (Looked None) part next commits few some e p = finds (InWait wait (InQueuing again LookIn)) _ part next commits e.1 e.2 refl ((((place (InWait wait (InQueuing again LookIn)) part p).0.0, tt), tt), (refl, refl, refl, refl), refl, λ flag n f. f, λ none. refl) p
   by_wait wait (InQueuing again LookIn) (Looked (Some cause)) part next commits few some e p =
       moved None (record part { held = held_after again (Some cause) part.held }) next [] commits e.1 e.2
       (none_more _ (rests truths seats h front who (Some (InWait wait (InQueuing again LookIn))) None back part.word part.row part.lists part.flags part.held (held_after again (Some cause) part.held) part.owed refl (shown_settled truths wait again cause part.held (place (InWait wait (InQueuing again LookIn)) part p).0.0) (refl, refl, refl, refl) refl (λ flag n f. f)
@@ -452,10 +453,10 @@ module _ {C : Type 0} {N : ℕ} (truths : Truths C) (seats : ℕ) (h : List (Eve
   -- it looks at its flag
   by_wait wait AwaitWakeInWait (Flag v) part next commits few some e p =
       let here = (place (InWait wait AwaitWakeInWait) part p).0 in
-      checks (InWait wait AwaitWakeInWait) (ForWait wait None) (rest_or_look wait) v (eqb v 1) part next commits refl e.0 e.1 e.2 here.0 refl refl refl refl (seen_phase wait.on wait.mode) tt (rest_leads truths wait part.held here.0 here.1) p
+      checks (InWait wait AwaitWakeInWait) (ForWait wait None) 0 (rest_or_look wait) v (eqb v 1) part next commits refl e.0 e.1 e.2 here.0 refl refl refl refl (seen_phase wait.on wait.mode) tt (rest_leads truths wait part.held here.0 here.1) p
   by_wait wait (InLeaving cause AwaitWakeToLeave) (Flag v) part next commits few some e p =
       let here = place (InWait wait (InLeaving cause AwaitWakeToLeave)) part p in
-      checks (InWait wait (InLeaving cause AwaitWakeToLeave)) (ForWait wait (kept_in wait.on cause)) (Idle (InWait wait (InLeaving cause AwaitWakeToLeave))) v (eqb v 1) part next commits refl e.0 e.1 e.2 here.0.0 refl refl refl refl
+      checks (InWait wait (InLeaving cause AwaitWakeToLeave)) (ForWait wait (kept_in wait.on cause)) 0 (Idle (InWait wait (InLeaving cause AwaitWakeToLeave))) v (eqb v 1) part next commits refl e.0 e.1 e.2 here.0.0 refl refl refl refl
       (kept_phase wait.on wait.mode cause) (kept_given wait.on wait.limits cause here.1) (here, (refl, refl, refl, refl), refl, λ flag n f. f, λ none. refl) p
   -- it leaves
   by_wait wait (InLeaving cause (Leave last)) (Left stood) part next commits few some e p =
@@ -553,7 +554,7 @@ module _ {C : Type 0} {N : ℕ} (truths : Truths C) (seats : ℕ) (h : List (Eve
   by_walk (InAcquire aim (TakeToQueue arrival last)) Made part next commits few some quiet e p =
       took (InAcquire aim (TakeToQueue arrival last)) _ (ToQueue (mode_for aim) arrival) last part next commits e.0 e.1 e.2 e.3 ((place (InAcquire aim (TakeToQueue arrival last)) part p).0, tt, (place (InAcquire aim (TakeToQueue arrival last)) part p).2) refl refl refl refl refl (λ none. refl)
       (λ apart homed known. known_takes truths.holds front who (Some (InAcquire aim (TakeToQueue arrival last))) part.held part.owed (Some (InAcquire aim (Arm arrival (word_taken (ToQueue (mode_for aim) arrival) last)))) part.held part.owed back (mode_for aim) arrival part.word (standing_after h).row part.lists.lock part.flags apart (λ seat. refl)
-      (subst (λ word. may_acquire (mode_for aim) arrival word ≡ false) e.0 (place (InAcquire aim (TakeToQueue arrival last)) part p).1.1) (ap (λ word. word.spin) (sym e.0) ∙ e.1) homed (λ flag n w f. absurd (not_way (is_woken arrival) false false w refl f)) known) p
+      (subst (λ word. may_acquire (mode_for aim) arrival word ≡ false) e.0 (place (InAcquire aim (TakeToQueue arrival last)) part p).1.1) (ap (λ word. word.spin) (sym e.0) ∙ e.1) homed (long_eligible (λ c. truths.holds c (standing_after h).row) part.lists.lock _ p.own) (λ flag n w f. absurd (not_way (is_woken arrival) false false w refl f)) known) p
   by_walk (InRelease releasing (TakeToScan last)) Made part next commits few some quiet e p =
       let fits = taken_leads truths releasing (word_taken ToChange last) part.held last.cond (place (InRelease releasing (TakeToScan last)) part p).0 in
       took (InRelease releasing (TakeToScan last)) _ ToChange last part next commits e.0 e.1 e.2 e.3 fits.0 fits.1.0 refl fits.1.1 fits.1.2 fits.1.3 fits.4
@@ -563,14 +564,14 @@ module _ {C : Type 0} {N : ℕ} (truths : Truths C) (seats : ℕ) (h : List (Eve
       moved (Some (InAcquire aim (Queue arrival last))) (record part { flags = flags_with part.flags who 1 }) next [] commits e.0 e.1
       (none_more _ (arms truths seats h front who (Some (InAcquire aim (Arm arrival last))) (Some (InAcquire aim (Queue arrival last))) back part.word part.row part.lists part.flags part.held part.owed refl (place (InAcquire aim (Arm arrival last)) part p) refl refl refl refl refl (λ flag n. refl) (λ none. refl) p))
   by_walk (InAcquire aim (Queue arrival last)) Made part next commits few some quiet e p =
-      let lock = queued who (mode_for aim) None (is_woken arrival) part.lists.lock in
-      moved (Some (InAcquire aim AwaitWake)) (record part { word = word_returned false (bits_of lock) part.word; lists = with_lock part.lists lock }) next [] commits (e.2 ∙ ap (λ word. record part { word = word_returned false (bits_of lock) word; lists = with_lock part.lists lock }) e.1) e.3
-      (none_more _ (enqueues truths seats h front who (Some (InAcquire aim (Queue arrival last))) (Some (InAcquire aim AwaitWake)) back (mode_for aim) arrival part.word part.row part.lists part.flags part.held part.owed refl (place (InAcquire aim (Queue arrival last)) part p) refl refl refl refl refl refl refl refl (λ flag n. refl) (λ none. refl) p))
+      let lock = queued who (mode_for aim) None (tries_of arrival) (is_woken arrival) part.lists.lock in
+      moved (Some (InAcquire aim (AwaitWake (tries_of arrival)))) (record part { word = word_returned false (bits_of lock) part.word; lists = with_lock part.lists lock }) next [] commits (e.2 ∙ ap (λ word. record part { word = word_returned false (bits_of lock) word; lists = with_lock part.lists lock }) e.1) e.3
+      (none_more _ (enqueues truths seats h front who (Some (InAcquire aim (Queue arrival last))) (Some (InAcquire aim (AwaitWake (tries_of arrival)))) back (mode_for aim) arrival part.word part.row part.lists part.flags part.held part.owed refl (place (InAcquire aim (Queue arrival last)) part p) refl refl refl refl refl refl refl refl (λ flag n. refl) (λ none. refl) p))
   by_walk (InAcquire aim (Queue arrival last)) (Left stood) part next commits few some quiet e p = let never : Made ≡ Left stood = e.0 in absurd (cc)
   by_walk (InAcquire aim (Queue arrival last)) (Woke owes) part next commits few some quiet e p = let never : Made ≡ Woke owes = e.0 in absurd (cc)
-  by_walk (InAcquire aim AwaitWake) (Flag v) part next commits few some quiet e p =
-      let here = place (InAcquire aim AwaitWake) part p in
-      checks (InAcquire aim AwaitWake) aim (Idle (InAcquire aim AwaitWake)) v (eqb v 1) part next commits refl e.0 e.1 e.2 here.0 refl refl refl refl (λ ph n is. is) here.2 (here, (refl, refl, refl, refl), refl, λ flag n f. f, λ none. refl) p
+  by_walk (InAcquire aim (AwaitWake tries)) (Flag v) part next commits few some quiet e p =
+      let here = place (InAcquire aim (AwaitWake tries)) part p in
+      checks (InAcquire aim (AwaitWake tries)) aim tries (Idle (InAcquire aim (AwaitWake tries))) v (eqb v 1) part next commits refl e.0 e.1 e.2 here.0 refl refl refl refl (λ ph n is. is) here.2 (here, (refl, refl, refl, refl), refl, λ flag n f. f, λ none. refl) p
   -- a release with a scan
   by_walk (InRelease releasing (ScanAndRelease last)) (Scanned owes tests) part next commits few some quiet e p =
       let held = e.0 in

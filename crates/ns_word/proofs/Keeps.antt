@@ -36,7 +36,7 @@ use Rattle.ns_word.specs.declared.view.Opening.{Opening}
 use Rattle.ns_word.specs.declared.view.Held.{Held}
 use Rattle.ns_word.specs.declared.view.SeatView.{SeatView}
 use Rattle.ns_word.specs.declared.walk.Walk.{Walk}
-use Rattle.ns_word.specs.Words.{is_held, is_woken, mode_released, may_acquire, needs_scan, word_acquired, word_released, word_taken, word_returned, word_released_returning}
+use Rattle.ns_word.specs.Words.{is_held, is_woken, tries_of, mode_released, may_acquire, needs_scan, word_acquired, word_released, word_taken, word_returned, word_released_returning}
 use Rattle.ns_word.specs.Lists.{has_some, has_eligible, bits_of, queued, times_among}
 use Rattle.ns_word.specs.Walks.{Stance, has_queues, is_queuing, has_armed, waits_in, awaits, pays, was_woken, calls_from_lock, is_on_way, phase_by}
 use Rattle.ns_word.specs.Views.{called_to, walk_at, NoneIs}
@@ -74,7 +74,7 @@ abbrev pub SameHolders : Word → Word → Type 0
 SameHolders word word' = (word'.write ≡ word.write) × (word'.readers ≡ word.readers)
 
 open_write : (arrival : Arrival) (word : Word) → may_acquire Write arrival word ≡ true → (word.write ≡ false) × (word.readers ≡ 0)
-open_write arrival word e = let parts = and_parts _ _ e in (not-true word.write parts.0, eqb-true word.readers 0 parts.1)
+open_write arrival word e = let parts = and_parts _ _ e in (not-true word.write parts.0, eqb-true word.readers 0 (and_parts (eqb word.readers 0) _ parts.1).0)
 
 open_read : (arrival : Arrival) (word : Word) → may_acquire Read arrival word ≡ true → word.write ≡ false
 open_read arrival word e = not-true word.write (and_parts _ _ e).0
@@ -316,23 +316,23 @@ module _ {C : Type 0} {N : ℕ} (truths : Truths C) (seats : ℕ) (h : List (Eve
 
   -- a seat puts itself into the lock list, and puts the queues back
   pub enqueues : (mode : Mode) (arrival : Arrival) (word : Word) (row : List ℕ) (lists : Lists C) (flags : ℕ → ℕ) (held : Option (Held C N)) (owed : List ℕ) → pays walk ≡ false →
-      PlaceFits truths walk' held → pays walk' ≡ pays walk → has_queues walk ≡ true → has_queues walk' ≡ false → awaits walk ≡ false → waits_in walk' ≡ Some (record { mode = mode; on = None }) → has_armed walk ≡ true → has_armed walk' ≡ false → is_queuing walk ≡ true → NoWay walk → Stays walk walk' held →
-      let lock' = queued who mode None (is_woken arrival) lists.lock in
+      PlaceFits truths walk' held → pays walk' ≡ pays walk → has_queues walk ≡ true → has_queues walk' ≡ false → awaits walk ≡ false → waits_in walk' ≡ Some (record { mode = mode; on = None; tries = tries_of arrival }) → has_armed walk ≡ true → has_armed walk' ≡ false → is_queuing walk ≡ true → NoWay walk → Stays walk walk' held →
+      let lock' = queued who mode None (tries_of arrival) (is_woken arrival) lists.lock in
       Groups truths seats h (st walk word row lists flags held owed) → Groups truths seats h (st walk' (word_returned false (bits_of lock') word) row (with_lock lists lock') flags held owed)
   enqueues mode arrival word row lists flags held owed idle place pay s s' a a' set set' q o stays p =
       let fit = fits word row held owed p.safe in
       let apart = others word row held owed p.safe in
-      let lock' = queued who mode None (is_woken arrival) lists.lock in
+      let lock' = queued who mode None (tries_of arrival) (is_woken arrival) lists.lock in
       let none = stands_not word row lists flags held owed a p in
       let owing = owes_none word row held owed idle p.safe in
       record {
         safe = unchanged truths seats h front who walk owed walk' owed back word (word_returned false (bits_of lock') word) row held held refl refl place (fit.owes ∙ sym pay) (same_section walk walk' held stays) p.safe;
         homed = back_home front who walk held owed walk' held owed back word (word_returned false (bits_of lock') word) lists.lock lock' refl refl s s' p.homed;
         placed = entered front who walk held owed walk' held owed back lists (with_lock lists lock') flags apart p.placed.four owing
-            (λ seat. let more = times_queued seat who mode None (is_woken arrival) lists.lock in let nothing : times_among seat owed ≡ 0 = rw owing refl in omega (arith, times_lock lists lock' seat, more, nothing)) set a (ap is_some a') set' p.placed;
-        own = own_queued front who walk held owed walk' held owed back mode None (is_woken arrival) lists.lock apart (lock_nowhere lists none) (ap lock_stance a') p.own;
+            (λ seat. let more = times_queued seat who mode None (tries_of arrival) (is_woken arrival) lists.lock in let nothing : times_among seat owed ≡ 0 = rw owing refl in omega (arith, times_lock lists lock' seat, more, nothing)) set a (ap is_some a') set' p.placed;
+        own = own_queued front who walk held owed walk' held owed back mode None (tries_of arrival) (is_woken arrival) lists.lock apart (lock_nowhere lists none) (ap lock_stance a') p.own;
         told = tell_moves front who walk held owed walk' held owed back (standing_after h).phases (standing_after h).phases lists (with_lock lists lock') p.placed.four refl none (λ seat ne. refl) (waits_not lists _ p.placed.four none p.told) p.told;
-        known = puts truths.holds front who walk held owed walk' held owed back mode None (is_woken arrival) word (standing_after h).row lists.lock flags apart (calls word row held owed idle p.safe) q o p.known;
+        known = puts truths.holds front who walk held owed walk' held owed back mode None (tries_of arrival) (is_woken arrival) word (standing_after h).row lists.lock flags apart (calls word row held owed idle p.safe) q o p.known;
       }
 
   -- a seat that leaves takes itself out of the lock list
@@ -381,7 +381,7 @@ module _ {C : Type 0} {N : ℕ} (truths : Truths C) (seats : ℕ) (h : List (Eve
       }
 
   -- a seat that leaves takes itself out of the list of its variable, and commits that
-  pub leaves : (k : ℕ) (mode : Mode) (word : Word) (row : List ℕ) (lists : Lists C) (flags : ℕ → ℕ) (owed : List ℕ) → seats ≤ 64 → k < 4 → pays walk ≡ false → 1 ≤ times_in who (waiters_of lists (Cv k)) → waits_in walk ≡ Some (record { mode = mode; on = Some (OnVariable k) }) →
+  pub leaves : (k : ℕ) (mode : Mode) (word : Word) (row : List ℕ) (lists : Lists C) (flags : ℕ → ℕ) (owed : List ℕ) → seats ≤ 64 → k < 4 → pays walk ≡ false → 1 ≤ times_in who (waiters_of lists (Cv k)) → waits_in walk ≡ Some (record { mode = mode; on = Some (OnVariable k); tries = 0 }) →
       PlaceFits {C = C} {N = N} truths walk' None → pays walk' ≡ pays walk → has_queues walk ≡ true → has_queues walk' ≡ false → has_armed walk' ≡ false → is_queuing walk ≡ false → is_queuing walk' ≡ false → awaits walk' ≡ false → is_on_way walk 1 0 ≡ false → IsExpected (phase_by walk') (Left k mode) →
       let lists' = with_waiters lists (Cv k) (without_in who (waiters_of lists (Cv k))) in
       Groups truths seats h (st walk word row lists flags None owed) → Groups truths seats (h ++ Leave who k ∷ []) (st walk' (word_returned false (bits_of lists.lock) word) row lists' flags None owed)
@@ -453,16 +453,16 @@ module _ {C : Type 0} {N : ℕ} (truths : Truths C) (seats : ℕ) (h : List (Eve
 
   -- The same with itself in the lock list, for a condition that is false. What it leaves of the sections is told, and the history after that.
   pub queues_scanned : (releasing : Releasing) (mode : Mode) (c : C) (again : Bool) (h' : List (Event C N)) (word : Word) (row : List ℕ) (lists : Lists C) (flags : ℕ → ℕ) (held : Option (Held C N)) (owed : List ℕ) →
-      let meets : C → Bool = meets_at truths row in let took = seats_of (woken_of meets lists.lock) in let lock' = queued who mode (Some c) again (left_of meets lists.lock) in let word' = word_released_returning releasing (has_some (woken_of meets lists.lock)) (bits_of lock') word in
+      let meets : C → Bool = meets_at truths row in let took = seats_of (woken_of meets lists.lock) in let lock' = queued who mode (Some c) 0 again (left_of meets lists.lock) in let word' = word_released_returning releasing (has_some (woken_of meets lists.lock)) (bits_of lock') word in
       truths.holds c row ≡ false → row ≡ (standing_after h').row → Safe truths seats h' word' row (front ++ view_of who walk' None took ∷ back) →
       ((seat : ℕ) → who ≢ seat → (standing_after h').phases seat ≡ (standing_after h).phases seat) → ((k : ℕ) (m : Mode) → (standing_after h').phases who ≡ Waiting k m → ⊥) →
-      pays walk ≡ false → calls_from_lock walk' ≡ true → has_queues walk ≡ true → has_queues walk' ≡ false → awaits walk ≡ false → waits_in walk' ≡ Some (record { mode = mode; on = Some (OnCondition c) }) → has_armed walk ≡ true → has_armed walk' ≡ false → is_queuing walk' ≡ false → NoWay walk →
+      pays walk ≡ false → calls_from_lock walk' ≡ true → has_queues walk ≡ true → has_queues walk' ≡ false → awaits walk ≡ false → waits_in walk' ≡ Some (record { mode = mode; on = Some (OnCondition c); tries = 0 }) → has_armed walk ≡ true → has_armed walk' ≡ false → is_queuing walk' ≡ false → NoWay walk →
       Groups truths seats h (st walk word row lists flags held owed) → Groups truths seats h' (st walk' word' row (with_lock lists lock') flags None took)
   queues_scanned releasing mode c again h' word row lists flags held owed unmet now safe there idles idle from s s' a a' set set' q' o p =
       let meets : C → Bool = meets_at truths row in
       let apart = others word row held owed p.safe in
       let took = seats_of (woken_of meets lists.lock) in
-      let lock' = queued who mode (Some c) again (left_of meets lists.lock) in
+      let lock' = queued who mode (Some c) 0 again (left_of meets lists.lock) in
       let owing = owes_none word row held owed idle p.safe in
       let none = stands_not word row lists flags held owed a p in
       let word' = word_released_returning releasing (has_some (woken_of meets lists.lock)) (bits_of lock') word in
@@ -470,19 +470,19 @@ module _ {C : Type 0} {N : ℕ} (truths : Truths C) (seats : ℕ) (h : List (Eve
         safe = safe;
         homed = back_home front who walk held owed walk' None took back word word' lists.lock lock' refl refl s s' p.homed;
         placed = entered front who walk held owed walk' None took back lists (with_lock lists lock') flags apart p.placed.four owing
-            (λ seat. omega (arith, times_scan seat meets lists.lock, times_seats seat (woken_of meets lists.lock), times_lock lists lock' seat, times_queued seat who mode (Some c) again (left_of meets lists.lock))) set a (ap is_some a') set' p.placed;
-        own = own_waited front who walk held owed walk' None took back meets mode (Some c) again lists.lock apart (lock_nowhere lists none) (ap lock_stance a') p.own;
+            (λ seat. omega (arith, times_scan seat meets lists.lock, times_seats seat (woken_of meets lists.lock), times_lock lists lock' seat, times_queued seat who mode (Some c) 0 again (left_of meets lists.lock))) set a (ap is_some a') set' p.placed;
+        own = own_waited front who walk held owed walk' None took back meets mode (Some c) 0 again lists.lock apart (lock_nowhere lists none) (ap lock_stance a') p.own;
         told = tell_moves front who walk held owed walk' None took back (standing_after h).phases (standing_after h').phases lists (with_lock lists lock') p.placed.four refl none there idles p.told;
         known = subst (λ r. Known truths.holds word' r lock' flags (front ++ view_of who walk' None took ∷ back)) now
             (known_scans truths.holds front who walk held owed walk' None took back releasing word (standing_after h).row row lists lock' flags apart s q' a o owing refl from
-            (λ e. queued_eligible meets who mode c again (left_of meets lists.lock) unmet e) p.homed p.placed p.known);
+            (λ e. queued_eligible meets who mode c 0 again (left_of meets lists.lock) unmet e) p.homed p.placed p.known);
       }
 
   -- a wait for a condition leaves its section, and commits it
   pub waits : (releasing : Releasing) (mode : Mode) (c : C) (again : Bool) (word : Word) (row : List ℕ) (lists : Lists C) (flags : ℕ → ℕ) (entry : Opening C) (before cells : List ℕ) (owed : List ℕ) → seats ≤ 64 → IsSettledBy truths.holds before entry →
-      let meets : C → Bool = meets_at truths row in let lock' = queued who mode (Some c) again (left_of meets lists.lock) in
+      let meets : C → Bool = meets_at truths row in let lock' = queued who mode (Some c) 0 again (left_of meets lists.lock) in
       truths.holds c cells ≡ false → mode_released releasing ≡ mode → IsExpected (phase_by walk') (Cond c mode) →
-      PlaceFits {C = C} {N = N} truths walk' None → pays walk ≡ false → pays walk' ≡ has_some (seats_of (woken_of meets lists.lock)) → calls_from_lock walk' ≡ true → has_queues walk ≡ true → has_queues walk' ≡ false → awaits walk ≡ false → waits_in walk' ≡ Some (record { mode = mode; on = Some (OnCondition c) }) → has_armed walk ≡ true → has_armed walk' ≡ false → is_queuing walk' ≡ false → NoWay walk →
+      PlaceFits {C = C} {N = N} truths walk' None → pays walk ≡ false → pays walk' ≡ has_some (seats_of (woken_of meets lists.lock)) → calls_from_lock walk' ≡ true → has_queues walk ≡ true → has_queues walk' ≡ false → awaits walk ≡ false → waits_in walk' ≡ Some (record { mode = mode; on = Some (OnCondition c); tries = 0 }) → has_armed walk ≡ true → has_armed walk' ≡ false → is_queuing walk' ≡ false → NoWay walk →
       Groups truths seats h (st walk word row lists flags (Some (section mode entry before cells)) owed) →
       Groups truths seats (h ++ section_of truths.holds who (section mode entry before cells) (CondWait c) ∷ [])
       (st walk' (word_released_returning releasing (has_some (woken_of meets lists.lock)) (bits_of lock') word) row (with_lock lists lock') flags None (seats_of (woken_of meets lists.lock)))
@@ -491,7 +491,7 @@ module _ {C : Type 0} {N : ℕ} (truths : Truths C) (seats : ℕ) (h : List (Eve
       let held = section {C = C} {N = N} mode entry before cells in
       let fit = fits word row (Some held) owed p.safe in
       let took = seats_of (woken_of meets lists.lock) in
-      let lock' = queued who mode (Some c) again (left_of meets lists.lock) in
+      let lock' = queued who mode (Some c) 0 again (left_of meets lists.lock) in
       let word' = word_released_returning releasing (has_some (woken_of meets lists.lock)) (bits_of lock') word in
       queues_scanned releasing mode c again (h ++ section_of truths.holds who held (CondWait c) ∷ []) word row lists flags (Some held) owed
       (subst (λ r. truths.holds c r ≡ false) fit.section.cells unmet) (sym fit.section.cells ∙ sym (ap (λ s. s.row) (left_by truths seats h who held (CondWait c))))
@@ -502,9 +502,9 @@ module _ {C : Type 0} {N : ℕ} (truths : Truths C) (seats : ℕ) (h : List (Eve
 
   -- a wait for a condition that came back gives its section up, and commits nothing
   pub waits_on : (releasing : Releasing) (mode : Mode) (c : C) (again : Bool) (word : Word) (row : List ℕ) (lists : Lists C) (flags : ℕ → ℕ) (entry : Opening C) (before cells : List ℕ) (owed : List ℕ) →
-      let meets : C → Bool = meets_at truths row in let lock' = queued who mode (Some c) again (left_of meets lists.lock) in
+      let meets : C → Bool = meets_at truths row in let lock' = queued who mode (Some c) 0 again (left_of meets lists.lock) in
       truths.holds c cells ≡ false → mode_released releasing ≡ mode → cells ≡ before → phase_before mode entry ≡ Cond c mode → IsExpected (phase_by walk') (Cond c mode) →
-      PlaceFits {C = C} {N = N} truths walk' None → pays walk ≡ false → pays walk' ≡ has_some (seats_of (woken_of meets lists.lock)) → calls_from_lock walk' ≡ true → has_queues walk ≡ true → has_queues walk' ≡ false → awaits walk ≡ false → waits_in walk' ≡ Some (record { mode = mode; on = Some (OnCondition c) }) → has_armed walk ≡ true → has_armed walk' ≡ false → is_queuing walk' ≡ false → NoWay walk →
+      PlaceFits {C = C} {N = N} truths walk' None → pays walk ≡ false → pays walk' ≡ has_some (seats_of (woken_of meets lists.lock)) → calls_from_lock walk' ≡ true → has_queues walk ≡ true → has_queues walk' ≡ false → awaits walk ≡ false → waits_in walk' ≡ Some (record { mode = mode; on = Some (OnCondition c); tries = 0 }) → has_armed walk ≡ true → has_armed walk' ≡ false → is_queuing walk' ≡ false → NoWay walk →
       Groups truths seats h (st walk word row lists flags (Some (section mode entry before cells)) owed) →
       Groups truths seats h (st walk' (word_released_returning releasing (has_some (woken_of meets lists.lock)) (bits_of lock') word) row (with_lock lists lock') flags None (seats_of (woken_of meets lists.lock)))
   waits_on releasing mode c again word row lists flags entry before cells owed unmet is same comes phase place idle pay' from s s' a a' set set' q' o p =
@@ -512,7 +512,7 @@ module _ {C : Type 0} {N : ℕ} (truths : Truths C) (seats : ℕ) (h : List (Eve
       let held = section {C = C} {N = N} mode entry before cells in
       let fit = fits word row (Some held) owed p.safe in
       let took = seats_of (woken_of meets lists.lock) in
-      let lock' = queued who mode (Some c) again (left_of meets lists.lock) in
+      let lock' = queued who mode (Some c) 0 again (left_of meets lists.lock) in
       let word' = word_released_returning releasing (has_some (woken_of meets lists.lock)) (bits_of lock') word in
       queues_scanned releasing mode c again h word row lists flags (Some held) owed
       (subst (λ r. truths.holds c r ≡ false) fit.section.cells unmet) (sym fit.section.cells ∙ same ∙ fit.section.starts)
@@ -524,9 +524,9 @@ module _ {C : Type 0} {N : ℕ} (truths : Truths C) (seats : ℕ) (h : List (Eve
   -- a wait for a variable leaves its section, commits it, and goes to the back of the variable's list
   pub waits_for : (releasing : Releasing) (mode : Mode) (j : ℕ) (word : Word) (row : List ℕ) (lists : Lists C) (flags : ℕ → ℕ) (entry : Opening C) (before cells : List ℕ) (owed : List ℕ) → seats ≤ 64 → j < 4 → IsSettledBy truths.holds before entry →
       let meets : C → Bool = meets_at truths row in let stay = with_lock lists (left_of meets lists.lock) in
-      let lists' = with_waiters stay (Cv j) (waiters_of lists (Cv j) ++ record { seat = who; mode = mode; cond = None } ∷ []) in
+      let lists' = with_waiters stay (Cv j) (waiters_of lists (Cv j) ++ record { seat = who; mode = mode; cond = None; tries = 0 } ∷ []) in
       mode_released releasing ≡ mode → IsExpected (phase_by walk') (Waiting j mode) →
-      PlaceFits {C = C} {N = N} truths walk' None → pays walk ≡ false → pays walk' ≡ has_some (seats_of (woken_of meets lists.lock)) → calls_from_lock walk' ≡ true → has_queues walk ≡ true → has_queues walk' ≡ false → awaits walk ≡ false → waits_in walk' ≡ Some (record { mode = mode; on = Some (OnVariable j) }) → has_armed walk ≡ true → has_armed walk' ≡ false → is_queuing walk' ≡ false → NoWay walk →
+      PlaceFits {C = C} {N = N} truths walk' None → pays walk ≡ false → pays walk' ≡ has_some (seats_of (woken_of meets lists.lock)) → calls_from_lock walk' ≡ true → has_queues walk ≡ true → has_queues walk' ≡ false → awaits walk ≡ false → waits_in walk' ≡ Some (record { mode = mode; on = Some (OnVariable j); tries = 0 }) → has_armed walk ≡ true → has_armed walk' ≡ false → is_queuing walk' ≡ false → NoWay walk →
       Groups truths seats h (st walk word row lists flags (Some (section mode entry before cells)) owed) →
       Groups truths seats (h ++ section_of truths.holds who (section mode entry before cells) (CvWait j) ∷ [])
       (st walk' (word_released_returning releasing (has_some (woken_of meets lists.lock)) (bits_of (left_of meets lists.lock)) word) row lists' flags None (seats_of (woken_of meets lists.lock)))
@@ -537,7 +537,7 @@ module _ {C : Type 0} {N : ℕ} (truths : Truths C) (seats : ℕ) (h : List (Eve
       let apart = others word row (Some held) owed p.safe in
       let took = seats_of (woken_of meets lists.lock) in
       let stay = with_lock lists (left_of meets lists.lock) in
-      let one : Waiter C = record { seat = who; mode = mode; cond = None } in
+      let one : Waiter C = record { seat = who; mode = mode; cond = None; tries = 0 } in
       let queue = waiters_of lists (Cv j) ++ one ∷ [] in
       let lists' = with_waiters stay (Cv j) queue in
       let owing = owes_none word row (Some held) owed idle p.safe in

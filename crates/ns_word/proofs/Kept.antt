@@ -177,7 +177,7 @@ module _ {C : Type 0} (N : ℕ) where
   shown_by (InAcquire aim (Arm arrival last)) Made = stays_shown _ _
   shown_by (InAcquire aim (Queue arrival last)) (Saw word) = stays_shown _ _
   shown_by (InAcquire aim (Queue arrival last)) Made = stays_shown _ _
-  shown_by (InAcquire aim AwaitWake) (Flag v) = either_shown _ _ (eqb v 1) _ _ (stays_shown _ _) (stays_shown _ _)
+  shown_by (InAcquire aim (AwaitWake tries)) (Flag v) = either_shown _ _ (eqb v 1) _ _ (stays_shown _ _) (stays_shown _ _)
   shown_by (InCells (QuietCells i)) (Cell v) = none_shown _ _
   shown_by (InCells (QuietLast i)) (Quiet quiet) = either_shown _ _ quiet _ _ (none_shown _ _) (none_shown _ _)
   shown_by (InRelease releasing ReleaseLoad) (Saw word) = release_shown C (Saw word) releasing word
@@ -300,7 +300,7 @@ module _ {C : Type 0} (N : ℕ) where
   out_by (InAcquire aim (Arm arrival last)) Made e a = refl
   out_by (InAcquire aim (Queue arrival last)) (Saw word) e a = refl
   out_by (InAcquire aim (Queue arrival last)) Made e a = refl
-  out_by (InAcquire aim AwaitWake) (Flag v) e a = either_out (eqb v 1) _ _ refl refl
+  out_by (InAcquire aim (AwaitWake tries)) (Flag v) e a = either_out (eqb v 1) _ _ refl refl
   out_by (InCells (QuietCells i)) (Cell v) e a = refl
   out_by (InCells (QuietLast i)) (Quiet quiet) e a = either_out quiet _ _ refl refl
   out_by (InRelease releasing ReleaseLoad) (Saw word) e a = release_out C releasing word

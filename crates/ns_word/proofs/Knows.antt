@@ -6,7 +6,7 @@ use Rattle.ns_model.specs.declared.event.Mode.{Mode}
 use Rattle.ns_model.specs.declared.event.Mode.TheVariants.{Write, Read}
 use Rattle.ns_queue.specs.declared.waiter.Waiter.{Waiter}
 use Rattle.ns_queue.specs.Queues.{Lists, times}
-use Rattle.ns_queue.specs.Waiters.{seats_of, times_in, writes, has_condition}
+use Rattle.ns_queue.specs.Waiters.{is_long, seats_of, times_in}
 use Rattle.ns_queue.specs.Scans.{woken_of, left_of}
 use Rattle.ns_word.specs.declared.word.Word.{Word}
 use Rattle.ns_word.specs.declared.word.Releasing.{Releasing}
@@ -96,11 +96,14 @@ is_loud Writer = true
 is_loud QuietWriter = false
 is_loud Reader = false
 
-refused : (mode : Mode) (arrival : Arrival) (word : Word) → may_acquire mode arrival word ≡ false → word.write ≡ false → word.readers ≡ 0 → (is_woken arrival ≡ false) × (word.writer_waits ≡ true)
-refused Write arrival word e w r = let may : may_acquire Write arrival word ≡ true = rw w (rw r refl) in absurd (both_ways (may_acquire Write arrival word) e may)
+refused : (mode : Mode) (arrival : Arrival) (word : Word) → may_acquire mode arrival word ≡ false → word.write ≡ false → word.readers ≡ 0 → (is_woken arrival ≡ false) × ((word.writer_waits ≡ true) ⊎ (word.long ≡ true))
+refused Write arrival word e w r =
+    let free : (eqb word.readers 0 && (is_woken arrival || not word.long)) ≡ false = subst (λ b. (not b && (eqb word.readers 0 && (is_woken arrival || not word.long))) ≡ false) w e in
+    let parts = or_parts (is_woken arrival) (not word.long) (subst (λ n. (eqb n 0 && (is_woken arrival || not word.long)) ≡ false) r free) in
+    (parts.0, inr (not-false word.long parts.1))
 refused Read arrival word e w r =
-    let parts = or_parts (is_woken arrival) (not word.writer_waits) (subst (λ b. (not b && (is_woken arrival || not word.writer_waits)) ≡ false) w e) in
-    (parts.0, not-false word.writer_waits parts.1)
+    let parts = or_parts (is_woken arrival) (not word.writer_waits && not word.long) (subst (λ b. (not b && (is_woken arrival || (not word.writer_waits && not word.long))) ≡ false) w e) in
+    (parts.0, elim (and_cases (not word.writer_waits) (not word.long) parts.1) [ inl f ↦ inl (not-false word.writer_waits f) | inr f ↦ inr (not-false word.long f) ])
 
 -- one that owes no wake owes none of one taken from the lock list
 pub nothing_called : {C : Type 0} (at : Option (Walk C)) (owing : List ℕ) (seat : ℕ) → owing ≡ [] → ◌≡◌ {A = ℕ} (cond (calls_from_lock at) (times_among seat owing) 0) 0
@@ -203,24 +206,27 @@ module _ {C : Type 0} {N : ℕ} (holds : C → List ℕ → Bool) (front : List 
       }
 
   -- the queues are taken to queue
-  pub takes : (mode : Mode) (arrival : Arrival) (word : Word) (now : List ℕ) (lock : List (Waiter C)) (flags : ℕ → ℕ) → NoneIs who front → ((seat : ℕ) → called walk' owed' seat ≡ called walk owed seat) → may_acquire mode arrival word ≡ false → word.spin ≡ false → Homed word lock olds →
+  pub takes : (mode : Mode) (arrival : Arrival) (word : Word) (now : List ℕ) (lock : List (Waiter C)) (flags : ℕ → ℕ) → NoneIs who front → ((seat : ℕ) → called walk' owed' seat ≡ called walk owed seat) → may_acquire mode arrival word ≡ false → word.spin ≡ false → Homed word lock olds → (list_any is_long lock ≡ true → has_eligible (λ c. holds c now) lock ≡ true) →
       ((flag n : ℕ) → is_woken arrival ≡ false → is_on_way walk flag n ≡ true → is_on_way walk' flag n ≡ true) →
       Known holds word now lock flags olds → Known holds (word_taken (ToQueue mode arrival) word) now lock flags news
-  takes mode arrival word now lock flags apart c shut clear homed o p = record {
+  takes mode arrival word now lock flags apart c shut clear homed long_can o p = record {
     on_way = λ e. let parts = and_parts word.desig (not (is_woken arrival)) e in way_on flags apart c (λ flag n f. o flag n (not-true (is_woken arrival) parts.1) f) (p.on_way parts.0);
     idle = λ e. absurd (cc);
     free = λ e f g.
         let why = refused mode arrival word shut e f in
         let desig : word.desig ≡ false = elim (and_cases word.desig (not (is_woken arrival)) g) [ inl d ↦ d | inr n ↦ absurd (both_ways (is_woken arrival) why.0 (not-false (is_woken arrival) n)) ] in
-        let none : list_any (λ w. writes w && not (has_condition w)) lock ≡ false = writer_eligible (λ c. holds c now) lock (p.free e f desig).0 in
-        absurd (both_ways word.writer_waits (ap (λ b. b.writer_waits) (homed.bits clear) ∙ none) why.1);
+        let stuck = (p.free e f desig).0 in
+        elim why.1 [
+          | inl waits ↦ absurd (both_ways word.writer_waits (ap (λ b. b.writer_waits) (homed.bits clear) ∙ writer_eligible (λ c. holds c now) lock stuck) waits)
+          | inr long ↦ absurd (both_ways (has_eligible (λ c. holds c now) lock) stuck (long_can (sym (ap (λ b. b.long) (homed.bits clear)) ∙ long)))
+        ];
     empty = λ e. absurd (cc);
   }
 
   -- a seat puts itself in
-  pub puts : (mode : Mode) (c : Option C) (first : Bool) (word : Word) (now : List ℕ) (lock : List (Waiter C)) (flags : ℕ → ℕ) → NoneIs who front → ((seat : ℕ) → called walk' owed' seat ≡ called walk owed seat) → is_queuing walk ≡ true → ((flag n : ℕ) → is_on_way walk flag n ≡ false) →
-      Known holds word now lock flags olds → Known holds (word_returned false (bits_of (queued who mode c first lock)) word) now (queued who mode c first lock) flags news
-  puts mode c first word now lock flags apart calls q o p =
+  pub puts : (mode : Mode) (c : Option C) (tries : ℕ) (first : Bool) (word : Word) (now : List ℕ) (lock : List (Waiter C)) (flags : ℕ → ℕ) → NoneIs who front → ((seat : ℕ) → called walk' owed' seat ≡ called walk owed seat) → is_queuing walk ≡ true → ((flag n : ℕ) → is_on_way walk flag n ≡ false) →
+      Known holds word now lock flags olds → Known holds (word_returned false (bits_of (queued who mode c tries first lock)) word) now (queued who mode c tries first lock) flags news
+  puts mode c tries first word now lock flags apart calls q o p =
       let count : queuers olds ≡ queuers front + (one_if (is_queuing walk) + queuers back) = queuers_at front (view_of who walk held owed) back in
       let one : one_if (is_queuing walk) ≡ 1 = ap one_if q in
       let some : queuers olds ≢ 0 = λ z. absurd (omega (arith, count, one, z)) in
@@ -228,7 +234,7 @@ module _ {C : Type 0} {N : ℕ} (holds : C → List ℕ → Bool) (front : List 
         on_way = λ e. way_on flags apart calls (λ flag n f. absurd (both_ways (is_on_way walk flag n) (o flag n) f)) (p.on_way e);
         idle = λ e. absurd (some (p.idle (and_parts word.all_false _ (and_parts (word.all_false && _) true e).0).0).1);
         free = λ e f g. absurd (some (p.free e f g).1);
-        empty = λ e. absurd (both_ways (has_some (queued who mode c first lock)) e (some_queued who mode c first lock));
+        empty = λ e. absurd (both_ways (has_some (queued who mode c tries first lock)) e (some_queued who mode c tries first lock));
       }
 
   -- The queues are put back with some of the lock list gone, or the list as it was.

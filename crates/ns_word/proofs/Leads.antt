@@ -166,15 +166,15 @@ module _ {C : Type 0} {N : ℕ} (truths : Truths C) where
   tests_some wait visit None p = absurd p
   tests_some wait visit (Some held) p = refl
 
-  look_place : (wait : Wait C) (again : Bool) (held : Option (Held C N)) (b : Bool) → CanWait truths wait again held →
+  look_place : (wait : Wait C) (again : Bool) (held : Option (Held C N)) (b : Bool) → IsForCondition wait.on → CanWait truths wait again held →
       Leads (inside wait) (walk_after (cond b (On (InWait wait (InQueuing again LookIn))) (On (InWait wait (InQueuing again Load))))) held
-  look_place wait again held true p = (((p, tt), tt), (refl, refl, refl, refl), refl, λ flag n f. f, λ none. refl)
-  look_place wait again held false p = (((p, tt), tt), (refl, refl, refl, refl), refl, λ flag n f. f, λ none. refl)
+  look_place wait again held true on p = (((p, on), tt), (refl, refl, refl, refl), refl, λ flag n f. f, λ none. refl)
+  look_place wait again held false on p = (((p, tt), tt), (refl, refl, refl, refl), refl, λ flag n f. f, λ none. refl)
 
   unmet_leads : (wait : Wait C) (visit : Visit) (held : Option (Held C N)) → Tests truths wait visit held → IsForCondition wait.on → IsUnmet truths wait.on (row_in held) → Leads (inside wait) (walk_after (unmet_by wait visit)) held
   unmet_leads wait visit None p on e = absurd p
-  unmet_leads wait OnEntry (Some held) p on e = look_place wait false (Some held) (is_limited wait.limits) (record { mode = p.0; unmet = e; settled = λ first. p.1; back = λ again. absurd (cc) })
-  unmet_leads wait (OnReturn None) (Some held) p on e = look_place wait true (Some held) (is_limited wait.limits) (record { mode = p.0; unmet = e; settled = λ first. absurd (cc); back = λ again. (on, p.1) })
+  unmet_leads wait OnEntry (Some held) p on e = look_place wait false (Some held) (is_limited wait.limits) on (record { mode = p.0; unmet = e; settled = λ first. p.1; back = λ again. absurd (cc) })
+  unmet_leads wait (OnReturn None) (Some held) p on e = look_place wait true (Some held) (is_limited wait.limits) on (record { mode = p.0; unmet = e; settled = λ first. absurd (cc); back = λ again. (on, p.1) })
   unmet_leads wait (OnReturn (Some cause)) (Some held) p on e = (subst (λ x. IsSettledBy truths.holds held.before x) (sym p.1.entry) (ended_settled truths.holds held.before wait.on cause), (refl, refl, refl, refl), refl, λ flag n f. f, λ none. absurd (cc))
 
   -- a section whose wait has met its condition is settled

@@ -16,6 +16,7 @@ pub mod Keeps
 pub mod Kept
 pub mod Knows
 pub mod Leads
+pub mod Longs
 pub mod Made
 pub mod Numbers
 pub mod Owns

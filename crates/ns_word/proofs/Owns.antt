@@ -1,24 +1,28 @@
 -- What the steps leave of the waiters: each is its seat's own.
-use Rattle.std.proofs.Common.{◌≡◌, ◌≢◌, ℕ, ◌+◌, Bool, true, false, not, ◌&&◌, cond, eqb, inl, inr, List, [], ◌∷◌, ◌++◌, Option, Some, refl, ap, sym, ◌∙◌, subst, arith, eq-eqb}
+use Rattle.std.proofs.Common.{◌≡◌, ◌≢◌, ℕ, ◌+◌, Bool, true, false, not, ◌&&◌, ◌||◌, cond, eqb, suc, inl, inr, List, [], ◌∷◌, ◌++◌, Option, None, Some, refl, ap, sym, ◌∙◌, subst, arith, eq-eqb}
 use Rattle.std.specs.List.{filter}
-use Rattle.std.proofs.lemmas.Bool.{cases_eq}
+use Rattle.std.specs.List.{list_any}
+use Rattle.std.proofs.lemmas.Bool.{cases_eq, eqb-true, or_right}
 use Rattle.ns_model.specs.declared.event.Mode.{Mode}
 use Rattle.ns_queue.specs.declared.waiter.Waiter.{Waiter}
 use Rattle.ns_model.specs.declared.phase.Phase.{Phase}
 use Rattle.ns_model.specs.Tallies.{Every}
 use Rattle.ns_queue.specs.Queues.{Lists, times}
-use Rattle.ns_queue.specs.Waiters.{times_in, is_of, without_in, reads, writes}
+use Rattle.ns_queue.specs.Waiters.{times_in, is_of, is_long, without_in, reads, writes}
 use Rattle.ns_queue.specs.Scans.{is_eligible, left_of}
 use Rattle.ns_queue.proofs.Seats.{times_in-cons}
 use Rattle.ns_word.specs.declared.view.Held.{Held}
 use Rattle.ns_word.specs.declared.view.SeatView.{SeatView}
+use Rattle.ns_word.specs.declared.acquire_walk.AcquirePlace.TheVariants.{AwaitWake}
 use Rattle.ns_word.specs.declared.walk.Walk.{Walk}
-use Rattle.ns_word.specs.Lists.{queued}
-use Rattle.ns_word.specs.Walks.{waits_in}
+use Rattle.ns_word.specs.declared.walk.Walk.TheVariants.{InAcquire, InWait}
+use Rattle.ns_word.specs.Lists.{queued, has_eligible}
+use Rattle.ns_word.specs.Walks.{place_awaits, waits_in}
 use Rattle.ns_word.specs.Views.{owed_to, walk_at, NoneIs}
 use Rattle.ns_word.specs.Lawful.{lock_stance, is_unwoken, WaitersPlaced, WaiterFits, WaitersOwn, VariableWaiterFits}
 use Rattle.ns_model.specs.Tallies.{one_if}
 use Rattle.ns_word.proofs.Views.{view_of, walk_here, walk_there}
+use Rattle.ns_word.proofs.Phases.{cond_in, tries_in}
 use Rattle.ns_word.proofs.Scans.{times_scan, times_without}
 
 module _ {C : Type 0} {N : ℕ} where
@@ -61,9 +65,9 @@ module _ {C : Type 0} {N : ℕ} (front : List (SeatView C N)) (who : ℕ) (walk 
   own_same [] apart same p = tt
   own_same (w ∷ ws) apart same p = (
     elim (cases_eq who w.seat) [
-      | inl e ↦ subst (λ s. lock_stance (waits_in (walk_at s news)) ≡ Some (w.mode, w.cond)) e
+      | inl e ↦ subst (λ s. lock_stance (waits_in (walk_at s news)) ≡ Some (w.mode, w.cond, w.tries)) e
           (ap lock_stance (ap waits_in (walk_here front (view_of who walk' held' owed') back apart) ∙ same ∙ sym (ap waits_in (walk_here front (view_of who walk held owed) back apart)))
-          ∙ subst (λ s. lock_stance (waits_in (walk_at s olds)) ≡ Some (w.mode, w.cond)) (sym e) p.0)
+          ∙ subst (λ s. lock_stance (waits_in (walk_at s olds)) ≡ Some (w.mode, w.cond, w.tries)) (sym e) p.0)
       | inr ne ↦ ap (λ w. lock_stance (waits_in w)) (walk_there w.seat front (view_of who walk held owed) (view_of who walk' held' owed') back ne refl) ∙ p.0
     ],
     own_same ws apart same p.1,
@@ -76,22 +80,22 @@ module _ {C : Type 0} {N : ℕ} (front : List (SeatView C N)) (who : ℕ) (walk 
       omega (arith, sum)
 
   -- a seat puts itself in
-  pub own_queued : (mode : Mode) (c : Option C) (first : Bool) (ws : List (Waiter C)) → NoneIs who front → times_in who ws ≡ 0 → lock_stance (waits_in walk') ≡ Some (mode, c) →
-      WaitersOwn ws olds → WaitersOwn (queued who mode c first ws) news
-  own_queued mode c first ws apart none waits p =
-      let self : WaiterFits news (record { seat = who; mode = mode; cond = c }) = ap (λ w. lock_stance (waits_in w)) (walk_here front (view_of who walk' held' owed') back apart) ∙ waits in
+  pub own_queued : (mode : Mode) (c : Option C) (tries : ℕ) (first : Bool) (ws : List (Waiter C)) → NoneIs who front → times_in who ws ≡ 0 → lock_stance (waits_in walk') ≡ Some (mode, c, tries) →
+      WaitersOwn ws olds → WaitersOwn (queued who mode c tries first ws) news
+  own_queued mode c tries first ws apart none waits p =
+      let self : WaiterFits news (record { seat = who; mode = mode; cond = c; tries = tries }) = ap (λ w. lock_stance (waits_in w)) (walk_here front (view_of who walk' held' owed') back apart) ∙ waits in
       let rest = own_stays ws none p in
-      elim first as (λ b. WaitersOwn (queued who mode c b ws) news) [ true ↦ (self, rest) | false ↦ own_append ws (record { seat = who; mode = mode; cond = c } ∷ []) news rest (self, tt) ]
+      elim first as (λ b. WaitersOwn (queued who mode c tries b ws) news) [ true ↦ (self, rest) | false ↦ own_append ws (record { seat = who; mode = mode; cond = c; tries = tries } ∷ []) news rest (self, tt) ]
 
   -- a scan takes some, and the seat stands nowhere
   pub own_scanned : (meets : C → Bool) (ws : List (Waiter C)) → times_in who ws ≡ 0 → WaitersOwn ws olds → WaitersOwn (left_of meets ws) news
   own_scanned meets ws none p = let parts = times_scan who meets ws in own_stays (left_of meets ws) (omega (arith, parts, none)) (own_left meets ws olds p)
 
   -- and puts itself in as it does
-  pub own_waited : (meets : C → Bool) (mode : Mode) (c : Option C) (again : Bool) (ws : List (Waiter C)) → NoneIs who front → times_in who ws ≡ 0 → lock_stance (waits_in walk') ≡ Some (mode, c) →
-      WaitersOwn ws olds → WaitersOwn (queued who mode c again (left_of meets ws)) news
-  own_waited meets mode c again ws apart none waits p =
-      let parts = times_scan who meets ws in own_queued mode c again (left_of meets ws) apart (omega (arith, parts, none)) waits (own_left meets ws olds p)
+  pub own_waited : (meets : C → Bool) (mode : Mode) (c : Option C) (tries : ℕ) (again : Bool) (ws : List (Waiter C)) → NoneIs who front → times_in who ws ≡ 0 → lock_stance (waits_in walk') ≡ Some (mode, c, tries) →
+      WaitersOwn ws olds → WaitersOwn (queued who mode c tries again (left_of meets ws)) news
+  own_waited meets mode c tries again ws apart none waits p =
+      let parts = times_scan who meets ws in own_queued mode c tries again (left_of meets ws) apart (omega (arith, parts, none)) waits (own_left meets ws olds p)
 
   -- the seat stands there no more
   pub own_without : (ws : List (Waiter C)) → WaitersOwn ws olds → WaitersOwn (without_in who ws) news
@@ -102,4 +106,24 @@ pub own_moved : {C : Type 0} {N : ℕ} (phases : ℕ → Phase C) (views : List 
 own_moved phases views k ws taken p q = own_append ws taken views p (plain taken q) where
   plain : (vs : List (Waiter _)) → Every (VariableWaiterFits phases views k) vs → WaitersOwn vs views
   plain [] f = tt
-  plain (v ∷ vs) f = (ap lock_stance f.0.stands ∙ ap (λ c. Some (v.mode, c)) (sym f.0.plain), plain vs f.1)
+  plain (v ∷ vs) f = (ap lock_stance f.0.stands ∙ (λ i. Some (v.mode, sym f.0.plain i, sym f.0.untried i)), plain vs f.1)
+
+-- one that has failed waits for the lock alone
+tried_plain : {C : Type 0} (walk : Option (Walk C)) (mode : Mode) (c : Option C) (tries : ℕ) → lock_stance (waits_in walk) ≡ Some (mode, c, suc tries) → c ≡ None
+tried_plain (Some (InAcquire aim (AwaitWake count))) mode c tries e = sym (ap cond_in e)
+tried_plain (Some (InWait wait place)) mode c tries e = go (place_awaits place) e where
+  go : (b : Bool) → lock_stance (cond b (Some (record { mode = wait.mode; on = Some wait.on; tries = 0 })) None) ≡ Some (mode, c, suc tries) → c ≡ None
+  go true f = let never : 0 ≡ suc tries = ap tries_in f in absurd (cc)
+  go false f = absurd (cc)
+tried_plain _ mode c tries e = absurd (cc)
+
+-- so one that has failed too often could go on
+pub long_eligible : {C : Type 0} {N : ℕ} (meets : C → Bool) (ws : List (Waiter C)) (views : List (SeatView C N)) → WaitersOwn ws views → list_any is_long ws ≡ true → has_eligible meets ws ≡ true
+long_eligible meets [] views p e = absurd (cc)
+long_eligible meets (w ∷ ws) views p e = go (long_eligible meets ws views p.1) (is_long w) refl where
+  go : (list_any is_long ws ≡ true → has_eligible meets ws ≡ true) → (b : Bool) → is_long w ≡ b → has_eligible meets (w ∷ ws) ≡ true
+  go rest true f =
+      let thirty : w.tries ≡ 30 = eqb-true w.tries 30 f in
+      let none : w.cond ≡ None = tried_plain (walk_at w.seat views) w.mode w.cond 29 (p.0 ∙ ap (λ n. Some (w.mode, w.cond, n)) thirty) in
+      rw none refl
+  go rest false f = or_right (is_eligible meets w) (has_eligible meets ws) (rest (subst (λ b. (b || list_any is_long ws) ≡ true) f e))

@@ -26,8 +26,8 @@ use Rattle.ns_word.specs.Places.{WaitFits, PlaceFits}
 use Rattle.ns_word.specs.Lawful.{SectionFits, EachFits, IsExpected, WaiterFits, WaitersOwn, IsLawful, cond_on, lock_stance}
 
 -- how one waits that waits for this condition in this mode
-abbrev pub waiting_for : {C : Type 0} → Mode → C → Option (Stance C)
-waiting_for mode c = Some (record { mode = mode; on = Some (OnCondition c) })
+abbrev pub waiting_for : {C : Type 0} → Mode → C → ℕ → Option (Stance C)
+waiting_for mode c tries = Some (record { mode = mode; on = Some (OnCondition c); tries = tries })
 
 -- a phase fits what one waits for
 abbrev FitsOn : {C : Type 0} → Phase C → Mode → Option (Subject C) → Type 0
@@ -42,13 +42,17 @@ abbrev on_in : {C : Type 0} → Option (Stance C) → Option (Subject C)
 on_in None = None
 on_in (Some stance) = stance.on
 
-abbrev mode_in : {C : Type 0} → Mode → Option (Mode × Option C) → Mode
+abbrev mode_in : {C : Type 0} → Mode → Option (Mode × Option C × ℕ) → Mode
 mode_in mode None = mode
 mode_in mode (Some pair) = pair.0
 
-abbrev cond_in : {C : Type 0} → Option (Mode × Option C) → Option C
+abbrev pub cond_in : {C : Type 0} → Option (Mode × Option C × ℕ) → Option C
 cond_in None = None
 cond_in (Some pair) = pair.1
+
+abbrev pub tries_in : {C : Type 0} → Option (Mode × Option C × ℕ) → ℕ
+tries_in None = 0
+tries_in (Some pair) = pair.2
 
 abbrev waited_for : {C : Type 0} → Option C → Option (Subject C)
 waited_for None = None
@@ -56,13 +60,13 @@ waited_for (Some c) = Some (OnCondition c)
 
 module _ {C : Type 0} where
   -- one that stands in the lock list with a condition waits for that
-  stance_of : (stance : Option (Stance C)) (mode : Mode) (c : C) → lock_stance stance ≡ Some (mode, Some c) → stance ≡ waiting_for mode c
-  stance_of None mode c e = absurd (cc)
-  stance_of (Some stance) mode c e = go stance.on (ap (mode_in mode) e) (ap cond_in e) where
-    go : (on : Option (Subject C)) → stance.mode ≡ mode → cond_on on ≡ Some c → ◌≡◌ {A = Option (Stance C)} (Some (record { mode = stance.mode; on = on })) (waiting_for mode c)
-    go None m f = absurd (cc)
-    go (Some (OnCondition d)) m f = λ i. Some (record { mode = m i; on = ap waited_for f i })
-    go (Some (OnVariable k)) m f = absurd (cc)
+  stance_of : (stance : Option (Stance C)) (mode : Mode) (c : C) (tries : ℕ) → lock_stance stance ≡ Some (mode, Some c, tries) → stance ≡ waiting_for mode c tries
+  stance_of None mode c tries e = absurd (cc)
+  stance_of (Some stance) mode c tries e = go stance.on (ap (mode_in mode) e) (ap cond_in e) (ap tries_in e) where
+    go : (on : Option (Subject C)) → stance.mode ≡ mode → cond_on on ≡ Some c → stance.tries ≡ tries → ◌≡◌ {A = Option (Stance C)} (Some (record { mode = stance.mode; on = on; tries = stance.tries })) (waiting_for mode c tries)
+    go None m f n = absurd (cc)
+    go (Some (OnCondition d)) m f n = λ i. Some (record { mode = m i; on = ap waited_for f i; tries = n i })
+    go (Some (OnVariable k)) m f n = absurd (cc)
 
 module _ {C : Type 0} {N : ℕ} (truths : Truths C) where
   -- one that waits has no section in hand
@@ -74,20 +78,20 @@ module _ {C : Type 0} {N : ℕ} (truths : Truths C) where
   waits_free wait _ held a p = absurd (cc)
 
   module _ (now : Standing C) (row : List ℕ) where
-    phase_by_place : (seat : ℕ) (walk : Option (Walk C)) (held : Option (Held C N)) (mode : Mode) (c : C) → waits_in walk ≡ waiting_for mode c → PlaceFits truths walk held → SectionFits now row seat walk held → now.phases seat ≡ Cond c mode
-    phase_by_place seat (Some (InAcquire aim AwaitWake)) held mode c e place section = let never : ◌≡◌ {A = Option (Subject C)} None (Some (OnCondition c)) = ap on_in e in absurd (cc)
-    phase_by_place seat (Some (InWait wait at_place)) held mode c e place section = go (place_awaits at_place) refl e where
-      go : (b : Bool) → place_awaits at_place ≡ b → cond b (Some (record { mode = wait.mode; on = Some wait.on })) None ≡ waiting_for mode c → now.phases seat ≡ Cond c mode
+    phase_by_place : (seat : ℕ) (walk : Option (Walk C)) (held : Option (Held C N)) (mode : Mode) (c : C) (tries : ℕ) → waits_in walk ≡ waiting_for mode c tries → PlaceFits truths walk held → SectionFits now row seat walk held → now.phases seat ≡ Cond c mode
+    phase_by_place seat (Some (InAcquire aim (AwaitWake count))) held mode c tries e place section = let never : ◌≡◌ {A = Option (Subject C)} None (Some (OnCondition c)) = ap on_in e in absurd (cc)
+    phase_by_place seat (Some (InWait wait at_place)) held mode c tries e place section = go (place_awaits at_place) refl e where
+      go : (b : Bool) → place_awaits at_place ≡ b → cond b (Some (record { mode = wait.mode; on = Some wait.on; tries = 0 })) None ≡ waiting_for mode c tries → now.phases seat ≡ Cond c mode
       go true a f = subst (λ stance. FitsStance (now.phases seat) stance) f (subst (λ x. SectionFits now row seat (Some (InWait wait at_place)) x) (waits_free wait at_place held a place.0) section)
       go false a f = absurd (cc)
-    phase_by_place seat _ held mode c e place section = absurd (cc)
+    phase_by_place seat _ held mode c tries e place section = absurd (cc)
 
-    phase_at : (seats seat : ℕ) (views : List (SeatView C N)) (mode : Mode) (c : C) → EachFits truths seats now row views → waits_in (walk_at seat views) ≡ waiting_for mode c → now.phases seat ≡ Cond c mode
-    phase_at seats seat [] mode c p e = absurd (cc)
-    phase_at seats seat (u ∷ views) mode c p e = elim (cases_eq u.seat seat) [
+    phase_at : (seats seat : ℕ) (views : List (SeatView C N)) (mode : Mode) (c : C) (tries : ℕ) → EachFits truths seats now row views → waits_in (walk_at seat views) ≡ waiting_for mode c tries → now.phases seat ≡ Cond c mode
+    phase_at seats seat [] mode c tries p e = absurd (cc)
+    phase_at seats seat (u ∷ views) mode c tries p e = elim (cases_eq u.seat seat) [
       | inl same ↦ subst (λ s. now.phases s ≡ Cond c mode) same
-          (phase_by_place u.seat u.walk u.held mode c (subst (λ b. waits_in (cond b u.walk (walk_at seat views)) ≡ waiting_for mode c) (eq-eqb u.seat seat same) e) p.0.place p.0.section)
-      | inr other ↦ phase_at seats seat views mode c p.1 (subst (λ b. waits_in (cond b u.walk (walk_at seat views)) ≡ waiting_for mode c) (ne_eqb u.seat seat other) e)
+          (phase_by_place u.seat u.walk u.held mode c tries (subst (λ b. waits_in (cond b u.walk (walk_at seat views)) ≡ waiting_for mode c tries) (eq-eqb u.seat seat same) e) p.0.place p.0.section)
+      | inr other ↦ phase_at seats seat views mode c tries p.1 (subst (λ b. waits_in (cond b u.walk (walk_at seat views)) ≡ waiting_for mode c tries) (ne_eqb u.seat seat other) e)
     ]
 
 module _ {C : Type 0} {N : ℕ} where
@@ -103,4 +107,4 @@ module _ {C : Type 0} {N : ℕ} where
   pub waiter_phase : (truths : Truths C) (seats : ℕ) (h : List (Event C N)) (s : State C N) (at : ℕ) (w : Waiter C) (c : C) → IsLawful truths seats h s → slice_get s.lists.lock at ≡ Some w → w.cond ≡ Some c → phase_of h w.seat ≡ Cond c w.mode
   waiter_phase truths seats h s at w c p found e =
       let own : WaiterFits s.views w = subst (λ x. FitsIf s.views x) found (own_at s.lists.lock s.views at p.waiters_own) in
-      phase_at truths (standing_after h) s.row seats w.seat s.views w.mode c p.one_history.each (stance_of (waits_in (walk_at w.seat s.views)) w.mode c (own ∙ ap (λ x. Some (w.mode, x)) e))
+      phase_at truths (standing_after h) s.row seats w.seat s.views w.mode c w.tries p.one_history.each (stance_of (waits_in (walk_at w.seat s.views)) w.mode c w.tries (own ∙ ap (λ x. Some (w.mode, x, w.tries)) e))

@@ -11,7 +11,7 @@ same_bit true false e = absurd (cc)
 same_bit false true e = absurd (cc)
 
 pub same_word : (v w : Word) →
-    (beq v.write w.write && (beq v.spin w.spin && (beq v.waiting w.waiting && (beq v.desig w.desig && (beq v.cond w.cond && (beq v.writer_waits w.writer_waits && (beq v.all_false w.all_false && eqb v.readers w.readers))))))) ≡ true →
+    (beq v.write w.write && (beq v.spin w.spin && (beq v.waiting w.waiting && (beq v.desig w.desig && (beq v.cond w.cond && (beq v.writer_waits w.writer_waits && (beq v.all_false w.all_false && (beq v.long w.long && eqb v.readers w.readers)))))))) ≡ true →
     v ≡ w
 same_word v w e =
     let a = and_parts _ _ e in
@@ -21,6 +21,7 @@ same_word v w e =
     let f = and_parts _ _ d.1 in
     let g = and_parts _ _ f.1 in
     let h = and_parts _ _ g.1 in
+    let k = and_parts _ _ h.1 in
     λ i. record {
       write = same_bit v.write w.write a.0 i;
       spin = same_bit v.spin w.spin b.0 i;
@@ -29,5 +30,6 @@ same_word v w e =
       cond = same_bit v.cond w.cond f.0 i;
       writer_waits = same_bit v.writer_waits w.writer_waits g.0 i;
       all_false = same_bit v.all_false w.all_false h.0 i;
-      readers = eqb-true v.readers w.readers h.1 i;
+      long = same_bit v.long w.long k.0 i;
+      readers = eqb-true v.readers w.readers k.1 i;
     }

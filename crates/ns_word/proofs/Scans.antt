@@ -4,7 +4,7 @@ use Rattle.std.specs.List.{filter, list_any}
 use Rattle.std.proofs.lemmas.Bool.{ne_eqb, or_parts, both_ways, cases_eq, false_from_ne_true}
 use Rattle.ns_model.specs.declared.event.Mode.{Mode}
 use Rattle.ns_queue.specs.declared.waiter.Waiter.{Waiter}
-use Rattle.ns_queue.specs.Waiters.{seats_of, times_in, without_in, reads, writes, has_condition}
+use Rattle.ns_queue.specs.Waiters.{is_long, seats_of, times_in, without_in, reads, writes, has_condition}
 use Rattle.ns_queue.specs.Scans.{is_satisfied, is_eligible, woken_of, left_of}
 use Rattle.ns_queue.proofs.Seats.{one_if, times_in-cons, times_in-append}
 use Rattle.ns_word.specs.Lists.{has_some, has_eligible, bits_of, times_among, queued}
@@ -21,10 +21,10 @@ some_counted (x ∷ xs) = rw (ne_eqb (length (x ∷ xs)) 0 (λ e. absurd (omega 
 
 module _ {C : Type 0} where
   -- what a list's bits are, by what was told of it
-  pub bits_told : (lock : List (Waiter C)) (waiting conditional writer_waits : Bool) → (waiting ≡ true → 0 < length lock) → (0 < length lock → waiting ≡ true) →
-      conditional ≡ list_any has_condition lock → writer_waits ≡ list_any (λ w. writes w && not (has_condition w)) lock →
-      record { waiting = waiting; conditional = conditional; writer_waits = writer_waits } ≡ bits_of lock
-  bits_told lock waiting conditional writer_waits is has b c = λ i. record { waiting = some_length lock waiting is has i; conditional = b i; writer_waits = c i }
+  pub bits_told : (lock : List (Waiter C)) (waiting conditional writer_waits long : Bool) → (waiting ≡ true → 0 < length lock) → (0 < length lock → waiting ≡ true) →
+      conditional ≡ list_any has_condition lock → writer_waits ≡ list_any (λ w. writes w && not (has_condition w)) lock → long ≡ list_any is_long lock →
+      record { waiting = waiting; conditional = conditional; writer_waits = writer_waits; long = long } ≡ bits_of lock
+  bits_told lock waiting conditional writer_waits long is has b c d = λ i. record { waiting = some_length lock waiting is has i; conditional = b i; writer_waits = c i; long = d i }
 
   pub times_seats : (seat : ℕ) (ws : List (Waiter C)) → times_among seat (seats_of ws) ≡ times_in seat ws
   times_seats seat [] = refl
@@ -62,16 +62,16 @@ module _ {C : Type 0} where
       ]
 
   -- one more
-  pub times_queued : (seat who : ℕ) (mode : Mode) (c : Option C) (first : Bool) (ws : List (Waiter C)) → times_in seat (queued who mode c first ws) ≡ cond (eqb who seat) 1 0 + times_in seat ws
-  times_queued seat who mode c true ws = times_in-cons seat (record { seat = who; mode = mode; cond = c }) ws
-  times_queued seat who mode c false ws =
-      let one : Waiter C = record { seat = who; mode = mode; cond = c } in
+  pub times_queued : (seat who : ℕ) (mode : Mode) (c : Option C) (tries : ℕ) (first : Bool) (ws : List (Waiter C)) → times_in seat (queued who mode c tries first ws) ≡ cond (eqb who seat) 1 0 + times_in seat ws
+  times_queued seat who mode c tries true ws = times_in-cons seat (record { seat = who; mode = mode; cond = c; tries = tries }) ws
+  times_queued seat who mode c tries false ws =
+      let one : Waiter C = record { seat = who; mode = mode; cond = c; tries = tries } in
       omega (arith, times_in-append seat ws (one ∷ []), times_in-cons seat one [])
 
-  pub some_queued : (who : ℕ) (mode : Mode) (c : Option C) (first : Bool) (ws : List (Waiter C)) → has_some (queued who mode c first ws) ≡ true
-  some_queued who mode c true ws = refl
-  some_queued who mode c false [] = refl
-  some_queued who mode c false (w ∷ ws) = refl
+  pub some_queued : (who : ℕ) (mode : Mode) (c : Option C) (tries : ℕ) (first : Bool) (ws : List (Waiter C)) → has_some (queued who mode c tries first ws) ≡ true
+  some_queued who mode c tries true ws = refl
+  some_queued who mode c tries false [] = refl
+  some_queued who mode c tries false (w ∷ ws) = refl
 
   -- one less
   pub times_without : (who : ℕ) (ws : List (Waiter C)) → times_in who (without_in who ws) ≡ 0
@@ -106,12 +106,12 @@ module _ {C : Type 0} where
   none_eligible meets (w ∷ ws) e = absurd (cc)
 
   -- nor can anybody where one more stands whose condition is false, or some stand no more
-  pub queued_eligible : (meets : C → Bool) (who : ℕ) (mode : Mode) (c : C) (first : Bool) (ws : List (Waiter C)) → meets c ≡ false → has_eligible meets ws ≡ false → has_eligible meets (queued who mode (Some c) first ws) ≡ false
-  queued_eligible meets who mode c true ws unmet e = rw unmet e
-  queued_eligible meets who mode c false [] unmet e = rw unmet refl
-  queued_eligible meets who mode c false (w ∷ ws) unmet e =
+  pub queued_eligible : (meets : C → Bool) (who : ℕ) (mode : Mode) (c : C) (tries : ℕ) (first : Bool) (ws : List (Waiter C)) → meets c ≡ false → has_eligible meets ws ≡ false → has_eligible meets (queued who mode (Some c) tries first ws) ≡ false
+  queued_eligible meets who mode c tries true ws unmet e = rw unmet e
+  queued_eligible meets who mode c tries false [] unmet e = rw unmet refl
+  queued_eligible meets who mode c tries false (w ∷ ws) unmet e =
       let parts = or_parts (is_eligible meets w) (has_eligible meets ws) e in
-      rw parts.0 (queued_eligible meets who mode c false ws unmet parts.1)
+      rw parts.0 (queued_eligible meets who mode c tries false ws unmet parts.1)
 
   pub filter_eligible : (meets : C → Bool) (test : Waiter C → Bool) (ws : List (Waiter C)) → has_eligible meets ws ≡ false → has_eligible meets (filter test ws) ≡ false
   filter_eligible meets test [] e = refl

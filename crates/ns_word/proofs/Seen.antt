@@ -64,8 +64,8 @@ packable truths seats h s few p =
 -- the number of such a word is not refused
 pub not_bad : (bits : ℕ) → IsPackable (word_of bits) → IsBad bits → ⊥
 unfolding word_of
-not_bad bits p (inl bad) = let none : bits / 128 ≡ 0 = p.alone bad.0 in omega (arith, none, bad.1)
-not_bad bits p (inr bad) = let few : bits / 128 ≤ 64 = p.few in omega (arith, few, bad)
+not_bad bits p (inl bad) = let none : bits / 256 ≡ 0 = p.alone bad.0 in omega (arith, none, bad.1)
+not_bad bits p (inr bad) = let few : bits / 256 ≤ 64 = p.few in omega (arith, few, bad)
 
 -- nor does one who takes the queues change who holds the lock
 pub taken_packable : (taking : Taking) (word : Word) → IsPackable word → IsPackable (word_taken taking word)
@@ -178,7 +178,7 @@ module _ (C : Type 0) where
   acquire_next N aim (Arm arrival last) Made f p = p
   acquire_next N aim (Queue arrival last) (Saw word) f p = f
   acquire_next N aim (Queue arrival last) Made f p = tt
-  acquire_next N aim AwaitWake (Flag v) f p = after (v == 1) (Idle (InAcquire aim AwaitWake)) (On (InAcquire aim (AcquireLoad (arrival_of v)))) tt tt
+  acquire_next N aim (AwaitWake tries) (Flag v) f p = after (v == 1) (Idle (InAcquire aim (AwaitWake tries))) (On (InAcquire aim (AcquireLoad (arrival_of tries v)))) tt tt
   acquire_next N aim place found f p = p
 
   release_next : (N : ℕ) (releasing : Releasing) (place : ReleasePlace) (found : Found) → FoundFits found → Seen (Some (InRelease releasing place)) → Seen (walk_after (got_releasing N releasing place found))
@@ -219,7 +219,7 @@ module _ (C : Type 0) where
   leave_next wait cause (TakeToLeave last) Made f p = taken_packable ToChange last p
   leave_next wait cause (Leave last) (Saw word) f p = f
   leave_next wait cause (Leave last) (Left stood) f p = after stood (On (InAcquire (ForWait wait (Some cause)) (AcquireLoad AsFresh))) (On (InWait wait (InLeaving cause AwaitWakeToLeave))) tt tt
-  leave_next wait cause AwaitWakeToLeave (Flag v) f p = after (v == 1) (Idle (InWait wait (InLeaving cause AwaitWakeToLeave))) (On (InAcquire (ForWait wait (kept_in wait.on cause)) (AcquireLoad (arrival_of v)))) tt tt
+  leave_next wait cause AwaitWakeToLeave (Flag v) f p = after (v == 1) (Idle (InWait wait (InLeaving cause AwaitWakeToLeave))) (On (InAcquire (ForWait wait (kept_in wait.on cause)) (AcquireLoad (arrival_of 0 v)))) tt tt
   leave_next wait cause place found f p = p
 
   wait_next : (N : ℕ) (wait : Wait C) (place : WaitPlace) (found : Found) → FoundFits found → Seen (Some (InWait wait place)) → Seen (walk_after (got_waiting N wait place found))
@@ -227,7 +227,7 @@ module _ (C : Type 0) where
   wait_next N wait (TestLast visit i) (Tested is_met) f p = after is_met (Done (Answered Met)) (unmet_by wait visit) tt (unmet_seen wait visit)
   wait_next N wait (InQueuing again place) found f p = queue_next N wait again place found f p
   wait_next N wait PayInWait (Paid owes) f p = after owes (On (InWait wait PayInWait)) (On (InWait wait AwaitWakeInWait)) tt tt
-  wait_next N wait AwaitWakeInWait (Flag v) f p = after (v == 1) (rest_or_look wait) (On (InAcquire (ForWait wait None) (AcquireLoad (arrival_of v)))) (after (is_limited wait.limits) (On (InWait wait LookOut)) (Idle (InWait wait AwaitWakeInWait)) tt tt) tt
+  wait_next N wait AwaitWakeInWait (Flag v) f p = after (v == 1) (rest_or_look wait) (On (InAcquire (ForWait wait None) (AcquireLoad (arrival_of 0 v)))) (after (is_limited wait.limits) (On (InWait wait LookOut)) (Idle (InWait wait AwaitWakeInWait)) tt tt) tt
   wait_next N wait LookOut (Looked None) f p = tt
   wait_next N wait LookOut (Looked (Some cause)) f p = tt
   wait_next N wait (InLeaving cause place) found f p = leave_next wait cause place found f p

@@ -64,7 +64,7 @@ module _ {C : Type 0} {N : ℕ} where
   every_moves phases phases' views views' k [] same p = tt
   every_moves phases phases' views views' k (w ∷ ws) same p =
       let here = same w.seat (let one : one_if (eqb w.seat w.seat) ≡ 1 = rw (eq-eqb w.seat w.seat refl) refl in omega (arith, times_in-cons w.seat w ws, one)) in (
-        record { stands = here.0 ∙ p.0.stands; waits = here.1 ∙ p.0.waits; plain = p.0.plain },
+        record { stands = here.0 ∙ p.0.stands; waits = here.1 ∙ p.0.waits; plain = p.0.plain; untried = p.0.untried },
         every_moves phases phases' views views' k ws (λ seat some. same seat (omega (arith, times_in-cons seat w ws, some))) p.1,
       )
 
@@ -108,11 +108,11 @@ module _ {C : Type 0} {N : ℕ} where
 
     -- the seat goes to the back of a variable's list
     pub tell_enters : (phases phases' : ℕ → Phase C) (lists lists' : Lists C) (j : ℕ) (mode : Mode) → NoneIs who front → length lists.cvs ≡ 4 → length lists'.cvs ≡ 4 → j < 4 → times who lists ≡ 0 →
-        lists'.cvs ≡ (with_waiters lists (Cv j) (CvOf lists j ++ record { seat = who; mode = mode; cond = None } ∷ [])).cvs →
-        waits_in walk' ≡ Some (record { mode = mode; on = Some (OnVariable j) }) → phases' who ≡ Waiting j mode → ((seat : ℕ) → who ≢ seat → phases' seat ≡ phases seat) →
+        lists'.cvs ≡ (with_waiters lists (Cv j) (CvOf lists j ++ record { seat = who; mode = mode; cond = None; tries = 0 } ∷ [])).cvs →
+        waits_in walk' ≡ Some (record { mode = mode; on = Some (OnVariable j); tries = 0 }) → phases' who ≡ Waiting j mode → ((seat : ℕ) → who ≢ seat → phases' seat ≡ phases seat) →
         VariablesTell phases lists olds → VariablesTell phases' lists' news
     tell_enters phases phases' lists lists' j mode apart four four' low none cvs stance phase others p =
-        let w : Waiter C = record { seat = who; mode = mode; cond = None } in
+        let w : Waiter C = record { seat = who; mode = mode; cond = None; tries = 0 } in
         let put = with_waiters lists (Cv j) (CvOf lists j ++ w ∷ []) in
         let at_k : (k : ℕ) → CvOf lists' k ≡ CvOf put k = λ k. ap (λ (c : List (List (Waiter C))). waiters_of (record { lock = lists.lock; cvs = c }) (Cv k)) cvs in
         let at_j : CvOf lists' j ≡ CvOf lists j ++ w ∷ [] = at_k j ∙ read_back lists (Cv j) (CvOf lists j ++ w ∷ []) four low in
@@ -123,7 +123,7 @@ module _ {C : Type 0} {N : ℕ} where
           own = λ k few. elim (cases_eq k j) [
             | inl e ↦ subst (λ i. Every (VariableWaiterFits phases' news i) (CvOf lists' i)) (sym e)
                 (subst (λ ws. Every (VariableWaiterFits phases' news j) ws) (sym at_j) (every_push (VariableWaiterFits phases' news j) (CvOf lists j) w (moved j low)
-                (record { stands = ap waits_in (walk_here front (view_of who walk' held' owed') back apart) ∙ stance; waits = phase; plain = refl })))
+                (record { stands = ap waits_in (walk_here front (view_of who walk' held' owed') back apart) ∙ stance; waits = phase; plain = refl; untried = refl })))
             | inr ne ↦ subst (λ ws. Every (VariableWaiterFits phases' news k) ws) (sym (at_other k ne)) (moved k few)
           ];
           all = λ k seat m e. elim (cases_eq who seat) [

@@ -25,7 +25,7 @@ use Rattle.ns_word.specs.Places.{PlaceFits}
 
 -- the word of a free lock for which nobody waits
 abbrev pub free_word : Word
-free_word = record { write = false; spin = false; waiting = false; desig = false; cond = false; writer_waits = false; all_false = false; readers = 0 }
+free_word = record { write = false; spin = false; waiting = false; desig = false; cond = false; writer_waits = false; all_false = false; long = false; readers = 0 }
 
 -- seats with no call in progress, no section and no wake to pay, numbered from here on
 abbrev pub fresh_views : {C : Type 0} {N : ℕ} → ℕ → ℕ → List (SeatView C N)

@@ -6,11 +6,11 @@ use Rattle.ns_word.specs.declared.word.Word.{Word}
 abbrev pub bit : Bool → ℕ
 bit b = if b then 1 else 0
 
--- Each bit of the word has a value, and each reader counts 128.
+-- Each bit of the word has a value, and each reader counts 256.
 abbrev pub number_of : Word → ℕ
 number_of w =
     bit w.write + 2 * bit w.spin + 4 * bit w.waiting + 8 * bit w.desig + 16 * bit w.cond + 32 * bit w.writer_waits + 64 * bit w.all_false
-    + 128 * w.readers
+    + 128 * bit w.long + 256 * w.readers
 
 -- whether the bit of this value is set
 abbrev pub is_set : ℕ → ℕ → Bool
@@ -26,7 +26,8 @@ word_of bits = record {
   cond = is_set bits 16;
   writer_waits = is_set bits 32;
   all_false = is_set bits 64;
-  readers = bits / 128;
+  long = is_set bits 128;
+  readers = bits / 256;
 }
 
 -- At most 64 seats read, and none where one writes: such a word has a number.
@@ -36,4 +37,4 @@ pub record IsPackable (w : Word) : Type 0 where
 
 -- The number is no word's: a writer beside readers, or more than 64 readers.
 abbrev pub IsBad : ℕ → Type 0
-IsBad bits = ((is_set bits 1 ≡ true) × (128 ≤ bits)) ⊎ (65 * 128 ≤ bits)
+IsBad bits = ((is_set bits 1 ≡ true) × (256 ≤ bits)) ⊎ (65 * 256 ≤ bits)

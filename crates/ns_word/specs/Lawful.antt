@@ -94,9 +94,9 @@ SpinHeldOnce word views = takers views ≡ (if word.spin then 1 else 0)
 
 -- the word's own bits of the lock list
 abbrev pub bits_in : Word → Bits
-bits_in word = record { waiting = word.waiting; conditional = word.cond; writer_waits = word.writer_waits }
+bits_in word = record { waiting = word.waiting; conditional = word.cond; writer_waits = word.writer_waits; long = word.long }
 
--- While the spinlock bit is clear, the word tells what the lock list holds. While the waiting bit is clear, nobody stands there or is about to.
+-- While the spinlock bit is clear, the word tells what the lock list holds: that somebody waits long exactly where one who stands there has failed 30 times after being woken. While the waiting bit is clear, nobody stands there or is about to.
 pub record BitsTell {C : Type 0} {N : ℕ} (word : Word) (lock : List (Waiter C)) (views : List (SeatView C N)) : Type 0 where
   pub at_home : word.spin ≡ false → bits_in word ≡ bits_of lock
   pub nobody : word.waiting ≡ false → (has_some lock ≡ false) × (queuers views ≡ 0)
@@ -124,23 +124,24 @@ cond_on None = None
 cond_on (Some (OnCondition c)) = Some c
 cond_on (Some (OnVariable k)) = None
 
-abbrev pub lock_stance : {C : Type 0} → Option (Stance C) → Option (Mode × Option C)
+abbrev pub lock_stance : {C : Type 0} → Option (Stance C) → Option (Mode × Option C × ℕ)
 lock_stance None = None
-lock_stance (Some stance) = Some (stance.mode, cond_on stance.on)
+lock_stance (Some stance) = Some (stance.mode, cond_on stance.on, stance.tries)
 
--- A waiter of the lock list is its seat's own: the seat waits in that mode, and for that condition, if there is one.
+-- A waiter of the lock list is its seat's own: the seat waits in that mode, for that condition, if there is one, and has failed so often.
 abbrev pub WaiterFits : {C : Type 0} {N : ℕ} → List (SeatView C N) → Waiter C → Type 0
-WaiterFits views w = lock_stance (waits_in (walk_at w.seat views)) ≡ Some (w.mode, w.cond)
+WaiterFits views w = lock_stance (waits_in (walk_at w.seat views)) ≡ Some (w.mode, w.cond, w.tries)
 
 -- Each waiter of the lock list is its seat's own.
 abbrev pub WaitersOwn : {C : Type 0} {N : ℕ} → List (Waiter C) → List (SeatView C N) → Type 0
 WaitersOwn lock views = Every (WaiterFits views) lock
 
--- A waiter of a variable's list is its seat's own, and waits for that variable, by its place and by the history; it has no condition.
+-- A waiter of a variable's list is its seat's own, and waits for that variable, by its place and by the history; it has no condition, and no tries.
 pub record VariableWaiterFits {C : Type 0} {N : ℕ} (phases : ℕ → Phase C) (views : List (SeatView C N)) (k : ℕ) (w : Waiter C) : Type 0 where
-  pub stands : waits_in (walk_at w.seat views) ≡ Some (record { mode = w.mode; on = Some (OnVariable k) })
+  pub stands : waits_in (walk_at w.seat views) ≡ Some (record { mode = w.mode; on = Some (OnVariable k); tries = 0 })
   pub waits : phases w.seat ≡ Waiting k w.mode
   pub plain : w.cond ≡ None
+  pub untried : w.tries ≡ 0
 
 -- The list of each variable has just the seats that wait for it, by the history, in their modes.
 pub record VariablesTell {C : Type 0} {N : ℕ} (phases : ℕ → Phase C) (lists : Lists C) (views : List (SeatView C N)) : Type 0 where

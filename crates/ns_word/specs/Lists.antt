@@ -3,7 +3,7 @@ use Rattle.std.specs.Prelude.{ℕ, ◌+◌, ◌==◌, Bool, true, false, not, �
 use Rattle.std.specs.List.{list_any}
 use Rattle.ns_model.specs.declared.event.Mode.{Mode}
 use Rattle.ns_queue.specs.declared.waiter.Waiter.{Waiter}
-use Rattle.ns_queue.specs.Waiters.{has_condition, writes}
+use Rattle.ns_queue.specs.Waiters.{has_condition, is_long, writes}
 use Rattle.ns_queue.specs.Scans.{is_eligible}
 use Rattle.ns_word.specs.declared.word.Bits.{Bits}
 
@@ -18,6 +18,7 @@ bits_of lock = record {
   waiting = has_some lock;
   conditional = list_any has_condition lock;
   writer_waits = list_any (λ w. writes w && not (has_condition w)) lock;
+  long = list_any is_long lock;
 }
 
 -- some waiter has no condition, or one that is true
@@ -30,8 +31,8 @@ abbrev pub times_among : ℕ → List ℕ → ℕ
 times_among seat [] = 0
 times_among seat (x ∷ xs) = (if x == seat then 1 else 0) + times_among seat xs
 
--- the list with one more waiter: at the front or at the back
-abbrev pub queued : {C : Type 0} → ℕ → Mode → Option C → Bool → List (Waiter C) → List (Waiter C)
-queued seat mode cond front lock =
-    if front then record { seat = seat; mode = mode; cond = cond } ∷ lock
-    else lock ++ record { seat = seat; mode = mode; cond = cond } ∷ []
+-- the list with one more waiter, which has failed so often: at the front or at the back
+abbrev pub queued : {C : Type 0} → ℕ → Mode → Option C → ℕ → Bool → List (Waiter C) → List (Waiter C)
+queued seat mode cond tries front lock =
+    if front then record { seat = seat; mode = mode; cond = cond; tries = tries } ∷ lock
+    else lock ++ record { seat = seat; mode = mode; cond = cond; tries = tries } ∷ []

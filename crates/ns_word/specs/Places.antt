@@ -18,7 +18,7 @@ use Rattle.ns_word.specs.declared.wait.Aim.TheVariants.{ForLock, ForWait}
 use Rattle.ns_word.specs.declared.wait.WaitPlace.{WaitPlace}
 use Rattle.ns_word.specs.declared.wait.WaitPlace.TheVariants.{TestCells, TestLast, InQueuing, InLeaving}
 use Rattle.ns_word.specs.declared.wait.QueuePlace.{QueuePlace}
-use Rattle.ns_word.specs.declared.wait.QueuePlace.TheVariants.{Take, LoadToScan}
+use Rattle.ns_word.specs.declared.wait.QueuePlace.TheVariants.{LookIn, Take, LoadToScan}
 use Rattle.ns_word.specs.declared.wait.LeavePlace.{LeavePlace}
 use Rattle.ns_word.specs.declared.wait.LeavePlace.TheVariants.{TakeToLeave}
 use Rattle.ns_word.specs.declared.try_walk.TryPlace.{TryPlace}
@@ -138,11 +138,12 @@ CellFits {C} {N} (SetStore i v) held = HasMode Write held × (i < N)
 CellFits {C} {N} (QuietCells i) held = HasMode Write held × (i + 1 < N)
 CellFits {C} {N} (QuietLast i) held = HasMode Write held × (i + 1 ≡ N)
 
--- what a wait has seen that is about to queue
-abbrev pub QueueFits : ℕ → QueuePlace → Type 0
-QueueFits N (Take last) = last.spin ≡ false
-QueueFits N (LoadToScan last i) = i < N
-QueueFits N place = Unit {0}
+-- what a wait has seen that is about to queue; one for a variable doesn't look then
+abbrev pub QueueFits : {C : Type 0} → ℕ → Subject C → QueuePlace → Type 0
+QueueFits N on LookIn = IsForCondition on
+QueueFits N on (Take last) = last.spin ≡ false
+QueueFits N on (LoadToScan last i) = i < N
+QueueFits N on place = Unit {0}
 
 -- a variable that there is
 abbrev pub IsInRange : {C : Type 0} → Subject C → Type 0
@@ -163,7 +164,7 @@ LeaveFits place = Unit {0}
 abbrev pub WaitFits : {C : Type 0} {N : ℕ} → Truths C → Wait C → WaitPlace → Option (Held C N) → Type 0
 WaitFits {C} {N} truths wait (TestCells visit i) held = Tests truths wait visit held × (i + 1 < N) × IsForCondition wait.on
 WaitFits {C} {N} truths wait (TestLast visit i) held = Tests truths wait visit held × (i + 1 ≡ N) × IsForCondition wait.on
-WaitFits {C} {N} truths wait (InQueuing again place) held = CanWait truths wait again held × QueueFits N place
+WaitFits {C} {N} truths wait (InQueuing again place) held = CanWait truths wait again held × QueueFits N wait.on place
 WaitFits truths wait (InLeaving cause place) held = (held ≡ None) × LeaveFits place × IsInRange wait.on
 WaitFits truths wait place held = (held ≡ None) × IsInRange wait.on
 

@@ -52,7 +52,7 @@ use Rattle.ns_word.specs.declared.act.Act.{Act}
 use Rattle.ns_word.specs.declared.act.Act.TheVariants.{LoadWord, Acquire, TakeQueues, ReturnQueues, Release, ReleaseReturning, WaitReturning, LoadCell, JudgeQuiet, JudgeMet, StoreCell, ArmFlag, PayWake, LoadFlag, Look}
 use Rattle.ns_word.specs.declared.act.Found.{Found}
 use Rattle.ns_word.specs.declared.act.Found.TheVariants.{Saw, Made, Cell, Quiet, Tested, Scanned, Paid, Left, Woke, Flag, Looked}
-use Rattle.ns_word.specs.Words.{is_held, is_woken, mode_released, releasing_of, may_acquire, word_acquired, word_taken, word_returned, word_released, word_released_returning}
+use Rattle.ns_word.specs.Words.{is_held, is_woken, tries_of, mode_released, releasing_of, may_acquire, word_acquired, word_taken, word_returned, word_released, word_released_returning}
 use Rattle.ns_word.specs.Waits.{answer_of, answer_kept, home_of, mode_for}
 use Rattle.ns_word.specs.Lists.{has_some, bits_of, queued}
 use Rattle.ns_word.specs.Walks.{want_of, got_of, walk_after}
@@ -147,7 +147,7 @@ moved_to held taken lists = if held then with_lock lists (lists.lock ++ taken) e
 
 -- the lists that are put back, where this is the word last seen
 abbrev pub changed : {C : Type 0} → ℕ → Change → Word → Lists C → Lists C
-changed seat (QueueSelf mode arrival) last lists = with_lock lists (queued seat mode None (is_woken arrival) lists.lock)
+changed seat (QueueSelf mode arrival) last lists = with_lock lists (queued seat mode None (tries_of arrival) (is_woken arrival) lists.lock)
 changed seat (LeaveSelf which) last lists = with_waiters lists which (without_in seat (waiters_of lists which))
 changed seat (WakeWaiters waking k) last lists =
     moved_to (is_held last) (taken_by waking (waiters_of lists (Cv k))) (with_waiters lists (Cv k) (kept_by waking (waiters_of lists (Cv k))))
@@ -186,8 +186,8 @@ change_commits seat (WakeWaiters waking k) lists = wake_of seat waking k (taken_
 
 -- a waiter of its own list, with its condition if it waits for one
 abbrev pub waits_at : {C : Type 0} → Subject C → ℕ → Mode → Bool → Lists C → Lists C
-waits_at (OnCondition c) seat mode again lists = with_lock lists (queued seat mode (Some c) again lists.lock)
-waits_at (OnVariable k) seat mode again lists = with_waiters lists (Cv k) (waiters_of lists (Cv k) ++ record { seat = seat; mode = mode; cond = None } ∷ [])
+waits_at (OnCondition c) seat mode again lists = with_lock lists (queued seat mode (Some c) 0 again lists.lock)
+waits_at (OnVariable k) seat mode again lists = with_waiters lists (Cv k) (waiters_of lists (Cv k) ++ record { seat = seat; mode = mode; cond = None; tries = 0 } ∷ [])
 
 -- the lists that a wait puts back: as a scan leaves them, with itself in its own
 abbrev pub waited_in : {C : Type 0} → Truths C → ℕ → Wait C → Bool → List ℕ → Lists C → Lists C

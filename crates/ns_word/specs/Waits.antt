@@ -27,9 +27,9 @@ abbrev pub answer_kept : Option Cause → Answer
 answer_kept None = Met
 answer_kept (Some cause) = answer_of cause
 
--- how one comes to acquire that has found this value in its flag: 0 is the wake of one taken from the lock list
-abbrev pub arrival_of : ℕ → Arrival
-arrival_of flag = if flag == 0 then AsWoken else AsFresh
+-- how one comes to acquire that stood there with so many failed tries, and has found this value in its flag: 0 is the wake of one taken from the lock list
+abbrev pub arrival_of : ℕ → ℕ → Arrival
+arrival_of tries flag = if flag == 0 then AsWoken tries else AsFresh
 
 -- the list in which such a wait stands
 abbrev pub home_of : {C : Type 0} → Subject C → Which

@@ -47,7 +47,7 @@ use Rattle.ns_word.specs.declared.walk.Reply.{Reply}
 use Rattle.ns_word.specs.declared.walk.Reply.TheVariants.{Succeeded, Busy, Noisy, Number, Answered}
 use Rattle.ns_word.specs.declared.walk.Next.{Next}
 use Rattle.ns_word.specs.declared.walk.Next.TheVariants.{On, Idle, Done}
-use Rattle.ns_word.specs.Words.{is_woken, may_acquire, needs_scan, word_taken}
+use Rattle.ns_word.specs.Words.{is_woken, tries_of, may_acquire, needs_scan, word_taken}
 use Rattle.ns_word.specs.Waits.{answer_of, answer_kept, arrival_of, home_of, kept_in, is_limited, mode_for, phase_for}
 
 -- ---- what a place wants
@@ -64,7 +64,7 @@ want_acquiring aim (AcquireExchange arrival last) = Acquire aim arrival last
 want_acquiring aim (TakeToQueue arrival last) = TakeQueues (ToQueue (mode_for aim) arrival) last
 want_acquiring aim (Arm arrival last) = ArmFlag
 want_acquiring aim (Queue arrival last) = ReturnQueues (QueueSelf (mode_for aim) arrival) last
-want_acquiring aim AwaitWake = LoadFlag
+want_acquiring aim (AwaitWake tries) = LoadFlag
 
 -- the step that a release's place wants
 abbrev pub want_releasing : {C : Type 0} → Releasing → ReleasePlace → Act C
@@ -246,8 +246,8 @@ got_acquiring N aim (TakeToQueue arrival last) (Saw word) = acquire_by aim arriv
 got_acquiring N aim (TakeToQueue arrival last) Made = On (InAcquire aim (Arm arrival (word_taken (ToQueue (mode_for aim) arrival) last)))
 got_acquiring N aim (Arm arrival last) Made = On (InAcquire aim (Queue arrival last))
 got_acquiring N aim (Queue arrival last) (Saw word) = On (InAcquire aim (Queue arrival word))
-got_acquiring N aim (Queue arrival last) Made = On (InAcquire aim AwaitWake)
-got_acquiring N aim AwaitWake (Flag v) = if v == 1 then Idle (InAcquire aim AwaitWake) else On (InAcquire aim (AcquireLoad (arrival_of v)))
+got_acquiring N aim (Queue arrival last) Made = On (InAcquire aim (AwaitWake (tries_of arrival)))
+got_acquiring N aim (AwaitWake tries) (Flag v) = if v == 1 then Idle (InAcquire aim (AwaitWake tries)) else On (InAcquire aim (AcquireLoad (arrival_of tries v)))
 got_acquiring N aim place found = On (InAcquire aim place)
 
 -- where a release goes
@@ -295,7 +295,7 @@ got_leaving wait cause (Leave last) (Saw word) = On (InWait wait (InLeaving caus
 got_leaving wait cause (Leave last) (Left stood) =
     if stood then On (InAcquire (ForWait wait (Some cause)) (AcquireLoad AsFresh)) else On (InWait wait (InLeaving cause AwaitWakeToLeave))
 got_leaving wait cause AwaitWakeToLeave (Flag v) =
-    if v == 1 then Idle (InWait wait (InLeaving cause AwaitWakeToLeave)) else On (InAcquire (ForWait wait (kept_in wait.on cause)) (AcquireLoad (arrival_of v)))
+    if v == 1 then Idle (InWait wait (InLeaving cause AwaitWakeToLeave)) else On (InAcquire (ForWait wait (kept_in wait.on cause)) (AcquireLoad (arrival_of 0 v)))
 got_leaving wait cause place found = On (InWait wait (InLeaving cause place))
 
 -- where a wait goes
@@ -304,7 +304,7 @@ got_waiting N wait (TestCells visit i) (Cell v) = On (test_place N wait visit (i
 got_waiting N wait (TestLast visit i) (Tested is_met) = if is_met then Done (Answered Met) else unmet_by wait visit
 got_waiting N wait (InQueuing again place) found = got_queuing N wait again place found
 got_waiting N wait PayInWait (Paid owes) = pay_waiting wait owes
-got_waiting N wait AwaitWakeInWait (Flag v) = if v == 1 then rest_or_look wait else On (InAcquire (ForWait wait None) (AcquireLoad (arrival_of v)))
+got_waiting N wait AwaitWakeInWait (Flag v) = if v == 1 then rest_or_look wait else On (InAcquire (ForWait wait None) (AcquireLoad (arrival_of 0 v)))
 got_waiting N wait LookOut (Looked None) = Idle (InWait wait AwaitWakeInWait)
 got_waiting N wait LookOut (Looked (Some cause)) = On (InWait wait (InLeaving cause LeaveLoad))
 got_waiting N wait (InLeaving cause place) found = got_leaving wait cause place found
@@ -343,10 +343,11 @@ reply_of (Done reply) = Some reply
 
 -- ---- what a place in a call tells of its seat
 
--- how a seat waits: in which mode, and what for, unless it is for the lock alone
+-- how a seat waits: in which mode, what for, unless it is for the lock alone, and how often it has failed
 pub record Stance (C : Type 0) : Type 0 where
   pub mode : Mode
   pub on : Option (Subject C)
+  pub tries : ℕ
 
 -- an acquire has the queues, to queue, which the word tells already
 abbrev pub acquire_has_queues : AcquirePlace → Bool
@@ -403,8 +404,8 @@ place_awaits place = false
 
 -- how it waits: it stands in a list, or was taken from it and hasn't seen its flag cleared
 abbrev pub waits_in : {C : Type 0} → Option (Walk C) → Option (Stance C)
-waits_in (Some (InAcquire aim AwaitWake)) = Some (record { mode = mode_for aim; on = None })
-waits_in (Some (InWait wait place)) = if place_awaits place then Some (record { mode = wait.mode; on = Some wait.on }) else None
+waits_in (Some (InAcquire aim (AwaitWake tries))) = Some (record { mode = mode_for aim; on = None; tries = tries })
+waits_in (Some (InWait wait place)) = if place_awaits place then Some (record { mode = wait.mode; on = Some wait.on; tries = 0 }) else None
 waits_in walk = None
 
 -- whether a seat at the place waits: it has queued, and has not loaded its flag as clear nor taken itself out

@@ -1,5 +1,5 @@
 -- The decisions by a word, and the words that the steps make of one.
-use Rattle.std.specs.Prelude.{◌+◌, ◌-◌, nat_lt, Bool, true, false, not, ◌&&◌, ◌||◌, ◌==◌}
+use Rattle.std.specs.Prelude.{ℕ, ◌+◌, ◌-◌, nat_lt, if◌then◌else◌, Bool, true, false, not, ◌&&◌, ◌||◌, ◌==◌}
 use Rattle.ns_model.specs.declared.event.Mode.{Mode}
 use Rattle.ns_model.specs.declared.event.Mode.TheVariants.{Write, Read}
 use Rattle.ns_model.specs.Phases.{is_write}
@@ -21,12 +21,17 @@ mode_released Reader = Read
 -- the seat was woken from the lock list
 abbrev pub is_woken : Arrival → Bool
 is_woken AsFresh = false
-is_woken AsWoken = true
+is_woken (AsWoken tries) = true
 
--- A lock with this word may be acquired, fresh or woken: a fresh reader stands back where a writer waits.
+-- the failed tries with which it queues, if it can't acquire: one more where it was woken, and none above 30
+abbrev pub tries_of : Arrival → ℕ
+tries_of AsFresh = 0
+tries_of (AsWoken tries) = if nat_lt tries 30 then tries + 1 else 30
+
+-- A lock with this word may be acquired, fresh or woken: a fresh caller stands back where one waits long, and a fresh reader where a writer waits.
 abbrev pub may_acquire : Mode → Arrival → Word → Bool
-may_acquire Write arrival word = not word.write && (word.readers == 0)
-may_acquire Read arrival word = not word.write && (is_woken arrival || not word.writer_waits)
+may_acquire Write arrival word = not word.write && ((word.readers == 0) && (is_woken arrival || not word.long))
+may_acquire Read arrival word = not word.write && (is_woken arrival || (not word.writer_waits && not word.long))
 
 -- nobody who waits could go on: other readers stay, or all conditions are known to be false
 abbrev pub is_excused : Releasing → Word → Bool
@@ -56,7 +61,7 @@ is_held word = word.write || nat_lt 0 word.readers
 -- the queues are put back, with a lock list that these bits tell of, to which somebody was moved or nobody
 abbrev pub word_returned : Bool → Bits → Word → Word
 word_returned moved bits word =
-    record word { spin = false; waiting = bits.waiting; cond = bits.conditional; writer_waits = bits.writer_waits; all_false = word.all_false && bits.waiting && not moved }
+    record word { spin = false; waiting = bits.waiting; cond = bits.conditional; writer_waits = bits.writer_waits; long = bits.long; all_false = word.all_false && bits.waiting && not moved }
 
 -- a release without a scan; the row may have changed, but for a reader's and a quiet one
 abbrev pub word_released : Releasing → Word → Word
@@ -72,6 +77,7 @@ word_released_returning releasing took bits word =
       waiting = bits.waiting;
       cond = bits.conditional;
       writer_waits = bits.writer_waits;
+      long = bits.long;
       desig = took || word.desig;
       all_false = bits.waiting && not took;
     }

@@ -22,8 +22,8 @@ pub enum AcquirePlace {
     Arm(Arrival, Word),
     /// It is about to put the queues back with itself in the lock list.
     Queue(Arrival, Word),
-    /// It waits to be woken.
-    AwaitWake,
+    /// It waits to be woken, and stood in the list with so many failed tries.
+    AwaitWake(u8),
 }
 
 /// Where an acquire goes by the word last seen.
@@ -70,7 +70,7 @@ impl AcquirePlace {
             AcquirePlace::Queue(arrival, last) => {
                 Act::ReturnQueues(Change::QueueSelf(aim.mode(), arrival), last)
             }
-            AcquirePlace::AwaitWake => Act::LoadFlag,
+            AcquirePlace::AwaitWake(_) => Act::LoadFlag,
         }
     }
 
@@ -100,14 +100,14 @@ impl AcquirePlace {
             (AcquirePlace::Queue(arrival, _), Found::Saw(word)) => {
                 Next::On(Walk::InAcquire(aim, AcquirePlace::Queue(arrival, word)))
             }
-            (AcquirePlace::Queue(_, _), Found::Made) => {
-                Next::On(Walk::InAcquire(aim, AcquirePlace::AwaitWake))
+            (AcquirePlace::Queue(arrival, _), Found::Made) => {
+                Next::On(Walk::InAcquire(aim, AcquirePlace::AwaitWake(arrival.tries())))
             }
-            (AcquirePlace::AwaitWake, Found::Flag(value)) => {
+            (AcquirePlace::AwaitWake(tries), Found::Flag(value)) => {
                 if value == 1 {
-                    Next::Idle(Walk::InAcquire(aim, AcquirePlace::AwaitWake))
+                    Next::Idle(Walk::InAcquire(aim, AcquirePlace::AwaitWake(tries)))
                 } else {
-                    let place = AcquirePlace::AcquireLoad(arrival_of(value));
+                    let place = AcquirePlace::AcquireLoad(arrival_of(tries, value));
                     Next::On(Walk::InAcquire(aim, place))
                 }
             }

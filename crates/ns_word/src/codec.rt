@@ -22,7 +22,9 @@ const WRITER_WAITS: u64 = 32;
 
 const ALL_FALSE: u64 = 64;
 
-const READER: u64 = 128;
+const LONG: u64 = 128;
+
+const READER: u64 = 256;
 
 /// The most readers of a word.
 const MOST_READERS: u64 = 64;
@@ -33,7 +35,7 @@ pub struct BadWord;
 
 /// The value, if the bit is set.
 fn valued(b: bool, value: u64) -> u64
-    requires { value < 128 }
+    requires { value < 256 }
     ensures is { result ≡ value * bit b }
     ensures most { result ≤ value }
 {
@@ -60,6 +62,7 @@ pub fn encode(word: Word) -> u64
         + valued(word.cond, CONDITIONAL)
         + valued(word.writer_waits, WRITER_WAITS)
         + valued(word.all_false, ALL_FALSE)
+        + valued(word.long, LONG)
         + READER * u64::from(word.readers)
 }
 
@@ -99,6 +102,7 @@ pub fn decode(bits: u64) -> Result<Word, BadWord>
         cond: is_set(bits, CONDITIONAL),
         writer_waits: is_set(bits, WRITER_WAITS),
         all_false: is_set(bits, ALL_FALSE),
+        long: is_set(bits, LONG),
         readers: readers as u8,
     })
 }

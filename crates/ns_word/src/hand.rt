@@ -28,11 +28,12 @@ use ns_queue::waiter::{Waiter, Which};
 pub fn bits<C: Queueable<N>, const N: usize>(queues: &Queues<C, N>) -> Bits
     ensures { result ≡ bits_of queues.now.lock }
 {
-    let (waiting, conditional, writer_waits) = queues.bits();
+    let (waiting, conditional, writer_waits, long) = queues.bits();
     Bits {
         waiting,
         conditional,
         writer_waits,
+        long,
     }
 }
 
@@ -40,7 +41,7 @@ pub fn bits<C: Queueable<N>, const N: usize>(queues: &Queues<C, N>) -> Bits
 fn queue<C: Queueable<N>, const N: usize>(queues: &mut Queues<C, N>, waiter: Waiter<C>, front: bool)
     requires below { waiter.seat < 64 }
     requires free { times waiter.seat queues.old ≡ 0 }
-    ensures { queues.new ≡ with_lock queues.old (queued waiter.seat waiter.mode waiter.cond front queues.old.lock) }
+    ensures { queues.new ≡ with_lock queues.old (queued waiter.seat waiter.mode waiter.cond waiter.tries front queues.old.lock) }
 {
     if front {
         queues.push_front(waiter);
@@ -49,8 +50,8 @@ fn queue<C: Queueable<N>, const N: usize>(queues: &mut Queues<C, N>, waiter: Wai
     }
 }
 
-/// Puts the seat into the lock list, without condition: at the front if it was woken, else at the
-/// back.
+/// Puts the seat into the lock list, without condition: at the front, and with one failed try more,
+/// if it was woken, else at the back.
 pub fn queue_self<C: Queueable<N>, const N: usize>(
     queues: &mut Queues<C, N>,
     seat: u8,
@@ -65,6 +66,7 @@ pub fn queue_self<C: Queueable<N>, const N: usize>(
         seat,
         mode,
         cond: None,
+        tries: arrival.tries(),
     };
     queue(queues, waiter, arrival.is_woken());
 }
@@ -105,6 +107,7 @@ fn enter<C: Queueable<N>, const N: usize>(
                 seat,
                 mode,
                 cond: Some(cond),
+                tries: 0,
             };
             queue(queues, waiter, again);
         }
@@ -113,6 +116,7 @@ fn enter<C: Queueable<N>, const N: usize>(
                 seat,
                 mode,
                 cond: None,
+                tries: 0,
             };
             queues.push_back(Which::Cv(k), waiter);
         }

@@ -1,6 +1,7 @@
 //! The law of the steps.
 
 ghost use Rattle.std.specs.Prelude.{◌≡◌, ◌≢◌, ◌⊎◌, ℕ, ◌≤◌, true, false, List, [], ◌∷◌, ◌++◌, Option, None, Some, slice_get};
+ghost use Rattle.std.specs.List.{list_any};
 ghost use Rattle.ns_model.specs.declared.event.Answer.{Answer};
 ghost use Rattle.ns_model.specs.declared.event.Entry.TheVariants.{Waited, AfterCv};
 ghost use Rattle.ns_model.specs.declared.event.Event.{Event};
@@ -9,6 +10,7 @@ ghost use Rattle.ns_model.specs.Beginnings.{BeginsWith};
 ghost use Rattle.ns_model.specs.Histories.{phase_of};
 ghost use Rattle.ns_model.specs.Sections.{is_met};
 ghost use Rattle.ns_queue.specs.declared.waiter.Waiter.{Waiter};
+ghost use Rattle.ns_queue.specs.Waiters.{is_long};
 ghost use Rattle.ns_word.specs.declared.limits.Cause.{Cause};
 ghost use Rattle.ns_word.specs.declared.wait.Aim.TheVariants.{ForWait};
 ghost use Rattle.ns_word.specs.declared.wait.Subject.TheVariants.{OnCondition, OnVariable};
@@ -30,7 +32,7 @@ ghost use Rattle.ns_word.specs.Finds.{found_of, number_at, IsLook};
 ghost use Rattle.ns_word.specs.Lawful.{IsLawful};
 ghost use Rattle.ns_word.specs.Told.{Told, IsTold, nothing_told, told_after, calls_of};
 ghost use Rattle.ns_word.specs.Waits.{answer_of};
-ghost use Rattle.ns_word.specs.Walks.{want_of, got_of, walk_after};
+ghost use Rattle.ns_word.specs.Walks.{want_of, got_of, walk_after, was_woken};
 
 use ns_model::condition::Condition;
 
@@ -74,6 +76,20 @@ pub fn waiters_are_in_their_phase<C: Condition<N>, const N: usize>()
         phase_of history w.seat ≡ Cond c w.mode }
 {}
 
+/// The word says that somebody waits long exactly where one who stands in the lock list has failed
+/// 30 times after being woken; while another has the queues, it says so of the list as it was.
+pub fn the_word_tells_of_a_long_wait<C: Condition<N>, const N: usize>()
+    ensures { (seats : ℕ) (history : List (Event C N)) (s : State C N) →
+        IsLawful C.means seats history s → s.word.spin ≡ false → s.word.long ≡ list_any is_long s.lists.lock }
+{}
+
+/// While a waiter has failed too often, only waiters that were woken acquire.
+pub fn only_the_woken_pass_a_long_wait<C: Condition<N>, const N: usize>()
+    ensures { (old new : State C N) (view : SeatView C N) (found : Found) (commits : List (Event C N)) (held : Held C N) →
+        (step : Step C.means old view found new commits) →
+        old.word.long ≡ true → view.held ≡ None → step.held ≡ Some held → was_woken (Some step.walk) ≡ true }
+{}
+
 /// A seat that has begun no call was told nothing.
 pub fn a_fresh_seat_was_told_nothing<C: Condition<N>, const N: usize>()
     ensures { (seats seat : ℕ) → IsTold {N = N} C.means.holds seats [] seat None nothing_told }
@@ -114,6 +130,14 @@ pub fn variable_waits_answer_rightly<C: Condition<N>, const N: usize>()
         (step : Step C.means old view found new commits) →
         step.walk ≡ InAcquire (ForWait wait kept) place → wait.on ≡ OnVariable k → got_of N step.walk found ≡ Done (Answered answer) →
         (held : Held C N) × (step.held ≡ Some held) × (held.mode ≡ wait.mode) × (entry_of C.means.holds held.before held.entry ≡ AfterCv k answer) }
+{}
+
+/// A wait for a variable answers only as it comes back: not before it has left its section and
+/// acquired again.
+pub fn variable_waits_answer_as_they_come_back<C: Condition<N>, const N: usize>()
+    ensures { (seats : ℕ) (history : List (Event C N)) (old new : State C N) (view : SeatView C N) (found : Found) (commits : List (Event C N)) (wait : Wait C) (place : WaitPlace) (k : ℕ) (answer : Answer) →
+        (step : Step C.means old view found new commits) →
+        IsLawful C.means seats history old → step.walk ≡ InWait wait place → wait.on ≡ OnVariable k → got_of N step.walk found ≢ Done (Answered answer) }
 {}
 
 /// A wait answers that it was ended early only by what a look of its own has shown, the deadline or

@@ -147,12 +147,13 @@ pub fn answer_kept(kept: Option<Cause>) -> Answer
     }
 }
 
-/// How one comes to acquire that has found this value in its flag.
-pub fn arrival_of(flag: u8) -> Arrival
-    ensures { result ≡ arrival_of flag }
+/// How one comes to acquire that stood there with so many failed tries, and has found this value in
+/// its flag.
+pub fn arrival_of(tries: u8, flag: u8) -> Arrival
+    ensures { result ≡ arrival_of tries flag }
 {
     if flag == 0 {
-        Arrival::AsWoken
+        Arrival::AsWoken(tries)
     } else {
         Arrival::AsFresh
     }

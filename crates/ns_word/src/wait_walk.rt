@@ -7,7 +7,7 @@
 //! | group, and what all its places know | place | knows besides | wants | where an answer leads |
 //! |---|---|---|---|---|
 //! | tests: a section, which as it comes back from the wait is unchanged | `TestCells`, `TestLast` | | load each cell; the last tells whether the condition is true | `Met`, or the wait's decision |
-//! | **queuing**: a section, of whose row the condition is false | `LookIn` | | look at the note and the deadline | what is shown is answered; nothing: `Load` |
+//! | **queuing**: a section, of whose row the condition is false | `LookIn` | waits for a condition | look at the note and the deadline | what is shown is answered; nothing: `Load` |
 //! | | `Load` | | load the word | `Take`; idle, and again while another has the queues |
 //! | | `Take` | nobody has the queues | set the spinlock bit | `ArmToWait` |
 //! | | `ArmToWait` | has the queues | set one's own flag | `QueueToWait`; for a variable `LoadToScan` if a waiter of the lock list has a condition |
@@ -28,6 +28,7 @@
 //! condition is true of the row that the section began at.
 
 ghost use Rattle.std.specs.Prelude.{◌≡◌, ◌≤◌};
+ghost use Rattle.ns_word.specs.Waits.{arrival_of};
 ghost use Rattle.ns_word.specs.Walks.{want_queuing, want_leaving, want_waiting, judge_of, load_place, armed_place, got_queuing, got_leaving, got_waiting, test_place, queue_by, leave_by, unmet_by, look_or_queue, rest_or_look, pay_waiting};
 
 use crate::acquire_walk::AcquirePlace;
@@ -66,6 +67,15 @@ fn look_or_queue<C: Copy>(wait: Wait<C>, again: bool) -> Next<C>
     } else {
         Next::On(Walk::InWait(wait, WaitPlace::InQueuing(again, QueuePlace::Load)))
     }
+}
+
+/// Where a wait goes that has found this value in its flag and comes back: it acquires, and has not
+/// failed in that yet.
+fn acquire_woken<C: Copy>(wait: Wait<C>, kept: Option<Cause>, value: u8) -> Next<C>
+    ensures { result ≡ Next.On (Walk.InAcquire (Aim.ForWait wait kept) (AcquirePlace.AcquireLoad (arrival_of 0 value))) }
+{
+    let place = AcquirePlace::AcquireLoad(arrival_of(0, value));
+    Next::On(Walk::InAcquire(Aim::ForWait(wait, kept), place))
 }
 
 /// Where a wait goes whose condition is false.
@@ -252,9 +262,7 @@ impl LeavePlace {
                     let place = LeavePlace::AwaitWakeToLeave;
                     Next::Idle(Walk::InWait(wait, WaitPlace::InLeaving(cause, place)))
                 } else {
-                    let aim = Aim::ForWait(wait, wait.on.kept(cause));
-                    let place = AcquirePlace::AcquireLoad(arrival_of(value));
-                    Next::On(Walk::InAcquire(aim, place))
+                    acquire_woken(wait, wait.on.kept(cause), value)
                 }
             }
             (place, _) => Next::On(Walk::InWait(wait, WaitPlace::InLeaving(cause, place))),
@@ -300,9 +308,7 @@ impl WaitPlace {
                 if value == 1 {
                     rest_or_look(wait)
                 } else {
-                    let aim = Aim::ForWait(wait, None);
-                    let place = AcquirePlace::AcquireLoad(arrival_of(value));
-                    Next::On(Walk::InAcquire(aim, place))
+                    acquire_woken(wait, None, value)
                 }
             }
             (WaitPlace::LookOut, Found::Looked(None)) => {

@@ -14,8 +14,8 @@
 //! | | `AcquireExchange` | the word may be acquired | acquire | `Succeeded`; for a wait that comes back, its test |
 //! | | `TakeToQueue` | the word may not be acquired, and nobody has the queues | set the spinlock bit, and tell of the waiter | `Arm` |
 //! | | `Arm` | has the queues | set one's own flag | `Queue` |
-//! | | `Queue` | has the queues, its flag is set | put the queues back with oneself in the list: at the back if fresh, at the front if woken | `AwaitWake` |
-//! | | `AwaitWake` | waits | load one's own flag | clear: `AcquireLoad`, woken; else idle, and again |
+//! | | `Queue` | has the queues, its flag is set | put the queues back with oneself in the list: at the back if fresh, at the front and with one failed try more if woken | `AwaitWake` |
+//! | | `AwaitWake` | waits, and how often it has failed | load one's own flag | clear: `AcquireLoad`, woken; else idle, and again |
 //! | **release**: a section that may be left so | `ReleaseLoad` | | load the word | the release's decision |
 //! | | `ReleaseExchange` | no scan is needed | release, which commits the section | `Succeeded` |
 //! | | `TakeToScan` | a scan is needed, and nobody has the queues | set the spinlock bit | `ScanCells` if a waiter has a condition, else `ScanAndRelease` |

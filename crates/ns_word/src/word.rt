@@ -15,6 +15,9 @@
 //!   Whoever may change that clears it: an ordinary writer as it releases, and a waiter
 //!   without condition as it queues.
 //!   A reader, and a writer whose change is quiet, leave it, and need no scan while it is set.
+//! - **A long wait lets nobody fresh in.** A woken one that can't acquire, since others were faster,
+//!   queues again at the front, and counts one more try. Where one stands in the lock list with 30,
+//!   nobody acquires who was not woken, of either mode; the bit goes with that waiter.
 //! - **Why a woken reader passes a waiting writer.** A fresh reader stands back where a writer waits, so
 //!   that readers who come and go keep no writer out. A woken one was taken from the list in its turn:
 //!   if it stood back, the writer could wait for it, and it for the writer.
@@ -30,15 +33,17 @@
 //! | 16 | cond | a waiter with a condition stands in the lock list |
 //! | 32 | writer_waits | a writer without condition stands in the lock list |
 //! | 64 | all_false | all who stand in the lock list wait for conditions that are false |
-//! | 128 | readers | how many seats hold the lock in read mode; each counts 128, up to 64 of them |
+//! | 128 | long | one who stands in the lock list has failed too often after being woken |
+//! | 256 | readers | how many seats hold the lock in read mode; each counts 256, up to 64 of them |
 //!
 //! While the spinlock bit is set, `waiting`, `cond` and `writer_waits` may tell of one that is
-//! about to queue.
+//! about to queue; `long` tells of the list as it was put back last.
 
 ghost use Rattle.std.specs.Prelude.{◌≡◌, ◌≢◌, ◌<◌, true, false};
-ghost use Rattle.ns_word.specs.Words.{is_held, is_woken, may_acquire, needs_scan, word_acquired, word_taken, word_returned, word_released, word_released_returning};
+ghost use Rattle.ns_word.specs.Words.{is_held, is_woken, tries_of, may_acquire, needs_scan, word_acquired, word_taken, word_returned, word_released, word_released_returning};
 
 use ns_model::event::Mode;
+use ns_queue::waiter::LONG_TRIES;
 
 /// The lock word, part by part.
 #[derive(Clone, Copy, Debug, PartialEq, Eq)]
@@ -57,6 +62,8 @@ pub struct Word {
     pub writer_waits: bool,
     /// All who stand in the lock list wait for conditions that are false.
     pub all_false: bool,
+    /// One who stands in the lock list has failed too often after being woken.
+    pub long: bool,
     /// How many seats hold the lock in read mode.
     pub readers: u8,
 }
@@ -70,6 +77,8 @@ pub struct Bits {
     pub conditional: bool,
     /// A writer without condition.
     pub writer_waits: bool,
+    /// One that has failed too often after being woken.
+    pub long: bool,
 }
 
 /// How a section is released.
@@ -97,8 +106,8 @@ pub enum Taking {
 pub enum Arrival {
     /// It has not waited in the lock list for this, or has left it by itself.
     AsFresh,
-    /// It was woken from the lock list.
-    AsWoken,
+    /// It was woken from the lock list, where it stood with so many failed tries.
+    AsWoken(u8),
 }
 
 impl Arrival {
@@ -108,7 +117,24 @@ impl Arrival {
     {
         match self {
             Arrival::AsFresh => false,
-            Arrival::AsWoken => true,
+            Arrival::AsWoken(_) => true,
+        }
+    }
+
+    /// The failed tries with which the seat queues, if it can't acquire: one more where it was
+    /// woken, up to [`LONG_TRIES`].
+    pub fn tries(self) -> u8
+        ensures { result ≡ tries_of self }
+    {
+        match self {
+            Arrival::AsFresh => 0,
+            Arrival::AsWoken(tries) => {
+                if tries < LONG_TRIES {
+                    tries + 1
+                } else {
+                    LONG_TRIES
+                }
+            }
         }
     }
 }
@@ -123,17 +149,20 @@ impl Word {
         cond: false,
         writer_waits: false,
         all_false: false,
+        long: false,
         readers: 0,
     };
 
-    /// Whether a lock with this word may be acquired in the mode. A fresh reader stands back where
-    /// a writer waits; a woken one passes.
+    /// Whether a lock with this word may be acquired in the mode. A fresh caller stands back where
+    /// one waits long, and a fresh reader where a writer waits; a woken one passes.
     pub fn may_acquire(self, mode: Mode, arrival: Arrival) -> bool
         ensures { result ≡ may_acquire mode arrival self }
     {
         match mode {
-            Mode::Write => !self.write && self.readers == 0,
-            Mode::Read => !self.write && (arrival.is_woken() || !self.writer_waits),
+            Mode::Write => !self.write && self.readers == 0 && (arrival.is_woken() || !self.long),
+            Mode::Read => {
+                !self.write && (arrival.is_woken() || !self.writer_waits && !self.long)
+            }
         }
     }
 
@@ -215,6 +244,7 @@ impl Word {
             waiting: bits.waiting,
             cond: bits.conditional,
             writer_waits: bits.writer_waits,
+            long: bits.long,
             all_false: self.all_false && bits.waiting && !moved,
             ..self
         }
@@ -248,13 +278,9 @@ impl Word {
         ensures { result ≡ word_released_returning releasing took bits self }
     {
         Word {
-            spin: false,
-            waiting: bits.waiting,
             desig: took || self.desig,
-            cond: bits.conditional,
-            writer_waits: bits.writer_waits,
             all_false: bits.waiting && !took,
-            ..self.released(releasing)
+            ..self.released(releasing).returned(false, bits)
         }
     }
 }

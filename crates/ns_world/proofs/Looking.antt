@@ -128,7 +128,7 @@ module _ {C : Type 0} (N : ℕ) (P : Option ℕ → Type 0) where
   walk_noted (InAcquire aim (Arm arrival last)) Made none p = record { note = p }
   walk_noted (InAcquire aim (Queue arrival last)) (Saw word) none p = record { note = p }
   walk_noted (InAcquire aim (Queue arrival last)) Made none p = record { note = p }
-  walk_noted (InAcquire aim AwaitWake) (Flag v) none p = by_two (v == 1) (record { note = p }) (record { note = p })
+  walk_noted (InAcquire aim (AwaitWake tries)) (Flag v) none p = by_two (v == 1) (record { note = p }) (record { note = p })
   walk_noted (InCells (QuietCells i)) (Cell v) none p = record { note = none }
   walk_noted (InCells (QuietLast i)) (Quiet is_quiet) none p = by_two is_quiet (record { note = none }) (record { note = none })
   walk_noted (InRelease releasing ReleaseLoad) (Saw word) none p = release_noted releasing word none

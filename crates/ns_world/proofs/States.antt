@@ -63,7 +63,7 @@ module _ {C : Type 0} {N : ℕ} (truths : Truths C) (word : Word) (row : List �
 -- ---- the wakes that are owed
 
 abbrev wake : {C : Type 0} → ℕ → Waiter C
-wake woken = record { seat = woken; mode = Read; cond = None }
+wake woken = record { seat = woken; mode = Read; cond = None; tries = 0 }
 
 -- as many waiters as wakes
 owing : {C : Type 0} {N : ℕ} → List (SeatView C N) → List (Waiter C)

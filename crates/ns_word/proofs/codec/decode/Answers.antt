@@ -14,4 +14,5 @@ returns-clause-gives c = read_back c.args.bits _
       c.is_set-4.ensures,
       c.is_set-5.ensures,
       c.is_set-6.ensures,
+      c.is_set-7.ensures,
     ) refl) c.if-readers-gt-MOST_READERS.false c.if-readers-gt0.either

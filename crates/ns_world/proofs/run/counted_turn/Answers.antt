@@ -31,7 +31,7 @@ tests-requires g c =
     let before = progress (now_of g.C.Condition.means c.args.world.now) c.args.tally.now.over c.args.tally.now.lines.items in
     let turn = c.in_ok-step.ensures.ok _ c.args.tally.now.over c.args.tally.now.lines.items (sym c.next_call-next.ensures) in
     let same = seats_stay _ before c.args.seat c.in_ok-step.step (now_of g.C.Condition.means c.turn.new.world) turn in
-    omega (arith, same)
+    (search rules, omega (arith, same))
 
 pub returns-in_err-count-clause-err : goal.returns-in_err-count-clause-err
 returns-in_err-count-clause-err g c =

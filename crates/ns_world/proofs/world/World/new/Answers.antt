@@ -11,7 +11,7 @@ pub returns : goal.returns
 returns g c = (rw (c.in_ok-seats.ensures.views, c.in_ok-seats.ensures.tests, c.in_ok-seats.ensures.asking, c.new.ensures, c.new-2.ensures, c.new-3.ensures.items, c.encode.ensures, decoded free_word, no_flags) refl, omega arith)
 
 pub new-requires : goal.new-requires
-new-requires g c = omega (arith, g.met.C.Queueable.list_fits)
+new-requires g c = g.met.C.Seated.queues_fit
 
 pub new_seats-requires : goal.new_seats-requires
 new_seats-requires g c = g.met.C.Seated.seat_fits

@@ -13,7 +13,7 @@ unpacked-requires g c = packable _ _ _ _ c.self.invariant.few c.self.invariant.l
 
 pub shown_queues-queues-requires : goal.shown_queues-queues-requires
 shown_queues-queues-requires g c = (
-  search rules,
+  g.met.C.Seated.queues_fit,
   (
     g.met.C.Seated.seat_fits,
     (

@@ -1,0 +1,161 @@
+-- While one waits long, only those acquire who were woken.
+use Rattle.std.proofs.Common.{◌≡◌, ℕ, Bool, true, false, not, eqb, inl, inr, refl, List, Option, None, Some, ap, sym, ◌∙◌}
+use Rattle.std.proofs.lemmas.Bool.{and_parts, both_ways, or_cases, not-true}
+use Rattle.ns_model.specs.declared.event.Mode.{Mode}
+use Rattle.ns_model.specs.declared.event.Mode.TheVariants.{Write, Read}
+use Rattle.ns_model.specs.declared.event.Event.{Event}
+use Rattle.ns_model.specs.Truths.{Truths}
+use Rattle.ns_word.specs.declared.word.Word.{Word}
+use Rattle.ns_word.specs.declared.word.Arrival.{Arrival}
+use Rattle.ns_word.specs.declared.word.Arrival.TheVariants.{AsFresh}
+use Rattle.ns_word.specs.declared.wait.Subject.{Subject}
+use Rattle.ns_word.specs.declared.wait.Subject.TheVariants.{OnCondition, OnVariable}
+use Rattle.ns_word.specs.declared.wait.Wait.{Wait}
+use Rattle.ns_word.specs.declared.wait.WaitPlace.{WaitPlace}
+use Rattle.ns_word.specs.declared.wait.WaitPlace.TheVariants.{TestCells, TestLast, InQueuing, PayInWait, AwaitWakeInWait, LookOut, InLeaving}
+use Rattle.ns_word.specs.declared.wait.QueuePlace.{QueuePlace}
+use Rattle.ns_word.specs.declared.wait.QueuePlace.TheVariants.{LookIn, Load, Take, ArmToWait, LoadToScan, QueueToWait}
+use Rattle.ns_word.specs.declared.wait.LeavePlace.{LeavePlace}
+use Rattle.ns_word.specs.declared.wait.LeavePlace.TheVariants.{LeaveLoad, TakeToLeave, Leave, AwaitWakeToLeave}
+use Rattle.ns_word.specs.declared.try_walk.TryPlace.TheVariants.{TryLoad, TryAcquire}
+use Rattle.ns_word.specs.declared.acquire_walk.AcquirePlace.TheVariants.{AcquireLoad, AcquireExchange, TakeToQueue, Arm, Queue, AwaitWake}
+use Rattle.ns_word.specs.declared.release_walk.ReleasePlace.{ReleasePlace}
+use Rattle.ns_word.specs.declared.release_walk.ReleasePlace.TheVariants.{ReleaseLoad, ReleaseExchange, TakeToScan, ScanCells, ScanAndRelease, Pay}
+use Rattle.ns_word.specs.declared.cell_walk.CellPlace.{CellPlace}
+use Rattle.ns_word.specs.declared.cell_walk.CellPlace.TheVariants.{GetLoad, SetLoad, SetStore, QuietCells, QuietLast}
+use Rattle.ns_word.specs.declared.signal_walk.SignalPlace.{SignalPlace}
+use Rattle.ns_word.specs.declared.signal_walk.SignalPlace.TheVariants.{SignalLoad, TakeToWake, WakeAndReturn, PayTheWoken}
+use Rattle.ns_word.specs.declared.word.Releasing.{Releasing}
+use Rattle.ns_word.specs.declared.act.Waking.{Waking}
+use Rattle.ns_word.specs.declared.view.Held.{Held}
+use Rattle.ns_word.specs.declared.view.SeatView.{SeatView}
+use Rattle.ns_word.specs.declared.walk.Walk.{Walk}
+use Rattle.ns_word.specs.declared.walk.Walk.TheVariants.{InTry, InAcquire, InRelease, InCells, InWait, InSignal}
+use Rattle.ns_word.specs.declared.act.Act.{Act}
+use Rattle.ns_word.specs.declared.act.Act.TheVariants.{LoadWord, Acquire, TakeQueues, ReturnQueues, Release, ReleaseReturning, WaitReturning, LoadCell, JudgeQuiet, JudgeMet, StoreCell, ArmFlag, PayWake, LoadFlag, Look}
+use Rattle.ns_word.specs.declared.act.Found.{Found}
+use Rattle.ns_word.specs.declared.act.Found.TheVariants.{Saw, Made, Cell, Quiet, Tested, Scanned, Paid, Left, Woke, Flag, Looked}
+use Rattle.ns_word.specs.declared.limits.Cause.{Cause}
+use Rattle.ns_word.specs.Words.{is_woken, may_acquire}
+use Rattle.ns_word.specs.Waits.{mode_for}
+use Rattle.ns_word.specs.Walks.{want_of, judge_of, want_releasing, want_in_cells, want_queuing, want_leaving, want_waiting, want_signaling, was_woken}
+use Rattle.ns_word.specs.Steps.{State, Part, Effect, Step, part_of, held_after}
+
+-- such a word is acquired by one that was woken alone
+long_shuts : (mode : Mode) (arrival : Arrival) (word : Word) → word.long ≡ true → may_acquire mode arrival word ≡ true → is_woken arrival ≡ true
+long_shuts Write arrival word long e =
+    let parts = and_parts (eqb word.readers 0) _ (and_parts (not word.write) _ e).1 in
+    elim (or_cases (is_woken arrival) (not word.long) parts.1) [ inl woken ↦ woken | inr short ↦ absurd (both_ways word.long (not-true word.long short) long) ]
+long_shuts Read arrival word long e =
+    elim (or_cases (is_woken arrival) _ (and_parts (not word.write) _ e).1) [ inl woken ↦ woken | inr short ↦ absurd (both_ways word.long (not-true word.long (and_parts (not word.writer_waits) _ short).1) long) ]
+
+-- the act acquires a lock with this word
+abbrev Gains : {C : Type 0} → Act C → Word → Type 0
+Gains (Acquire aim arrival last) word = (last ≡ word) × (may_acquire (mode_for aim) arrival last ≡ true)
+Gains act word = ⊥
+
+module _ {C : Type 0} {N : ℕ} where
+  -- where nothing is in hand, and the section stays what it was, nothing is
+  none_yet : (old new : Option (Held C N)) (held : Held C N) → new ≡ old → old ≡ None → new ≡ Some held → ⊥
+  none_yet old new held same none some = let never : None ≡ Some held = sym none ∙ sym same ∙ some in absurd (cc)
+
+  none_looked : (again : Bool) (cause : Option Cause) (old : Option (Held C N)) → old ≡ None → held_after again cause old ≡ None
+  none_looked again None old none = none
+  none_looked true (Some cause) None none = refl
+  none_looked true (Some cause) (Some held) none = absurd (cc)
+  none_looked false (Some cause) old none = none
+
+  -- only an acquire brings a section to hand
+  gained : (truths : Truths C) (seat : ℕ) (act : Act C) (old : Part C N) (found : Found) (new : Part C N) (commits : List (Event C N)) (held : Held C N) → Effect truths seat act old found new commits → old.held ≡ None → new.held ≡ Some held → Gains act old.word
+  gained truths seat (Acquire aim arrival last) old Made new commits held e none some = (e.0, e.1)
+  gained truths seat LoadWord old (Saw word) new commits held e none some = absurd (none_yet old.held new.held held (ap (λ p. p.held) e.1) none some)
+  gained truths seat (Acquire aim arrival last) old (Saw word) new commits held e none some = absurd (none_yet old.held new.held held (ap (λ p. p.held) e.2) none some)
+  gained truths seat (TakeQueues taking last) old (Saw word) new commits held e none some = absurd (none_yet old.held new.held held (ap (λ p. p.held) e.2) none some)
+  gained truths seat (TakeQueues taking last) old Made new commits held e none some = absurd (none_yet old.held new.held held (ap (λ p. p.held) e.2) none some)
+  gained truths seat (ReturnQueues change last) old (Saw word) new commits held e none some = absurd (none_yet old.held new.held held (ap (λ p. p.held) e.2) none some)
+  gained truths seat (ReturnQueues change last) old Made new commits held e none some = absurd (none_yet old.held new.held held (ap (λ p. p.held) e.2) none some)
+  gained truths seat (ReturnQueues change last) old (Left stood) new commits held e none some = absurd (none_yet old.held new.held held (ap (λ p. p.held) e.2) none some)
+  gained truths seat (ReturnQueues change last) old (Woke owes) new commits held e none some = absurd (none_yet old.held new.held held (ap (λ p. p.held) e.2) none some)
+  gained truths seat (Release releasing last) old (Saw word) new commits held e none some = absurd (none_yet old.held new.held held (ap (λ p. p.held) e.2) none some)
+  gained truths seat (Release releasing last) old Made new commits held e none some = let never : None ≡ Some e.0 = sym none ∙ e.1 in absurd (cc)
+  gained truths seat (ReleaseReturning releasing last) old (Saw word) new commits held e none some = absurd (none_yet old.held new.held held (ap (λ p. p.held) e.2) none some)
+  gained truths seat (ReleaseReturning releasing last) old (Scanned owes tests) new commits held e none some = let never : None ≡ Some e.0 = sym none ∙ e.1 in absurd (cc)
+  gained truths seat (WaitReturning wait again last) old (Saw word) new commits held e none some = absurd (none_yet old.held new.held held (ap (λ p. p.held) e.2) none some)
+  gained truths seat (WaitReturning wait again last) old (Scanned owes tests) new commits held e none some = let never : None ≡ Some e.0 = sym none ∙ e.1 in absurd (cc)
+  gained truths seat (LoadCell i) old (Cell v) new commits held e none some = absurd (none_yet old.held new.held held (ap (λ p. p.held) e.1) none some)
+  gained truths seat (JudgeQuiet i) old (Quiet is_quiet) new commits held e none some = let never : None ≡ Some e.0 = sym none ∙ e.1 in absurd (cc)
+  gained truths seat (JudgeMet i c) old (Tested is_met) new commits held e none some = let never : None ≡ Some e.0 = sym none ∙ e.1 in absurd (cc)
+  gained truths seat (StoreCell i v) old Made new commits held e none some = let never : None ≡ Some e.0 = sym none ∙ e.1 in absurd (cc)
+  gained truths seat ArmFlag old Made new commits held e none some = absurd (none_yet old.held new.held held (ap (λ p. p.held) e.0) none some)
+  gained truths seat (PayWake value) old (Paid owes) new commits held e none some = absurd (none_yet old.held new.held held (ap (λ p. p.held) e.3) none some)
+  gained truths seat LoadFlag old (Flag v) new commits held e none some = absurd (none_yet old.held new.held held (ap (λ p. p.held) e.1) none some)
+  gained truths seat (Look limits again) old (Looked cause) new commits held e none some =
+      let never : None ≡ Some held = sym (none_looked again cause old.held none) ∙ sym (ap (λ p. p.held) e.1) ∙ some in absurd (cc)
+  gained truths seat act old found new commits held e none some = absurd e
+
+module _ (C : Type 0) where
+  judge_gains_not : (on : Subject C) (i : ℕ) (word : Word) → Gains (judge_of on i) word → ⊥
+  judge_gains_not (OnCondition c) i word g = g
+  judge_gains_not (OnVariable k) i word g = g
+
+  release_gains_not : (releasing : Releasing) (place : ReleasePlace) (word : Word) → Gains (want_releasing {C = C} releasing place) word → ⊥
+  release_gains_not releasing ReleaseLoad word g = g
+  release_gains_not releasing (ReleaseExchange last) word g = g
+  release_gains_not releasing (TakeToScan last) word g = g
+  release_gains_not releasing (ScanCells last i) word g = g
+  release_gains_not releasing (ScanAndRelease last) word g = g
+  release_gains_not releasing Pay word g = g
+
+  cell_gains_not : (place : CellPlace) (word : Word) → Gains (want_in_cells {C = C} place) word → ⊥
+  cell_gains_not (GetLoad i) word g = g
+  cell_gains_not (SetLoad i v) word g = g
+  cell_gains_not (SetStore i v) word g = g
+  cell_gains_not (QuietCells i) word g = g
+  cell_gains_not (QuietLast i) word g = g
+
+  queue_gains_not : (wait : Wait C) (again : Bool) (place : QueuePlace) (word : Word) → Gains (want_queuing wait again place) word → ⊥
+  queue_gains_not wait again LookIn word g = g
+  queue_gains_not wait again Load word g = g
+  queue_gains_not wait again (Take last) word g = g
+  queue_gains_not wait again (ArmToWait last) word g = g
+  queue_gains_not wait again (LoadToScan last i) word g = g
+  queue_gains_not wait again (QueueToWait last) word g = g
+
+  leave_gains_not : (wait : Wait C) (place : LeavePlace) (word : Word) → Gains (want_leaving wait place) word → ⊥
+  leave_gains_not wait LeaveLoad word g = g
+  leave_gains_not wait (TakeToLeave last) word g = g
+  leave_gains_not wait (Leave last) word g = g
+  leave_gains_not wait AwaitWakeToLeave word g = g
+
+  wait_gains_not : (wait : Wait C) (place : WaitPlace) (word : Word) → Gains (want_waiting wait place) word → ⊥
+  wait_gains_not wait (TestCells visit i) word g = g
+  wait_gains_not wait (TestLast visit i) word g = judge_gains_not wait.on i word g
+  wait_gains_not wait (InQueuing again place) word g = queue_gains_not wait again place word g
+  wait_gains_not wait PayInWait word g = g
+  wait_gains_not wait AwaitWakeInWait word g = g
+  wait_gains_not wait LookOut word g = g
+  wait_gains_not wait (InLeaving cause place) word g = leave_gains_not wait place word g
+
+  signal_gains_not : (waking : Waking) (k : ℕ) (place : SignalPlace) (word : Word) → Gains (want_signaling {C = C} waking k place) word → ⊥
+  signal_gains_not waking k SignalLoad word g = g
+  signal_gains_not waking k (TakeToWake last) word g = g
+  signal_gains_not waking k (WakeAndReturn last) word g = g
+  signal_gains_not waking k PayTheWoken word g = g
+
+  passes : (walk : Walk C) (word : Word) → word.long ≡ true → Gains (want_of walk) word → was_woken (Some walk) ≡ true
+  passes (InTry mode TryLoad) word long g = absurd g
+  passes (InTry mode (TryAcquire last)) word long g = absurd (both_ways false refl (long_shuts mode AsFresh last (ap (λ w. w.long) g.0 ∙ long) g.1))
+  passes (InAcquire aim (AcquireLoad arrival)) word long g = absurd g
+  passes (InAcquire aim (AcquireExchange arrival last)) word long g = long_shuts (mode_for aim) arrival last (ap (λ w. w.long) g.0 ∙ long) g.1
+  passes (InAcquire aim (TakeToQueue arrival last)) word long g = absurd g
+  passes (InAcquire aim (Arm arrival last)) word long g = absurd g
+  passes (InAcquire aim (Queue arrival last)) word long g = absurd g
+  passes (InAcquire aim (AwaitWake tries)) word long g = absurd g
+  passes (InRelease releasing place) word long g = absurd (release_gains_not releasing place word g)
+  passes (InCells place) word long g = absurd (cell_gains_not place word g)
+  passes (InWait wait place) word long g = absurd (wait_gains_not wait place word g)
+  passes (InSignal waking k place) word long g = absurd (signal_gains_not waking k place word g)
+
+pub woken_pass : {C : Type 0} {N : ℕ} (truths : Truths C) (old : State C N) (view : SeatView C N) (found : Found) (new : State C N) (commits : List (Event C N)) (held : Held C N) → (step : Step truths old view found new commits) → old.word.long ≡ true → view.held ≡ None → step.held ≡ Some held → was_woken (Some step.walk) ≡ true
+woken_pass truths old view found new commits held step long none some =
+    passes _ step.walk old.word long (gained truths view.seat (want_of step.walk) (part_of old view.held view.owed) found (part_of new step.held step.owed) commits held step.effect none some)
