@@ -27,7 +27,7 @@ use Rattle.ns_queue.proofs.Wakes.{signal_legal, broadcast_legal}
 use Rattle.ns_word.specs.declared.word.Word.{Word}
 use Rattle.ns_word.specs.declared.word.Releasing.{Releasing}
 use Rattle.ns_word.specs.declared.word.Arrival.{Arrival}
-use Rattle.ns_word.specs.declared.word.Arrival.TheVariants.{AsFresh}
+use Rattle.ns_word.specs.declared.word.Arrival.TheVariants.{AsFresh, AsWoken}
 use Rattle.ns_word.specs.declared.word.Releasing.TheVariants.{QuietWriter}
 use Rattle.ns_word.specs.declared.word.Taking.{Taking}
 use Rattle.ns_word.specs.declared.word.Taking.TheVariants.{ToChange, ToQueue}
@@ -87,6 +87,14 @@ use Rattle.ns_word.proofs.Leads.{Leads, none_settled, shown_settled, try_leads, 
 abbrev stood_in : Found → Bool
 stood_in (Left stood) = stood
 stood_in _ = false
+
+-- tries are counted up to 30
+tries_most : (arrival : Arrival) → tries_of arrival ≤ 30
+tries_most AsFresh = omega arith
+tries_most (AsWoken tries) = go (ltb tries 30) refl where
+  go : (b : Bool) → ltb tries 30 ≡ b → cond b (tries + 1) 30 ≤ 30
+  go true e = let few = ltb-true tries 30 e in omega (arith, few)
+  go false e = omega arith
 
 phase_opened : {C : Type 0} (aim : Aim C) → phase_for aim ≡ phase_before (mode_for aim) (opening_for aim)
 phase_opened (ForLock mode) = refl
@@ -565,8 +573,9 @@ module _ {C : Type 0} {N : ℕ} (truths : Truths C) (seats : ℕ) (h : List (Eve
       (none_more _ (arms truths seats h front who (Some (InAcquire aim (Arm arrival last))) (Some (InAcquire aim (Queue arrival last))) back part.word part.row part.lists part.flags part.held part.owed refl (place (InAcquire aim (Arm arrival last)) part p) refl refl refl refl refl (λ flag n. refl) (λ none. refl) p))
   by_walk (InAcquire aim (Queue arrival last)) Made part next commits few some quiet e p =
       let lock = queued who (mode_for aim) None (tries_of arrival) (is_woken arrival) part.lists.lock in
+      let here = place (InAcquire aim (Queue arrival last)) part p in
       moved (Some (InAcquire aim (AwaitWake (tries_of arrival)))) (record part { word = word_returned false (bits_of lock) part.word; lists = with_lock part.lists lock }) next [] commits (e.2 ∙ ap (λ word. record part { word = word_returned false (bits_of lock) word; lists = with_lock part.lists lock }) e.1) e.3
-      (none_more _ (enqueues truths seats h front who (Some (InAcquire aim (Queue arrival last))) (Some (InAcquire aim (AwaitWake (tries_of arrival)))) back (mode_for aim) arrival part.word part.row part.lists part.flags part.held part.owed refl (place (InAcquire aim (Queue arrival last)) part p) refl refl refl refl refl refl refl refl (λ flag n. refl) (λ none. refl) p))
+      (none_more _ (enqueues truths seats h front who (Some (InAcquire aim (Queue arrival last))) (Some (InAcquire aim (AwaitWake (tries_of arrival)))) back (mode_for aim) arrival part.word part.row part.lists part.flags part.held part.owed refl (here.0, tries_most arrival, here.2) refl refl refl refl refl refl refl refl (λ flag n. refl) (λ none. refl) p))
   by_walk (InAcquire aim (Queue arrival last)) (Left stood) part next commits few some quiet e p = let never : Made ≡ Left stood = e.0 in absurd (cc)
   by_walk (InAcquire aim (Queue arrival last)) (Woke owes) part next commits few some quiet e p = let never : Made ≡ Woke owes = e.0 in absurd (cc)
   by_walk (InAcquire aim (AwaitWake tries)) (Flag v) part next commits few some quiet e p =

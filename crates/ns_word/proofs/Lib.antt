@@ -1,5 +1,6 @@
 pub mod Acts
 pub mod Answers
+pub mod Asked
 pub mod Chains
 pub mod Codes
 pub mod Dispatch

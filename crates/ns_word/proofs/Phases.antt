@@ -1,6 +1,6 @@
 -- A waiter that has a condition is in the wait for it, by the history.
 use Rattle.std.specs.Prelude.{slice_get}
-use Rattle.std.proofs.Common.{◌≡◌, ℕ, zero, suc, Bool, true, false, cond, inl, inr, List, [], ◌∷◌, Option, None, Some, refl, ap, ◌∙◌, subst, eq-eqb}
+use Rattle.std.proofs.Common.{◌≡◌, ℕ, zero, suc, Bool, true, false, cond, inl, inr, List, [], ◌∷◌, Option, None, Some, refl, ap, ◌∙◌, subst, eq-eqb, ◌≤◌, arith}
 use Rattle.std.proofs.lemmas.Bool.{ne_eqb, cases_eq}
 use Rattle.ns_model.specs.declared.event.Mode.{Mode}
 use Rattle.ns_model.specs.declared.event.Event.{Event}
@@ -103,6 +103,27 @@ module _ {C : Type 0} {N : ℕ} where
   own_at [] views at p = tt
   own_at (w ∷ ws) views zero p = p.0
   own_at (w ∷ ws) views (suc at) p = own_at ws views at p.1
+
+  -- nobody has failed more than 30 times
+  few_tries : (truths : Truths C) (walk : Option (Walk C)) (held : Option (Held C N)) (mode : Mode) (c : Option C) (tries : ℕ) → PlaceFits truths walk held → lock_stance (waits_in walk) ≡ Some (mode, c, tries) → tries ≤ 30
+  few_tries truths (Some (InAcquire aim (AwaitWake count))) held mode c tries place e = subst (λ n. n ≤ 30) (ap tries_in e) place.1
+  few_tries truths (Some (InWait wait at_place)) held mode c tries place e = go (place_awaits at_place) e where
+    go : (b : Bool) → lock_stance (cond b (Some (record { mode = wait.mode; on = Some wait.on; tries = 0 })) None) ≡ Some (mode, c, tries) → tries ≤ 30
+    go true f = let none : 0 ≡ tries = ap tries_in f in omega (arith, none)
+    go false f = absurd (cc)
+  few_tries truths _ held mode c tries place e = absurd (cc)
+
+  few_at : (truths : Truths C) (seats : ℕ) (now : Standing C) (row : List ℕ) (seat : ℕ) (views : List (SeatView C N)) (mode : Mode) (c : Option C) (tries : ℕ) → EachFits truths seats now row views → lock_stance (waits_in (walk_at seat views)) ≡ Some (mode, c, tries) → tries ≤ 30
+  few_at truths seats now row seat [] mode c tries p e = absurd (cc)
+  few_at truths seats now row seat (u ∷ views) mode c tries p e = elim (cases_eq u.seat seat) [
+    | inl same ↦ few_tries truths u.walk u.held mode c tries p.0.place (subst (λ b. lock_stance (waits_in (cond b u.walk (walk_at seat views))) ≡ Some (mode, c, tries)) (eq-eqb u.seat seat same) e)
+    | inr other ↦ few_at truths seats now row seat views mode c tries p.1 (subst (λ b. lock_stance (waits_in (cond b u.walk (walk_at seat views))) ≡ Some (mode, c, tries)) (ne_eqb u.seat seat other) e)
+  ]
+
+  pub waiter_tries : (truths : Truths C) (seats : ℕ) (h : List (Event C N)) (s : State C N) (at : ℕ) (w : Waiter C) → IsLawful truths seats h s → slice_get s.lists.lock at ≡ Some w → w.tries ≤ 30
+  waiter_tries truths seats h s at w p found =
+      let own : WaiterFits s.views w = subst (λ x. FitsIf s.views x) found (own_at s.lists.lock s.views at p.waiters_own) in
+      few_at truths seats (standing_after h) s.row w.seat s.views w.mode w.cond w.tries p.one_history.each own
 
   pub waiter_phase : (truths : Truths C) (seats : ℕ) (h : List (Event C N)) (s : State C N) (at : ℕ) (w : Waiter C) (c : C) → IsLawful truths seats h s → slice_get s.lists.lock at ≡ Some w → w.cond ≡ Some c → phase_of h w.seat ≡ Cond c w.mode
   waiter_phase truths seats h s at w c p found e =

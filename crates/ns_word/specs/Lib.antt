@@ -1,4 +1,5 @@
 pub mod Answers
+pub mod Asked
 pub mod Begins
 pub mod Chains
 pub mod Codec

@@ -1,5 +1,5 @@
 -- What a place in a call needs of its seat, and what an act needs.
-use Rattle.std.specs.Prelude.{◌≡◌, ℕ, ◌+◌, ◌<◌, Bool, true, false, List, [], ◌∷◌, Option, None, Some, IsSome}
+use Rattle.std.specs.Prelude.{◌≡◌, ℕ, ◌+◌, ◌<◌, ◌≤◌, Bool, true, false, List, [], ◌∷◌, Option, None, Some, IsSome}
 use Rattle.ns_model.specs.declared.event.Mode.{Mode}
 use Rattle.ns_model.specs.declared.event.Mode.TheVariants.{Write}
 use Rattle.ns_queue.specs.Queues.{IsList, times}
@@ -24,7 +24,7 @@ use Rattle.ns_word.specs.declared.wait.LeavePlace.TheVariants.{TakeToLeave}
 use Rattle.ns_word.specs.declared.try_walk.TryPlace.{TryPlace}
 use Rattle.ns_word.specs.declared.try_walk.TryPlace.TheVariants.{TryAcquire}
 use Rattle.ns_word.specs.declared.acquire_walk.AcquirePlace.{AcquirePlace}
-use Rattle.ns_word.specs.declared.acquire_walk.AcquirePlace.TheVariants.{AcquireExchange, TakeToQueue}
+use Rattle.ns_word.specs.declared.acquire_walk.AcquirePlace.TheVariants.{AcquireExchange, TakeToQueue, AwaitWake}
 use Rattle.ns_word.specs.declared.release_walk.ReleasePlace.{ReleasePlace}
 use Rattle.ns_word.specs.declared.release_walk.ReleasePlace.TheVariants.{ReleaseLoad, ReleaseExchange, TakeToScan, ScanCells, ScanAndRelease, Pay}
 use Rattle.ns_word.specs.declared.cell_walk.CellPlace.{CellPlace}
@@ -115,10 +115,11 @@ abbrev pub TryFits : Mode → TryPlace → Type 0
 TryFits mode (TryAcquire last) = may_acquire mode AsFresh last ≡ true
 TryFits mode place = Unit {0}
 
--- what an acquire has seen
+-- what an acquire has seen, and how often it has failed at most
 abbrev pub AcquireFits : {C : Type 0} → Aim C → AcquirePlace → Type 0
 AcquireFits aim (AcquireExchange arrival last) = may_acquire (mode_for aim) arrival last ≡ true
 AcquireFits aim (TakeToQueue arrival last) = (last.spin ≡ false) × (may_acquire (mode_for aim) arrival last ≡ false)
+AcquireFits aim (AwaitWake tries) = tries ≤ 30
 AcquireFits aim place = Unit {0}
 
 -- A release has its section in hand until it owes wakes alone.

@@ -26,6 +26,7 @@ ghost use Rattle.ns_word.specs.declared.walk.Reply.TheVariants.{Answered};
 ghost use Rattle.ns_word.specs.declared.act.Found.{Found};
 ghost use Rattle.ns_word.specs.declared.act.Found.TheVariants.{Looked};
 ghost use Rattle.ns_word.specs.Answers.{cause_kept, has_come_back, is_back};
+ghost use Rattle.ns_word.specs.Asked.{asked_of};
 ghost use Rattle.ns_word.specs.Begins.{Begins, SeatStep, IsFirst, fresh_state};
 ghost use Rattle.ns_word.specs.Steps.{State, Step, entry_of};
 ghost use Rattle.ns_word.specs.Finds.{found_of, number_at, IsLook};
@@ -76,14 +77,16 @@ pub fn waiters_are_in_their_phase<C: Condition<N>, const N: usize>()
         phase_of history w.seat ≡ Cond c w.mode }
 {}
 
-/// The word says that somebody waits long exactly where one who stands in the lock list has failed
-/// 30 times after being woken; while another has the queues, it says so of the list as it was.
+/// While nobody has the queues, the word says that somebody waits long exactly where one who stands
+/// in the lock list has failed 30 times after being woken, and nobody counts more.
 pub fn the_word_tells_of_a_long_wait<C: Condition<N>, const N: usize>()
     ensures { (seats : ℕ) (history : List (Event C N)) (s : State C N) →
-        IsLawful C.means seats history s → s.word.spin ≡ false → s.word.long ≡ list_any is_long s.lists.lock }
+        IsLawful C.means seats history s →
+        (s.word.spin ≡ false → s.word.long ≡ list_any is_long s.lists.lock)
+        × ((at : ℕ) (w : Waiter C) → slice_get s.lists.lock at ≡ Some w → w.tries ≤ 30) }
 {}
 
-/// While a waiter has failed too often, only waiters that were woken acquire.
+/// While the word says that somebody waits long, only waiters that were woken acquire.
 pub fn only_the_woken_pass_a_long_wait<C: Condition<N>, const N: usize>()
     ensures { (old new : State C N) (view : SeatView C N) (found : Found) (commits : List (Event C N)) (held : Held C N) →
         (step : Step C.means old view found new commits) →
@@ -148,6 +151,11 @@ pub fn early_answers_were_shown<C: Condition<N>, const N: usize>()
     ensures { (walk : Walk C) (found : Found) (cause : Cause) →
         ((next : Walk C) → walk_after (got_of N walk found) ≡ Some next → cause_kept next ≡ Some cause → (cause_kept walk ≡ Some cause) ⊎ (found ≡ Looked (Some cause)))
         × (got_of N walk found ≡ Done (Answered (answer_of cause)) → (cause_kept walk ≡ Some cause) ⊎ (found ≡ Looked (Some cause))) }
+{}
+
+/// No step of a call changes what it was asked to do: its mode, cell, value, wait or variable.
+pub fn calls_stay_what_they_were_asked<C: Condition<N>, const N: usize>()
+    ensures { (walk next : Walk C) (found : Found) → walk_after (got_of N walk found) ≡ Some next → asked_of next ≡ asked_of walk }
 {}
 
 /// No call begins at a place that keeps a cause.

@@ -39,6 +39,7 @@ pub mod hand;
 pub mod law;
 pub mod limits;
 pub mod release_walk;
+pub mod request;
 pub mod room;
 pub mod signal_walk;
 pub mod try_walk;

@@ -36,8 +36,8 @@
 //! | 128 | long | one who stands in the lock list has failed too often after being woken |
 //! | 256 | readers | how many seats hold the lock in read mode; each counts 256, up to 64 of them |
 //!
-//! While the spinlock bit is set, `waiting`, `cond` and `writer_waits` may tell of one that is
-//! about to queue; `long` tells of the list as it was put back last.
+//! While the spinlock bit is set, `waiting` and `writer_waits` may tell of one that is about to queue.
+//! What the list holds is told while nobody has the queues.
 
 ghost use Rattle.std.specs.Prelude.{◌≡◌, ◌≢◌, ◌<◌, true, false};
 ghost use Rattle.ns_word.specs.Words.{is_held, is_woken, tries_of, may_acquire, needs_scan, word_acquired, word_taken, word_returned, word_released, word_released_returning};

@@ -1,0 +1,73 @@
+//! What a call was asked to do, told by its place.
+
+ghost use Rattle.std.specs.Prelude.{◌≡◌, ⊤};
+ghost use Rattle.ns_word.specs.Asked.{asked_of, asked_in_cells};
+
+use crate::act::Waking;
+use crate::cell_walk::CellPlace;
+use crate::wait::{Aim, Wait};
+use crate::walk::Walk;
+use crate::word::Releasing;
+use ns_model::event::Mode;
+use std::alloc::AllocError;
+
+/// What a call was asked to do.
+#[derive(Copy)]
+pub enum Request<C> {
+    /// To lock in this mode.
+    Lock(Mode),
+    /// To try to lock in this mode.
+    TryLock(Mode),
+    /// To release the section in this way.
+    Release(Releasing),
+    /// To tell the value of a cell.
+    Get(u8),
+    /// To set a cell to a value.
+    Set(u8, u64),
+    /// To leave the section for this wait, and to come back.
+    Await(Wait<C>),
+    /// To wake those who wait for the variable of this number.
+    Wake(Waking, u8),
+}
+
+impl<C: Copy> Clone for Request<C> {
+    ghost is_clone = { λ one other. other ≡ one };
+
+    ghost is_infallible = { λ _. ⊤ };
+
+    fn clone(&self) -> Result<Self, AllocError> {
+        Ok(*self)
+    }
+}
+
+impl<C: Copy> Walk<C> {
+    /// What the call was asked to do, which is the same at each of its places.
+    pub fn asked(&self) -> Request<C>
+        ensures { result ≡ asked_of self.now }
+    {
+        match *self {
+            Walk::InTry(mode, _) => Request::TryLock(mode),
+            Walk::InAcquire(Aim::ForLock(mode), _) => Request::Lock(mode),
+            Walk::InAcquire(Aim::ForWait(wait, _), _) => Request::Await(wait),
+            Walk::InRelease(releasing, _) => Request::Release(releasing),
+            Walk::InCells(place) => place.asked(),
+            Walk::InWait(wait, _) => Request::Await(wait),
+            Walk::InSignal(waking, k, _) => Request::Wake(waking, k),
+        }
+    }
+}
+
+impl CellPlace {
+    /// What a call on the row was asked to do.
+    fn asked<C: Copy>(self) -> Request<C>
+        ensures { result ≡ asked_in_cells self }
+    {
+        match self {
+            CellPlace::GetLoad(i) => Request::Get(i),
+            CellPlace::SetLoad(i, value) => Request::Set(i, value),
+            CellPlace::SetStore(i, value) => Request::Set(i, value),
+            CellPlace::QuietCells(_) => Request::Release(Releasing::QuietWriter),
+            CellPlace::QuietLast(_) => Request::Release(Releasing::QuietWriter),
+        }
+    }
+}
