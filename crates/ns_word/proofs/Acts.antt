@@ -127,8 +127,8 @@ module _ {C : Type 0} {N : ℕ} (truths : Truths C) (seats : ℕ) (few : seats �
   fits_at (InAcquire aim (Arm arrival last)) e place owes = view_fits.in_range
   fits_at (InAcquire aim (Queue arrival last)) e place owes = (view_fits.in_range, stands_nowhere (ap awaits e))
   fits_at (InAcquire aim (AwaitWake tries)) e place owes = view_fits.in_range
-  fits_at (InCells (QuietCells i)) e place owes = omega (arith, place.0.1)
-  fits_at (InCells (QuietLast i)) e place owes = (place.0.0, omega (arith, place.0.1))
+  fits_at (InCells (QuietCells judging i)) e place owes = omega (arith, place.0.1)
+  fits_at (InCells (QuietLast judging i)) e place owes = (place.0.0, omega (arith, place.0.1))
   fits_at (InRelease releasing ReleaseLoad) e place owes = tt
   fits_at (InRelease releasing (ReleaseExchange last)) e place owes = place.0
   fits_at (InRelease releasing (TakeToScan last)) e place owes = place.1

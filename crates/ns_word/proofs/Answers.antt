@@ -292,8 +292,8 @@ pub cells_look_not : (C : Type 0) (place : CellPlace) → look_of_act {C = C} (w
 cells_look_not C (GetLoad i) = refl
 cells_look_not C (SetLoad i v) = refl
 cells_look_not C (SetStore i v) = refl
-cells_look_not C (QuietCells i) = refl
-cells_look_not C (QuietLast i) = refl
+cells_look_not C (QuietCells judging i) = refl
+cells_look_not C (QuietLast judging i) = refl
 
 pub leaver_looks_not : {C : Type 0} (wait : Wait C) (place : LeavePlace) → look_of_act (want_leaving wait place) ≡ None
 leaver_looks_not wait LeaveLoad = refl

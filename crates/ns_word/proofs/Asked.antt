@@ -26,6 +26,8 @@ use Rattle.ns_word.specs.declared.acquire_walk.AcquirePlace.{AcquirePlace}
 use Rattle.ns_word.specs.declared.acquire_walk.AcquirePlace.TheVariants.{AcquireLoad, AcquireExchange, TakeToQueue, Arm, Queue, AwaitWake}
 use Rattle.ns_word.specs.declared.release_walk.ReleasePlace.{ReleasePlace}
 use Rattle.ns_word.specs.declared.release_walk.ReleasePlace.TheVariants.{ReleaseLoad, ReleaseExchange, TakeToScan, ScanCells, ScanAndRelease, Pay}
+use Rattle.ns_word.specs.declared.cell_walk.Judging.{Judging}
+use Rattle.ns_word.specs.declared.cell_walk.Judging.TheVariants.{ToTell, ToRelease}
 use Rattle.ns_word.specs.declared.cell_walk.CellPlace.{CellPlace}
 use Rattle.ns_word.specs.declared.cell_walk.CellPlace.TheVariants.{GetLoad, SetLoad, SetStore, QuietCells, QuietLast}
 use Rattle.ns_word.specs.declared.signal_walk.SignalPlace.{SignalPlace}
@@ -45,10 +47,10 @@ use Rattle.ns_word.specs.declared.request.Request.TheVariants.{TryLock, Release,
 use Rattle.ns_word.specs.Words.{may_acquire, needs_scan}
 use Rattle.ns_word.specs.Waits.{is_limited, mode_for, arrival_of, kept_in}
 use Rattle.ns_word.specs.Walks.{got_of, got_trying, got_acquiring, got_releasing, got_in_cells, got_waiting, got_queuing, got_leaving, got_signaling, walk_after, acquire_by, acquired_for, back_with, release_by, quiet_place, test_place, unmet_by, look_or_queue, rest_or_look}
-use Rattle.ns_word.specs.Asked.{asked_in_cells, asked_of}
+use Rattle.ns_word.specs.Asked.{asked_to_judge, asked_in_cells, asked_of}
 
 -- it goes on as it was asked, if it goes on
-abbrev Asks : {C : Type 0} → Request C → Next C → Type 0
+abbrev pub Asks : {C : Type 0} → Request C → Next C → Type 0
 Asks request (On walk) = asked_of walk ≡ request
 Asks request (Idle walk) = asked_of walk ≡ request
 Asks request (Done reply) = Unit {0}
@@ -87,9 +89,9 @@ module _ (C : Type 0) where
       one_of _ (not (needs_scan releasing word)) (On (InRelease releasing (ReleaseExchange word))) _ refl
       (one_of _ word.spin (Idle (InRelease releasing ReleaseLoad)) (On (InRelease releasing (TakeToScan word))) refl refl)
 
-  quiet_asks : (N loaded : ℕ) → asked_in_cells {C = C} (quiet_place N loaded) ≡ Release QuietWriter
-  quiet_asks N loaded = go (ltb loaded (N - 1)) where
-    go : (b : Bool) → asked_in_cells {C = C} (cond b (QuietCells loaded) (QuietLast (N - 1))) ≡ Release QuietWriter
+  quiet_asks : (N : ℕ) (judging : Judging) (loaded : ℕ) → asked_in_cells {C = C} (quiet_place N judging loaded) ≡ asked_to_judge judging
+  quiet_asks N judging loaded = go (ltb loaded (N - 1)) where
+    go : (b : Bool) → asked_in_cells {C = C} (cond b (QuietCells judging loaded) (QuietLast judging (N - 1))) ≡ asked_to_judge judging
     go true = refl
     go false = refl
 
@@ -127,8 +129,9 @@ module _ (C : Type 0) where
   cells_ask N (GetLoad i) (Cell v) = tt
   cells_ask N (SetLoad i v) (Cell w) = refl
   cells_ask N (SetStore i v) Made = tt
-  cells_ask N (QuietCells i) (Cell v) = quiet_asks N (i + 1)
-  cells_ask N (QuietLast i) (Quiet is_quiet) = one_of _ is_quiet (On (InRelease QuietWriter ReleaseLoad)) _ refl tt
+  cells_ask N (QuietCells judging i) (Cell v) = quiet_asks N judging (i + 1)
+  cells_ask N (QuietLast ToTell i) (Quiet is_quiet) = tt
+  cells_ask N (QuietLast ToRelease i) (Quiet is_quiet) = one_of _ is_quiet (On (InRelease QuietWriter ReleaseLoad)) _ refl tt
   cells_ask N place found = refl
 
   look_asks : (wait : Wait C) (again : Bool) → Asks (Await wait) (look_or_queue wait again)
@@ -180,7 +183,7 @@ module _ (C : Type 0) where
   signaling_asks waking k PayTheWoken (Paid owes) = one_of _ owes (On (InSignal waking k PayTheWoken)) _ refl tt
   signaling_asks waking k place found = refl
 
-  asks_on : (N : ℕ) (walk : Walk C) (found : Found) → Asks (asked_of walk) (got_of N walk found)
+  pub asks_on : (N : ℕ) (walk : Walk C) (found : Found) → Asks (asked_of walk) (got_of N walk found)
   asks_on N (InTry mode place) found = try_asks mode place found
   asks_on N (InAcquire aim place) found = acquiring_asks N aim place found
   asks_on N (InRelease releasing place) found = releasing_asks N releasing place found

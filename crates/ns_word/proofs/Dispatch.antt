@@ -527,14 +527,14 @@ module _ {C : Type 0} {N : ℕ} (truths : Truths C) (seats : ℕ) (h : List (Eve
   by_walk (InCells (GetLoad i)) (Cell v) part next commits few some quiet e p = finds (InCells (GetLoad i)) _ part next commits e.1 e.2 refl ((place (InCells (GetLoad i)) part p).1, (refl, refl, refl, refl), refl, λ flag n f. f, λ none. refl) p
   by_walk (InCells (SetLoad i v)) (Cell w) part next commits few some quiet e p = finds (InCells (SetLoad i v)) _ part next commits e.1 e.2 refl (place (InCells (SetLoad i v)) part p, (refl, refl, refl, refl), refl, λ flag n f. f, λ none. refl) p
   by_walk (InRelease releasing (ScanCells last i)) (Cell v) part next commits few some quiet e p = finds (InRelease releasing (ScanCells last i)) _ part next commits e.1 e.2 refl (scan_leads truths releasing last part.held (i + 1) (place (InRelease releasing (ScanCells last i)) part p).0) p
-  by_walk (InCells (QuietCells i)) (Cell v) part next commits few some quiet e p =
-      let at_cell = place (InCells (QuietCells i)) part p in
-      finds (InCells (QuietCells i)) _ part next commits e.1 e.2 refl (quiet_leads truths part.held (i + 1) (omega (arith, at_cell.0.1)) at_cell.0.0 at_cell.1) p
-  by_walk (InCells (QuietLast i)) (Quiet is_quiet) part next commits few some quiet e p =
-      let at_cell = place (InCells (QuietLast i)) part p in
+  by_walk (InCells (QuietCells judging i)) (Cell v) part next commits few some quiet e p =
+      let at_cell = place (InCells (QuietCells judging i)) part p in
+      finds (InCells (QuietCells judging i)) _ part next commits e.1 e.2 refl (quiet_leads truths judging part.held (i + 1) (omega (arith, at_cell.0.1)) at_cell.0.0 at_cell.1) p
+  by_walk (InCells (QuietLast judging i)) (Quiet is_quiet) part next commits few some quiet e p =
+      let at_cell = place (InCells (QuietLast judging i)) part p in
       let writes : HasMode Write (Some e.0) = subst (λ x. HasMode Write x) e.1 at_cell.0.0 in
       let settled : IsSettled truths (Some e.0) = subst (λ x. IsSettled truths x) e.1 at_cell.1 in
-      finds (InCells (QuietLast i)) _ part next commits e.3 e.4 refl (judged_leads truths part.held is_quiet (λ f. subst (λ x. CanLeave truths QuietWriter x) (sym e.1) (writes, sym e.2 ∙ f, settled)) at_cell.1) p
+      finds (InCells (QuietLast judging i)) _ part next commits e.3 e.4 refl (judged_leads truths judging part.held is_quiet (λ f. subst (λ x. CanLeave truths QuietWriter x) (sym e.1) (writes, sym e.2 ∙ f, settled)) at_cell.1) p
   -- acquires
   by_walk (InTry mode (TryAcquire last)) Made part next commits few some quiet e p = acquired (InTry mode (TryAcquire last)) None (ForLock mode) AsFresh last part next commits e.0 e.1 e.2 e.3 e.4 refl (λ ph is. is) tt (refl, refl, refl, refl) refl (λ flag n w f. f) p
   by_walk (InAcquire aim (AcquireExchange arrival last)) Made part next commits few some quiet e p =

@@ -26,6 +26,7 @@ use Rattle.ns_word.specs.declared.wait.LeavePlace.TheVariants.{LeaveLoad, TakeTo
 use Rattle.ns_word.specs.declared.try_walk.TryPlace.TheVariants.{TryLoad, TryAcquire}
 use Rattle.ns_word.specs.declared.acquire_walk.AcquirePlace.TheVariants.{AcquireLoad, AcquireExchange, TakeToQueue, Arm, Queue, AwaitWake}
 use Rattle.ns_word.specs.declared.release_walk.ReleasePlace.TheVariants.{ReleaseLoad, ReleaseExchange, TakeToScan, ScanCells, ScanAndRelease, Pay}
+use Rattle.ns_word.specs.declared.cell_walk.Judging.TheVariants.{ToTell, ToRelease}
 use Rattle.ns_word.specs.declared.cell_walk.CellPlace.TheVariants.{GetLoad, SetLoad, SetStore, QuietCells, QuietLast}
 use Rattle.ns_word.specs.declared.signal_walk.SignalPlace.{SignalPlace}
 use Rattle.ns_word.specs.declared.signal_walk.SignalPlace.TheVariants.{SignalLoad, TakeToWake, WakeAndReturn, PayTheWoken}
@@ -178,8 +179,9 @@ module _ {C : Type 0} (N : ℕ) where
   shown_by (InAcquire aim (Queue arrival last)) (Saw word) = stays_shown _ _
   shown_by (InAcquire aim (Queue arrival last)) Made = stays_shown _ _
   shown_by (InAcquire aim (AwaitWake tries)) (Flag v) = either_shown _ _ (eqb v 1) _ _ (stays_shown _ _) (stays_shown _ _)
-  shown_by (InCells (QuietCells i)) (Cell v) = none_shown _ _
-  shown_by (InCells (QuietLast i)) (Quiet quiet) = either_shown _ _ quiet _ _ (none_shown _ _) (none_shown _ _)
+  shown_by (InCells (QuietCells judging i)) (Cell v) = none_shown _ _
+  shown_by (InCells (QuietLast ToTell i)) (Quiet quiet) = none_shown _ _
+  shown_by (InCells (QuietLast ToRelease i)) (Quiet quiet) = either_shown _ _ quiet _ _ (none_shown _ _) (none_shown _ _)
   shown_by (InRelease releasing ReleaseLoad) (Saw word) = release_shown C (Saw word) releasing word
   shown_by (InRelease releasing (ReleaseExchange last)) (Saw word) = release_shown C (Saw word) releasing word
   shown_by (InRelease releasing (ReleaseExchange last)) Made = none_shown _ _
@@ -301,8 +303,9 @@ module _ {C : Type 0} (N : ℕ) where
   out_by (InAcquire aim (Queue arrival last)) (Saw word) e a = refl
   out_by (InAcquire aim (Queue arrival last)) Made e a = refl
   out_by (InAcquire aim (AwaitWake tries)) (Flag v) e a = either_out (eqb v 1) _ _ refl refl
-  out_by (InCells (QuietCells i)) (Cell v) e a = refl
-  out_by (InCells (QuietLast i)) (Quiet quiet) e a = either_out quiet _ _ refl refl
+  out_by (InCells (QuietCells judging i)) (Cell v) e a = refl
+  out_by (InCells (QuietLast ToTell i)) (Quiet quiet) e a = refl
+  out_by (InCells (QuietLast ToRelease i)) (Quiet quiet) e a = either_out quiet _ _ refl refl
   out_by (InRelease releasing ReleaseLoad) (Saw word) e a = release_out C releasing word
   out_by (InRelease releasing (ReleaseExchange last)) (Saw word) e a = release_out C releasing word
   out_by (InRelease releasing (ReleaseExchange last)) Made e a = refl

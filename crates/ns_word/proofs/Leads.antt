@@ -28,17 +28,19 @@ use Rattle.ns_word.specs.declared.wait.LeavePlace.TheVariants.{LeaveLoad, TakeTo
 use Rattle.ns_word.specs.declared.try_walk.TryPlace.TheVariants.{TryAcquire}
 use Rattle.ns_word.specs.declared.acquire_walk.AcquirePlace.TheVariants.{AcquireLoad, AcquireExchange, TakeToQueue}
 use Rattle.ns_word.specs.declared.release_walk.ReleasePlace.TheVariants.{ReleaseLoad, ReleaseExchange, TakeToScan, ScanCells, ScanAndRelease}
+use Rattle.ns_word.specs.declared.cell_walk.Judging.{Judging}
+use Rattle.ns_word.specs.declared.cell_walk.Judging.TheVariants.{ToTell, ToRelease}
 use Rattle.ns_word.specs.declared.cell_walk.CellPlace.TheVariants.{QuietCells, QuietLast}
 use Rattle.ns_word.specs.declared.walk.Walk.{Walk}
 use Rattle.ns_word.specs.declared.act.Waking.{Waking}
 use Rattle.ns_word.specs.declared.signal_walk.SignalPlace.TheVariants.{SignalLoad, TakeToWake}
 use Rattle.ns_word.specs.declared.walk.Walk.TheVariants.{InTry, InAcquire, InRelease, InCells, InWait, InSignal}
 use Rattle.ns_word.specs.declared.walk.Next.TheVariants.{On, Idle, Done}
-use Rattle.ns_word.specs.declared.walk.Reply.TheVariants.{Busy, Noisy, Answered}
+use Rattle.ns_word.specs.declared.walk.Reply.TheVariants.{Busy, Answered}
 use Rattle.ns_word.specs.Words.{mode_released, may_acquire, needs_scan}
 use Rattle.ns_word.specs.Lists.{has_eligible}
 use Rattle.ns_word.specs.Waits.{is_limited, mode_for, phase_kept}
-use Rattle.ns_word.specs.Walks.{walk_after, acquire_by, back_with, acquired_for, load_place, armed_place, signal_by, pay_woken, expected_for, calls_from_lock, was_woken, release_by, quiet_place, scan_place, pay_releasing, test_place, unmet_by, queue_by, pay_waiting, rest_or_look, leave_by, has_queues, is_queuing, has_armed, waits_in, pays, phase_by}
+use Rattle.ns_word.specs.Walks.{judged, walk_after, acquire_by, back_with, acquired_for, load_place, armed_place, signal_by, pay_woken, expected_for, calls_from_lock, was_woken, release_by, quiet_place, scan_place, pay_releasing, test_place, unmet_by, queue_by, pay_waiting, rest_or_look, leave_by, has_queues, is_queuing, has_armed, waits_in, pays, phase_by}
 use Rattle.ns_model.specs.Truths.{Truths, QuietKeeps}
 use Rattle.ns_word.specs.Answers.{cause_by}
 use Rattle.ns_word.specs.Steps.{MayShow, newly_held, opening_by, held_after, meets_at}
@@ -119,17 +121,18 @@ module _ {C : Type 0} {N : ℕ} (truths : Truths C) where
   taken_leads releasing last held true p = scan_leads releasing last held 0 p
   taken_leads releasing last held false p = (p, (refl, refl, refl, refl), refl, λ flag n f. f, λ none. refl)
 
-  quiet_place_at : (held : Option (Held C N)) (loaded : ℕ) (b : Bool) → ltb loaded (N - 1) ≡ b → 0 < N → HasMode Write held → IsSettled truths held →
-      Leads None (Some (InCells (cond b (QuietCells loaded) (QuietLast (N - 1))))) held
-  quiet_place_at held loaded true e some p settled = let less = ltb-true loaded (N - 1) e in (((p, omega (arith, less)), settled), (refl, refl, refl, refl), refl, λ flag n f. f, λ none. refl)
-  quiet_place_at held loaded false e some p settled = (((p, omega (arith, some)), settled), (refl, refl, refl, refl), refl, λ flag n f. f, λ none. refl)
+  quiet_place_at : (judging : Judging) (held : Option (Held C N)) (loaded : ℕ) (b : Bool) → ltb loaded (N - 1) ≡ b → 0 < N → HasMode Write held → IsSettled truths held →
+      Leads None (Some (InCells (cond b (QuietCells judging loaded) (QuietLast judging (N - 1))))) held
+  quiet_place_at judging held loaded true e some p settled = let less = ltb-true loaded (N - 1) e in (((p, omega (arith, less)), settled), (refl, refl, refl, refl), refl, λ flag n f. f, λ none. refl)
+  quiet_place_at judging held loaded false e some p settled = (((p, omega (arith, some)), settled), (refl, refl, refl, refl), refl, λ flag n f. f, λ none. refl)
 
-  pub quiet_leads : (held : Option (Held C N)) (loaded : ℕ) → 0 < N → HasMode Write held → IsSettled truths held → Leads None (Some (InCells (quiet_place N loaded))) held
-  quiet_leads held loaded some p settled = quiet_place_at held loaded (ltb loaded (N - 1)) refl some p settled
+  pub quiet_leads : (judging : Judging) (held : Option (Held C N)) (loaded : ℕ) → 0 < N → HasMode Write held → IsSettled truths held → Leads None (Some (InCells (quiet_place N judging loaded))) held
+  quiet_leads judging held loaded some p settled = quiet_place_at judging held loaded (ltb loaded (N - 1)) refl some p settled
 
-  pub judged_leads : (held : Option (Held C N)) (b : Bool) → (b ≡ true → CanLeave truths QuietWriter held) → IsSettled truths held → Leads None (walk_after (cond b (On (InRelease QuietWriter ReleaseLoad)) (Done Noisy))) held
-  judged_leads held true p settled = (p refl, (refl, refl, refl, refl), refl, λ flag n f. f, λ none. refl)
-  judged_leads held false p settled = (settled, (refl, refl, refl, refl), refl, λ flag n f. f, λ none. refl)
+  pub judged_leads : (judging : Judging) (held : Option (Held C N)) (b : Bool) → (b ≡ true → CanLeave truths QuietWriter held) → IsSettled truths held → Leads None (walk_after (judged judging b)) held
+  judged_leads ToTell held b p settled = (settled, (refl, refl, refl, refl), refl, λ flag n f. f, λ none. refl)
+  judged_leads ToRelease held true p settled = (p refl, (refl, refl, refl, refl), refl, λ flag n f. f, λ none. refl)
+  judged_leads ToRelease held false p settled = (settled, (refl, refl, refl, refl), refl, λ flag n f. f, λ none. refl)
 
   pub pay_leads : (releasing : Releasing) (held : Option (Held C N)) (b : Bool) → let next = walk_after (pay_releasing releasing b) in
       (held ≡ None → PlaceFits truths next held) × (pays next ≡ b) × (has_queues next ≡ false) × (waits_in next ≡ None) × (has_armed next ≡ false) × (is_queuing next ≡ false) × Way None next × (calls_from_lock next ≡ true) × IsExpected (phase_by next) ThePhase.Idle × (was_woken next ≡ false)

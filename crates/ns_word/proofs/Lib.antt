@@ -1,8 +1,10 @@
 pub mod Acts
 pub mod Answers
 pub mod Asked
+pub mod Calls
 pub mod Chains
 pub mod Codes
+pub mod Courses
 pub mod Dispatch
 pub mod EnvBegins
 pub mod EnvKeeps

@@ -110,8 +110,8 @@ module _ (C : Type 0) where
   cell_gains_not (GetLoad i) word g = g
   cell_gains_not (SetLoad i v) word g = g
   cell_gains_not (SetStore i v) word g = g
-  cell_gains_not (QuietCells i) word g = g
-  cell_gains_not (QuietLast i) word g = g
+  cell_gains_not (QuietCells judging i) word g = g
+  cell_gains_not (QuietLast judging i) word g = g
 
   queue_gains_not : (wait : Wait C) (again : Bool) (place : QueuePlace) (word : Word) → Gains (want_queuing wait again place) word → ⊥
   queue_gains_not wait again LookIn word g = g

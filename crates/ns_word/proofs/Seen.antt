@@ -30,6 +30,7 @@ use Rattle.ns_word.specs.declared.acquire_walk.AcquirePlace.{AcquirePlace}
 use Rattle.ns_word.specs.declared.acquire_walk.AcquirePlace.TheVariants.{AcquireLoad, AcquireExchange, TakeToQueue, Arm, Queue, AwaitWake}
 use Rattle.ns_word.specs.declared.release_walk.ReleasePlace.{ReleasePlace}
 use Rattle.ns_word.specs.declared.release_walk.ReleasePlace.TheVariants.{ReleaseLoad, ReleaseExchange, TakeToScan, ScanCells, ScanAndRelease, Pay}
+use Rattle.ns_word.specs.declared.cell_walk.Judging.TheVariants.{ToTell, ToRelease}
 use Rattle.ns_word.specs.declared.cell_walk.CellPlace.{CellPlace}
 use Rattle.ns_word.specs.declared.cell_walk.CellPlace.TheVariants.{GetLoad, SetLoad, SetStore, QuietCells, QuietLast}
 use Rattle.ns_word.specs.declared.signal_walk.SignalPlace.{SignalPlace}
@@ -194,11 +195,12 @@ module _ (C : Type 0) where
   release_next N releasing place found f p = p
 
   cell_next : (N : ℕ) (place : CellPlace) (found : Found) → Seen (walk_after (got_in_cells N place found))
-  cell_next N (QuietLast i) (Quiet is_quiet) = after is_quiet (On (InRelease QuietWriter ReleaseLoad)) _ tt tt
+  cell_next N (QuietLast ToTell i) (Quiet is_quiet) = tt
+  cell_next N (QuietLast ToRelease i) (Quiet is_quiet) = after is_quiet (On (InRelease QuietWriter ReleaseLoad)) _ tt tt
   cell_next N (GetLoad i) (Cell v) = tt
   cell_next N (SetLoad i v) (Cell w) = tt
   cell_next N (SetStore i v) Made = tt
-  cell_next N (QuietCells i) (Cell v) = tt
+  cell_next N (QuietCells judging i) (Cell v) = tt
   cell_next N place found = tt
 
   queue_next : (N : ℕ) (wait : Wait C) (again : Bool) (place : QueuePlace) (found : Found) → FoundFits found → Seen (Some (InWait wait (InQueuing again place))) → Seen (walk_after (got_queuing N wait again place found))

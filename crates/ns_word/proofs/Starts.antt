@@ -23,6 +23,7 @@ use Rattle.ns_word.specs.declared.signal_walk.SignalPlace.TheVariants.{SignalLoa
 use Rattle.ns_word.specs.declared.try_walk.TryPlace.TheVariants.{TryLoad}
 use Rattle.ns_word.specs.declared.acquire_walk.AcquirePlace.TheVariants.{AcquireLoad}
 use Rattle.ns_word.specs.declared.release_walk.ReleasePlace.TheVariants.{ReleaseLoad}
+use Rattle.ns_word.specs.declared.cell_walk.Judging.{Judging}
 use Rattle.ns_word.specs.declared.cell_walk.CellPlace.TheVariants.{QuietCells, QuietLast}
 use Rattle.ns_word.specs.declared.walk.Walk.{Walk}
 use Rattle.ns_word.specs.declared.walk.Walk.TheVariants.{InTry, InAcquire, InRelease, InCells, InWait, InSignal}
@@ -122,13 +123,13 @@ module _ (C : Type 0) (N : ℕ) where
     words_seen = none_seen 0 seats;
   }
 
--- a quiet release begins at the first cell
-quiet_first_at : (C : Type 0) (N : ℕ) (b : Bool) → ltb 0 (N - 1) ≡ b → IsFirst {C = C} N (InCells (cond b (QuietCells 0) (QuietLast (N - 1))))
-quiet_first_at C N true e = refl
-quiet_first_at C N false e = let most = ltb-false 0 (N - 1) e in omega (arith, most)
+-- a call that judges the section begins at the first cell
+quiet_first_at : (C : Type 0) (N : ℕ) (judging : Judging) (b : Bool) → ltb 0 (N - 1) ≡ b → IsFirst {C = C} N (InCells (cond b (QuietCells judging 0) (QuietLast judging (N - 1))))
+quiet_first_at C N judging true e = refl
+quiet_first_at C N judging false e = let most = ltb-false 0 (N - 1) e in omega (arith, most)
 
-pub quiet_is_first : (C : Type 0) (N : ℕ) → IsFirst {C = C} N (quiet_first N)
-quiet_is_first C N = quiet_first_at C N (ltb 0 (N - 1)) refl
+pub quiet_is_first : (C : Type 0) (N : ℕ) (judging : Judging) → IsFirst {C = C} N (quiet_first N judging)
+quiet_is_first C N judging = quiet_first_at C N judging (ltb 0 (N - 1)) refl
 
 -- and so does the test of a wait
 test_first_at : {C : Type 0} (N : ℕ) (wait : Wait C) (b : Bool) → ltb 0 (N - 1) ≡ b → IsFirst N (cond b (InWait wait (TestCells OnEntry 0)) (InWait wait (TestLast OnEntry (N - 1))))

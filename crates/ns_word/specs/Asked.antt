@@ -1,20 +1,27 @@
 -- What a call was asked to do, by its place.
 use Rattle.ns_word.specs.declared.word.Releasing.TheVariants.{QuietWriter}
 use Rattle.ns_word.specs.declared.wait.Aim.TheVariants.{ForLock, ForWait}
+use Rattle.ns_word.specs.declared.cell_walk.Judging.{Judging}
+use Rattle.ns_word.specs.declared.cell_walk.Judging.TheVariants.{ToTell, ToRelease}
 use Rattle.ns_word.specs.declared.cell_walk.CellPlace.{CellPlace}
 use Rattle.ns_word.specs.declared.cell_walk.CellPlace.TheVariants.{GetLoad, SetLoad, SetStore, QuietCells, QuietLast}
 use Rattle.ns_word.specs.declared.walk.Walk.{Walk}
 use Rattle.ns_word.specs.declared.walk.Walk.TheVariants.{InTry, InAcquire, InRelease, InCells, InWait, InSignal}
 use Rattle.ns_word.specs.declared.request.Request.{Request}
-use Rattle.ns_word.specs.declared.request.Request.TheVariants.{Lock, TryLock, Release, Get, Set, Await, Wake}
+use Rattle.ns_word.specs.declared.request.Request.TheVariants.{Lock, TryLock, Release, Get, Set, IsQuiet, Await, Wake}
 
--- a quiet release looks at the cells first
+-- what a call was asked that judges the section
+abbrev pub asked_to_judge : {C : Type 0} → Judging → Request C
+asked_to_judge ToTell = IsQuiet
+asked_to_judge ToRelease = Release QuietWriter
+
+-- a quiet release judges the section first
 abbrev pub asked_in_cells : {C : Type 0} → CellPlace → Request C
 asked_in_cells (GetLoad i) = Get i
 asked_in_cells (SetLoad i v) = Set i v
 asked_in_cells (SetStore i v) = Set i v
-asked_in_cells (QuietCells i) = Release QuietWriter
-asked_in_cells (QuietLast i) = Release QuietWriter
+asked_in_cells (QuietCells judging i) = asked_to_judge judging
+asked_in_cells (QuietLast judging i) = asked_to_judge judging
 
 -- an acquire belongs to the wait that comes back with it, if it is for one
 abbrev pub asked_of : {C : Type 0} → Walk C → Request C

@@ -45,8 +45,8 @@ IsForVariable (OnVariable k) = Unit {0}
 abbrev pub IsFirst : {C : Type 0} → ℕ → Walk C → Type 0
 IsFirst N (InTry mode TryLoad) = Unit {0}
 IsFirst N (InAcquire (ForLock mode) (AcquireLoad arrival)) = arrival ≡ AsFresh
-IsFirst N (InCells (QuietCells i)) = i ≡ 0
-IsFirst N (InCells (QuietLast i)) = i ≡ 0
+IsFirst N (InCells (QuietCells judging i)) = i ≡ 0
+IsFirst N (InCells (QuietLast judging i)) = i ≡ 0
 IsFirst N (InRelease releasing ReleaseLoad) = Unit {0}
 IsFirst N (InCells (GetLoad i)) = Unit {0}
 IsFirst N (InCells (SetLoad i v)) = Unit {0}

@@ -3,11 +3,13 @@ pub mod Asked
 pub mod Begins
 pub mod Chains
 pub mod Codec
+pub mod Courses
 pub mod EnvSteps
 pub mod EnvWalks
 pub mod Finds
 pub mod Lawful
 pub mod Lists
+pub mod Meanings
 pub mod Places
 pub mod Room
 pub mod Seen

@@ -136,8 +136,8 @@ abbrev pub CellFits : {C : Type 0} {N : ℕ} → CellPlace → Option (Held C N)
 CellFits {C} {N} (GetLoad i) held = IsSome held × (i < N)
 CellFits {C} {N} (SetLoad i v) held = HasMode Write held × (i < N)
 CellFits {C} {N} (SetStore i v) held = HasMode Write held × (i < N)
-CellFits {C} {N} (QuietCells i) held = HasMode Write held × (i + 1 < N)
-CellFits {C} {N} (QuietLast i) held = HasMode Write held × (i + 1 ≡ N)
+CellFits {C} {N} (QuietCells judging i) held = HasMode Write held × (i + 1 < N)
+CellFits {C} {N} (QuietLast judging i) held = HasMode Write held × (i + 1 ≡ N)
 
 -- what a wait has seen that is about to queue; one for a variable doesn't look then
 abbrev pub QueueFits : {C : Type 0} → ℕ → Subject C → QueuePlace → Type 0

@@ -31,6 +31,8 @@ use Rattle.ns_word.specs.declared.acquire_walk.AcquirePlace.{AcquirePlace}
 use Rattle.ns_word.specs.declared.acquire_walk.AcquirePlace.TheVariants.{AcquireLoad, AcquireExchange, TakeToQueue, Arm, Queue, AwaitWake}
 use Rattle.ns_word.specs.declared.release_walk.ReleasePlace.{ReleasePlace}
 use Rattle.ns_word.specs.declared.release_walk.ReleasePlace.TheVariants.{ReleaseLoad, ReleaseExchange, TakeToScan, ScanCells, ScanAndRelease, Pay}
+use Rattle.ns_word.specs.declared.cell_walk.Judging.{Judging}
+use Rattle.ns_word.specs.declared.cell_walk.Judging.TheVariants.{ToTell, ToRelease}
 use Rattle.ns_word.specs.declared.cell_walk.CellPlace.{CellPlace}
 use Rattle.ns_word.specs.declared.cell_walk.CellPlace.TheVariants.{GetLoad, SetLoad, SetStore, QuietCells, QuietLast}
 use Rattle.ns_word.specs.declared.walk.Walk.{Walk}
@@ -44,7 +46,7 @@ use Rattle.ns_word.specs.declared.act.Act.TheVariants.{LoadWord, Acquire, TakeQu
 use Rattle.ns_word.specs.declared.act.Found.{Found}
 use Rattle.ns_word.specs.declared.act.Found.TheVariants.{Saw, Made, Cell, Quiet, Tested, Scanned, Paid, Left, Woke, Flag, Looked}
 use Rattle.ns_word.specs.declared.walk.Reply.{Reply}
-use Rattle.ns_word.specs.declared.walk.Reply.TheVariants.{Succeeded, Busy, Noisy, Number, Answered}
+use Rattle.ns_word.specs.declared.walk.Reply.TheVariants.{Succeeded, Busy, Noisy, Number, Is, Answered}
 use Rattle.ns_word.specs.declared.walk.Next.{Next}
 use Rattle.ns_word.specs.declared.walk.Next.TheVariants.{On, Idle, Done}
 use Rattle.ns_word.specs.Words.{is_woken, tries_of, may_acquire, needs_scan, word_taken}
@@ -80,8 +82,8 @@ abbrev pub want_in_cells : {C : Type 0} → CellPlace → Act C
 want_in_cells (GetLoad i) = LoadCell i
 want_in_cells (SetLoad i v) = LoadCell i
 want_in_cells (SetStore i v) = StoreCell i v
-want_in_cells (QuietCells i) = LoadCell i
-want_in_cells (QuietLast i) = JudgeQuiet i
+want_in_cells (QuietCells judging i) = LoadCell i
+want_in_cells (QuietLast judging i) = JudgeQuiet i
 
 -- the step that a wait wants that is about to queue
 abbrev pub want_queuing : {C : Type 0} → Wait C → Bool → QueuePlace → Act C
@@ -146,9 +148,14 @@ release_by releasing word =
     else if word.spin then Idle (InRelease releasing ReleaseLoad)
     else On (InRelease releasing (TakeToScan word))
 
--- where a quiet release goes that has loaded so many of N cells
-abbrev pub quiet_place : ℕ → ℕ → CellPlace
-quiet_place N loaded = if nat_lt loaded (N - 1) then QuietCells loaded else QuietLast (N - 1)
+-- where a call goes that judges the section and has loaded so many of N cells
+abbrev pub quiet_place : ℕ → Judging → ℕ → CellPlace
+quiet_place N judging loaded = if nat_lt loaded (N - 1) then QuietCells judging loaded else QuietLast judging (N - 1)
+
+-- where it goes once it has judged the section
+abbrev pub judged : {C : Type 0} → Judging → Bool → Next C
+judged ToTell quiet = Done (Is quiet)
+judged ToRelease quiet = if quiet then On (InRelease QuietWriter ReleaseLoad) else Done Noisy
 
 -- where a release with the queues goes that has loaded so many of N cells
 abbrev pub scan_place : ℕ → Word → ℕ → ReleasePlace
@@ -207,9 +214,9 @@ rest_or_look wait = if is_limited wait.limits then On (InWait wait LookOut) else
 abbrev pub leave_by : {C : Type 0} → Wait C → Cause → Word → Next C
 leave_by wait cause word = if word.spin then Idle (InWait wait (InLeaving cause LeaveLoad)) else On (InWait wait (InLeaving cause (TakeToLeave word)))
 
--- the first place of a quiet release, over a row of N cells
-abbrev pub quiet_first : {C : Type 0} → ℕ → Walk C
-quiet_first N = InCells (quiet_place N 0)
+-- the first place of a call that judges the section, over a row of N cells
+abbrev pub quiet_first : {C : Type 0} → ℕ → Judging → Walk C
+quiet_first N judging = InCells (quiet_place N judging 0)
 
 -- where a call that wakes goes by the word last seen
 abbrev pub signal_by : {C : Type 0} → Waking → ℕ → Word → Next C
@@ -269,8 +276,8 @@ abbrev pub got_in_cells : {C : Type 0} → ℕ → CellPlace → Found → Next 
 got_in_cells N (GetLoad i) (Cell v) = Done (Number v)
 got_in_cells N (SetLoad i v) (Cell w) = On (InCells (SetStore i v))
 got_in_cells N (SetStore i v) Made = Done Succeeded
-got_in_cells N (QuietCells i) (Cell v) = On (InCells (quiet_place N (i + 1)))
-got_in_cells N (QuietLast i) (Quiet is_quiet) = if is_quiet then On (InRelease QuietWriter ReleaseLoad) else Done Noisy
+got_in_cells N (QuietCells judging i) (Cell v) = On (InCells (quiet_place N judging (i + 1)))
+got_in_cells N (QuietLast judging i) (Quiet is_quiet) = judged judging is_quiet
 got_in_cells N place found = On (InCells place)
 
 -- where a wait goes that is about to queue

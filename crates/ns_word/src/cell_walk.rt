@@ -1,12 +1,21 @@
 //! What a section does with its row: it reads a cell, writes one, or is judged quiet.
 
 ghost use Rattle.std.specs.Prelude.{◌≡◌, ◌≤◌};
-ghost use Rattle.ns_word.specs.Walks.{want_in_cells, got_in_cells, quiet_place};
+ghost use Rattle.ns_word.specs.Walks.{want_in_cells, got_in_cells, judged, quiet_place};
 
 use crate::act::{Act, Found};
 use crate::release_walk::ReleasePlace;
 use crate::walk::{Next, Reply, Walk};
 use crate::word::Releasing;
+
+/// What a call judges the section in hand for.
+#[derive(Clone, Copy)]
+pub enum Judging {
+    /// To tell whether it is quiet.
+    ToTell,
+    /// To release it if it is quiet.
+    ToRelease,
+}
 
 /// A place in a call on the row of the section in hand.
 #[derive(Clone, Copy)]
@@ -17,22 +26,38 @@ pub enum CellPlace {
     SetLoad(u8, u64),
     /// A write that is about to store the value.
     SetStore(u8, u64),
-    /// A quiet release that is about to load this cell, which isn't the last.
-    QuietCells(u8),
-    /// A quiet release that is about to load this cell, the last.
-    QuietLast(u8),
+    /// The section is judged, and this cell, which isn't the last, is about to be loaded.
+    QuietCells(Judging, u8),
+    /// The section is judged, and this cell, the last, is about to be loaded.
+    QuietLast(Judging, u8),
 }
 
-/// Where a quiet release goes that has loaded so many cells.
-pub(crate) fn quiet_place<const N: usize>(loaded: usize) -> CellPlace
+/// Where a call goes that judges the section and has loaded so many cells.
+pub(crate) fn quiet_place<const N: usize>(judging: Judging, loaded: usize) -> CellPlace
     requires { N ≤ 16 }
-    ensures { result ≡ quiet_place N loaded }
+    ensures { result ≡ quiet_place N judging loaded }
 {
     let last = N.saturating_sub(1);
     if loaded < last {
-        CellPlace::QuietCells(loaded as u8)
+        CellPlace::QuietCells(judging, loaded as u8)
     } else {
-        CellPlace::QuietLast(last as u8)
+        CellPlace::QuietLast(judging, last as u8)
+    }
+}
+
+/// Where a call goes that has judged the section.
+fn judged<C: Copy>(judging: Judging, is_quiet: bool) -> Next<C>
+    ensures { result ≡ judged judging is_quiet }
+{
+    match judging {
+        Judging::ToTell => Next::Done(Reply::Is(is_quiet)),
+        Judging::ToRelease => {
+            if is_quiet {
+                Next::On(Walk::InRelease(Releasing::QuietWriter, ReleasePlace::ReleaseLoad))
+            } else {
+                Next::Done(Reply::Noisy)
+            }
+        }
     }
 }
 
@@ -45,8 +70,8 @@ impl CellPlace {
             CellPlace::GetLoad(i) => Act::LoadCell(i),
             CellPlace::SetLoad(i, _) => Act::LoadCell(i),
             CellPlace::SetStore(i, value) => Act::StoreCell(i, value),
-            CellPlace::QuietCells(i) => Act::LoadCell(i),
-            CellPlace::QuietLast(i) => Act::JudgeQuiet(i),
+            CellPlace::QuietCells(_, i) => Act::LoadCell(i),
+            CellPlace::QuietLast(_, i) => Act::JudgeQuiet(i),
         }
     }
 
@@ -61,16 +86,10 @@ impl CellPlace {
                 Next::On(Walk::InCells(CellPlace::SetStore(i, value)))
             }
             (CellPlace::SetStore(_, _), Found::Made) => Next::Done(Reply::Succeeded),
-            (CellPlace::QuietCells(i), Found::Cell(_)) => {
-                Next::On(Walk::InCells(quiet_place::<N>(i as usize + 1)))
+            (CellPlace::QuietCells(judging, i), Found::Cell(_)) => {
+                Next::On(Walk::InCells(quiet_place::<N>(judging, i as usize + 1)))
             }
-            (CellPlace::QuietLast(_), Found::Quiet(is_quiet)) => {
-                if is_quiet {
-                    Next::On(Walk::InRelease(Releasing::QuietWriter, ReleasePlace::ReleaseLoad))
-                } else {
-                    Next::Done(Reply::Noisy)
-                }
-            }
+            (CellPlace::QuietLast(judging, _), Found::Quiet(is_quiet)) => judged(judging, is_quiet),
             (place, _) => Next::On(Walk::InCells(place)),
         }
     }

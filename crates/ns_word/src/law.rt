@@ -26,7 +26,6 @@ ghost use Rattle.ns_word.specs.declared.walk.Reply.TheVariants.{Answered};
 ghost use Rattle.ns_word.specs.declared.act.Found.{Found};
 ghost use Rattle.ns_word.specs.declared.act.Found.TheVariants.{Looked};
 ghost use Rattle.ns_word.specs.Answers.{cause_kept, has_come_back, is_back};
-ghost use Rattle.ns_word.specs.Asked.{asked_of};
 ghost use Rattle.ns_word.specs.Begins.{Begins, SeatStep, IsFirst, fresh_state};
 ghost use Rattle.ns_word.specs.Steps.{State, Step, entry_of};
 ghost use Rattle.ns_word.specs.Finds.{found_of, number_at, IsLook};
@@ -151,11 +150,6 @@ pub fn early_answers_were_shown<C: Condition<N>, const N: usize>()
     ensures { (walk : Walk C) (found : Found) (cause : Cause) →
         ((next : Walk C) → walk_after (got_of N walk found) ≡ Some next → cause_kept next ≡ Some cause → (cause_kept walk ≡ Some cause) ⊎ (found ≡ Looked (Some cause)))
         × (got_of N walk found ≡ Done (Answered (answer_of cause)) → (cause_kept walk ≡ Some cause) ⊎ (found ≡ Looked (Some cause))) }
-{}
-
-/// No step of a call changes what it was asked to do: its mode, cell, value, wait or variable.
-pub fn calls_stay_what_they_were_asked<C: Condition<N>, const N: usize>()
-    ensures { (walk next : Walk C) (found : Found) → walk_after (got_of N walk found) ≡ Some next → asked_of next ≡ asked_of walk }
 {}
 
 /// No call begins at a place that keeps a cause.

@@ -30,6 +30,7 @@
 
 pub mod acquire_walk;
 pub mod act;
+pub mod call_law;
 pub mod cell_walk;
 pub mod codec;
 pub mod env_act;

@@ -1,10 +1,10 @@
 //! What a call was asked to do, told by its place.
 
 ghost use Rattle.std.specs.Prelude.{◌≡◌, ⊤};
-ghost use Rattle.ns_word.specs.Asked.{asked_of, asked_in_cells};
+ghost use Rattle.ns_word.specs.Asked.{asked_of, asked_in_cells, asked_to_judge};
 
 use crate::act::Waking;
-use crate::cell_walk::CellPlace;
+use crate::cell_walk::{CellPlace, Judging};
 use crate::wait::{Aim, Wait};
 use crate::walk::Walk;
 use crate::word::Releasing;
@@ -24,6 +24,8 @@ pub enum Request<C> {
     Get(u8),
     /// To set a cell to a value.
     Set(u8, u64),
+    /// To tell whether the section is quiet.
+    IsQuiet,
     /// To leave the section for this wait, and to come back.
     Await(Wait<C>),
     /// To wake those who wait for the variable of this number.
@@ -57,6 +59,18 @@ impl<C: Copy> Walk<C> {
     }
 }
 
+impl Judging {
+    /// What a call was asked to do that judges the section.
+    fn asked<C: Copy>(self) -> Request<C>
+        ensures { result ≡ asked_to_judge self }
+    {
+        match self {
+            Judging::ToTell => Request::IsQuiet,
+            Judging::ToRelease => Request::Release(Releasing::QuietWriter),
+        }
+    }
+}
+
 impl CellPlace {
     /// What a call on the row was asked to do.
     fn asked<C: Copy>(self) -> Request<C>
@@ -66,8 +80,8 @@ impl CellPlace {
             CellPlace::GetLoad(i) => Request::Get(i),
             CellPlace::SetLoad(i, value) => Request::Set(i, value),
             CellPlace::SetStore(i, value) => Request::Set(i, value),
-            CellPlace::QuietCells(_) => Request::Release(Releasing::QuietWriter),
-            CellPlace::QuietLast(_) => Request::Release(Releasing::QuietWriter),
+            CellPlace::QuietCells(judging, _) => judging.asked(),
+            CellPlace::QuietLast(judging, _) => judging.asked(),
         }
     }
 }

@@ -24,7 +24,7 @@
 //! | | `Pay` | has no section any more, and owes wakes | clear the flag of the next who is owed one | again while wakes are owed, then `Succeeded` |
 //! | **cells**: a section | `GetLoad` | | load the cell | its value |
 //! | | `SetLoad`, `SetStore` | it writes | load the cell's old value, store the new one | `Succeeded` |
-//! | | `QuietCells`, `QuietLast` | it writes | load each cell | the last tells: `ReleaseLoad` of a quiet writer, or `Noisy` |
+//! | | `QuietCells`, `QuietLast` | it writes | load each cell | the last tells: a question is answered; a quiet release goes to `ReleaseLoad` of a quiet writer, or answers `Noisy` |
 //! | **wait** | | as its place says | as its place says | as its place says, in `wait_walk.rt` |
 //! | **signal**, and broadcast: a section or none | `SignalLoad` | | load the word | `TakeToWake`; idle, and again while another has the queues |
 //! | | `TakeToWake` | nobody has the queues | set the spinlock bit | `WakeAndReturn` |
@@ -38,11 +38,12 @@
 //! from that place.
 
 ghost use Rattle.std.specs.Prelude.{◌≡◌, ◌≤◌, ⊤};
+ghost use Rattle.ns_word.specs.declared.cell_walk.Judging.TheVariants.{ToTell, ToRelease};
 ghost use Rattle.ns_word.specs.Walks.{want_of, got_of, quiet_first, wait_first};
 
 use crate::acquire_walk::AcquirePlace;
 use crate::act::{Act, Found, Waking};
-use crate::cell_walk::{CellPlace, quiet_place};
+use crate::cell_walk::{CellPlace, Judging, quiet_place};
 use crate::release_walk::ReleasePlace;
 use crate::signal_walk::SignalPlace;
 use crate::try_walk::TryPlace;
@@ -92,7 +93,7 @@ pub enum Reply {
     Number(u64),
     /// No note was made, since 64 numbers are taken.
     NotesFull,
-    /// Whether a note is notified.
+    /// Whether a note is notified, or a section is quiet.
     Is(bool),
     /// The expiry of a note, in ticks, if it has one.
     Expiry(Option<u64>),
@@ -167,9 +168,19 @@ impl<C: Copy> Walk<C> {
     /// Needs a row of at most 16 cells.
     pub fn quiet_release<const N: usize>() -> Walk<C>
         requires { N ≤ 16 }
-        ensures { result ≡ quiet_first N }
+        ensures { result ≡ quiet_first N ToRelease }
     {
-        Walk::InCells(quiet_place::<N>(0))
+        Walk::InCells(quiet_place::<N>(Judging::ToRelease, 0))
+    }
+
+    /// The first place of a question whether the section in hand is quiet, over a row of `N` cells.
+    ///
+    /// Needs a row of at most 16 cells.
+    pub fn is_quiet<const N: usize>() -> Walk<C>
+        requires { N ≤ 16 }
+        ensures { result ≡ quiet_first N ToTell }
+    {
+        Walk::InCells(quiet_place::<N>(Judging::ToTell, 0))
     }
 
     /// The first place of a wait over a row of `N` cells.

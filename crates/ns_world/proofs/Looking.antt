@@ -25,6 +25,7 @@ use Rattle.ns_word.specs.declared.wait.LeavePlace.TheVariants.{LeaveLoad, TakeTo
 use Rattle.ns_word.specs.declared.try_walk.TryPlace.TheVariants.{TryLoad, TryAcquire}
 use Rattle.ns_word.specs.declared.acquire_walk.AcquirePlace.TheVariants.{AcquireLoad, AcquireExchange, TakeToQueue, Arm, Queue, AwaitWake}
 use Rattle.ns_word.specs.declared.release_walk.ReleasePlace.TheVariants.{ReleaseLoad, ReleaseExchange, TakeToScan, ScanCells, ScanAndRelease, Pay}
+use Rattle.ns_word.specs.declared.cell_walk.Judging.TheVariants.{ToTell, ToRelease}
 use Rattle.ns_word.specs.declared.cell_walk.CellPlace.TheVariants.{GetLoad, SetLoad, SetStore, QuietCells, QuietLast}
 use Rattle.ns_word.specs.declared.env_walk.Chain.TheVariants.{ForLook}
 use Rattle.ns_word.specs.declared.env_walk.EnvWalk.{EnvWalk}
@@ -129,8 +130,9 @@ module _ {C : Type 0} (N : ℕ) (P : Option ℕ → Type 0) where
   walk_noted (InAcquire aim (Queue arrival last)) (Saw word) none p = record { note = p }
   walk_noted (InAcquire aim (Queue arrival last)) Made none p = record { note = p }
   walk_noted (InAcquire aim (AwaitWake tries)) (Flag v) none p = by_two (v == 1) (record { note = p }) (record { note = p })
-  walk_noted (InCells (QuietCells i)) (Cell v) none p = record { note = none }
-  walk_noted (InCells (QuietLast i)) (Quiet is_quiet) none p = by_two is_quiet (record { note = none }) (record { note = none })
+  walk_noted (InCells (QuietCells judging i)) (Cell v) none p = record { note = none }
+  walk_noted (InCells (QuietLast ToTell i)) (Quiet is_quiet) none p = record { note = none }
+  walk_noted (InCells (QuietLast ToRelease i)) (Quiet is_quiet) none p = by_two is_quiet (record { note = none }) (record { note = none })
   walk_noted (InRelease releasing ReleaseLoad) (Saw word) none p = release_noted releasing word none
   walk_noted (InRelease releasing (ReleaseExchange last)) (Saw word) none p = release_noted releasing word none
   walk_noted (InRelease releasing (ReleaseExchange last)) Made none p = record { note = none }

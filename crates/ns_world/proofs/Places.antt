@@ -12,6 +12,7 @@ use Rattle.ns_word.specs.declared.wait.Wait.{Wait as WaitFor}
 use Rattle.ns_word.specs.declared.wait.Visit.TheVariants.{OnEntry}
 use Rattle.ns_word.specs.declared.wait.WaitPlace.TheVariants.{TestCells, TestLast, InQueuing}
 use Rattle.ns_word.specs.declared.wait.QueuePlace.TheVariants.{Load}
+use Rattle.ns_word.specs.declared.cell_walk.Judging.TheVariants.{ToRelease}
 use Rattle.ns_word.specs.declared.cell_walk.CellPlace.TheVariants.{QuietCells, QuietLast}
 use Rattle.ns_word.specs.declared.walk.Walk.TheVariants.{InCells, InWait}
 use Rattle.ns_word.specs.declared.act.Act.{Act}
@@ -57,7 +58,7 @@ module _ {C : Type 0} {N : ℕ} (truths : Truths C) (notes : ℕ → NoteStandin
   can_read (Some held) e settled = (cc, tt, settled)
 
   quiet_fits : (held : Option (Held C N)) (more : Bool) → nat_lt 0 (N - 1) ≡ more → 1 ≤ N → HasMode Write held → IsSettled truths held →
-      StartFits truths notes (OnLock (InCells (cond more (QuietCells 0) (QuietLast (N - 1))))) held
+      StartFits truths notes (OnLock (InCells (cond more (QuietCells ToRelease 0) (QuietLast ToRelease (N - 1))))) held
   quiet_fits held true e some mode settled = (refl, ((mode, grind (arith, nat_tests)), settled), tt, refl)
   quiet_fits held false e some mode settled = (grind (arith, nat_tests), ((mode, omega (arith, some)), settled), tt, refl)
 

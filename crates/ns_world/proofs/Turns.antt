@@ -7,6 +7,7 @@ use Rattle.ns_queue.specs.Queues.{Lists}
 use Rattle.ns_word.specs.declared.view.SeatView.{SeatView}
 use Rattle.ns_word.specs.declared.word.Word.{Word}
 use Rattle.ns_word.specs.declared.wait.WaitPlace.TheVariants.{TestCells, TestLast}
+use Rattle.ns_word.specs.declared.cell_walk.Judging.TheVariants.{ToRelease}
 use Rattle.ns_word.specs.declared.cell_walk.CellPlace.TheVariants.{QuietCells, QuietLast}
 use Rattle.ns_word.specs.declared.env_walk.EnvNext.{EnvNext}
 use Rattle.ns_word.specs.declared.env_walk.EnvNext.TheVariants.{Go, Repeat, Over, Shown}
@@ -40,7 +41,7 @@ abbrev StartCommits : {C : Type 0} → ℕ → Start C → Word → Lists C → 
 StartCommits seat (OnLock walk) word lists = Commits seat (want_of walk) word lists
 StartCommits seat (Ask walk) word lists = ⊥
 
-quiet_apart : (C : Type 0) (N : ℕ) (more : Bool) (seat : ℕ) (word : Word) (lists : Lists C) → Commits seat (want_of {C = C} (InCells (cond more (QuietCells 0) (QuietLast (N - 1))))) word lists → ⊥
+quiet_apart : (C : Type 0) (N : ℕ) (more : Bool) (seat : ℕ) (word : Word) (lists : Lists C) → Commits seat (want_of {C = C} (InCells (cond more (QuietCells ToRelease 0) (QuietLast ToRelease (N - 1))))) word lists → ⊥
 quiet_apart C N true seat word lists p = p
 quiet_apart C N false seat word lists p = p
 

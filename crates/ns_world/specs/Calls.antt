@@ -10,6 +10,7 @@ use Rattle.ns_word.specs.declared.wait.Aim.TheVariants.{ForLock}
 use Rattle.ns_word.specs.declared.try_walk.TryPlace.TheVariants.{TryLoad}
 use Rattle.ns_word.specs.declared.acquire_walk.AcquirePlace.TheVariants.{AcquireLoad}
 use Rattle.ns_word.specs.declared.release_walk.ReleasePlace.TheVariants.{ReleaseLoad}
+use Rattle.ns_word.specs.declared.cell_walk.Judging.TheVariants.{ToRelease}
 use Rattle.ns_word.specs.declared.cell_walk.CellPlace.TheVariants.{GetLoad, SetLoad}
 use Rattle.ns_word.specs.declared.env_walk.Chain.TheVariants.{ForIsNotified, ForNoteWait}
 use Rattle.ns_word.specs.declared.env_walk.EnvWalk.TheVariants.{NextLoad, Notifying, Advancing, ClockLoad, ExpiryLoad}
@@ -37,7 +38,7 @@ start_of N mode TryLock = OnLock (InTry Write TryLoad)
 start_of N mode TryRLock = OnLock (InTry Read TryLoad)
 start_of N mode Unlock = OnLock (InRelease Writer ReleaseLoad)
 start_of N mode RUnlock = OnLock (InRelease Reader ReleaseLoad)
-start_of N mode UnlockQuiet = OnLock (quiet_first N)
+start_of N mode UnlockQuiet = OnLock (quiet_first N ToRelease)
 start_of N mode (Get i) = OnLock (InCells (GetLoad i))
 start_of N mode (Set i v) = OnLock (InCells (SetLoad i v))
 start_of N mode (Wait c limits) = OnLock (wait_first N (record { mode = mode_waited mode; on = OnCondition c; limits = limits }))

@@ -1,0 +1,656 @@
+-- Each step takes its call on: it goes on as it was asked, or its answer means what it says.
+use Rattle.std.proofs.Common.{◌≡◌, ◌&&◌, ◌||◌, inl, inr, ℕ, ◌+◌, ◌-◌, Bool, true, false, not, cond, eqb, ltb, List, [], ◌∷◌, ◌++◌, Option, None, Some, IsSome, slice_index, refl, ap, sym, ◌∙◌, subst}
+use Rattle.std.proofs.lemmas.List.{append-nil}
+use Rattle.ns_word.specs.declared.act.Act.TheVariants.{Acquire, Look, WaitReturning, ReturnQueues}
+use Rattle.ns_word.specs.declared.act.Change.TheVariants.{LeaveSelf}
+use Rattle.ns_model.specs.Sections.{is_met}
+use Rattle.ns_model.specs.Truths.{Truths}
+use Rattle.ns_model.specs.declared.event.Answer.{Answer}
+use Rattle.ns_model.specs.declared.event.Answer.TheVariants.{Met}
+use Rattle.ns_model.specs.declared.event.Entry.TheVariants.{Waited}
+use Rattle.ns_model.specs.declared.event.Event.{Event}
+use Rattle.ns_model.specs.declared.event.Exit.TheVariants.{CondWait, CvWait, Plain}
+use Rattle.ns_model.specs.declared.event.Mode.{Mode}
+use Rattle.ns_model.specs.declared.event.Mode.TheVariants.{Read, Write}
+use Rattle.ns_queue.specs.Queues.{waiters_of}
+use Rattle.ns_queue.specs.Waiters.{times_in}
+use Rattle.ns_queue.specs.declared.waiter.Which.TheVariants.{Cv}
+use Rattle.ns_word.proofs.Asked.{Asks}
+use Rattle.ns_word.specs.Answers.{cause_by, place_cause_kept}
+use Rattle.ns_word.specs.Asked.{asked_in_cells, asked_of, asked_to_judge}
+use Rattle.ns_word.specs.Courses.{AcquireSoFar, CallGoes, HasLeft, HasLookedFor, IsComing, KeptFits, QueuesAfter, QueuesSoFar, ReleaseSoFar, SignalSoFar, SoFar, TestsSoFar, WaitSoFar, course_after, left_by, looked_after}
+use Rattle.ns_word.specs.Lists.{has_some}
+use Rattle.ns_word.specs.Meanings.{ConditionWaitMeans, Course, HasLocked, HasReleased, HasWoken, InHand, IsQuietSection, MayAnswer, Means, Unchanged, VariableWaitMeans, leave_told, new_section}
+use Rattle.ns_word.specs.Places.{AimFits, CanLeave, CanWait, CellFits, ComesBack, IsForCondition, IsLeft, MayWait, PlaceFits, QueueFits, ReleaseFits, Tests, WaitFits}
+use Rattle.ns_word.specs.Steps.{State, Step, part_of, Effect, MayShow, Part, entry_of, exit_for, held_after, held_by, leave_of, newly_held, opening_by, section_of, taken_by, wake_of}
+use Rattle.ns_word.specs.Waits.{answer_kept, answer_of, arrival_of, home_of, is_limited, kept_in, mode_for}
+use Rattle.ns_word.specs.Walks.{acquire_by, acquired_for, armed_place, back_with, got_acquiring, got_in_cells, got_leaving, got_of, got_queuing, got_releasing, got_signaling, got_trying, got_waiting, judge_of, leave_by, load_place, look_or_queue, pay_releasing, pay_waiting, pay_woken, queue_by, quiet_place, release_by, rest_or_look, scan_place, signal_by, test_place, unmet_by, want_acquiring, want_in_cells, want_leaving, want_of, want_queuing, want_releasing, want_signaling, want_trying, want_waiting}
+use Rattle.ns_word.specs.Words.{is_held, is_woken, may_acquire, mode_released, needs_scan, tries_of, word_taken}
+use Rattle.ns_word.specs.declared.acquire_walk.AcquirePlace.{AcquirePlace}
+use Rattle.ns_word.specs.declared.acquire_walk.AcquirePlace.TheVariants.{AcquireExchange, AcquireLoad, Arm, AwaitWake, Queue, TakeToQueue}
+use Rattle.ns_word.specs.declared.act.Act.TheVariants.{Release, ReturnQueues, WaitReturning}
+use Rattle.ns_word.specs.declared.act.Found.{Found}
+use Rattle.ns_word.specs.declared.act.Found.TheVariants.{Cell, Flag, Left, Looked, Made, Paid, Quiet, Saw, Scanned, Tested, Woke}
+use Rattle.ns_word.specs.declared.act.Waking.{Waking}
+use Rattle.ns_word.specs.declared.cell_walk.CellPlace.{CellPlace}
+use Rattle.ns_word.specs.declared.cell_walk.CellPlace.TheVariants.{GetLoad, QuietCells, QuietLast, SetLoad, SetStore}
+use Rattle.ns_word.specs.declared.cell_walk.Judging.TheVariants.{ToRelease, ToTell}
+use Rattle.ns_word.specs.declared.limits.Cause.{Cause}
+use Rattle.ns_word.specs.declared.limits.Cause.TheVariants.{Expired, Notified}
+use Rattle.ns_word.specs.declared.limits.Limits.{Limits}
+use Rattle.ns_word.specs.declared.release_walk.ReleasePlace.{ReleasePlace}
+use Rattle.ns_word.specs.declared.release_walk.ReleasePlace.TheVariants.{Pay, ReleaseExchange, ReleaseLoad, ScanAndRelease, ScanCells, TakeToScan}
+use Rattle.ns_word.specs.declared.request.Request.{Request}
+use Rattle.ns_word.specs.declared.request.Request.TheVariants.{Await, Get, IsQuiet, Release, Set, TryLock, Wake}
+use Rattle.ns_word.specs.declared.signal_walk.SignalPlace.{SignalPlace}
+use Rattle.ns_word.specs.declared.signal_walk.SignalPlace.TheVariants.{PayTheWoken, SignalLoad, TakeToWake, WakeAndReturn}
+use Rattle.ns_word.specs.declared.try_walk.TryPlace.{TryPlace}
+use Rattle.ns_word.specs.declared.try_walk.TryPlace.TheVariants.{TryAcquire, TryLoad}
+use Rattle.ns_word.specs.declared.view.Held.{Held}
+use Rattle.ns_word.specs.declared.view.Opening.TheVariants.{CameBack}
+use Rattle.ns_word.specs.declared.wait.Aim.{Aim}
+use Rattle.ns_word.specs.declared.wait.Aim.TheVariants.{ForLock, ForWait}
+use Rattle.ns_word.specs.declared.wait.LeavePlace.{LeavePlace}
+use Rattle.ns_word.specs.declared.wait.LeavePlace.TheVariants.{AwaitWakeToLeave, Leave, LeaveLoad, TakeToLeave}
+use Rattle.ns_word.specs.declared.wait.QueuePlace.{QueuePlace}
+use Rattle.ns_word.specs.declared.wait.QueuePlace.TheVariants.{ArmToWait, Load, LoadToScan, LookIn, QueueToWait, Take}
+use Rattle.ns_word.specs.declared.wait.Subject.{Subject}
+use Rattle.ns_word.specs.declared.wait.Subject.TheVariants.{OnCondition, OnVariable}
+use Rattle.ns_word.specs.declared.wait.Visit.{Visit}
+use Rattle.ns_word.specs.declared.wait.Visit.TheVariants.{OnEntry, OnReturn}
+use Rattle.ns_word.specs.declared.wait.Wait.{Wait}
+use Rattle.ns_word.specs.declared.wait.WaitPlace.{WaitPlace}
+use Rattle.ns_word.specs.declared.wait.WaitPlace.TheVariants.{AwaitWakeInWait, InLeaving, InQueuing, LookOut, PayInWait, TestCells, TestLast}
+use Rattle.ns_word.specs.declared.walk.Next.{Next}
+use Rattle.ns_word.specs.declared.walk.Next.TheVariants.{Done, Idle, On}
+use Rattle.ns_word.specs.declared.walk.Reply.TheVariants.{Answered, Busy, Is, Noisy, Number, Succeeded}
+use Rattle.ns_word.specs.declared.walk.Walk.{Walk}
+use Rattle.ns_word.specs.declared.walk.Walk.TheVariants.{InAcquire, InCells, InRelease, InSignal, InTry, InWait}
+use Rattle.ns_word.specs.declared.word.Arrival.{Arrival}
+use Rattle.ns_word.specs.declared.word.Arrival.TheVariants.{AsFresh}
+use Rattle.ns_word.specs.declared.word.Releasing.{Releasing}
+use Rattle.ns_word.specs.declared.word.Releasing.TheVariants.{QuietWriter}
+use Rattle.ns_word.specs.declared.word.Taking.TheVariants.{ToChange, ToQueue}
+use Rattle.ns_word.specs.declared.word.Word.{Word}
+use Rattle.ns_model.specs.declared.event.Event.TheVariants as TheEvent
+use Rattle.ns_model.specs.declared.event.Exit.TheVariants as TheExit
+use Rattle.ns_model.specs.Histories.{standing_after, row_after}
+use Rattle.ns_word.specs.Begins.{IsFirst, IsForVariable}
+use Rattle.ns_word.specs.Lawful.{HeldFits, SectionFits, ViewFits, EachFits, IsLawful}
+use Rattle.ns_word.specs.declared.view.SeatView.{SeatView}
+use Rattle.ns_word.proofs.Views.{each_parts}
+use Rattle.ns_word.proofs.Asked.{asks_on}
+use Rattle.ns_word.specs.Meanings.{course_from}
+
+module _ (C : Type 0) (N : ℕ) (truths : Truths C) (seat : ℕ) (row : List ℕ) where
+  -- where a step leads, but for what was asked
+  abbrev Comes : Request C → Course C N → Next C → Option (Held C N) → Type 0
+  Comes request course (On walk) held = SoFar truths seat course walk held
+  Comes request course (Idle walk) held = SoFar truths seat course walk held
+  Comes request course (Done reply) held = Means truths seat row request course reply held
+
+  -- with it, where the step leads
+  goes_as_asked : (request : Request C) (course : Course C N) (next : Next C) (held : Option (Held C N)) → Asks request next → Comes request course next held → CallGoes truths seat row request course next held
+  goes_as_asked request course (On walk) held asked so_far = record { asked = asked; so_far = so_far }
+  goes_as_asked request course (Idle walk) held asked so_far = record { asked = asked; so_far = so_far }
+  goes_as_asked request course (Done reply) held asked means = means
+
+  -- of two ways
+  either : (request : Request C) (course : Course C N) (held : Option (Held C N)) (b : Bool) (one other : Next C) → (b ≡ true → Comes request course one held) → (b ≡ false → Comes request course other held) → Comes request course (cond b one other) held
+  either request course held true one other p q = p refl
+  either request course held false one other p q = q refl
+
+  -- ---- what stays
+
+  -- a step that commits nothing and is no look leaves the course
+  same_course : (found : Found) (commits : List (Event C N)) (course : Course C N) → looked_after found course.looked ≡ course.looked → commits ≡ [] → course_after found commits course ≡ course
+  same_course found commits course looks silent =
+      ap (λ cs. course_after found cs course) silent
+      ∙ ap (λ cs. record { began = course.began; committed = cs; looked = looked_after found course.looked }) (append-nil course.committed)
+      ∙ ap (λ l. record { began = course.began; committed = course.committed; looked = l }) looks
+
+  -- so a step leads where it does that leaves the section too
+  leaves_course : (request : Request C) (course : Course C N) (found : Found) (next : Next C) (old new : Option (Held C N)) (commits : List (Event C N)) →
+      looked_after found course.looked ≡ course.looked → new ≡ old → commits ≡ [] → Comes request course next old → Comes request (course_after found commits course) next new
+  leaves_course request course found next old new commits looks same silent so_far =
+      subst (λ now. Comes request now next new) (sym (same_course found commits course looks silent)) (subst (λ held. Comes request course next held) (sym same) so_far)
+
+  -- what a wait has committed as it left stays all of it
+  still_left : (wait : Wait C) (kept : Option Cause) (found : Found) (commits : List (Event C N)) (course : Course C N) → commits ≡ [] → HasLeft truths seat wait kept course → HasLeft truths seat wait kept (course_after found commits course)
+  still_left wait kept found commits course silent left = record {
+    was = left.was;
+    began = left.began;
+    mode = left.mode;
+    unmet = left.unmet;
+    committed = ap (λ cs. course.committed ++ cs) silent ∙ append-nil course.committed ∙ left.committed;
+  }
+
+  -- so does what hasn't changed
+  still_unchanged : (found : Found) (commits : List (Event C N)) (course : Course C N) (old new : Option (Held C N)) → new ≡ old → commits ≡ [] → Unchanged course old → Unchanged (course_after found commits course) new
+  still_unchanged found commits course old new same silent was = record {
+    same = same ∙ was.same;
+    silent = ap (λ cs. course.committed ++ cs) silent ∙ append-nil course.committed ∙ was.silent;
+  }
+
+  -- nothing was committed before, so all that the call has committed is this
+  first_commits : (found : Found) (commits events : List (Event C N)) (course : Course C N) (held : Option (Held C N)) → Unchanged course held → commits ≡ events → (course_after found commits course).committed ≡ events
+  first_commits found commits events course held was e = ap (λ cs. cs ++ commits) was.silent ∙ e
+
+  -- ---- decisions
+
+  -- of an acquire, by the word last seen
+  acquire_comes : (request : Request C) (course : Course C N) (held : Option (Held C N)) (aim : Aim C) (arrival : Arrival) (word : Word) → AcquireSoFar truths seat aim course held → Comes request course (acquire_by aim arrival word) held
+  acquire_comes request course held aim arrival word so_far =
+      either request course held (may_acquire (mode_for aim) arrival word) (On (InAcquire aim (AcquireExchange arrival word))) _ (λ b. so_far)
+      (λ b. either request course held word.spin (Idle (InAcquire aim (AcquireLoad arrival))) (On (InAcquire aim (TakeToQueue arrival word))) (λ b. so_far) (λ b. so_far))
+
+  -- of a release
+  release_comes : (request : Request C) (course : Course C N) (held : Option (Held C N)) (releasing : Releasing) (word : Word) → Unchanged course held → Comes request course (release_by releasing word) held
+  release_comes request course held releasing word so_far =
+      either request course held (not (needs_scan releasing word)) (On (InRelease releasing (ReleaseExchange word))) _ (λ b. so_far)
+      (λ b. either request course held word.spin (Idle (InRelease releasing ReleaseLoad)) (On (InRelease releasing (TakeToScan word))) (λ b. so_far) (λ b. so_far))
+
+  -- of a call that wakes
+  signal_comes : (request : Request C) (course : Course C N) (held : Option (Held C N)) (waking : Waking) (k : ℕ) (word : Word) → Unchanged course held → Comes request course (signal_by waking k word) held
+  signal_comes request course held waking k word so_far = either request course held word.spin (Idle (InSignal waking k SignalLoad)) (On (InSignal waking k (TakeToWake word))) (λ b. so_far) (λ b. so_far)
+
+  -- of a release that has loaded cells
+  scan_so_far : (course : Course C N) (held : Option (Held C N)) (releasing : Releasing) (last : Word) (loaded : ℕ) → Unchanged course held → SoFar truths seat course (InRelease releasing (scan_place N last loaded)) held
+  scan_so_far course held releasing last loaded so_far = go (ltb loaded N) where
+    go : (b : Bool) → SoFar truths seat course (InRelease releasing (cond b (ScanCells last loaded) (ScanAndRelease last))) held
+    go true = so_far
+    go false = so_far
+
+  taken_so_far : (course : Course C N) (held : Option (Held C N)) (releasing : Releasing) (last : Word) (b : Bool) → Unchanged course held → SoFar truths seat course (InRelease releasing (cond b (scan_place N last 0) (ScanAndRelease last))) held
+  taken_so_far course held releasing last true so_far = scan_so_far course held releasing last 0 so_far
+  taken_so_far course held releasing last false so_far = so_far
+
+  -- of a wait that tests its condition
+  test_so_far : (course : Course C N) (held : Option (Held C N)) (wait : Wait C) (visit : Visit) (loaded : ℕ) → TestsSoFar truths seat wait visit course held → SoFar truths seat course (test_place N wait visit loaded) held
+  test_so_far course held wait visit loaded so_far = go (ltb loaded (N - 1)) where
+    go : (b : Bool) → SoFar truths seat course (cond b (InWait wait (TestCells visit loaded)) (InWait wait (TestLast visit (N - 1)))) held
+    go true = so_far
+    go false = so_far
+
+  -- of one that has to go on waiting: it looks first where something may end it
+  look_comes : (request : Request C) (course : Course C N) (held : Option (Held C N)) (wait : Wait C) (again : Bool) → QueuesSoFar truths seat wait again course held → Comes request course (look_or_queue wait again) held
+  look_comes request course held wait again so_far =
+      either request course held (is_limited wait.limits) (On (InWait wait (InQueuing again LookIn))) (On (InWait wait (InQueuing again Load))) (λ b. (so_far, tt)) (λ b. (so_far, unlimited wait.on b))
+    where
+      unlimited : (on : Subject C) → is_limited wait.limits ≡ false → HasLookedFor on wait.limits course.looked
+      unlimited (OnCondition c) b = λ limited. absurd (cc)
+      unlimited (OnVariable k) b = tt
+
+  -- of one that is about to queue
+  queue_comes : (request : Request C) (course : Course C N) (held : Option (Held C N)) (wait : Wait C) (again : Bool) (word : Word) → QueuesSoFar truths seat wait again course held × HasLookedFor wait.on wait.limits course.looked → Comes request course (queue_by wait again word) held
+  queue_comes request course held wait again word so_far = either request course held word.spin (Idle (InWait wait (InQueuing again Load))) (On (InWait wait (InQueuing again (Take word)))) (λ b. so_far) (λ b. so_far)
+
+  -- of one that loads cells for its scan
+  load_so_far : (course : Course C N) (held : Option (Held C N)) (wait : Wait C) (again : Bool) (last : Word) (loaded : ℕ) → QueuesSoFar truths seat wait again course held × HasLookedFor wait.on wait.limits course.looked → SoFar truths seat course (InWait wait (InQueuing again (load_place N last loaded))) held
+  load_so_far course held wait again last loaded so_far = go (ltb loaded N) where
+    go : (b : Bool) → SoFar truths seat course (InWait wait (InQueuing again (cond b (LoadToScan last loaded) (QueueToWait last)))) held
+    go true = so_far
+    go false = so_far
+
+  armed_so_far : (course : Course C N) (held : Option (Held C N)) (wait : Wait C) (again : Bool) (on : Subject C) (last : Word) → QueuesSoFar truths seat wait again course held × HasLookedFor wait.on wait.limits course.looked → SoFar truths seat course (InWait wait (InQueuing again (armed_place N on last))) held
+  armed_so_far course held wait again (OnCondition c) last so_far = so_far
+  armed_so_far course held wait again (OnVariable k) last so_far = go last.cond where
+    go : (b : Bool) → SoFar truths seat course (InWait wait (InQueuing again (cond b (load_place N last 0) (QueueToWait last)))) held
+    go true = load_so_far course held wait again last 0 so_far
+    go false = so_far
+
+  -- of one that has queued
+  pay_wait_comes : (request : Request C) (course : Course C N) (held : Option (Held C N)) (wait : Wait C) (owes : Bool) → HasLeft truths seat wait None course → Comes request course (pay_waiting wait owes) held
+  pay_wait_comes request course held wait owes left = either request course held owes (On (InWait wait PayInWait)) (On (InWait wait AwaitWakeInWait)) (λ b. left) (λ b. left)
+
+  -- of one that leaves
+  leave_comes : (request : Request C) (course : Course C N) (held : Option (Held C N)) (wait : Wait C) (cause : Cause) (word : Word) → HasLeft truths seat wait None course × (course.looked ≡ Some (Some cause)) → Comes request course (leave_by wait cause word) held
+  leave_comes request course held wait cause word so_far = either request course held word.spin (Idle (InWait wait (InLeaving cause LeaveLoad))) (On (InWait wait (InLeaving cause (TakeToLeave word)))) (λ b. so_far) (λ b. so_far)
+
+  -- ---- what is new
+
+  -- what a step needs of its seat's part: the row of a section in hand is the cells', and where the step commits nothing, a free lock's cells are the row after the history, and a section in hand began at it
+  record Stands (part : Part C N) (commits : List (Event C N)) : Type 0 where
+    free : commits ≡ [] → part.word.write ≡ false → part.row ≡ row
+    cells : (held : Held C N) → part.held ≡ Some held → held.row ≡ part.row
+    starts : commits ≡ [] → (held : Held C N) → part.held ≡ Some held → held.before ≡ row
+
+  -- who may acquire finds no writer
+  no_writer : (mode : Mode) (arrival : Arrival) (word : Word) → may_acquire mode arrival word ≡ true → word.write ≡ false
+  no_writer Write arrival word may = go word.write may where
+    go : (b : Bool) → (not b && (eqb word.readers 0 && (is_woken arrival || not word.long))) ≡ true → b ≡ false
+    go true e = absurd (cc)
+    go false e = refl
+  no_writer Read arrival word may = go word.write may where
+    go : (b : Bool) → (not b && (is_woken arrival || (not word.writer_waits && not word.long))) ≡ true → b ≡ false
+    go true e = absurd (cc)
+    go false e = refl
+
+  -- the lock was acquired by a call that locks
+  has_locked : (mode : Mode) (course : Course C N) (old new : Option (Held C N)) (commits : List (Event C N)) (cells : List ℕ) → cells ≡ row → new ≡ Some (newly_held (ForLock mode) cells) → commits ≡ [] → Unchanged course old →
+      HasLocked row mode (course_after Made commits course) new
+  has_locked mode course old new commits cells same e silent was = record {
+    section = e ∙ ap (λ cells. Some (new_section mode cells)) same;
+    silent = first_commits Made commits [] course old was silent;
+  }
+
+  -- what a wait for a variable has told, by what it answers
+  leave_is_told : (k : ℕ) (kept : Option Cause) → left_by {C = C} {N = N} seat (OnVariable k) kept ≡ leave_told seat k (is_met (answer_kept kept))
+  leave_is_told k None = refl
+  leave_is_told k (Some Expired) = refl
+  leave_is_told k (Some Notified) = refl
+
+  -- a wait may answer what it has kept
+  may_answer : (limits : Limits) (looked : Option (Option Cause)) (kept : Option Cause) → MayShow limits kept → KeptFits looked kept → MayAnswer limits looked (answer_kept kept)
+  may_answer limits looked None given shown = tt
+  may_answer limits looked (Some Expired) given shown = (given, shown)
+  may_answer limits looked (Some Notified) given shown = (given, shown)
+
+  -- a wait that came back has acquired
+  comes_back : (request : Request C) (course : Course C N) (mode : Mode) (on : Subject C) (limits : Limits) (kept : Option Cause) (held : Option (Held C N)) (cells : List ℕ) → let wait : Wait C = record { mode = mode; on = on; limits = limits } in
+      request ≡ Await wait → cells ≡ row → held ≡ Some (newly_held (ForWait wait kept) cells) → MayShow limits kept → IsComing truths seat wait kept course → Comes request course (back_with N on wait kept) held
+  comes_back request course mode (OnCondition c) limits kept held cells asked same e given coming = test_so_far course held (record { mode = mode; on = OnCondition c; limits = limits }) (OnReturn kept) 0 coming
+  comes_back request course mode (OnVariable k) limits kept held cells asked same e given coming =
+      let wait : Wait C = record { mode = mode; on = OnVariable k; limits = limits } in
+      subst (λ r. Means truths seat row r course (Answered (answer_kept kept)) held) (sym asked) (subst (λ h. InHand h (λ back. VariableWaitMeans truths seat row mode k limits course (answer_kept kept) back)) (sym e)
+      (record {
+        was = coming.left.was;
+        began = coming.left.began;
+        mode = coming.left.mode;
+        committed = coming.left.committed ∙ ap (λ events. section_of truths.holds seat coming.left.was (CvWait k) ∷ events) (leave_is_told k kept);
+        may = may_answer limits course.looked kept given coming.shown;
+        begins = record { mode = refl; before = same; cells = same };
+        entry = refl;
+      }))
+
+  -- a section was released
+  has_released : (releasing : Releasing) (found : Found) (course : Course C N) (old new : Option (Held C N)) (commits : List (Event C N)) (held : Held C N) → old ≡ Some held → held.mode ≡ mode_released releasing → IsLeft truths releasing held → new ≡ None →
+      commits ≡ section_of truths.holds seat held TheExit.Plain ∷ [] → Unchanged course old → HasReleased truths seat releasing (course_after found commits course) new
+  has_released releasing found course old new commits held e m left none said was = record {
+    was = held;
+    began = sym was.same ∙ e;
+    mode = m;
+    declared = left;
+    left = none;
+    committed = first_commits found commits (section_of truths.holds seat held TheExit.Plain ∷ []) course old was said;
+  }
+
+  -- ---- waits for a condition
+
+  not_met : (cause : Cause) → is_met (answer_of cause) ≡ false
+  not_met Expired = refl
+  not_met Notified = refl
+
+  -- what a section says of how it began that came back, where the condition is true, and where it is false
+  says_met : (c : C) (kept : Option Cause) (before : List ℕ) → truths.holds c before ≡ true → entry_of truths.holds before (CameBack (OnCondition c) kept) ≡ Waited c Met
+  says_met c None before e = refl
+  says_met c (Some cause) before e = ap (λ b. Waited c (cond b Met (answer_of cause))) e
+
+  says_ended : (c : C) (cause : Cause) (before : List ℕ) → truths.holds c before ≡ false → entry_of truths.holds before (CameBack (OnCondition c) (Some cause)) ≡ Waited c (answer_of cause)
+  says_ended c cause before e = ap (λ b. Waited c (cond b Met (answer_of cause))) e
+
+  module _ (mode : Mode) (c : C) (limits : Limits) where
+    abbrev asked : Wait C
+    asked = record { mode = mode; on = OnCondition c; limits = limits }
+
+    -- a wait answers on entry
+    answers_on_entry : (course : Course C N) (held : Option (Held C N)) (section : Held C N) (answer : Answer) → held ≡ Some section → section.mode ≡ mode → is_met answer ≡ truths.holds c section.row → MayAnswer limits course.looked answer → Unchanged course held →
+        Means truths seat row (Await asked) course (Answered answer) held
+    answers_on_entry course held section answer e m met may was =
+        subst (λ h. InHand h (λ back. ConditionWaitMeans truths seat row mode c limits course answer back)) (sym e)
+        (record { mode = m; met = met; may = may; how = inl (subst (λ h. Unchanged course h) e was) })
+
+    -- a wait answers that has come back
+    answers_back : (course : Course C N) (held : Option (Held C N)) (section : Held C N) (kept : Option Cause) (answer : Answer) → held ≡ Some section → section.mode ≡ mode → section.before ≡ row → section.row ≡ section.before →
+        is_met answer ≡ truths.holds c section.row → MayAnswer limits course.looked answer → entry_of truths.holds section.before section.entry ≡ Waited c answer → HasLeft truths seat asked kept course →
+        Means truths seat row (Await asked) course (Answered answer) held
+    answers_back course held section kept answer e m starts cells met may says left =
+        subst (λ h. InHand h (λ back. ConditionWaitMeans truths seat row mode c limits course answer back)) (sym e)
+        (record {
+          mode = m;
+          met = met;
+          may = may;
+          how = inr (record {
+            was = left.was;
+            began = left.began;
+            mode = left.mode;
+            unmet = left.unmet;
+            committed = left.committed;
+            begins = record { mode = m; before = starts; cells = cells ∙ starts };
+            entry = says;
+          });
+        })
+
+    -- its condition was tested, and is true
+    met_comes : (visit : Visit) (course : Course C N) (held : Option (Held C N)) (section : Held C N) → held ≡ Some section → truths.holds c section.row ≡ true → Tests truths asked visit held → section.before ≡ row → TestsSoFar truths seat asked visit course held →
+        Means truths seat row (Await asked) course (Answered Met) held
+    met_comes OnEntry course held section e holding tests starts so_far =
+        let tested = subst (λ h. Tests truths asked OnEntry h) e tests in
+        answers_on_entry course held section Met e tested.0 (sym holding) tt so_far
+    met_comes (OnReturn kept) course held section e holding tests starts so_far =
+        let tested : (section.mode ≡ mode) × ComesBack asked kept section = subst (λ h. Tests truths asked (OnReturn kept) h) e tests in
+        let cells : section.row ≡ section.before = tested.1.cells in
+        let says : entry_of truths.holds section.before section.entry ≡ Waited c Met = ap (λ entry. entry_of truths.holds section.before entry) tested.1.entry ∙ says_met c kept section.before (ap (truths.holds c) (sym cells) ∙ holding) in
+        answers_back course held section kept Met e tested.0 starts cells (sym holding) tt says so_far.left
+
+    -- its condition was tested, and is false: it goes on waiting, or was ended early and answers that
+    unmet_comes : (visit : Visit) (course : Course C N) (held : Option (Held C N)) (section : Held C N) → held ≡ Some section → truths.holds c section.row ≡ false → Tests truths asked visit held → MayShow limits (cause_by visit) → section.before ≡ row → TestsSoFar truths seat asked visit course held →
+        Comes (Await asked) course (unmet_by asked visit) held
+    unmet_comes OnEntry course held section e failing tests given starts so_far = look_comes (Await asked) course held asked false so_far
+    unmet_comes (OnReturn None) course held section e failing tests given starts so_far = look_comes (Await asked) course held asked true so_far.left
+    unmet_comes (OnReturn (Some cause)) course held section e failing tests given starts so_far =
+        let tested : (section.mode ≡ mode) × ComesBack asked (Some cause) section = subst (λ h. Tests truths asked (OnReturn (Some cause)) h) e tests in
+        let cells : section.row ≡ section.before = tested.1.cells in
+        let says : entry_of truths.holds section.before section.entry ≡ Waited c (answer_of cause) = ap (λ entry. entry_of truths.holds section.before entry) tested.1.entry ∙ says_ended c cause section.before (ap (truths.holds c) (sym cells) ∙ failing) in
+        answers_back course held section (Some cause) (answer_of cause) e tested.0 starts cells (not_met cause ∙ sym failing) (may_answer limits course.looked (Some cause) given so_far.shown) says so_far.left
+
+    -- a look has shown what ends it, before it queued
+    shown_comes : (again : Bool) (cause : Cause) (course : Course C N) (old new : Option (Held C N)) (section : Held C N) → old ≡ Some section → new ≡ held_after again (Some cause) old → MayWait truths asked again section → MayShow limits (Some cause) → section.before ≡ row → course.looked ≡ Some (Some cause) →
+        QueuesSoFar truths seat asked again course old → Means truths seat row (Await asked) course (Answered (answer_of cause)) new
+    shown_comes false cause course old new section e same may given starts shown so_far =
+        answers_on_entry course new section (answer_of cause) (same ∙ e) may.mode (not_met cause ∙ sym may.unmet) (may_answer limits course.looked (Some cause) given shown) (subst (λ h. Unchanged course h) (sym same) so_far)
+    shown_comes true cause course old new section e same may given starts shown so_far =
+        let back : ComesBack asked None section = (may.back refl).1 in
+        let now : Held C N = record section { entry = opening_by cause section.entry } in
+        let cells : section.row ≡ section.before = back.cells in
+        let says : entry_of truths.holds section.before now.entry ≡ Waited c (answer_of cause) = ap (λ entry. entry_of truths.holds section.before (opening_by cause entry)) back.entry ∙ says_ended c cause section.before (ap (truths.holds c) (sym cells) ∙ may.unmet) in
+        answers_back course new now None (answer_of cause) (same ∙ ap (λ h. held_by cause h) e) may.mode starts cells (not_met cause ∙ sym may.unmet) (may_answer limits course.looked (Some cause) given shown) says so_far
+
+  -- ---- by group
+
+  module _ (part next : Part C N) (commits : List (Event C N)) (course : Course C N) (stands : Stands part commits) where
+    -- the section in hand after a step, of what the step leaves of its part
+    held_in : (other : Part C N) → next ≡ other → next.held ≡ other.held
+    held_in other e = ap (λ p. p.held) e
+
+    -- a step that finds something and changes neither section nor history leads where its place does
+    finds : (request : Request C) (found : Found) (to : Next C) → looked_after found course.looked ≡ course.looked → next.held ≡ part.held → commits ≡ [] → Comes request course to part.held → Comes request (course_after found commits course) to next.held
+    finds request found to looks same silent so_far = leaves_course request course found to part.held next.held commits looks same silent so_far
+
+    tries_on : (mode : Mode) (place : TryPlace) (found : Found) → Effect truths seat (want_trying mode place) part found next commits → Unchanged course part.held → Comes (TryLock mode) (course_after found commits course) (got_trying mode place found) next.held
+    tries_on mode TryLoad (Saw word) e was = finds (TryLock mode) (Saw word) _ refl (held_in part e.1) e.2 (either (TryLock mode) course part.held (may_acquire mode AsFresh word) (On (InTry mode (TryAcquire word))) (Done Busy) (λ b. was) (λ b. was))
+    tries_on mode (TryAcquire last) (Saw word) e was = finds (TryLock mode) (Saw word) (Done Busy) refl (held_in part e.2) e.3 was
+    tries_on mode (TryAcquire last) Made e was =
+        has_locked mode course part.held next.held commits part.row (stands.free e.4 (no_writer mode AsFresh part.word (subst (λ word. may_acquire mode AsFresh word ≡ true) e.0 e.1))) (ap (λ p. p.held) e.3) e.4 was
+    tries_on mode _ _ e was = absurd e
+
+    -- an acquire was made
+    acquired_on : (aim : Aim C) (arrival : Arrival) (last : Word) → Effect truths seat (Acquire aim arrival last) part Made next commits → AimFits aim → AcquireSoFar truths seat aim course part.held →
+        Comes (asked_of (InAcquire aim (AcquireExchange arrival last))) (course_after Made commits course) (acquired_for N aim) next.held
+    acquired_on (ForLock mode) arrival last e given so_far =
+        has_locked mode course part.held next.held commits part.row (stands.free e.4 (no_writer mode arrival part.word (subst (λ word. may_acquire mode arrival word ≡ true) e.0 e.1))) (ap (λ p. p.held) e.3) e.4 so_far
+    acquired_on (ForWait wait kept) arrival last e given so_far =
+        subst (λ now. Comes (Await wait) now (back_with N wait.on wait kept) next.held) (sym (same_course Made commits course refl e.4))
+        (comes_back (Await wait) course wait.mode wait.on wait.limits kept next.held part.row refl (stands.free e.4 (no_writer wait.mode arrival part.word (subst (λ word. may_acquire wait.mode arrival word ≡ true) e.0 e.1))) (ap (λ p. p.held) e.3) given so_far)
+
+    acquires_on : (aim : Aim C) (place : AcquirePlace) (found : Found) → Effect truths seat (want_acquiring aim place) part found next commits → AimFits aim → AcquireSoFar truths seat aim course part.held →
+        Comes (asked_of (InAcquire aim place)) (course_after found commits course) (got_acquiring N aim place found) next.held
+    acquires_on aim (AcquireLoad arrival) (Saw word) e given so_far = finds (asked_of (InAcquire aim (AcquireLoad arrival))) (Saw word) (acquire_by aim arrival word) refl (held_in part e.1) e.2 (acquire_comes (asked_of (InAcquire aim (AcquireLoad arrival))) course part.held aim arrival word so_far)
+    acquires_on aim (AcquireExchange arrival last) (Saw word) e given so_far = finds (asked_of (InAcquire aim (AcquireExchange arrival last))) (Saw word) (acquire_by aim arrival word) refl (held_in part e.2) e.3 (acquire_comes (asked_of (InAcquire aim (AcquireExchange arrival last))) course part.held aim arrival word so_far)
+    acquires_on aim (AcquireExchange arrival last) Made e given so_far = acquired_on aim arrival last e given so_far
+    acquires_on aim (TakeToQueue arrival last) (Saw word) e given so_far = finds (asked_of (InAcquire aim (TakeToQueue arrival last))) (Saw word) (acquire_by aim arrival word) refl (held_in part e.2) e.3 (acquire_comes (asked_of (InAcquire aim (TakeToQueue arrival last))) course part.held aim arrival word so_far)
+    acquires_on aim (TakeToQueue arrival last) Made e given so_far = finds (asked_of (InAcquire aim (TakeToQueue arrival last))) Made (On (InAcquire aim (Arm arrival (word_taken (ToQueue (mode_for aim) arrival) last)))) refl (ap (λ p. p.held) e.2) e.3 so_far
+    acquires_on aim (Arm arrival last) Made e given so_far = finds (asked_of (InAcquire aim (Arm arrival last))) Made (On (InAcquire aim (Queue arrival last))) refl (ap (λ p. p.held) e.0) e.1 so_far
+    acquires_on aim (Queue arrival last) (Saw word) e given so_far = finds (asked_of (InAcquire aim (Queue arrival last))) (Saw word) (On (InAcquire aim (Queue arrival word))) refl (held_in part e.2) e.3 so_far
+    acquires_on aim (Queue arrival last) Made e given so_far = finds (asked_of (InAcquire aim (Queue arrival last))) Made (On (InAcquire aim (AwaitWake (tries_of arrival)))) refl (ap (λ p. p.held) e.2) e.3 so_far
+    acquires_on aim (Queue arrival last) (Left stood) e given so_far = let other : Made ≡ Left stood = e.0 in absurd (cc)
+    acquires_on aim (Queue arrival last) (Woke owes) e given so_far = let other : Made ≡ Woke owes = e.0 in absurd (cc)
+    acquires_on aim (AwaitWake tries) (Flag v) e given so_far =
+        finds _ (Flag v) _ refl (held_in part e.1) e.2 (either _ course part.held (eqb v 1) (Idle (InAcquire aim (AwaitWake tries))) (On (InAcquire aim (AcquireLoad (arrival_of tries v)))) (λ b. so_far) (λ b. so_far))
+    acquires_on aim _ _ e given so_far = absurd e
+
+    releases_on : (releasing : Releasing) (place : ReleasePlace) (found : Found) → Effect truths seat (want_releasing releasing place) part found next commits → ReleaseFits truths releasing place part.held → ReleaseSoFar truths seat releasing place course part.held →
+        Comes (Release releasing) (course_after found commits course) (got_releasing N releasing place found) next.held
+    releases_on releasing ReleaseLoad (Saw word) e fits was = finds (Release releasing) (Saw word) (release_by releasing word) refl (held_in part e.1) e.2 (release_comes (Release releasing) course part.held releasing word was)
+    releases_on releasing (ReleaseExchange last) (Saw word) e fits was = finds (Release releasing) (Saw word) (release_by releasing word) refl (held_in part e.2) e.3 (release_comes (Release releasing) course part.held releasing word was)
+    releases_on releasing (ReleaseExchange last) Made e fits was =
+        let can = subst (λ held. CanLeave truths releasing held) e.1 fits.0 in
+        has_released releasing Made course part.held next.held commits e.0 e.1 e.2 can.1 (ap (λ p. p.held) e.4) e.5 was
+    releases_on releasing (TakeToScan last) (Saw word) e fits was = finds (Release releasing) (Saw word) (release_by releasing word) refl (held_in part e.2) e.3 (release_comes (Release releasing) course part.held releasing word was)
+    releases_on releasing (TakeToScan last) Made e fits was =
+        finds (Release releasing) Made (On (InRelease releasing (cond last.cond (scan_place N (word_taken ToChange last) 0) (ScanAndRelease (word_taken ToChange last))))) refl (ap (λ p. p.held) e.2) e.3 (taken_so_far course part.held releasing (word_taken ToChange last) last.cond was)
+    releases_on releasing (ScanCells last i) (Cell v) e fits was = finds (Release releasing) (Cell v) (On (InRelease releasing (scan_place N last (i + 1)))) refl (held_in part e.1) e.2 (scan_so_far course part.held releasing last (i + 1) was)
+    releases_on releasing (ScanAndRelease last) (Saw word) e fits was = finds (Release releasing) (Saw word) (On (InRelease releasing (ScanAndRelease word))) refl (held_in part e.2) e.3 was
+    releases_on releasing (ScanAndRelease last) (Scanned owes tests) e fits was =
+        let can = subst (λ held. CanLeave truths releasing held) e.1 fits in
+        let released = has_released releasing (Scanned owes tests) course part.held next.held commits e.0 e.1 e.2 can.1 (ap (λ p. p.held) e.4) e.7 was in
+        either (Release releasing) _ next.held owes (On (InRelease releasing Pay)) (Done Succeeded) (λ b. released) (λ b. released)
+    releases_on releasing Pay (Paid owes) e fits was =
+        finds (Release releasing) (Paid owes) (pay_releasing releasing owes) refl (ap (λ p. p.held) e.3) e.5 (either (Release releasing) course part.held owes (On (InRelease releasing Pay)) (Done Succeeded) (λ b. was) (λ b. was))
+    releases_on releasing _ _ e fits was = absurd e
+
+    cells_on : (place : CellPlace) (found : Found) → Effect truths seat (want_in_cells place) part found next commits → CellFits place part.held → Unchanged course part.held →
+        Comes (asked_in_cells place) (course_after found commits course) (got_in_cells N place found) next.held
+    cells_on (GetLoad i) (Cell v) e fits was = finds (Get i) (Cell v) (Done (Number v)) refl (held_in part e.1) e.2 (was, of_cells part.held refl fits.0)
+      where
+        of_cells : (held : Option (Held C N)) → part.held ≡ held → IsSome held → InHand held (λ section. v ≡ slice_index section.row i)
+        of_cells None is some = absurd (cc)
+        of_cells (Some section) is some = e.0 ∙ ap (λ cells. slice_index cells i) (sym (stands.cells section is))
+    cells_on (SetLoad i v) (Cell w) e fits was = finds (Set i v) (Cell w) (On (InCells (SetStore i v))) refl (held_in part e.1) e.2 was
+    cells_on (SetStore i v) Made e fits was = record {
+      was = e.0;
+      began = sym was.same ∙ e.1;
+      section = ap (λ p. p.held) e.3;
+      silent = first_commits Made commits [] course part.held was e.4;
+    }
+    cells_on (QuietCells judging i) (Cell v) e fits was = finds (asked_to_judge judging) (Cell v) (On (InCells (quiet_place N judging (i + 1)))) refl (held_in part e.1) e.2 was
+    cells_on (QuietLast ToTell i) (Quiet quiet) e fits was = finds IsQuiet (Quiet quiet) (Done (Is quiet)) refl (held_in part e.3) e.4 (was, subst (λ held. IsQuietSection truths quiet held) (sym e.1) e.2)
+    cells_on (QuietLast ToRelease i) (Quiet quiet) e fits was =
+        finds (Release QuietWriter) (Quiet quiet) _ refl (held_in part e.3) e.4 (either (Release QuietWriter) course part.held quiet (On (InRelease QuietWriter ReleaseLoad)) (Done Noisy) (λ b. was)
+        (λ b. (was, subst (λ held. IsQuietSection truths false held) (sym e.1) (sym b ∙ e.2))))
+    cells_on _ _ e fits was = absurd e
+
+    -- a wait tests its condition
+    tested_on : (mode : Mode) (on : Subject C) (limits : Limits) (visit : Visit) (i : ℕ) (found : Found) → let wait : Wait C = record { mode = mode; on = on; limits = limits } in
+        Effect truths seat (judge_of on i) part found next commits → WaitFits truths wait (TestLast visit i) part.held → MayShow limits (cause_by visit) → TestsSoFar truths seat wait visit course part.held →
+        Comes (Await wait) (course_after found commits course) (got_waiting N wait (TestLast visit i) found) next.held
+    tested_on mode (OnCondition c) limits visit i (Tested is_met) e fits given so_far =
+        let wait : Wait C = record { mode = mode; on = OnCondition c; limits = limits } in
+        finds (Await wait) (Tested is_met) _ refl (held_in part e.3) e.4 (either (Await wait) course part.held is_met (Done (Answered Met)) (unmet_by wait visit)
+        (λ b. met_comes mode c limits visit course part.held e.0 e.1 (sym e.2 ∙ b) fits.0 (stands.starts e.4 e.0 e.1) so_far)
+        (λ b. unmet_comes mode c limits visit course part.held e.0 e.1 (sym e.2 ∙ b) fits.0 given (stands.starts e.4 e.0 e.1) so_far))
+    tested_on mode (OnCondition c) limits visit i _ e fits given so_far = absurd e
+    tested_on mode (OnVariable k) limits visit i found e fits given so_far = absurd fits.2
+
+    -- a wait looks before it queues
+    looks_on : (mode : Mode) (on : Subject C) (limits : Limits) (again : Bool) (shown : Option Cause) → let wait : Wait C = record { mode = mode; on = on; limits = limits } in
+        Effect truths seat (Look limits again) part (Looked shown) next commits → CanWait truths wait again part.held → IsForCondition on → QueuesSoFar truths seat wait again course part.held →
+        Comes (Await wait) (course_after (Looked shown) commits course) (got_queuing N wait again LookIn (Looked shown)) next.held
+    looks_on mode on limits false None e can for so_far = (still_unchanged (Looked None) commits course part.held next.held (ap (λ p. p.held) e.1) e.2 so_far, looked on)
+      where
+        looked : (on : Subject C) → HasLookedFor on limits (Some None)
+        looked (OnCondition c) = λ limited. refl
+        looked (OnVariable k) = tt
+    looks_on mode on limits true None e can for so_far = (still_left (record { mode = mode; on = on; limits = limits }) None (Looked None) commits course e.2 so_far, looked on)
+      where
+        looked : (on : Subject C) → HasLookedFor on limits (Some None)
+        looked (OnCondition c) = λ limited. refl
+        looked (OnVariable k) = tt
+    looks_on mode (OnVariable k) limits again (Some cause) e can for so_far = absurd for
+    looks_on mode (OnCondition c) limits again (Some cause) e can for so_far = go part.held refl can
+      where
+        wait : Wait C
+        wait = record { mode = mode; on = OnCondition c; limits = limits }
+
+        now : Course C N
+        now = course_after (Looked (Some cause)) commits course
+
+        so : (b : Bool) → QueuesSoFar truths seat (record { mode = mode; on = OnCondition c; limits = limits }) b course part.held → QueuesSoFar truths seat (record { mode = mode; on = OnCondition c; limits = limits }) b (course_after (Looked (Some cause)) commits course) part.held
+        so false was = still_unchanged (Looked (Some cause)) commits course part.held part.held refl e.2 was
+        so true left = still_left (record { mode = mode; on = OnCondition c; limits = limits }) None (Looked (Some cause)) commits course e.2 left
+
+        go : (held : Option (Held C N)) → part.held ≡ held → CanWait truths (record { mode = mode; on = OnCondition c; limits = limits }) again held →
+            Means truths seat row (Await (record { mode = mode; on = OnCondition c; limits = limits })) (course_after (Looked (Some cause)) commits course) (Answered (answer_of cause)) next.held
+        go None is may = absurd may
+        go (Some section) is may =
+            shown_comes mode c limits again cause (course_after (Looked (Some cause)) commits course) part.held next.held section is (ap (λ p. p.held) e.1) may e.0 (stands.starts e.2 section is) refl (so again so_far)
+
+    -- a wait queues, and leaves its section; one that queues again says nothing of it
+    queued_on : (mode : Mode) (on : Subject C) (limits : Limits) (again : Bool) (last : Word) (owes : Bool) (tests : ℕ) → let wait : Wait C = record { mode = mode; on = on; limits = limits } in
+        Effect truths seat (WaitReturning wait again last) part (Scanned owes tests) next commits → CanWait truths wait again part.held → QueuesSoFar truths seat wait again course part.held →
+        HasLeft truths seat wait None (course_after (Scanned owes tests) commits course)
+    queued_on mode on limits true last owes tests e can so_far = still_left (record { mode = mode; on = on; limits = limits }) None (Scanned owes tests) commits course e.7 so_far
+    queued_on mode on limits false last owes tests e can so_far =
+        let may : MayWait truths (record { mode = mode; on = on; limits = limits }) false e.0 = subst (λ held. CanWait truths (record { mode = mode; on = on; limits = limits }) false held) e.1 can in
+        record {
+          was = e.0;
+          began = sym so_far.same ∙ e.1;
+          mode = e.2;
+          unmet = may.unmet;
+          committed = first_commits (Scanned owes tests) commits (section_of truths.holds seat e.0 (exit_for on) ∷ []) course part.held so_far e.7 ∙ ap (λ events. section_of truths.holds seat e.0 (exit_for on) ∷ events) (untold on);
+        }
+      where
+        untold : (on : Subject C) → [] ≡ left_by {C = C} {N = N} seat on None
+        untold (OnCondition c) = refl
+        untold (OnVariable k) = refl
+
+    queues_on : (wait : Wait C) (again : Bool) (place : QueuePlace) (found : Found) → Effect truths seat (want_queuing wait again place) part found next commits → CanWait truths wait again part.held → QueueFits N wait.on place →
+        QueuesSoFar truths seat wait again course part.held × QueuesAfter wait place course.looked → Comes (Await wait) (course_after found commits course) (got_queuing N wait again place found) next.held
+    queues_on wait again LookIn (Looked shown) e can fits so_far = looks_on wait.mode wait.on wait.limits again shown e can fits so_far.0
+    queues_on wait again Load (Saw word) e can fits so_far = finds (Await wait) (Saw word) (queue_by wait again word) refl (held_in part e.1) e.2 (queue_comes (Await wait) course part.held wait again word so_far)
+    queues_on wait again (Take last) (Saw word) e can fits so_far = finds (Await wait) (Saw word) (queue_by wait again word) refl (held_in part e.2) e.3 (queue_comes (Await wait) course part.held wait again word so_far)
+    queues_on wait again (Take last) Made e can fits so_far = finds (Await wait) Made (On (InWait wait (InQueuing again (ArmToWait (word_taken ToChange last))))) refl (ap (λ p. p.held) e.2) e.3 so_far
+    queues_on wait again (ArmToWait last) Made e can fits so_far = finds (Await wait) Made (On (InWait wait (InQueuing again (armed_place N wait.on last)))) refl (ap (λ p. p.held) e.0) e.1 (armed_so_far course part.held wait again wait.on last so_far)
+    queues_on wait again (LoadToScan last i) (Cell v) e can fits so_far = finds (Await wait) (Cell v) (On (InWait wait (InQueuing again (load_place N last (i + 1))))) refl (held_in part e.1) e.2 (load_so_far course part.held wait again last (i + 1) so_far)
+    queues_on wait again (QueueToWait last) (Saw word) e can fits so_far = finds (Await wait) (Saw word) (On (InWait wait (InQueuing again (QueueToWait word)))) refl (held_in part e.2) e.3 so_far
+    queues_on wait again (QueueToWait last) (Scanned owes tests) e can fits so_far = pay_wait_comes (Await wait) _ next.held wait owes (queued_on wait.mode wait.on wait.limits again last owes tests e can so_far.0)
+    queues_on wait again _ _ e can fits so_far = absurd e
+
+    -- a wait takes itself from its list, or was taken before
+    withdrawn_on : (mode : Mode) (on : Subject C) (limits : Limits) (cause : Cause) (last : Word) (stood : Bool) → let wait : Wait C = record { mode = mode; on = on; limits = limits } in
+        Effect truths seat (ReturnQueues (LeaveSelf (home_of on)) last) part (Left stood) next commits → HasLeft truths seat wait None course × (course.looked ≡ Some (Some cause)) →
+        Comes (Await wait) (course_after (Left stood) commits course) (got_leaving wait cause (Leave last) (Left stood)) next.held
+    withdrawn_on mode on limits cause last stood e so_far = go stood on (e.3 ∙ ap (leave_of seat (home_of on)) same) so_far.0
+      where
+        same : ltb 0 (times_in seat (waiters_of part.lists (home_of on))) ≡ stood
+        same = let found : Left (ltb 0 (times_in seat (waiters_of part.lists (home_of on)))) ≡ Left stood = e.0 in cc
+
+        go : (stood : Bool) (on : Subject C) → commits ≡ leave_of seat (home_of on) stood → HasLeft truths seat (record { mode = mode; on = on; limits = limits }) None course →
+            Comes (Await (record { mode = mode; on = on; limits = limits })) (course_after (Left stood) commits course) (got_leaving (record { mode = mode; on = on; limits = limits }) cause (Leave last) (Left stood)) next.held
+        go true (OnCondition c) silent left = record { left = still_left (record { mode = mode; on = OnCondition c; limits = limits }) (Some cause) (Left true) commits course silent (record { was = left.was; began = left.began; mode = left.mode; unmet = left.unmet; committed = left.committed }); shown = so_far.1 }
+        go true (OnVariable k) told left = record {
+          left = record {
+            was = left.was;
+            began = left.began;
+            mode = left.mode;
+            unmet = left.unmet;
+            committed = ap (λ events. course.committed ++ events) told ∙ ap (λ events. events ++ (TheEvent.Leave seat k ∷ [])) left.committed;
+          };
+          shown = so_far.1;
+        }
+        go false (OnCondition c) silent left = (still_left (record { mode = mode; on = OnCondition c; limits = limits }) None (Left false) commits course silent left, so_far.1)
+        go false (OnVariable k) silent left = (still_left (record { mode = mode; on = OnVariable k; limits = limits }) None (Left false) commits course silent left, so_far.1)
+
+    -- one that was taken from its list before it could leave: a wait for a condition keeps what ended it
+    kept_comes : (mode : Mode) (on : Subject C) (limits : Limits) (cause : Cause) → let wait : Wait C = record { mode = mode; on = on; limits = limits } in
+        HasLeft truths seat wait None course × (course.looked ≡ Some (Some cause)) → IsComing truths seat wait (kept_in on cause) course
+    kept_comes mode (OnCondition c) limits cause so_far = record { left = record { was = so_far.0.was; began = so_far.0.began; mode = so_far.0.mode; unmet = so_far.0.unmet; committed = so_far.0.committed }; shown = so_far.1 }
+    kept_comes mode (OnVariable k) limits cause so_far = record { left = so_far.0; shown = tt }
+
+    leaves_on : (wait : Wait C) (cause : Cause) (place : LeavePlace) (found : Found) → Effect truths seat (want_leaving wait place) part found next commits → HasLeft truths seat wait None course × (course.looked ≡ Some (Some cause)) →
+        Comes (Await wait) (course_after found commits course) (got_leaving wait cause place found) next.held
+    leaves_on wait cause LeaveLoad (Saw word) e so_far = finds (Await wait) (Saw word) (leave_by wait cause word) refl (held_in part e.1) e.2 (leave_comes (Await wait) course part.held wait cause word so_far)
+    leaves_on wait cause (TakeToLeave last) (Saw word) e so_far = finds (Await wait) (Saw word) (leave_by wait cause word) refl (held_in part e.2) e.3 (leave_comes (Await wait) course part.held wait cause word so_far)
+    leaves_on wait cause (TakeToLeave last) Made e so_far = finds (Await wait) Made (On (InWait wait (InLeaving cause (Leave (word_taken ToChange last))))) refl (ap (λ p. p.held) e.2) e.3 so_far
+    leaves_on wait cause (Leave last) (Saw word) e so_far = finds (Await wait) (Saw word) (On (InWait wait (InLeaving cause (Leave word)))) refl (held_in part e.2) e.3 so_far
+    leaves_on wait cause (Leave last) (Left stood) e so_far = withdrawn_on wait.mode wait.on wait.limits cause last stood e so_far
+    leaves_on wait cause (Leave last) Made e so_far = let other : Left (ltb 0 (times_in seat (waiters_of part.lists (home_of wait.on)))) ≡ Made = e.0 in absurd (cc)
+    leaves_on wait cause (Leave last) (Woke owes) e so_far = let other : Left (ltb 0 (times_in seat (waiters_of part.lists (home_of wait.on)))) ≡ Woke owes = e.0 in absurd (cc)
+    leaves_on wait cause AwaitWakeToLeave (Flag v) e so_far =
+        finds (Await wait) (Flag v) _ refl (held_in part e.1) e.2 (either (Await wait) course part.held (eqb v 1) (Idle (InWait wait (InLeaving cause AwaitWakeToLeave))) (On (InAcquire (ForWait wait (kept_in wait.on cause)) (AcquireLoad (arrival_of 0 v))))
+        (λ b. so_far) (λ b. kept_comes wait.mode wait.on wait.limits cause so_far))
+    leaves_on wait cause _ _ e so_far = absurd e
+
+    waits_on : (wait : Wait C) (place : WaitPlace) (found : Found) → Effect truths seat (want_waiting wait place) part found next commits → WaitFits truths wait place part.held → MayShow wait.limits (place_cause_kept place) → WaitSoFar truths seat wait place course part.held →
+        Comes (Await wait) (course_after found commits course) (got_waiting N wait place found) next.held
+    waits_on wait (TestCells visit i) (Cell v) e fits given so_far = finds (Await wait) (Cell v) (On (test_place N wait visit (i + 1))) refl (held_in part e.1) e.2 (test_so_far course part.held wait visit (i + 1) so_far)
+    waits_on wait (TestLast visit i) found e fits given so_far = tested_on wait.mode wait.on wait.limits visit i found e fits given so_far
+    waits_on wait (InQueuing again place) found e fits given so_far = queues_on wait again place found e fits.0 fits.1 so_far
+    waits_on wait PayInWait (Paid owes) e fits given so_far = finds (Await wait) (Paid owes) (pay_waiting wait owes) refl (ap (λ p. p.held) e.3) e.5 (pay_wait_comes (Await wait) course part.held wait owes so_far)
+    waits_on wait AwaitWakeInWait (Flag v) e fits given so_far =
+        finds (Await wait) (Flag v) _ refl (held_in part e.1) e.2 (either (Await wait) course part.held (eqb v 1) (rest_or_look wait) (On (InAcquire (ForWait wait None) (AcquireLoad (arrival_of 0 v))))
+        (λ b. either (Await wait) course part.held (is_limited wait.limits) (On (InWait wait LookOut)) (Idle (InWait wait AwaitWakeInWait)) (λ b. so_far) (λ b. so_far)) (λ b. record { left = so_far; shown = tt }))
+    waits_on wait LookOut (Looked None) e fits given so_far = still_left wait None (Looked None) commits course e.2 so_far
+    waits_on wait LookOut (Looked (Some cause)) e fits given so_far = (still_left wait None (Looked (Some cause)) commits course e.2 so_far, refl)
+    waits_on wait (InLeaving cause place) found e fits given so_far = leaves_on wait cause place found e so_far
+    waits_on wait _ _ e fits given so_far = absurd e
+
+    signals_on : (waking : Waking) (k : ℕ) (place : SignalPlace) (found : Found) → Effect truths seat (want_signaling waking k place) part found next commits → SignalSoFar seat waking k place course part.held →
+        Comes (Wake waking k) (course_after found commits course) (got_signaling waking k place found) next.held
+    signals_on waking k SignalLoad (Saw word) e was = finds (Wake waking k) (Saw word) (signal_by waking k word) refl (held_in part e.1) e.2 (signal_comes (Wake waking k) course part.held waking k word was)
+    signals_on waking k (TakeToWake last) (Saw word) e was = finds (Wake waking k) (Saw word) (signal_by waking k word) refl (held_in part e.2) e.3 (signal_comes (Wake waking k) course part.held waking k word was)
+    signals_on waking k (TakeToWake last) Made e was = finds (Wake waking k) Made (On (InSignal waking k (WakeAndReturn (word_taken ToChange last)))) refl (ap (λ p. p.held) e.2) e.3 was
+    signals_on waking k (WakeAndReturn last) (Saw word) e was = finds (Wake waking k) (Saw word) (On (InSignal waking k (WakeAndReturn word))) refl (held_in part e.2) e.3 was
+    signals_on waking k (WakeAndReturn last) (Woke owes) e was =
+        let taken = taken_by waking (waiters_of part.lists (Cv k)) in
+        let woken : HasWoken seat waking k (course_after (Woke owes) commits course) next.held = record {
+          same = ap (λ p. p.held) e.2 ∙ was.same;
+          waiters = waiters_of part.lists (Cv k);
+          committed = first_commits (Woke owes) commits (wake_of seat waking k taken ∷ []) course part.held was e.3;
+        } in
+        either (Wake waking k) _ next.held owes (On (InSignal waking k PayTheWoken)) (Done Succeeded) (λ b. woken) (λ b. woken)
+    signals_on waking k (WakeAndReturn last) Made e was = let other : Woke (not (is_held last) && has_some (taken_by waking (waiters_of part.lists (Cv k)))) ≡ Made = e.0 in absurd (cc)
+    signals_on waking k (WakeAndReturn last) (Left stood) e was = let other : Woke (not (is_held last) && has_some (taken_by waking (waiters_of part.lists (Cv k)))) ≡ Left stood = e.0 in absurd (cc)
+    signals_on waking k PayTheWoken (Paid owes) e was =
+        finds (Wake waking k) (Paid owes) (pay_woken waking k owes) refl (ap (λ p. p.held) e.3) e.5 (either (Wake waking k) course part.held owes (On (InSignal waking k PayTheWoken)) (Done Succeeded) (λ b. was) (λ b. was))
+    signals_on waking k _ _ e was = absurd e
+
+    -- every step leads its call on
+    comes_on : (walk : Walk C) (found : Found) → Effect truths seat (want_of walk) part found next commits → PlaceFits truths (Some walk) part.held → SoFar truths seat course walk part.held →
+        Comes (asked_of walk) (course_after found commits course) (got_of N walk found) next.held
+    comes_on (InTry mode place) found e fits so_far = tries_on mode place found e so_far
+    comes_on (InAcquire aim place) found e fits so_far = acquires_on aim place found e fits.2 so_far
+    comes_on (InRelease releasing place) found e fits so_far = releases_on releasing place found e fits so_far
+    comes_on (InCells place) found e fits so_far = cells_on place found e fits.0 so_far
+    comes_on (InWait wait place) found e fits so_far = waits_on wait place found e fits.0 fits.1 so_far
+    comes_on (InSignal waking k place) found e fits so_far = signals_on waking k place found e so_far
+
+  -- what the law says of the seat's part of the state
+  stands_by : (seats : ℕ) (h : List (Event C N)) (s : State C N) (view : SeatView C N) (commits : List (Event C N)) → (commits ≡ [] → row_after h ≡ row) → IsLawful truths seats h s → ViewFits truths seats (standing_after h) s.row view → Stands (part_of s view.held view.owed) commits
+  stands_by seats h s view commits same lawful fits = record {
+    free = λ silent free. lawful.one_history.free free ∙ same silent;
+    cells = λ held is. (held_fits held is).cells;
+    starts = λ silent held is. (held_fits held is).starts ∙ same silent;
+  }
+    where
+      held_fits : (held : Held C N) → view.held ≡ Some held → HeldFits (standing_after h) s.row view.seat held
+      held_fits held is = subst (λ x. SectionFits (standing_after h) s.row view.seat view.walk x) is fits.section
+
+-- A step takes its call on.
+pub takes_on : (C : Type 0) (N : ℕ) (truths : Truths C) (seats : ℕ) (history : List (Event C N)) (old new : State C N) (view : SeatView C N) (found : Found) (commits : List (Event C N)) (course : Course C N) →
+    (step : Step truths old view found new commits) → IsLawful truths seats history old → SoFar truths view.seat course step.walk view.held →
+    CallGoes truths view.seat (row_after (history ++ commits)) (asked_of step.walk) (course_after found commits course) (got_of N step.walk found) step.held
+takes_on C N truths seats history old new view found commits course step lawful so_far =
+    let row = row_after (history ++ commits) in
+    let fits = (each_parts truths seats (standing_after history) old.row step.front view step.back (subst (λ vs. EachFits truths seats (standing_after history) old.row vs) step.was lawful.one_history.each)).1 in
+    let same : commits ≡ [] → row_after history ≡ row = λ silent. ap (λ es. row_after es) (sym (ap (λ cs. history ++ cs) silent ∙ append-nil history)) in
+    let stands = stands_by C N truths view.seat row seats history old view commits same lawful fits in
+    let place = subst (λ w. PlaceFits truths w view.held) step.walks fits.place in
+    goes_as_asked C N truths view.seat row (asked_of step.walk) (course_after found commits course) (got_of N step.walk found) step.held (asks_on C N step.walk found)
+    (comes_on C N truths view.seat row (part_of old view.held view.owed) (part_of new step.held step.owed) commits course stands step.walk found step.effect place so_far)
+
+-- A call that begins has changed nothing.
+pub begins_unchanged : (C : Type 0) (N : ℕ) (truths : Truths C) (seat : ℕ) (held : Option (Held C N)) (walk : Walk C) → IsFirst N walk → SoFar truths seat (course_from held) walk held
+begins_unchanged C N truths seat held walk first = go walk first where
+  none_yet : Unchanged (course_from held) held
+  none_yet = record { same = refl; silent = refl }
+
+  go : (walk : Walk C) → IsFirst N walk → SoFar truths seat (course_from held) walk held
+  go (InTry mode place) first = none_yet
+  go (InAcquire (ForLock mode) place) first = none_yet
+  go (InAcquire (ForWait wait kept) place) first = absurd first
+  go (InRelease releasing ReleaseLoad) first = none_yet
+  go (InRelease releasing _) first = absurd first
+  go (InCells place) first = none_yet
+  go (InWait wait (TestCells OnEntry i)) first = none_yet
+  go (InWait wait (TestLast OnEntry i)) first = none_yet
+  go (InWait wait (InQueuing again Load)) first = queued wait again first.0 (variable wait.on first.1) where
+    variable : (on : Subject C) → IsForVariable on → HasLookedFor on wait.limits None
+    variable (OnCondition c) for = absurd for
+    variable (OnVariable k) for = tt
+
+    queued : (wait : Wait C) (again : Bool) → again ≡ false → HasLookedFor wait.on wait.limits None → SoFar truths seat (course_from held) (InWait wait (InQueuing again Load)) held
+    queued wait true e looked = absurd (cc)
+    queued wait false e looked = (none_yet, looked)
+  go (InSignal waking k SignalLoad) first = none_yet
+  go walk first = absurd first
