@@ -70,7 +70,7 @@ module _ (C : Type 0) where
       one_of _ (may_acquire (mode_for aim) arrival word) (On (InAcquire aim (AcquireExchange arrival word))) _ (same_aim aim _ place)
       (one_of _ word.spin (Idle (InAcquire aim (AcquireLoad arrival))) (On (InAcquire aim (TakeToQueue arrival word))) (same_aim aim _ place) (same_aim aim _ place))
 
-  test_asks : (N : ℕ) (wait : Wait C) (visit : Visit) (loaded : ℕ) → asked_of (test_place N wait visit loaded) ≡ Await wait
+  pub test_asks : (N : ℕ) (wait : Wait C) (visit : Visit) (loaded : ℕ) → asked_of (test_place N wait visit loaded) ≡ Await wait
   test_asks N wait visit loaded = go (ltb loaded (N - 1)) where
     go : (b : Bool) → asked_of (cond b (InWait wait (TestCells visit loaded)) (InWait wait (TestLast visit (N - 1)))) ≡ Await wait
     go true = refl
@@ -89,7 +89,7 @@ module _ (C : Type 0) where
       one_of _ (not (needs_scan releasing word)) (On (InRelease releasing (ReleaseExchange word))) _ refl
       (one_of _ word.spin (Idle (InRelease releasing ReleaseLoad)) (On (InRelease releasing (TakeToScan word))) refl refl)
 
-  quiet_asks : (N : ℕ) (judging : Judging) (loaded : ℕ) → asked_in_cells {C = C} (quiet_place N judging loaded) ≡ asked_to_judge judging
+  pub quiet_asks : (N : ℕ) (judging : Judging) (loaded : ℕ) → asked_in_cells {C = C} (quiet_place N judging loaded) ≡ asked_to_judge judging
   quiet_asks N judging loaded = go (ltb loaded (N - 1)) where
     go : (b : Bool) → asked_in_cells {C = C} (cond b (QuietCells judging loaded) (QuietLast judging (N - 1))) ≡ asked_to_judge judging
     go true = refl

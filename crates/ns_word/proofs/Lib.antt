@@ -7,6 +7,7 @@ pub mod Codes
 pub mod Courses
 pub mod Dispatch
 pub mod EnvBegins
+pub mod EnvCourses
 pub mod EnvKeeps
 pub mod EnvLooks
 pub mod EnvRanges

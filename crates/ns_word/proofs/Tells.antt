@@ -103,15 +103,15 @@ module _ {C : Type 0} {N : ℕ} where
   step_by truths old view found new commits step = effect_by truths view.seat (want_of step.walk) _ found _ commits step.effect
 
   -- of a seat's own events all are its own, of another's none
-  own_all : (seat : ℕ) (commits : List (Event C N)) → AreBy seat commits → own commits seat ≡ commits
+  pub own_all : (seat : ℕ) (commits : List (Event C N)) → AreBy seat commits → own commits seat ≡ commits
   own_all seat [] p = refl
   own_all seat (e ∷ es) p = rw (eq-eqb (who_of e) seat p.0) (ap (λ xs. e ∷ xs) (own_all seat es p.1))
 
-  own_none : (seat other : ℕ) (commits : List (Event C N)) → seat ≢ other → AreBy seat commits → own commits other ≡ []
+  pub own_none : (seat other : ℕ) (commits : List (Event C N)) → seat ≢ other → AreBy seat commits → own commits other ≡ []
   own_none seat other [] ne p = refl
   own_none seat other (e ∷ es) ne p = rw (ne_eqb (who_of e) other (λ f. ne (sym p.0 ∙ f))) (own_none seat other es ne p.1)
 
-  own_append : (seat : ℕ) (g h : List (Event C N)) → own (g ++ h) seat ≡ own g seat ++ own h seat
+  pub own_append : (seat : ℕ) (g h : List (Event C N)) → own (g ++ h) seat ≡ own g seat ++ own h seat
   own_append seat g h = filter-append (λ event. eqb (who_of event) seat) g h
 
   -- the seat that steps

@@ -4,6 +4,7 @@ pub mod Begins
 pub mod Chains
 pub mod Codec
 pub mod Courses
+pub mod EnvMeanings
 pub mod EnvSteps
 pub mod EnvWalks
 pub mod Finds

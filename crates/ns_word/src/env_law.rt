@@ -3,7 +3,7 @@
 ghost use Rattle.std.specs.Prelude.{◌≡◌, ℕ, ◌<◌, ◌++◌, [], List, Option, Some, slice_get, if◌then◌else◌};
 ghost use Rattle.ns_model.specs.declared.environment.EnvEvent.{EnvEvent};
 ghost use Rattle.ns_model.specs.Beginnings.{BeginsWith};
-ghost use Rattle.ns_model.specs.Environments.{IsMade, is_notified, expiry_of};
+ghost use Rattle.ns_model.specs.Environments.{NoteStanding, IsMade, is_notified, expiry_of};
 ghost use Rattle.ns_word.specs.declared.env_act.NoteState.{NoteState};
 ghost use Rattle.ns_word.specs.declared.env_act.EnvFound.{EnvFound};
 ghost use Rattle.ns_word.specs.declared.env_act.EnvFound.TheVariants.{Clock, Note};
@@ -12,9 +12,10 @@ ghost use Rattle.ns_word.specs.declared.env_walk.EnvWalk.{EnvWalk};
 ghost use Rattle.ns_word.specs.declared.env_walk.EnvWalk.TheVariants.{ClockLoad, NoteLoad, ExpiryLoad};
 ghost use Rattle.ns_word.specs.declared.env_walk.EnvNext.TheVariants.{Go, Over};
 ghost use Rattle.ns_word.specs.declared.walk.Reply.TheVariants.{Expiry};
-ghost use Rattle.ns_word.specs.EnvWalks.{env_got_of, standing_of, stopped, passed};
-ghost use Rattle.ns_word.specs.EnvSteps.{EnvPlain, EnvState, EnvStep, EnvBegins, IsLawfulEnv, Meets, fresh_asks, looked};
+ghost use Rattle.ns_word.specs.EnvWalks.{env_got_of, env_walk_after, standing_of, stopped, passed};
+ghost use Rattle.ns_word.specs.EnvSteps.{EnvPlain, EnvState, EnvStep, EnvBegins, IsFirstAsk, IsLawfulEnv, Meets, fresh_asks, looked};
 ghost use Rattle.ns_word.specs.Chains.{ChainFits};
+ghost use Rattle.ns_word.specs.EnvMeanings.{EnvCourse, EnvSoFar, EnvGoes, env_asked_of, env_course_at, env_course_after};
 
 /// A clock at 0 without notes is lawful, with any number of seats.
 pub fn a_fresh_environment_is_lawful()
@@ -70,4 +71,31 @@ pub fn an_expiry_is_the_earliest()
     ensures { (events : List EnvEvent) (state : EnvState) (seat asked at : ℕ) (least answer : Option ℕ) (note : NoteState) →
         IsLawfulEnv events state → slice_get state.askings seat ≡ Some (Some (ExpiryLoad asked at least)) → standing_of note ≡ state.plain.notes at →
         env_got_of (ExpiryLoad asked at least) (Note note) ≡ Over (Expiry answer) → answer ≡ expiry_of events asked }
+{}
+
+/// No step of a call changes what it was asked to do.
+pub fn calls_on_notes_stay_what_they_were_asked()
+    ensures { (walk next : EnvWalk) (found : EnvFound) →
+        env_walk_after (env_got_of walk found) ≡ Some next → env_asked_of next ≡ env_asked_of walk }
+{}
+
+/// A call on the clock and the notes, or a look, has done nothing as it begins.
+pub fn calls_on_notes_begin_with_nothing_done()
+    ensures { (events : List EnvEvent) (notes : ℕ → NoteStanding) (seat : ℕ) (walk : EnvWalk) →
+        IsFirstAsk notes walk → EnvSoFar events seat (env_course_at events) walk }
+{}
+
+/// A step takes its call on: the call is still the one that was asked, and has done what its place
+/// tells; or it is over, and its answer means of all that has happened what it says.
+pub fn steps_on_notes_take_their_call_on()
+    ensures { (events more : List EnvEvent) (old new : EnvState) (seat : ℕ) (found : EnvFound) (course : EnvCourse) →
+        (step : EnvStep old seat found new more) →
+        IsLawfulEnv events old → EnvSoFar events seat course step.walk →
+        EnvGoes (events ++ more) seat (env_asked_of step.walk) (env_course_after more course) (env_got_of step.walk found) }
+{}
+
+/// What others do leaves a call where it is.
+pub fn steps_of_others_leave_a_call_on_notes()
+    ensures { (events more : List EnvEvent) (seat : ℕ) (course : EnvCourse) (walk : EnvWalk) →
+        EnvSoFar events seat course walk → EnvSoFar (events ++ more) seat course walk }
 {}

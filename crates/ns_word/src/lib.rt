@@ -35,6 +35,7 @@ pub mod cell_walk;
 pub mod codec;
 pub mod env_act;
 pub mod env_law;
+pub mod env_request;
 pub mod env_walk;
 pub mod hand;
 pub mod law;
