@@ -12,5 +12,6 @@ pub mod Schedules
 pub mod Showing
 pub mod States
 pub mod Turns
+pub mod Underway
 pub mod Waited
 pub mod Worlds

@@ -4,6 +4,7 @@ pub mod Calls
 pub mod Commits
 pub mod Looked
 pub mod Looks
+pub mod Meanings
 pub mod Performs
 pub mod Room
 pub mod Runs

@@ -1,5 +1,5 @@
 -- What a contract sees of a world, and a seat's step in it.
-use Rattle.std.specs.Prelude.{◌≡◌, ℕ, ◌⊎◌, Bool, false, ◌||◌, ◌<◌, ◌≤◌, ◌++◌, List, [], map, replicate, Option, Some, None, is_some, slice_get, slice_set, slice_index, length}
+use Rattle.std.specs.Prelude.{◌≡◌, ℕ, ◌⊎◌, Bool, false, ◌||◌, ◌<◌, ◌≤◌, ◌++◌, List, [], ◌∷◌, map, replicate, Option, Some, None, is_some, slice_get, slice_set, slice_index, length}
 use Rattle.std.specs.Option.{option_map_or}
 use Rattle.ns_model.specs.declared.environment.EnvEvent.{EnvEvent}
 use Rattle.ns_model.specs.declared.event.Event.{Event}
@@ -9,7 +9,7 @@ use Rattle.ns_word.specs.declared.word.Word.{Word}
 use Rattle.ns_word.specs.declared.walk.Walk.{Walk}
 use Rattle.ns_word.specs.declared.act.Found.{Found}
 use Rattle.ns_word.specs.declared.act.Found.TheVariants.{Looked}
-use Rattle.ns_model.specs.Environments.{NoteStanding}
+use Rattle.ns_model.specs.Environments.{NoteStanding, env_who}
 use Rattle.ns_word.specs.declared.env_act.EnvFound.{EnvFound}
 use Rattle.ns_word.specs.declared.env_walk.EnvWalk.{EnvWalk}
 use Rattle.ns_word.specs.Walks.{want_of, got_of, walk_after}
@@ -96,6 +96,11 @@ NotesMade {C} {N} views notes = (seat : ℕ) (view : SeatView C N) → slice_get
 -- These events are all that has happened to the clock and the notes: they are legal, by seats of the world, and have left both as they are, and each seat that is in a call on them where it is.
 abbrev pub LedTo : {C : Type 0} {N : ℕ} → List EnvEvent → Now C N → Type 0
 LedTo events world = IsLawfulEnv events (env_state world.env world.asking)
+
+-- all these events of the clock and the notes are the seat's
+abbrev pub AreEnvBy : ℕ → List EnvEvent → Type 0
+AreEnvBy seat [] = Unit {0}
+AreEnvBy seat (event ∷ events) = (env_who event ≡ seat) × AreEnvBy seat events
 
 -- some such events have led to the world
 abbrev pub HasEnvHistory : {C : Type 0} {N : ℕ} → Now C N → Type 0

@@ -9,8 +9,10 @@ use crate::environment::{is_made, is_made_or_none};
 use ns_model::event::Mode;
 use ns_word::act::Waking;
 use ns_word::env_act::NoteState;
+use ns_word::env_request::EnvRequest;
 use ns_word::env_walk::{Chain, EnvWalk};
 use ns_word::limits::Limits;
+use ns_word::request::Request;
 use ns_word::wait::{Subject, Wait};
 use ns_word::walk::Walk;
 use ns_word::word::Releasing;
@@ -84,6 +86,16 @@ impl<C: Copy> Clone for Call<C> {
     fn clone(&self) -> Result<Self, AllocError> {
         Ok(*self)
     }
+}
+
+/// What a call asks.
+///
+/// No program makes such a value: it is what the law of the calls speaks of.
+pub enum Asked<C> {
+    /// Of the lock.
+    OfLock(Request<C>),
+    /// Of the clock and the notes.
+    OfNotes(EnvRequest),
 }
 
 /// Where a call begins.

@@ -1,0 +1,687 @@
+-- From its beginning to its answer a call is under way, whatever others do, and its answer means what it says.
+use Rattle.std.specs.Prelude.{slice_get}
+use Rattle.std.proofs.Common.{◌≡◌, ◌≢◌, inl, inr, ℕ, List, [], ◌∷◌, ◌++◌, Option, None, Some, slice_set, refl, ap, sym, ◌∙◌, subst, Bool, ◌⊎◌, zero, suc, length}
+use Rattle.std.proofs.lemmas.List.{append-nil, append_assoc}
+use Rattle.std.proofs.lemmas.Bool.{ne_eqb, eq-eqb, cases_eq}
+use Rattle.std.proofs.lemmas.Option.{slice_get_within}
+use Rattle.ns_model.proofs.Beginnings.{begins_through, begins_itself}
+use Rattle.ns_model.proofs.Environments.{env_own-append}
+use Rattle.ns_model.specs.Beginnings.{BeginsWith}
+use Rattle.ns_model.specs.Environments.{NoteStanding, env_own, env_who}
+use Rattle.ns_model.specs.Histories.{own, row_after}
+use Rattle.ns_model.specs.Truths.{Truths}
+use Rattle.ns_model.specs.declared.environment.EnvEvent.{EnvEvent}
+use Rattle.ns_model.specs.declared.event.Event.{Event}
+use Rattle.ns_model.specs.declared.event.Mode.{Mode}
+use Rattle.ns_word.proofs.Asked.{quiet_asks, test_asks}
+use Rattle.ns_word.proofs.Calls.{looks_by_asked}
+use Rattle.ns_word.proofs.Courses.{takes_on, begins_unchanged}
+use Rattle.ns_word.proofs.EnvCourses.{begins_course, others_leave_course, step_takes_on}
+use Rattle.ns_word.proofs.EnvKeeps.{set_there, set_here}
+use Rattle.ns_word.proofs.Starts.{quiet_is_first, wait_is_first}
+use Rattle.ns_word.proofs.Tells.{own_append, own_none, step_by, own_all}
+use Rattle.ns_word.specs.Asked.{asked_of}
+use Rattle.ns_word.specs.Begins.{IsFirst}
+use Rattle.ns_word.specs.Courses.{SoFar, CallGoes, GoesOn, course_after, looked_after}
+use Rattle.ns_word.specs.EnvMeanings.{AtSomePoint, EnvCourse, EnvSoFar, Shows, env_asked_of, env_course_at, EnvGoes, EnvGoesOn, LookMeans, env_course_after}
+use Rattle.ns_word.specs.EnvSteps.{EnvPlain, IfMade, IsFirstAsk}
+use Rattle.ns_word.specs.EnvWalks.{env_got_of, env_walk_after, env_want_of}
+use Rattle.ns_word.specs.Meanings.{Course, Means, course_from}
+use Rattle.ns_word.specs.Steps.{Part, Effect, part_of}
+use Rattle.ns_word.specs.Told.{AreBy}
+use Rattle.ns_word.specs.Walks.{want_of, got_of, walk_after}
+use Rattle.ns_word.specs.declared.act.Act.TheVariants.{LoadWord, Acquire, TakeQueues, ReturnQueues, Release, ReleaseReturning, WaitReturning, LoadCell, JudgeQuiet, JudgeMet, StoreCell, ArmFlag, PayWake, LoadFlag, Look}
+use Rattle.ns_word.specs.declared.act.Act.{Act}
+use Rattle.ns_word.specs.declared.act.Found.TheVariants.{Looked}
+use Rattle.ns_word.specs.declared.act.Found.{Found}
+use Rattle.ns_word.specs.declared.cell_walk.Judging.TheVariants.{ToRelease}
+use Rattle.ns_word.specs.declared.env_request.EnvRequest.TheVariants as TheEnvRequest
+use Rattle.ns_word.specs.declared.env_request.EnvRequest.{EnvRequest}
+use Rattle.ns_word.specs.declared.env_walk.Chain.TheVariants.{ForLook}
+use Rattle.ns_word.specs.declared.env_walk.EnvNext.TheVariants.{Go, Shown, Repeat, Over}
+use Rattle.ns_word.specs.declared.env_walk.EnvNext.{EnvNext}
+use Rattle.ns_word.specs.declared.env_walk.EnvWalk.TheVariants.{ClockLoad, NoteLoad}
+use Rattle.ns_word.specs.declared.env_walk.EnvWalk.{EnvWalk}
+use Rattle.ns_word.specs.declared.limits.Cause.{Cause}
+use Rattle.ns_word.specs.declared.limits.Limits.{Limits}
+use Rattle.ns_word.specs.declared.request.Request.{Request}
+use Rattle.ns_word.specs.declared.view.Held.{Held}
+use Rattle.ns_word.specs.declared.view.SeatView.{SeatView}
+use Rattle.ns_word.specs.declared.wait.Subject.TheVariants.{OnCondition, OnVariable}
+use Rattle.ns_word.specs.declared.wait.Visit.TheVariants.{OnEntry}
+use Rattle.ns_word.specs.declared.walk.Next.TheVariants as TheNext
+use Rattle.ns_word.specs.declared.walk.Next.TheVariants.{On, Done}
+use Rattle.ns_word.specs.declared.walk.Next.{Next}
+use Rattle.ns_word.specs.declared.walk.Reply.{Reply}
+use Rattle.ns_word.specs.declared.walk.Walk.{Walk}
+use Rattle.ns_world.proofs.EnvGrows.{acts_led, asks_led, looks_led, steps_led, events_by}
+use Rattle.ns_world.proofs.Looking.{FirstIf, first_if, noted}
+use Rattle.ns_world.proofs.Worlds.{env_begins}
+use Rattle.ns_world.specs.Asks.{env_state, env_step_of}
+use Rattle.ns_world.specs.Begins.{Starts, begun_at, BeginAnswers}
+use Rattle.ns_world.specs.Calls.{mode_of, start_of, mode_waited, CallFits}
+use Rattle.ns_world.specs.Looks.{looks_at, LookFits, AsksFor, look_of, note_in}
+use Rattle.ns_world.specs.Meanings.{WasShown, AnswersTo, held_at, limits_of, asks_of, held_in, AnswersCall, IsUnfinished, Happens, Meanwhile}
+use Rattle.ns_world.specs.Performs.{step_of}
+use Rattle.ns_world.specs.World.{AreEnvBy, Goes, LookGoes, Moves, Now, StepOf, Asks, IsLawfulWorld, LedTo}
+use Rattle.ns_world.specs.declared.call.Asked.TheVariants.{OfLock, OfNotes}
+use Rattle.ns_world.specs.declared.call.Asked.{Asked}
+use Rattle.ns_world.specs.declared.call.Call.TheVariants.{Lock, RLock, TryLock, TryRLock, Unlock, RUnlock, UnlockQuiet, Get, Set, Wait, CvWait, Signal, Broadcast, NewNote, Notify, Advance, IsNotified, Expiry, NoteWait}
+use Rattle.ns_world.specs.declared.call.Call.{Call}
+use Rattle.ns_world.specs.declared.call.Start.TheVariants.{Ask, OnLock}
+use Rattle.ns_world.specs.declared.call.Start.{Start}
+use Rattle.ns_world.specs.declared.step.Begun.TheVariants.{Started}
+use Rattle.ns_world.specs.declared.step.Step.TheVariants.{Finished, Idle, Nothing, Went}
+use Rattle.ns_world.specs.declared.step.Step.{Step}
+
+-- ---- whose events are whose
+
+-- of a seat's own events all are its own, of another's none
+env_own_all : (seat : ℕ) (more : List EnvEvent) → AreEnvBy seat more → env_own more seat ≡ more
+env_own_all seat [] p = refl
+env_own_all seat (e ∷ es) p = rw (eq-eqb (env_who e) seat p.0) (ap (λ xs. e ∷ xs) (env_own_all seat es p.1))
+
+env_own_none : (seat other : ℕ) (more : List EnvEvent) → seat ≢ other → AreEnvBy seat more → env_own more other ≡ []
+env_own_none seat other [] ne p = refl
+env_own_none seat other (e ∷ es) ne p = rw (ne_eqb (env_who e) other (λ f. ne (sym p.0 ∙ f))) (env_own_none seat other es ne p.1)
+
+-- what a history begins with, it begins with when it has grown
+begins_on : {A : Type 0} (front now more : List A) → BeginsWith now front → BeginsWith (now ++ more) front
+begins_on front now more begins = begins_through (now ++ more) now front (more, refl) begins
+
+-- what was so at some point was so at some point when more has happened
+some_point_on : (earlier now more : List EnvEvent) (P : List EnvEvent → Type 0) → AtSomePoint earlier now P → AtSomePoint earlier (now ++ more) P
+some_point_on earlier now more P so = (so.0, (so.1.0, begins_on so.0 now more so.1.1), so.2)
+
+shown_on : (earlier now more : List EnvEvent) (limits : Limits) (looked : Option (Option Cause)) → WasShown earlier now limits looked → WasShown earlier (now ++ more) limits looked
+shown_on earlier now more limits None shown = tt
+shown_on earlier now more limits (Some cause) shown = some_point_on earlier now more (Shows limits cause) shown
+
+-- what a look of a wait has come to that is under way, and began after the wait
+abbrev LookSoFar : List EnvEvent → ℕ → List EnvEvent → Option EnvWalk → Type 0
+LookSoFar earlier seat events None = Unit {0}
+LookSoFar earlier seat events (Some place) = (course : EnvCourse) × BeginsWith course.before earlier × EnvSoFar events seat course place
+
+look_on : (earlier : List EnvEvent) (seat : ℕ) (events more : List EnvEvent) (asking : Option EnvWalk) → LookSoFar earlier seat events asking → LookSoFar earlier seat (events ++ more) asking
+look_on earlier seat events more None so = tt
+look_on earlier seat events more (Some place) so = (so.0, so.1, others_leave_course events more seat so.0 place so.2)
+
+-- a look that begins now
+look_begins : (earlier : List EnvEvent) (seat : ℕ) (events : List EnvEvent) (notes : ℕ → NoteStanding) (asking : Option EnvWalk) → BeginsWith events earlier → FirstIf notes asking → LookSoFar earlier seat events asking
+look_begins earlier seat events notes None since first = tt
+look_begins earlier seat events notes (Some place) since first = (env_course_at events, since, begins_course events notes seat place first)
+
+-- ---- a call that is under way
+
+-- only a wait looks; a call of its own on the clock and the notes doesn't
+abbrev IsNoLook : EnvRequest → Type 0
+IsNoLook (TheEnvRequest.Look limits) = ⊥
+IsNoLook request = Unit {0}
+
+means_no_look : (now : List EnvEvent) (request : EnvRequest) (course : EnvCourse) (cause : Option Cause) → IsNoLook request → LookMeans now request course cause → ⊥
+means_no_look now (TheEnvRequest.Look limits) course cause own_call means = own_call
+means_no_look now request course cause own_call means = means
+
+module _ (C : Type 0) (N : ℕ) (before : Now C N) (earlier : List EnvEvent) (seat : ℕ) where
+  -- one on the lock has come so far, and so has its look, if it is looking
+  record LockUnderway (request : Request C) (events : List EnvEvent) (world : Now C N) : Type 0 where
+    view : SeatView C N
+    at : slice_get world.state.views seat ≡ Some view
+    walk : Walk C
+    walks : view.walk ≡ Some walk
+    asked : asked_of walk ≡ request
+    course : Course C N
+    began : course.began ≡ held_at before seat
+    added : own world.history seat ≡ own before.history seat ++ course.committed
+    so_far : SoFar world.truths seat course walk view.held
+    shown : WasShown earlier events (limits_of request) course.looked
+    asking : Option EnvWalk
+    asks : slice_get world.asking seat ≡ Some asking
+    looking : LookSoFar earlier seat events asking
+
+  -- one on the clock and the notes has come so far
+  record NotesUnderway (request : EnvRequest) (events : List EnvEvent) (world : Now C N) : Type 0 where
+    view : SeatView C N
+    at : slice_get world.state.views seat ≡ Some view
+    idle : view.walk ≡ None
+    walk : EnvWalk
+    walks : slice_get world.asking seat ≡ Some (Some walk)
+    asked : env_asked_of walk ≡ request
+    course : EnvCourse
+    began : course.before ≡ earlier
+    added : env_own events seat ≡ env_own earlier seat ++ course.events
+    so_far : EnvSoFar events seat course walk
+    same : view.held ≡ held_at before seat
+    silent : own world.history seat ≡ own before.history seat
+    no_look : IsNoLook request
+
+  abbrev Underway : Asked C → List EnvEvent → Now C N → Type 0
+  Underway (OfLock request) events world = LockUnderway request events world
+  Underway (OfNotes request) events world = NotesUnderway request events world
+
+  -- after a step the call is under way, or has its answer
+  abbrev Outcome : Asked C → Step → List EnvEvent → Now C N → Type 0
+  Outcome asked (Finished reply) events world = AnswersTo before earlier seat asked reply world events
+  Outcome asked step events world = Underway asked events world
+
+  -- ---- what others do
+
+  -- nothing of the seat has changed
+  record Untouched (old new : Now C N) : Type 0 where
+    views : slice_get new.state.views seat ≡ slice_get old.state.views seat
+    asking : slice_get new.asking seat ≡ slice_get old.asking seat
+    own_same : own new.history seat ≡ own old.history seat
+    means : new.truths ≡ old.truths
+
+  lock_rests : (request : Request C) (events more : List EnvEvent) (old new : Now C N) → Untouched old new → LockUnderway request events old → LockUnderway request (events ++ more) new
+  lock_rests request events more old new same u = record {
+    view = u.view;
+    at = same.views ∙ u.at;
+    walk = u.walk;
+    walks = u.walks;
+    asked = u.asked;
+    course = u.course;
+    began = u.began;
+    added = same.own_same ∙ u.added;
+    so_far = subst (λ truths. SoFar truths seat u.course u.walk u.view.held) (sym same.means) u.so_far;
+    shown = shown_on earlier events more (limits_of request) u.course.looked u.shown;
+    asking = u.asking;
+    asks = same.asking ∙ u.asks;
+    looking = look_on earlier seat events more u.asking u.looking;
+  }
+
+  notes_rest : (request : EnvRequest) (events more : List EnvEvent) (old new : Now C N) → Untouched old new → env_own (events ++ more) seat ≡ env_own events seat → NotesUnderway request events old → NotesUnderway request (events ++ more) new
+  notes_rest request events more old new same own_same u = record {
+    view = u.view;
+    at = same.views ∙ u.at;
+    idle = u.idle;
+    walk = u.walk;
+    walks = same.asking ∙ u.walks;
+    asked = u.asked;
+    course = u.course;
+    began = u.began;
+    added = own_same ∙ u.added;
+    so_far = others_leave_course events more seat u.course u.walk u.so_far;
+    same = u.same;
+    silent = same.own_same ∙ u.silent;
+    no_look = u.no_look;
+  }
+
+  rests : (asked : Asked C) (events more : List EnvEvent) (old new : Now C N) → Untouched old new → env_own (events ++ more) seat ≡ env_own events seat → Underway asked events old → Underway asked (events ++ more) new
+  rests (OfLock request) events more old new same own_same u = lock_rests request events more old new same u
+  rests (OfNotes request) events more old new same own_same u = notes_rest request events more old new same own_same u
+
+  -- another seat's step on the lock
+  goes_there : (old new : Now C N) (other : ℕ) (step : Step) → other ≢ seat → Goes old new other step → Untouched old new
+  goes_there old new other step ne p = record {
+    views = ap (λ vs. slice_get vs seat) p.others ∙ set_there old.state.views other seat _ (λ e. ne (sym e));
+    asking = ap (λ xs. slice_get xs seat) p.asking ∙ set_there old.asking other seat _ (λ e. ne (sym e));
+    own_same = ap (λ h. own h seat) p.grows ∙ own_append seat old.history p.commits ∙ ap (λ es. own old.history seat ++ es) (own_none p.view.seat seat p.commits (λ e. ne (sym p.number ∙ e)) (step_by old.truths old.state p.view p.found new.state p.commits p.makes)) ∙ append-nil (own old.history seat);
+    means = p.means;
+  }
+
+  -- a change of another seat's place on the clock and the notes
+  asks_there : (old : Now C N) (env : EnvPlain) (other : ℕ) (ask : Option EnvWalk) → other ≢ seat → Untouched old (record old { env = env; asking = slice_set old.asking other ask })
+  asks_there old env other ask ne = record { views = refl; asking = set_there old.asking other seat ask (λ e. ne (sym e)); own_same = refl; means = refl }
+
+  moves_there : (old new : Now C N) (other : ℕ) (step : Step) → other ≢ seat → Moves old new other step → Untouched old new
+  moves_there old new other step ne (inl p) = goes_there old new other step ne p.goes
+  moves_there old new other step ne (inr (inl p)) =
+      let asking : new.asking ≡ slice_set old.asking other (env_walk_after (env_got_of p.makes.walk p.found)) = p.makes.becomes in
+      let is : new ≡ record old { env = new.env; asking = slice_set old.asking other (env_walk_after (env_got_of p.makes.walk p.found)) } = p.others ∙ ap (λ xs. record old { env = new.env; asking = xs }) asking in
+      subst (λ world. Untouched old world) (sym is) (asks_there old new.env other (env_walk_after (env_got_of p.makes.walk p.found)) ne)
+  moves_there old new other step ne (inr (inr p)) = looks_there (env_got_of p.place p.found) p.goes where
+    looks_there : (next : EnvNext) → LookGoes next old new other step → Untouched old new
+    looks_there (Go next) q = subst (λ world. Untouched old world) (sym q.0) (asks_there old old.env other (Some next) ne)
+    looks_there (Shown cause) q = goes_there old new other step ne q.0
+    looks_there next q = absurd q
+
+  step_there : (old new : Now C N) (other : ℕ) (step : Step) → other ≢ seat → StepOf old new other step → Untouched old new
+  step_there old new other Nothing ne p = subst (λ world. Untouched old world) (sym p.0) (record { views = refl; asking = refl; own_same = refl; means = refl })
+  step_there old new other Went ne p = moves_there old new other Went ne p
+  step_there old new other Idle ne p = moves_there old new other Idle ne p
+  step_there old new other (Finished reply) ne p = moves_there old new other (Finished reply) ne p
+
+  -- another seat begins a call
+  begin_there : (old new : Now C N) (other : ℕ) (call : Call C) → other ≢ seat → Starts old new other call → Untouched old new
+  begin_there old new other call ne p = subst (λ world. Untouched old world) (sym p.begins) (at_start (start_of N (mode_of p.view.held) call)) where
+    at_start : (start : Start C) → Untouched old (begun_at old other p.view start)
+    at_start (OnLock walk) = record { views = set_there old.state.views other seat _ (λ e. ne (sym e)); asking = refl; own_same = refl; means = refl }
+    at_start (Ask walk) = record { views = refl; asking = set_there old.asking other seat _ (λ e. ne (sym e)); own_same = refl; means = refl }
+
+  -- ---- the seat's own step
+
+  -- a step that is no look shows nothing
+  shows_not : (truths : Truths C) (act : Act C) (old : Part C N) (shown : Option Cause) (new : Part C N) (commits : List (Event C N)) → looks_at act ≡ None → Effect truths seat act old (Looked shown) new commits → ⊥
+  shows_not truths LoadWord old shown new commits none e = e
+  shows_not truths (Acquire aim arrival last) old shown new commits none e = e
+  shows_not truths (TakeQueues taking last) old shown new commits none e = e
+  shows_not truths (ReturnQueues change last) old shown new commits none e = e
+  shows_not truths (Release releasing last) old shown new commits none e = e
+  shows_not truths (ReleaseReturning releasing last) old shown new commits none e = e
+  shows_not truths (WaitReturning wait again last) old shown new commits none e = e
+  shows_not truths (LoadCell i) old shown new commits none e = e
+  shows_not truths (JudgeQuiet i) old shown new commits none e = e
+  shows_not truths (JudgeMet i c) old shown new commits none e = e
+  shows_not truths (StoreCell i v) old shown new commits none e = e
+  shows_not truths ArmFlag old shown new commits none e = e
+  shows_not truths (PayWake value) old shown new commits none e = e
+  shows_not truths LoadFlag old shown new commits none e = e
+  shows_not truths (Look limits again) old shown new commits none e = absurd (cc)
+
+  still_looked : (truths : Truths C) (act : Act C) (old : Part C N) (found : Found) (new : Part C N) (commits : List (Event C N)) (looked : Option (Option Cause)) → looks_at act ≡ None → Effect truths seat act old found new commits → looked_after found looked ≡ looked
+  still_looked truths act old (Looked shown) new commits looked none e = absurd (shows_not truths act old shown new commits none e)
+  still_looked truths act old found new commits looked none e = refl
+
+  -- where a step of the seat leads a call on the lock, by the next place
+  module _ (request : Request C) (events : List EnvEvent) (new : Now C N) (course : Course C N) (began : course.began ≡ held_at before seat) (added : own new.history seat ≡ own before.history seat ++ course.committed) (shown : WasShown earlier events (limits_of request) course.looked) where
+    goes_on : (number : ℕ) (walk : Walk C) (held : Option (Held C N)) (owed : List ℕ) → GoesOn new.truths seat request course walk held → slice_get new.state.views seat ≡ Some (record { seat = number; walk = Some walk; held = held; owed = owed }) →
+        slice_get new.asking seat ≡ Some (look_of (Some walk)) → LookSoFar earlier seat events (look_of (Some walk)) → LockUnderway request events new
+    goes_on number walk held owed goes at asks looking = record {
+      view = record { seat = number; walk = Some walk; held = held; owed = owed };
+      at = at;
+      walk = walk;
+      walks = refl;
+      asked = goes.asked;
+      course = course;
+      began = began;
+      added = added;
+      so_far = goes.so_far;
+      shown = shown;
+      asking = look_of (Some walk);
+      asks = asks;
+      looking = looking;
+    }
+
+    settles : (number : ℕ) (next : Next C) (held : Option (Held C N)) (owed : List ℕ) → CallGoes new.truths seat (row_after new.history) request course next held → slice_get new.state.views seat ≡ Some (record { seat = number; walk = walk_after next; held = held; owed = owed }) →
+        slice_get new.asking seat ≡ Some (look_of (walk_after next)) → LookSoFar earlier seat events (look_of (walk_after next)) → Outcome (OfLock request) (step_of next) events new
+    settles number (On walk) held owed goes at asks looking = goes_on number walk held owed goes at asks looking
+    settles number (TheNext.Idle walk) held owed goes at asks looking = goes_on number walk held owed goes at asks looking
+    settles number (Done reply) held owed goes at asks looking = record {
+      course = course;
+      began = began;
+      added = added;
+      shown = shown;
+      means = subst (λ h. Means new.truths seat (row_after new.history) request course reply h) (sym (ap held_in at)) goes;
+    }
+
+  -- a step of the seat on the lock leads its call on
+  lock_goes : (request : Request C) (events : List EnvEvent) (old new : Now C N) (step : Step) → IsLawfulWorld old → BeginsWith events earlier → (u : LockUnderway request events old) → (p : Goes old new seat step) →
+      WasShown earlier events (limits_of request) (looked_after p.found u.course.looked) → Outcome (OfLock request) step events new
+  lock_goes request events old new step lawful since u p shown =
+      let views : Some p.view ≡ Some u.view = sym p.at ∙ u.at in
+      let view_is : p.view ≡ u.view = cc in
+      let walks : Some p.makes.walk ≡ Some u.walk = sym p.makes.walks ∙ ap (λ v. v.walk) view_is ∙ u.walks in
+      let walk_is : p.makes.walk ≡ u.walk = cc in
+      let at_walk : SoFar old.truths seat u.course p.makes.walk u.view.held = subst (λ w. SoFar old.truths seat u.course w u.view.held) (sym walk_is) u.so_far in
+      let at_view : SoFar old.truths seat u.course p.makes.walk p.view.held = subst (λ v. SoFar old.truths seat u.course p.makes.walk v.held) (sym view_is) at_walk in
+      let so_far : SoFar old.truths p.view.seat u.course p.makes.walk p.view.held = subst (λ n. SoFar old.truths n u.course p.makes.walk p.view.held) (sym p.number) at_view in
+      let course = course_after p.found p.commits u.course in
+      let next = got_of N p.makes.walk p.found in
+      let goes = takes_on C N old.truths (length old.state.views) old.history old.state new.state p.view p.found p.commits u.course p.makes lawful.lawful so_far in
+      let asked : asked_of p.makes.walk ≡ request = ap asked_of walk_is ∙ u.asked in
+      let goes_asked = subst (λ r. CallGoes old.truths p.view.seat (row_after (old.history ++ p.commits)) r course next p.makes.held) asked goes in
+      let goes_there = subst (λ n. CallGoes old.truths n (row_after (old.history ++ p.commits)) request course next p.makes.held) p.number goes_asked in
+      let goes_row = subst (λ h. CallGoes old.truths seat (row_after h) request course next p.makes.held) (sym p.grows) goes_there in
+      let goes_here = subst (λ truths. CallGoes truths seat (row_after new.history) request course next p.makes.held) (sym p.means) goes_row in
+      let by : AreBy seat p.commits = subst (λ n. AreBy n p.commits) p.number (step_by old.truths old.state p.view p.found new.state p.commits p.makes) in
+      let added : own new.history seat ≡ own before.history seat ++ (u.course.committed ++ p.commits) =
+      ap (λ h. own h seat) p.grows ∙ own_append seat old.history p.commits ∙ ap (λ es. own old.history seat ++ es) (own_all seat p.commits by) ∙ ap (λ es. es ++ p.commits) u.added ∙ append_assoc (own before.history seat) u.course.committed p.commits in
+      let within = slice_get_within old.state.views seat p.view p.at in
+      let at = ap (λ vs. slice_get vs seat) p.others ∙ set_here old.state.views seat (record { seat = p.view.seat; walk = walk_after next; held = p.makes.held; owed = p.makes.owed }) within in
+      let asks = ap (λ xs. slice_get xs seat) p.asking ∙ set_here old.asking seat (look_of (walk_after next)) (slice_get_within old.asking seat u.asking u.asks) in
+      let made : IfMade old.env.notes (note_in (walk_after next)) = noted N (IfMade old.env.notes) p.makes.walk p.found tt (subst (λ w. IfMade old.env.notes (note_in w)) p.makes.walks (lawful.noted seat p.view p.at)) in
+      let looking = look_begins earlier seat events old.env.notes (look_of (walk_after next)) since (first_if old.env.notes (walk_after next) made) in
+      subst (λ s. Outcome (OfLock request) s events new) (sym p.answers) (settles request events new course u.began added shown p.view.seat next p.makes.held p.makes.owed goes_here at asks looking)
+
+  -- ---- a look of the wait
+
+  -- what a look goes by is what may end the wait that was asked
+  is_look : (act : Act C) (limits : Limits) → looks_at act ≡ Some limits → (again : Bool) × (act ≡ Look limits again)
+  is_look LoadWord limits e = absurd (cc)
+  is_look (Acquire aim arrival last) limits e = absurd (cc)
+  is_look (TakeQueues taking last) limits e = absurd (cc)
+  is_look (ReturnQueues change last) limits e = absurd (cc)
+  is_look (Release releasing last) limits e = absurd (cc)
+  is_look (ReleaseReturning releasing last) limits e = absurd (cc)
+  is_look (WaitReturning wait again last) limits e = absurd (cc)
+  is_look (LoadCell i) limits e = absurd (cc)
+  is_look (JudgeQuiet i) limits e = absurd (cc)
+  is_look (JudgeMet i c) limits e = absurd (cc)
+  is_look (StoreCell i v) limits e = absurd (cc)
+  is_look ArmFlag limits e = absurd (cc)
+  is_look (PayWake value) limits e = absurd (cc)
+  is_look LoadFlag limits e = absurd (cc)
+  is_look (Look by again) limits e = let same : by ≡ limits = cc in (again, ap (λ l. Look l again) same)
+
+  limits_are : (walk : Walk C) (request : Request C) (limits : Limits) → asked_of walk ≡ request → looks_at (want_of walk) ≡ Some limits → limits_of request ≡ limits
+  limits_are walk request limits asked e =
+      let look = is_look (want_of walk) limits e in
+      let found = looks_by_asked limits look.0 walk look.1 in
+      ap limits_of (sym asked ∙ found.1) ∙ found.2
+
+  place_asks : (limits : Limits) (place : EnvWalk) → LookFits limits place → env_asked_of place ≡ TheEnvRequest.Look limits
+  place_asks limits (ClockLoad (ForLook by)) fits = ap TheEnvRequest.Look fits
+  place_asks limits (NoteLoad (ForLook by) clock note) fits = ap TheEnvRequest.Look fits.0
+  place_asks limits place fits = absurd fits
+
+  -- a look that began after the wait shows what was so at some point of the wait
+  look_means : (events : List EnvEvent) (course : EnvCourse) (limits : Limits) (asked : EnvRequest) (cause : Option Cause) → asked ≡ TheEnvRequest.Look limits → BeginsWith course.before earlier → LookMeans events asked course cause → AtSomePoint earlier events (Shows limits cause)
+  look_means events course limits asked cause is since means =
+      let so = subst (λ r. LookMeans events r course cause) is means in
+      (so.1.0, (begins_through so.1.0 course.before earlier so.1.1.0 since, so.1.1.1), so.1.2)
+
+  module _ (request : Request C) (events : List EnvEvent) (old new : Now C N) (step : Step) (lawful : IsLawfulWorld old) (since : BeginsWith events earlier) (u : LockUnderway request events old) where
+    -- the look goes on, or the wait goes on with what it has shown
+    look_goes : (walk : Walk C) (view : SeatView C N) (look : EnvCourse) (asked : EnvRequest) (limits : Limits) (next : EnvNext) → limits_of request ≡ limits → asked ≡ TheEnvRequest.Look limits → BeginsWith look.before earlier → EnvGoes events seat asked look next → LookGoes next old new seat step → Outcome (OfLock request) step events new
+    look_goes walk view look asked limits (Go place) given is after goes p =
+        subst (λ s. Outcome (OfLock request) s events new) (sym p.1) (subst (λ world. LockUnderway request events world) (sym p.0) (record {
+          view = u.view;
+          at = u.at;
+          walk = u.walk;
+          walks = u.walks;
+          asked = u.asked;
+          course = u.course;
+          began = u.began;
+          added = u.added;
+          so_far = u.so_far;
+          shown = u.shown;
+          asking = Some place;
+          asks = set_here old.asking seat (Some place) (slice_get_within old.asking seat u.asking u.asks);
+          looking = (look, after, goes.so_far);
+        }))
+    look_goes walk view look asked limits (Shown cause) given is after goes p =
+        lock_goes request events old new step lawful since u p.0 (subst (λ found. WasShown earlier events (limits_of request) (looked_after found u.course.looked)) (sym p.1)
+        (subst (λ l. AtSomePoint earlier events (Shows l cause)) (sym given) (look_means events look limits asked cause is after goes)))
+    look_goes walk view look asked limits next given is after goes p = absurd p
+
+  -- ---- a call on the clock and the notes
+
+  module _ (request : EnvRequest) (events : List EnvEvent) (new : Now C N) (view : SeatView C N) (at : slice_get new.state.views seat ≡ Some view) (idle : view.walk ≡ None) (course : EnvCourse) (began : course.before ≡ earlier) (added : env_own events seat ≡ env_own earlier seat ++ course.events)
+      (same : view.held ≡ held_at before seat) (silent : own new.history seat ≡ own before.history seat) (no_look : IsNoLook request) where
+    -- it goes on
+    asks_goes_on : (walk : EnvWalk) → slice_get new.asking seat ≡ Some (Some walk) → EnvGoesOn events seat request course walk → NotesUnderway request events new
+    asks_goes_on walk walks goes = record {
+      view = view;
+      at = at;
+      idle = idle;
+      walk = walk;
+      walks = walks;
+      asked = goes.asked;
+      course = course;
+      began = began;
+      added = added;
+      so_far = goes.so_far;
+      same = same;
+      silent = silent;
+      no_look = no_look;
+    }
+
+    -- where its step leads
+    asks_settle : (next : EnvNext) → slice_get new.asking seat ≡ Some (env_walk_after next) → EnvGoes events seat request course next → Outcome (OfNotes request) (env_step_of next) events new
+    asks_settle (Go walk) walks goes = asks_goes_on walk walks goes
+    asks_settle (Repeat walk) walks goes = asks_goes_on walk walks goes
+    asks_settle (Over reply) walks goes = record {
+      course = course;
+      began = began;
+      added = added;
+      means = goes;
+      same = ap held_in at ∙ same;
+      silent = silent;
+    }
+    asks_settle (Shown cause) walks goes = absurd (means_no_look events request course cause no_look goes)
+
+  -- a step of the seat in a call of its own on the clock and the notes leads it on
+  asks_goes : (request : EnvRequest) (events : List EnvEvent) (old new : Now C N) (step : Step) → IsLawfulWorld old → LedTo events old → (u : NotesUnderway request events old) → (p : Asks old new seat step) → Outcome (OfNotes request) step (events ++ p.events) new
+  asks_goes request events old new step lawful led u p =
+      let walks : Some (Some p.makes.walk) ≡ Some (Some u.walk) = sym p.makes.walks ∙ u.walks in
+      let walk_is : p.makes.walk ≡ u.walk = cc in
+      let next = env_got_of p.makes.walk p.found in
+      let so_far = subst (λ w. EnvSoFar events seat u.course w) (sym walk_is) u.so_far in
+      let goes = subst (λ r. EnvGoes (events ++ p.events) seat r (env_course_after p.events u.course) next) (ap env_asked_of walk_is ∙ u.asked)
+      (step_takes_on events p.events (env_state old.env old.asking) (env_state new.env new.asking) seat p.found u.course p.makes led so_far) in
+      let by = events_by seat (env_want_of p.makes.walk) old.env p.found new.env p.events p.makes.effect in
+      let added : env_own (events ++ p.events) seat ≡ env_own earlier seat ++ (u.course.events ++ p.events) =
+      env_own-append events p.events seat ∙ ap (λ es. env_own events seat ++ es) (env_own_all seat p.events by) ∙ ap (λ es. es ++ p.events) u.added ∙ append_assoc (env_own earlier seat) u.course.events p.events in
+      let at : slice_get new.state.views seat ≡ Some u.view = ap (λ (world : Now C N). slice_get world.state.views seat) p.others ∙ u.at in
+      let walks_on = ap (λ xs. slice_get xs seat) p.makes.becomes ∙ set_here old.asking seat (env_walk_after next) (slice_get_within old.asking seat (Some u.walk) u.walks) in
+      let silent : own new.history seat ≡ own before.history seat = ap (λ (world : Now C N). own world.history seat) p.others ∙ u.silent in
+      subst (λ s. Outcome (OfNotes request) s (events ++ p.events) new) (sym p.answers)
+      (asks_settle request (events ++ p.events) new u.view at u.idle (env_course_after p.events u.course) u.began added u.same silent u.no_look next walks_on goes)
+
+  -- ---- any step of the seat
+
+  abbrev Leads : Asked C → List EnvEvent → Now C N → Step → Type 0
+  Leads asked events new step = (more : List EnvEvent) × LedTo (events ++ more) new × Outcome asked step (events ++ more) new
+
+  -- where the world is led by no event
+  no_event : (events : List EnvEvent) (new : Now C N) → LedTo events new → LedTo (events ++ []) new
+  no_event events new led = subst (λ es. LedTo es new) (sym (append-nil events)) led
+
+  same_world : (world : Now C N) → Untouched world world
+  same_world world = record { views = refl; asking = refl; own_same = refl; means = refl }
+
+  -- of a call on the lock
+  lock_moves : (request : Request C) (events : List EnvEvent) (old new : Now C N) (step : Step) → IsLawfulWorld old → LedTo events old → BeginsWith events earlier → LockUnderway request events old → Moves old new seat step → Leads (OfLock request) events new step
+  unfolding lock_rests
+  lock_moves request events old new step lawful led since u (inl p) =
+      let now = lock_rests request events [] old old (same_world old) u in
+      let same : looked_after p.goes.found u.course.looked ≡ u.course.looked = still_looked old.truths (want_of p.goes.makes.walk) (part_of old.state p.goes.view.held p.goes.view.owed) p.goes.found (part_of new.state p.goes.makes.held p.goes.makes.owed) p.goes.commits u.course.looked p.is_no_look
+      (subst (λ n. Effect old.truths n (want_of p.goes.makes.walk) (part_of old.state p.goes.view.held p.goes.view.owed) p.goes.found (part_of new.state p.goes.makes.held p.goes.makes.owed) p.goes.commits) p.goes.number p.goes.makes.effect) in (
+        [],
+        no_event events new (acts_led events old new seat step lawful led p),
+        lock_goes request (events ++ []) old new step lawful (begins_on earlier events [] since) now p.goes (subst (λ looked. WasShown earlier (events ++ []) (limits_of request) looked) (sym same) now.shown),
+      )
+  lock_moves request events old new step lawful led since u (inr (inl p)) =
+      let views : Some p.view ≡ Some u.view = sym p.at ∙ u.at in
+      let view_is : p.view ≡ u.view = cc in
+      let clash : None ≡ Some u.walk = sym p.idle ∙ ap (λ v. v.walk) view_is ∙ u.walks in absurd (cc)
+  lock_moves request events old new step lawful led since u (inr (inr p)) =
+      let views : Some p.view ≡ Some u.view = sym p.at ∙ u.at in
+      let view_is : p.view ≡ u.view = cc in
+      let walks : Some p.walk ≡ Some u.walk = sym p.walks ∙ ap (λ v. v.walk) view_is ∙ u.walks in
+      let walk_is : p.walk ≡ u.walk = cc in
+      let asking : Some u.asking ≡ Some (Some p.place) = sym u.asks ∙ p.stands in
+      let asking_is : u.asking ≡ Some p.place = cc in
+      let look = subst (λ a. LookSoFar earlier seat events a) asking_is u.looking in
+      let for : AsksFor (Some u.walk) (Some p.place) = subst (λ w. AsksFor w (Some p.place)) u.walks (lawful.right seat u.view (Some p.place) u.at p.stands) in
+      let next = env_got_of p.place p.found in
+      let goes = step_takes_on events [] (env_state old.env old.asking) (env_state old.env (slice_set old.asking seat (env_walk_after next))) seat p.found look.0 (record { walk = p.place; walks = p.stands; effect = p.effect; becomes = refl }) led look.2 in (
+        [],
+        no_event events new (looks_led events old new seat step lawful led p),
+        look_goes request (events ++ []) old new step lawful (begins_on earlier events [] since) (lock_rests request events [] old old (same_world old) u) u.walk u.view (env_course_after [] look.0) (env_asked_of p.place) for.0 next
+            (limits_are u.walk request for.0 u.asked for.1) (place_asks for.0 p.place for.2) look.1 goes p.goes,
+      )
+
+  -- of a call on the clock and the notes
+  notes_move : (request : EnvRequest) (events : List EnvEvent) (old new : Now C N) (step : Step) → IsLawfulWorld old → LedTo events old → NotesUnderway request events old → Moves old new seat step → Leads (OfNotes request) events new step
+  notes_move request events old new step lawful led u (inl p) = let clash : Some None ≡ Some (Some u.walk) = sym p.unasked ∙ u.walks in absurd (cc)
+  notes_move request events old new step lawful led u (inr (inl p)) = (p.events, asks_led events old new seat step lawful led p, asks_goes request events old new step lawful led u p)
+  notes_move request events old new step lawful led u (inr (inr p)) =
+      let views : Some p.view ≡ Some u.view = sym p.at ∙ u.at in
+      let view_is : p.view ≡ u.view = cc in
+      let clash : None ≡ Some p.walk = sym u.idle ∙ ap (λ v. v.walk) (sym view_is) ∙ p.walks in absurd (cc)
+
+  moves_on : (asked : Asked C) (events : List EnvEvent) (old new : Now C N) (step : Step) → IsLawfulWorld old → LedTo events old → BeginsWith events earlier → Underway asked events old → Moves old new seat step → Leads asked events new step
+  moves_on (OfLock request) events old new step lawful led since u p = lock_moves request events old new step lawful led since u p
+  moves_on (OfNotes request) events old new step lawful led since u p = notes_move request events old new step lawful led u p
+
+  -- a seat whose call is under way isn't idle
+  not_idle : (asked : Asked C) (events : List EnvEvent) (world : Now C N) (view : SeatView C N) → Underway asked events world → slice_get world.state.views seat ≡ Some view → view.walk ≡ None → slice_get world.asking seat ≡ Some None → ⊥
+  not_idle (OfLock request) events world view u at idle unasked =
+      let views : Some view ≡ Some u.view = sym at ∙ u.at in
+      let view_is : view ≡ u.view = cc in
+      let clash : None ≡ Some u.walk = sym idle ∙ ap (λ v. v.walk) view_is ∙ u.walks in absurd (cc)
+  not_idle (OfNotes request) events world view u at idle unasked = let clash : Some None ≡ Some (Some u.walk) = sym unasked ∙ u.walks in absurd (cc)
+
+  step_on : (asked : Asked C) (events : List EnvEvent) (old new : Now C N) (step : Step) → IsLawfulWorld old → LedTo events old → BeginsWith events earlier → Underway asked events old → StepOf old new seat step → Leads asked events new step
+  step_on asked events old new Nothing lawful led since u p = absurd (not_idle asked events old p.1.view u p.1.at p.1.idle p.1.unasked)
+  step_on asked events old new Went lawful led since u p = moves_on asked events old new Went lawful led since u p
+  step_on asked events old new Idle lawful led since u p = moves_on asked events old new Idle lawful led since u p
+  step_on asked events old new (Finished reply) lawful led since u p = moves_on asked events old new (Finished reply) lawful led since u p
+
+  -- ---- how a call begins
+
+  -- the first place of a call is one of what it was asked
+  abbrev IsAskedAt : Asked C → Start C → Type 0
+  IsAskedAt (OfLock request) (OnLock walk) = asked_of walk ≡ request
+  IsAskedAt (OfNotes request) (Ask walk) = (env_asked_of walk ≡ request) × IsNoLook request
+  IsAskedAt asked start = ⊥
+
+  asked_at : (mode : Option Mode) (call : Call C) → IsAskedAt (asks_of mode call) (start_of N mode call)
+  asked_at mode Lock = refl
+  asked_at mode RLock = refl
+  asked_at mode TryLock = refl
+  asked_at mode TryRLock = refl
+  asked_at mode Unlock = refl
+  asked_at mode RUnlock = refl
+  asked_at mode UnlockQuiet = quiet_asks C N ToRelease 0
+  asked_at mode (Get i) = refl
+  asked_at mode (Set i value) = refl
+  asked_at mode (Wait c limits) = test_asks C N (record { mode = mode_waited mode; on = OnCondition c; limits = limits }) OnEntry 0
+  asked_at mode (CvWait k limits) = refl
+  asked_at mode (Signal k) = refl
+  asked_at mode (Broadcast k) = refl
+  asked_at mode (NewNote parent deadline) = (refl, tt)
+  asked_at mode (Notify note) = (refl, tt)
+  asked_at mode (Advance moment) = (refl, tt)
+  asked_at mode (IsNotified note) = (refl, tt)
+  asked_at mode (Expiry note) = (refl, tt)
+  asked_at mode (NoteWait note deadline) = (refl, tt)
+
+  -- it is a first place
+  abbrev IsFirstAt : (ℕ → NoteStanding) → Start C → Type 0
+  IsFirstAt notes (OnLock walk) = IsFirst N walk
+  IsFirstAt notes (Ask walk) = IsFirstAsk notes walk
+
+  first_at : (notes : ℕ → NoteStanding) (mode : Option Mode) (call : Call C) → CallFits notes call mode → IsFirstAt notes (start_of N mode call)
+  first_at notes mode Lock fits = refl
+  first_at notes mode RLock fits = refl
+  first_at notes mode TryLock fits = tt
+  first_at notes mode TryRLock fits = tt
+  first_at notes mode Unlock fits = tt
+  first_at notes mode RUnlock fits = tt
+  first_at notes mode UnlockQuiet fits = quiet_is_first C N ToRelease
+  first_at notes mode (Get i) fits = tt
+  first_at notes mode (Set i value) fits = tt
+  first_at notes mode (Wait c limits) fits = wait_is_first N (record { mode = mode_waited mode; on = OnCondition c; limits = limits })
+  first_at notes mode (CvWait k limits) fits = wait_is_first {C = C} N (record { mode = mode_waited mode; on = OnVariable k; limits = limits })
+  first_at notes mode (Signal k) fits = tt
+  first_at notes mode (Broadcast k) fits = tt
+  first_at notes mode (NewNote parent deadline) fits = fits
+  first_at notes mode (Notify note) fits = fits
+  first_at notes mode (Advance moment) fits = tt
+  first_at notes mode (IsNotified note) fits = fits
+  first_at notes mode (Expiry note) fits = (refl, refl, fits)
+  first_at notes mode (NoteWait note deadline) fits = fits
+
+  -- what has led to a world has led to it when a call has begun
+  begins_led : (events : List EnvEvent) (old : Now C N) (who : ℕ) (view : SeatView C N) (start : Start C) → slice_get old.asking who ≡ Some None → IsFirstAt old.env.notes start → LedTo events old → LedTo events (begun_at old who view start)
+  begins_led events old who view (OnLock walk) unasked first led = led
+  begins_led events old who view (Ask walk) unasked first led = env_begins events old.env old.asking who (Some walk) unasked first led
+
+  -- a call has come so far as it begins
+  starts_at : (asked : Asked C) (start : Start C) (view : SeatView C N) → IsAskedAt asked start → IsFirstAt before.env.notes start → slice_get before.state.views seat ≡ Some view → view.walk ≡ None → slice_get before.asking seat ≡ Some None → Underway asked earlier (begun_at before seat view start)
+  starts_at (OfLock request) (OnLock walk) view asked first at idle unasked = record {
+    view = record view { walk = Some walk };
+    at = set_here before.state.views seat (record view { walk = Some walk }) (slice_get_within before.state.views seat view at);
+    walk = walk;
+    walks = refl;
+    asked = asked;
+    course = course_from view.held;
+    began = sym (ap held_in at);
+    added = sym (append-nil (own before.history seat));
+    so_far = begins_unchanged C N before.truths seat view.held walk first;
+    shown = tt;
+    asking = None;
+    asks = unasked;
+    looking = tt;
+  }
+  starts_at (OfNotes request) (Ask walk) view asked first at idle unasked = record {
+    view = view;
+    at = at;
+    idle = idle;
+    walk = walk;
+    walks = set_here before.asking seat (Some walk) (slice_get_within before.asking seat None unasked);
+    asked = asked.0;
+    course = env_course_at earlier;
+    began = refl;
+    added = sym (append-nil (env_own earlier seat));
+    so_far = begins_course earlier before.env.notes seat walk first;
+    same = sym (ap held_in at);
+    silent = refl;
+    no_look = asked.1;
+  }
+  starts_at (OfLock request) (Ask walk) view asked first at idle unasked = absurd asked
+  starts_at (OfNotes request) (OnLock walk) view asked first at idle unasked = absurd asked
+
+  -- ---- from the beginning to the answer
+
+  -- some events have led to a world in which the call is under way
+  record IsUnderway (asked : Asked C) (world : Now C N) : Type 0 where
+    events : List EnvEvent
+    since : BeginsWith events earlier
+    led : LedTo events world
+    underway : Underway asked events world
+
+  begins_underway : (begun : Now C N) (call : Call C) → LedTo earlier before → Starts before begun seat call → IsUnderway (asks_of (mode_of (held_at before seat)) call) begun
+  begins_underway begun call led p =
+      let mode = mode_of p.view.held in
+      let is : held_at before seat ≡ p.view.held = ap held_in p.at in
+      let first = first_at before.env.notes mode call p.fits in
+      subst (λ held. IsUnderway (asks_of (mode_of held) call) begun) (sym is) (subst (λ world. IsUnderway (asks_of mode call) world) (sym p.begins) (record {
+        events = earlier;
+        since = begins_itself earlier;
+        led = begins_led earlier before seat p.view (start_of N mode call) p.unasked first led;
+        underway = starts_at (asks_of mode call) (start_of N mode call) p.view (asked_at mode call) first p.at p.idle p.unasked;
+      }))
+
+  -- what isn't finished is under way
+  unfinished : (asked : Asked C) (step : Step) (events : List EnvEvent) (world : Now C N) → IsUnfinished step → Outcome asked step events world → Underway asked events world
+  unfinished asked Went events world goes p = p
+  unfinished asked Idle events world goes p = p
+  unfinished asked Nothing events world goes p = p
+  unfinished asked (Finished reply) events world goes p = absurd goes
+
+  -- a step of the seat that doesn't finish the call, and a step of another
+  step_here : (asked : Asked C) (old new : Now C N) (step : Step) → IsLawfulWorld old → StepOf old new seat step → IsUnfinished step → IsUnderway asked old → IsUnderway asked new
+  step_here asked old new step lawful p goes u =
+      let on = step_on asked u.events old new step lawful u.led u.since u.underway p in
+      record { events = u.events ++ on.0; since = begins_on earlier u.events on.0 u.since; led = on.1; underway = unfinished asked step (u.events ++ on.0) new goes on.2 }
+
+  step_away : (asked : Asked C) (old new : Now C N) (other : ℕ) (step : Step) → other ≢ seat → IsLawfulWorld old → StepOf old new other step → IsUnderway asked old → IsUnderway asked new
+  step_away asked old new other step ne lawful p u =
+      let led = steps_led u.events old new other step lawful u.led p in
+      let own_same : env_own (u.events ++ led.0) seat ≡ env_own u.events seat = env_own-append u.events led.0 seat ∙ ap (λ es. env_own u.events seat ++ es) (env_own_none other seat led.0 ne led.1) ∙ append-nil (env_own u.events seat) in
+      record { events = u.events ++ led.0; since = begins_on earlier u.events led.0 u.since; led = led.2; underway = rests asked u.events led.0 old new (step_there old new other step ne p) own_same u.underway }
+
+  -- another seat begins a call
+  begin_away : (asked : Asked C) (old new : Now C N) (other : ℕ) (call : Call C) → other ≢ seat → Starts old new other call → IsUnderway asked old → IsUnderway asked new
+  begin_away asked old new other call ne p u =
+      let led = subst (λ world. LedTo u.events world) (sym p.begins) (begins_led u.events old other p.view (start_of N (mode_of p.view.held) call) p.unasked (first_at old.env.notes (mode_of p.view.held) call p.fits) u.led) in
+      let none : env_own (u.events ++ []) seat ≡ env_own u.events seat = ap (λ es. env_own es seat) (append-nil u.events) in
+      record { events = u.events ++ []; since = begins_on earlier u.events [] u.since; led = no_event u.events new led; underway = rests asked u.events [] old new (begin_there old new other call ne p) none u.underway }
+
+  happens_on : (asked : Asked C) (old new : Now C N) → IsLawfulWorld old → Happens seat old new → IsUnderway asked old → IsUnderway asked new
+  happens_on asked old new lawful p u = by_whom p.what (cases_eq p.who seat) where
+    by_whom : ((call : Call C) × BeginAnswers old new p.who call Started) ⊎ ((step : Step) × StepOf old new p.who step × (p.who ≡ seat → IsUnfinished step)) → (p.who ≡ seat) ⊎ (p.who ≢ seat) → IsUnderway asked new
+    by_whom (inl begun) (inl e) =
+        let at = subst (λ who. slice_get old.state.views who ≡ Some begun.1.view) e begun.1.at in
+        absurd (not_idle asked u.events old begun.1.view u.underway at begun.1.idle (subst (λ who. slice_get old.asking who ≡ Some None) e begun.1.unasked))
+    by_whom (inl begun) (inr ne) = begin_away asked old new p.who begun.0 ne begun.1 u
+    by_whom (inr stepped) (inl e) = step_here asked old new stepped.0 lawful (subst (λ who. StepOf old new who stepped.0) e stepped.1) (stepped.2 e) u
+    by_whom (inr stepped) (inr ne) = step_away asked old new p.who stepped.0 ne lawful stepped.1 u
+
+  -- a lawful world in which the call is under way
+  meanwhile_on : (asked : Asked C) (n : ℕ) (old new : Now C N) → IsLawfulWorld old → Meanwhile seat n old new → IsUnderway asked old → IsLawfulWorld new × IsUnderway asked new
+  meanwhile_on asked zero old new lawful p u = (subst IsLawfulWorld (sym p) lawful, subst (λ world. IsUnderway asked world) (sym p) u)
+  meanwhile_on asked (suc n) old new lawful p u = meanwhile_on asked n p.0 new p.1.lawful p.2 (happens_on asked old p.0 lawful p.1 u)
+
+-- From its beginning to the step that finishes it, whatever others do meanwhile, a call comes to an answer that means what it says.
+pub calls_mean : {C : Type 0} {N : ℕ} (n seat : ℕ) (before begun last after : Now C N) (earlier : List EnvEvent) (call : Call C) (reply : Reply) → LedTo earlier before → BeginAnswers before begun seat call Started → IsLawfulWorld begun →
+    Meanwhile seat n begun last → StepOf last after seat (Finished reply) → (later : List EnvEvent) × BeginsWith later earlier × LedTo later after × AnswersCall before earlier seat call reply after later
+calls_mean {C} {N} n seat before begun last after earlier call reply led starts lawful meanwhile finishes =
+    let asked = asks_of (mode_of (held_at before seat)) call in
+    let on = meanwhile_on C N before earlier seat asked n begun last lawful meanwhile (begins_underway C N before earlier seat begun call led starts) in
+    let end = step_on C N before earlier seat asked on.1.events last after (Finished reply) on.0 on.1.led on.1.since on.1.underway finishes in
+    (on.1.events ++ end.0, begins_on earlier on.1.events end.0 on.1.since, end.1, end.2)
