@@ -1,7 +1,11 @@
-//! The lock word: the numbers of its bits, and the words that the steps make, from outside.
+//! The lock word: the numbers of its bits, and the words that the steps make, from outside; and a call
+//! that no script makes.
 
 use ns_model::event::Mode;
+use ns_word::act::{Act, Found};
 use ns_word::codec::{BadWord, decode, encode};
+use ns_word::request::Request;
+use ns_word::walk::{Next, Reply, Walk};
 use ns_word::word::{Arrival, Bits, Releasing, Word};
 
 const WRITING: Word = Word {
@@ -250,4 +254,39 @@ fn tries_are_counted_up_to_thirty(rt: HostRuntime) {
     assert!(rt; Arrival::AsWoken(0).tries() == 1);
     assert!(rt; Arrival::AsWoken(29).tries() == 30);
     assert!(rt; Arrival::AsWoken(30).tries() == 30);
+}
+
+/// The place after, or the one before where the call is over.
+fn place_after(next: Next<bool>, before: Walk<bool>) -> Walk<bool> {
+    match next {
+        Next::On(place) => place,
+        Next::Idle(place) => place,
+        Next::Done(_) => before,
+    }
+}
+
+/// A question whether a section is quiet loads each cell, and answers what the last load tells; a
+/// quiet release goes on to release, or answers that it may not.
+#[test]
+fn a_section_is_judged(rt: HostRuntime) {
+    let question: Walk<bool> = Walk::is_quiet::<2>();
+    assert!(rt; matches!(question.asked(), Request::IsQuiet));
+    assert!(rt; matches!(question.want(), Act::LoadCell(0)));
+    let last = place_after(question.got::<2>(Found::Cell(5)), question);
+    assert!(rt; matches!(last.want(), Act::JudgeQuiet(1)));
+    for quiet in [true, false] {
+        assert!(rt;
+            matches!(last.got::<2>(Found::Quiet(quiet)), Next::Done(Reply::Is(told)) if told == quiet)
+        );
+    }
+    let release: Walk<bool> = Walk::quiet_release::<1>();
+    assert!(rt; matches!(release.want(), Act::JudgeQuiet(0)));
+    assert!(rt;
+        matches!(
+            release.got::<1>(Found::Quiet(false)),
+            Next::Done(Reply::Noisy)
+        )
+    );
+    let releasing = place_after(release.got::<1>(Found::Quiet(true)), release);
+    assert!(rt; matches!(releasing.want(), Act::LoadWord));
 }
