@@ -30,6 +30,7 @@ pub mod Safes
 pub mod Same
 pub mod Scans
 pub mod Seen
+pub mod Stands
 pub mod Starts
 pub mod Tells
 pub mod Variables

@@ -14,6 +14,7 @@ pub mod Meanings
 pub mod Places
 pub mod Room
 pub mod Seen
+pub mod Stands
 pub mod Steps
 pub mod Told
 pub mod Views

@@ -40,6 +40,7 @@ pub mod env_walk;
 pub mod hand;
 pub mod law;
 pub mod limits;
+pub mod queue_law;
 pub mod release_walk;
 pub mod request;
 pub mod room;

@@ -1,0 +1,99 @@
+-- Where a seat stands that queues, and where those go that a call wakes.
+use Rattle.std.specs.Prelude.{min}
+use Rattle.std.proofs.Common.{◌≡◌, ℕ, ◌+◌, Bool, true, false, cond, ltb, List, [], ◌∷◌, ◌++◌, length, Option, None, Some, refl, ap, sym, ◌∙◌, subst, arith}
+use Rattle.std.proofs.lemmas.Bool.{ltb-true, ltb-false}
+use Rattle.ns_model.specs.Histories.{standing_after}
+use Rattle.ns_model.specs.Truths.{Truths}
+use Rattle.ns_model.specs.declared.event.Event.{Event}
+use Rattle.ns_model.specs.declared.event.Mode.{Mode}
+use Rattle.ns_queue.proofs.Parts.{read_back}
+use Rattle.ns_queue.specs.Queues.{Lists, waiters_of, with_waiters}
+use Rattle.ns_queue.specs.Scans.{left_of}
+use Rattle.ns_queue.specs.Waiters.{seats_of}
+use Rattle.ns_queue.specs.declared.waiter.Waiter.{Waiter}
+use Rattle.ns_queue.specs.declared.waiter.Which.TheVariants.{Cv}
+use Rattle.ns_word.proofs.Views.{each_parts}
+use Rattle.ns_word.specs.Lawful.{EachFits, IsLawful}
+use Rattle.ns_word.specs.Lists.{queued}
+use Rattle.ns_word.specs.Places.{CanWait, IsInRange, IsUnmet, PlaceFits}
+use Rattle.ns_word.specs.Stands.{AreCalled, QueuesFor, WaitsFor, waiter}
+use Rattle.ns_word.specs.Steps.{State, Step, Effect, part_of, changed, moved_to, taken_by, kept_by, waits_at, with_lock, meets_at}
+use Rattle.ns_word.specs.Waits.{mode_for}
+use Rattle.ns_word.specs.Walks.{want_of}
+use Rattle.ns_word.specs.Words.{is_woken, is_held, tries_of}
+use Rattle.ns_word.specs.declared.acquire_walk.AcquirePlace.TheVariants.{Queue}
+use Rattle.ns_word.specs.declared.act.Change.TheVariants.{QueueSelf, WakeWaiters}
+use Rattle.ns_word.specs.declared.act.Found.TheVariants.{Made, Scanned, Woke}
+use Rattle.ns_word.specs.declared.act.Found.{Found}
+use Rattle.ns_word.specs.declared.act.Waking.{Waking}
+use Rattle.ns_word.specs.declared.signal_walk.SignalPlace.TheVariants.{WakeAndReturn}
+use Rattle.ns_word.specs.declared.view.Held.{Held}
+use Rattle.ns_word.specs.declared.view.SeatView.{SeatView}
+use Rattle.ns_word.specs.declared.wait.Aim.{Aim}
+use Rattle.ns_word.specs.declared.wait.QueuePlace.TheVariants.{QueueToWait}
+use Rattle.ns_word.specs.declared.wait.Subject.TheVariants.{OnCondition, OnVariable}
+use Rattle.ns_word.specs.declared.wait.Subject.{Subject}
+use Rattle.ns_word.specs.declared.wait.Wait.{Wait}
+use Rattle.ns_word.specs.declared.wait.WaitPlace.TheVariants.{InQueuing}
+use Rattle.ns_word.specs.declared.walk.Walk.TheVariants.{InAcquire, InWait, InSignal}
+use Rattle.ns_word.specs.declared.walk.Walk.{Walk}
+use Rattle.ns_word.specs.declared.word.Arrival.TheVariants.{AsFresh, AsWoken}
+use Rattle.ns_word.specs.declared.word.Arrival.{Arrival}
+use Rattle.ns_word.specs.declared.word.Word.{Word}
+
+-- one try more, and none above 30
+one_more : (tries : ℕ) (b : Bool) → ltb tries 30 ≡ b → cond b (tries + 1) 30 ≡ min (tries + 1) 30
+one_more tries true e = let less = ltb-true tries 30 e in omega (arith, less)
+one_more tries false e = let most = ltb-false tries 30 e in omega (arith, most)
+
+module _ (C : Type 0) (N : ℕ) (truths : Truths C) (seat : ℕ) where
+  queues_for : (mode : Mode) (arrival : Arrival) (lock : List (Waiter C)) → QueuesFor seat mode arrival lock (queued seat mode None (tries_of arrival) (is_woken arrival) lock)
+  queues_for mode AsFresh lock = refl
+  queues_for mode (AsWoken tries) lock = ap (λ n. waiter seat mode None n ∷ lock) (one_more tries (ltb tries 30) refl)
+
+  waits_for : (mode : Mode) (on : Subject C) (again : Bool) (row : List ℕ) (lists : Lists C) → length lists.cvs ≡ 4 → IsInRange on → WaitsFor truths seat mode on again row lists (waits_at on seat mode again (with_lock lists (left_of (meets_at truths row) lists.lock)))
+  waits_for mode (OnCondition c) false row lists four range = (refl, refl)
+  waits_for mode (OnCondition c) true row lists four range = (refl, refl)
+  waits_for mode (OnVariable k) again row lists four range =
+      (read_back (with_lock lists (left_of (meets_at truths row) lists.lock)) (Cv k) (waiters_of lists (Cv k) ++ waiter seat mode None 0 ∷ []) four range, refl)
+
+  are_called : (waking : Waking) (k : ℕ) (held : Bool) (lists : Lists C) → let taken = taken_by waking (waiters_of lists (Cv k)) in
+      AreCalled held taken lists.lock (moved_to held taken (with_waiters lists (Cv k) (kept_by waking (waiters_of lists (Cv k))))).lock (cond held [] (seats_of taken))
+  are_called waking k true lists = (refl, refl)
+  are_called waking k false lists = (refl, refl)
+
+-- the effect of a step whose walk is known
+effect_at : {C : Type 0} {N : ℕ} (truths : Truths C) (old new : State C N) (view : SeatView C N) (found : Found) (commits : List (Event C N)) (walk : Walk C) → (step : Step truths old view found new commits) → step.walk ≡ walk → Effect truths view.seat (want_of walk) (part_of old view.held view.owed) found (part_of new step.held step.owed) commits
+effect_at truths old new view found commits walk step e = subst (λ w. Effect truths view.seat (want_of w) (part_of old view.held view.owed) found (part_of new step.held step.owed) commits) e step.effect
+
+pub queues_in_place : {C : Type 0} {N : ℕ} (truths : Truths C) (old new : State C N) (view : SeatView C N) (commits : List (Event C N)) (aim : Aim C) (arrival : Arrival) (last : Word) → (step : Step truths old view Made new commits) → step.walk ≡ InAcquire aim (Queue arrival last) →
+    QueuesFor view.seat (mode_for aim) arrival old.lists.lock new.lists.lock × (new.lists.cvs ≡ old.lists.cvs)
+queues_in_place {C} {N} truths old new view commits aim arrival last step walks =
+    let e = effect_at truths old new view Made commits (InAcquire aim (Queue arrival last)) step walks in
+    let lists : new.lists ≡ changed view.seat (QueueSelf (mode_for aim) arrival) last old.lists = ap (λ p. p.lists) e.2 in
+    (subst (λ lock. QueuesFor view.seat (mode_for aim) arrival old.lists.lock lock) (sym (ap (λ l. l.lock) lists)) (queues_for C N truths view.seat (mode_for aim) arrival old.lists.lock), ap (λ l. l.cvs) lists)
+
+pub waits_in_place : {C : Type 0} {N : ℕ} (truths : Truths C) (seats : ℕ) (h : List (Event C N)) (old new : State C N) (view : SeatView C N) (commits : List (Event C N)) (wait : Wait C) (again : Bool) (last : Word) (owes : Bool) (tests : ℕ) →
+    (step : Step truths old view (Scanned owes tests) new commits) → IsLawful truths seats h old → step.walk ≡ InWait wait (InQueuing again (QueueToWait last)) → WaitsFor truths view.seat wait.mode wait.on again old.row old.lists new.lists
+waits_in_place {C} {N} truths seats h old new view commits wait again last owes tests step lawful walks =
+    let e = effect_at truths old new view (Scanned owes tests) commits (InWait wait (InQueuing again (QueueToWait last))) step walks in
+    let fits = (each_parts truths seats (standing_after h) old.row step.front view step.back (subst (λ vs. EachFits truths seats (standing_after h) old.row vs) step.was lawful.one_history.each)).1 in
+    let place = subst (λ w. PlaceFits truths w view.held) (step.walks ∙ ap Some walks) fits.place in
+    let range = can_range wait again view.held place.0.0 in
+    subst (λ lists. WaitsFor truths view.seat wait.mode wait.on again old.row old.lists lists) (sym (ap (λ p. p.lists) e.4)) (waits_for C N truths view.seat wait.mode wait.on again old.row old.lists lawful.waiters_placed.four range)
+  where
+    in_range : (on : Subject C) (row : List ℕ) → IsUnmet truths on row → IsInRange on
+    in_range (OnCondition c) row p = tt
+    in_range (OnVariable k) row p = p
+
+    can_range : (wait : Wait C) (again : Bool) (held : Option (Held C N)) → CanWait truths wait again held → IsInRange wait.on
+    can_range wait again None p = absurd p
+    can_range wait again (Some held) p = in_range wait.on held.row p.unmet
+
+pub taken_called : {C : Type 0} {N : ℕ} (truths : Truths C) (old new : State C N) (view : SeatView C N) (commits : List (Event C N)) (waking : Waking) (k : ℕ) (last : Word) (owes : Bool) → (step : Step truths old view (Woke owes) new commits) → step.walk ≡ InSignal waking k (WakeAndReturn last) →
+    AreCalled (is_held last) (taken_by waking (waiters_of old.lists (Cv k))) old.lists.lock new.lists.lock step.owed
+taken_called {C} {N} truths old new view commits waking k last owes step walks =
+    let e = effect_at truths old new view (Woke owes) commits (InSignal waking k (WakeAndReturn last)) step walks in
+    let taken = taken_by waking (waiters_of old.lists (Cv k)) in
+    subst (λ lock. AreCalled (is_held last) taken old.lists.lock lock step.owed) (sym (ap (λ p. p.lists.lock) e.2)) (subst (λ owed. AreCalled (is_held last) taken old.lists.lock (changed view.seat (WakeWaiters waking k) last old.lists).lock owed) (sym (ap (λ p. p.owed) e.2))
+    (are_called C N truths view.seat waking k (is_held last) old.lists))

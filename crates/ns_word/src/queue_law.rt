@@ -1,0 +1,52 @@
+//! The laws of the lists: where a seat stands that queues, and where those go that a call wakes.
+
+ghost use Rattle.std.specs.Prelude.{◌≡◌, ℕ, Bool, List};
+ghost use Rattle.ns_model.specs.declared.event.Event.{Event};
+ghost use Rattle.ns_queue.specs.declared.waiter.Which.TheVariants.{Cv};
+ghost use Rattle.ns_queue.specs.Queues.{waiters_of};
+ghost use Rattle.ns_word.specs.declared.acquire_walk.AcquirePlace.TheVariants.{Queue};
+ghost use Rattle.ns_word.specs.declared.act.Found.TheVariants.{Made, Scanned, Woke};
+ghost use Rattle.ns_word.specs.declared.act.Waking.{Waking};
+ghost use Rattle.ns_word.specs.declared.signal_walk.SignalPlace.TheVariants.{WakeAndReturn};
+ghost use Rattle.ns_word.specs.declared.view.SeatView.{SeatView};
+ghost use Rattle.ns_word.specs.declared.wait.Aim.{Aim};
+ghost use Rattle.ns_word.specs.declared.wait.QueuePlace.TheVariants.{QueueToWait};
+ghost use Rattle.ns_word.specs.declared.wait.Wait.{Wait};
+ghost use Rattle.ns_word.specs.declared.wait.WaitPlace.TheVariants.{InQueuing};
+ghost use Rattle.ns_word.specs.declared.walk.Walk.TheVariants.{InAcquire, InSignal, InWait};
+ghost use Rattle.ns_word.specs.declared.word.Arrival.{Arrival};
+ghost use Rattle.ns_word.specs.declared.word.Word.{Word};
+ghost use Rattle.ns_word.specs.Lawful.{IsLawful};
+ghost use Rattle.ns_word.specs.Stands.{AreCalled, QueuesFor, WaitsFor};
+ghost use Rattle.ns_word.specs.Steps.{State, Step, taken_by};
+ghost use Rattle.ns_word.specs.Waits.{mode_for};
+ghost use Rattle.ns_word.specs.Words.{is_held};
+
+use ns_model::condition::Condition;
+
+/// Who queues for the lock fresh stands behind all others, and hasn't failed yet; who was woken
+/// stands before them all, and has failed once more, of which 30 are counted. No variable's list
+/// changes.
+pub fn who_queues_stands_in_its_place<C: Condition<N>, const N: usize>()
+    ensures { (old new : State C N) (view : SeatView C N) (commits : List (Event C N)) (aim : Aim C) (arrival : Arrival) (last : Word) →
+        (step : Step C.means old view Made new commits) → step.walk ≡ InAcquire aim (Queue arrival last) →
+        QueuesFor view.seat (mode_for aim) arrival old.lists.lock new.lists.lock × (new.lists.cvs ≡ old.lists.cvs) }
+{}
+
+/// A wait for a condition stands with it behind all whom the scan has left, and before them where it
+/// queues again, after it was woken and found its condition false. A wait for a variable stands
+/// behind all that wait for that.
+pub fn who_waits_stands_in_its_place<C: Condition<N>, const N: usize>()
+    ensures { (seats : ℕ) (history : List (Event C N)) (old new : State C N) (view : SeatView C N) (commits : List (Event C N)) (wait : Wait C) (again : Bool) (last : Word) (owes : Bool) (tests : ℕ) →
+        (step : Step C.means old view (Scanned owes tests) new commits) → IsLawful C.means seats history old → step.walk ≡ InWait wait (InQueuing again (QueueToWait last)) →
+        WaitsFor C.means view.seat wait.mode wait.on again old.row old.lists new.lists }
+{}
+
+/// Those whom a signal or a broadcast takes stand behind all others in the lock list, in their order,
+/// where the lock is held, and nobody is owed a wake then; else the lock list stays, and they are
+/// owed their wakes in that order.
+pub fn the_taken_are_moved_or_called<C: Condition<N>, const N: usize>()
+    ensures { (old new : State C N) (view : SeatView C N) (commits : List (Event C N)) (waking : Waking) (k : ℕ) (last : Word) (owes : Bool) →
+        (step : Step C.means old view (Woke owes) new commits) → step.walk ≡ InSignal waking k (WakeAndReturn last) →
+        AreCalled (is_held last) (taken_by waking (waiters_of old.lists (Cv k))) old.lists.lock new.lists.lock step.owed }
+{}
