@@ -1,5 +1,5 @@
 -- Views that stand at their seats' numbers, and a step or a beginning by the number of its seat.
-use Rattle.std.proofs.Common.{◌≡◌, ℕ, zero, suc, ◌+◌, ◌∙◌, List, [], ◌∷◌, ◌++◌, None, Some, take, drop, slice_get, slice_set, refl, ap, arith, zero-add}
+use Rattle.std.proofs.Common.{◌≡◌, ℕ, zero, suc, ◌+◌, ◌∙◌, List, [], ◌∷◌, ◌++◌, None, Some, take, drop, slice_get, slice_set, refl, ap, sym, arith, zero-add}
 use Rattle.ns_model.specs.declared.event.Event.{Event}
 use Rattle.ns_model.specs.Truths.{Truths}
 use Rattle.ns_word.specs.declared.view.SeatView.{SeatView}
@@ -35,6 +35,17 @@ pub set_at : {X : Type 0} (xs : List X) (i : ℕ) (x y : X) → slice_get xs i �
 set_at [] i x y at = absurd (cc)
 set_at (z ∷ xs) zero x y at = refl
 set_at (z ∷ xs) (suc i) x y at = ap (λ zs. z ∷ zs) (set_at xs i x y at)
+
+-- setting what is there changes nothing, and the later of two settings stands
+pub set_same : {X : Type 0} (xs : List X) (i : ℕ) (x : X) → slice_get xs i ≡ Some x → slice_set xs i x ≡ xs
+set_same [] i x at = refl
+set_same (y ∷ xs) zero x at = let is : y ≡ x = cc in ap (λ z. z ∷ xs) (sym is)
+set_same (y ∷ xs) (suc i) x at = ap (λ zs. y ∷ zs) (set_same xs i x at)
+
+pub set_again : {X : Type 0} (xs : List X) (i : ℕ) (x y : X) → slice_set (slice_set xs i x) i y ≡ slice_set xs i y
+set_again [] i x y = refl
+set_again (z ∷ xs) zero x y = refl
+set_again (z ∷ xs) (suc i) x y = ap (λ zs. z ∷ zs) (set_again xs i x y)
 
 module _ {C : Type 0} {N : ℕ} (truths : Truths C) (old : State C N) (i : ℕ) (view : SeatView C N) (at : slice_get old.views i ≡ Some view) (walk : Walk C) where
   -- the step whose effect is this, where the view at that number is set and no other

@@ -162,7 +162,7 @@ module _ {C : Type 0} {N : ℕ} (truths : Truths C) where
       (All-push (IsFirst N) [] walk (All-nil (IsFirst N)) start.first, led_from N told walk found (walk_after (got_of N step.walk found)) (ap (λ w. walk_after (got_of N w found)) same))
 
   -- a view's number stays where its call begins
-  seat_in : (view : SeatView C N) (begun : Option (Walk C)) → (view_in view begun).seat ≡ view.seat
+  pub seat_in : (view : SeatView C N) (begun : Option (Walk C)) → (view_in view begun).seat ≡ view.seat
   seat_in view None = refl
   seat_in view (Some walk) = refl
 
@@ -171,7 +171,7 @@ module _ {C : Type 0} {N : ℕ} (truths : Truths C) where
 
 module _ {C : Type 0} {N : ℕ} (truths : Truths C) (cells : 0 < N) (quiet : QuietKeeps N truths) (seats : ℕ) (h : List (Event C N)) (few : seats ≤ 64) where
   -- a lock stays lawful where a call begins, or none does
-  begins_if : (old : State C N) (view : SeatView C N) (begun : Option (Walk C)) (between : State C N) → BeginsIf truths old view begun between → IsLawful truths seats h old → IsLawful truths seats h between
+  pub begins_if : (old : State C N) (view : SeatView C N) (begun : Option (Walk C)) (between : State C N) → BeginsIf truths old view begun between → IsLawful truths seats h old → IsLawful truths seats h between
   begins_if old view None between same p = subst (IsLawful truths seats h) (sym same) p
   begins_if old view (Some walk) between start p = begins truths seats h old view walk between start p
 

@@ -21,7 +21,8 @@ use Rattle.ns_word.specs.declared.env_act.EnvFound.{EnvFound}
 use Rattle.ns_word.specs.declared.env_act.EnvFound.TheVariants.{NextNumber, Taken, Stored, Clock, Note}
 use Rattle.ns_world.specs.World.{Now, Goes, Acts, Asks, Looks, LookGoes, Moves, StepOf, IsLawfulWorld, LedTo, AreEnvBy}
 use Rattle.ns_world.proofs.Looking.{first_if, noted}
-use Rattle.ns_world.proofs.Worlds.{env_begins, set_same, set_again}
+use Rattle.ns_world.proofs.Worlds.{env_begins}
+use Rattle.ns_word.proofs.Numbers.{set_same, set_again}
 
 -- what a step does to the clock and the notes is its seat's
 pub events_by : (seat : ℕ) (act : EnvAct) (old : EnvPlain) (found : EnvFound) (new : EnvPlain) (events : List EnvEvent) → EnvEffect seat act old found new events → AreEnvBy seat events

@@ -47,7 +47,7 @@ use Rattle.ns_world.specs.Looked.{EnvMoves, LookStep, MovesFrom, SeatLooks, Sees
 use Rattle.ns_world.specs.World.{Now, now_with, Goes, Acts, Asks, Looks, LookGoes, Moves, StepOf, IsLawfulWorld, StandRight, NotesMade}
 use Rattle.ns_world.proofs.Looking.{FirstIf, LookLeads, first_if, if_made_stays, look_leads, look_stays, noted, right_here, shown_effect}
 use Rattle.ns_world.proofs.Mapped.{got-map, map-set, index-map}
-use Rattle.ns_word.proofs.Numbers.{number_at, numbers_stay, split_at, step_at, begin_at}
+use Rattle.ns_word.proofs.Numbers.{number_at, numbers_stay, split_at, step_at, begin_at, set_same, set_again}
 use Rattle.ns_world.proofs.Places.{StartFits, fits_more}
 
 -- two reads of one element
@@ -112,17 +112,6 @@ module _ {C : Type 0} {N : ℕ} where
         let is : next ≡ view = cc in subst (λ (v : SeatView C N). IfMade notes (note_in v.walk)) is here)
     | inr ne ↦ made seat view (sym (set_there views i seat next ne) ∙ at)
   ]
-
--- setting what is there changes nothing, and the later of two settings stands
-pub set_same : {X : Type 0} (xs : List X) (i : ℕ) (x : X) → slice_get xs i ≡ Some x → slice_set xs i x ≡ xs
-set_same [] i x at = refl
-set_same (y ∷ xs) zero x at = let is : y ≡ x = cc in ap (λ z. z ∷ xs) (sym is)
-set_same (y ∷ xs) (suc i) x at = ap (λ zs. y ∷ zs) (set_same xs i x at)
-
-pub set_again : {X : Type 0} (xs : List X) (i : ℕ) (x y : X) → slice_set (slice_set xs i x) i y ≡ slice_set xs i y
-set_again [] i x y = refl
-set_again (z ∷ xs) zero x y = refl
-set_again (z ∷ xs) (suc i) x y = ap (λ zs. z ∷ zs) (set_again xs i x y)
 
 -- a seat that stands nowhere there is put at the beginning of a look, if one is to begin
 pub env_begins : (events : List EnvEvent) (plain : EnvPlain) (askings : List (Option EnvWalk)) (i : ℕ) (ask : Option EnvWalk) → slice_get askings i ≡ Some None → FirstIf plain.notes ask → IsLawfulEnv events (env_state plain askings) →
