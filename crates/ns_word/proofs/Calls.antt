@@ -15,12 +15,13 @@ use Rattle.ns_word.proofs.Answers.{acquire_looks_not, cells_look_not, judge_look
 use Rattle.ns_word.proofs.Keeps.{none_of}
 use Rattle.ns_word.proofs.Numbers.{split_at}
 use Rattle.ns_word.proofs.Views.{each_parts}
+use Rattle.ns_word.specs.Answers.{has_come_back}
 use Rattle.ns_word.specs.Asked.{asked_in_cells, asked_of, asked_to_judge}
 use Rattle.ns_word.specs.Places.{PlaceFits}
 use Rattle.ns_word.specs.Lawful.{EachFits, IsLawful}
 use Rattle.ns_word.specs.Steps.{Effect, Part, State, Step, changed, kept_by, moved_to, part_of, taken_by, wake_of}
 use Rattle.ns_word.specs.Waits.{arrival_of, is_limited, kept_in, mode_for}
-use Rattle.ns_word.specs.Walks.{acquire_by, acquired_for, back_with, got_acquiring, got_in_cells, got_leaving, got_of, got_queuing, got_releasing, got_signaling, got_trying, got_waiting, has_queues, is_arrival_woken, judge_of, look_or_queue, pays, release_by, rest_or_look, test_place, unmet_by, walk_after, want_acquiring, want_in_cells, want_leaving, want_of, want_releasing, want_signaling, want_trying, want_waiting, was_woken}
+use Rattle.ns_word.specs.Walks.{acquire_by, acquired_for, back_with, got_acquiring, got_in_cells, got_leaving, got_of, got_queuing, got_releasing, got_signaling, got_trying, got_waiting, is_arrival_woken, judge_of, look_or_queue, pays, release_by, rest_or_look, test_place, unmet_by, walk_after, want_acquiring, want_in_cells, want_leaving, want_of, want_releasing, want_signaling, want_trying, want_waiting, was_woken}
 use Rattle.ns_word.specs.Words.{is_held, is_woken, may_acquire, needs_scan}
 use Rattle.ns_word.specs.declared.acquire_walk.AcquirePlace.{AcquirePlace}
 use Rattle.ns_word.specs.declared.acquire_walk.AcquirePlace.TheVariants.{AcquireExchange, AcquireLoad, Arm, AwaitWake, Queue, TakeToQueue}
@@ -68,11 +69,11 @@ use Rattle.ns_word.specs.declared.word.Releasing.{Releasing}
 use Rattle.ns_word.specs.declared.word.Releasing.TheVariants.{QuietWriter}
 use Rattle.ns_word.specs.declared.word.Word.{Word}
 
--- A seat whose call is over owes nobody a wake, and has no queues.
-pub over_owes_nothing : {C : Type 0} {N : ℕ} (truths : Truths C) (seats : ℕ) (h : List (Event C N)) (s : State C N) (at : ℕ) (view : SeatView C N) → IsLawful truths seats h s → slice_get s.views at ≡ Some view → view.walk ≡ None → (view.owed ≡ []) × (has_queues view.walk ≡ false)
+-- A seat whose call is over owes nobody a wake.
+pub over_owes_nothing : {C : Type 0} {N : ℕ} (truths : Truths C) (seats : ℕ) (h : List (Event C N)) (s : State C N) (at : ℕ) (view : SeatView C N) → IsLawful truths seats h s → slice_get s.views at ≡ Some view → view.walk ≡ None → view.owed ≡ []
 over_owes_nothing truths seats h s at view lawful here over =
     let fits = (each_parts truths seats (standing_after h) s.row (take at s.views) view (drop (suc at) s.views) (subst (λ vs. EachFits truths seats (standing_after h) s.row vs) (split_at s.views at view here) lawful.one_history.each)).1 in
-    (none_of view.owed (fits.owes ∙ ap pays over), ap has_queues over)
+    none_of view.owed (fits.owes ∙ ap pays over)
 
 -- ---- whom a call wakes
 
@@ -138,20 +139,20 @@ wakes_by_rule {C} {N} truths seats h old new view found commits waking k step la
 
 module _ {C : Type 0} (limits : Limits) (again : Bool) where
   abbrev LooksBy : Walk C → Type 0
-  LooksBy walk = (wait : Wait C) × (asked_of walk ≡ Await wait) × (wait.limits ≡ limits)
+  LooksBy walk = (wait : Wait C) × (asked_of walk ≡ Await wait) × (wait.limits ≡ limits) × (again ≡ has_come_back walk)
 
   -- an act that is no look
-  no_look : (act : Act C) → look_of_act act ≡ None → act ≡ Look limits again → ⊥
+  pub no_look : (act : Act C) → look_of_act act ≡ None → act ≡ Look limits again → ⊥
   no_look act none e = let some : look_of_act act ≡ Some (limits, again) = ap look_of_act e in absurd (cc)
 
   -- an act that is the look of a wait
-  looks_so : (wait : Wait C) (place : WaitPlace) (act : Act C) (flag : Bool) → act ≡ Look wait.limits flag → act ≡ Look limits again → LooksBy (InWait wait place)
-  looks_so wait place act flag e is = let both = ap look_of_act (sym e ∙ is) in (wait, refl, cc)
+  looks_so : (wait : Wait C) (place : WaitPlace) (act : Act C) (flag : Bool) → act ≡ Look wait.limits flag → flag ≡ has_come_back (InWait wait place) → act ≡ Look limits again → LooksBy (InWait wait place)
+  looks_so wait place act flag e back is = let both = ap look_of_act (sym e ∙ is) in let same : flag ≡ again = cc in (wait, refl, cc, sym same ∙ back)
 
   wait_looks : (wait : Wait C) (place : WaitPlace) → want_waiting wait place ≡ Look limits again → LooksBy (InWait wait place)
   wait_looks wait (TestCells visit i) e = absurd (cc)
   wait_looks wait (TestLast visit i) e = absurd (no_look (judge_of wait.on i) (judge_looks_not wait.on i) e)
-  wait_looks wait (InQueuing flag LookIn) e = looks_so wait (InQueuing flag LookIn) _ flag refl e
+  wait_looks wait (InQueuing flag LookIn) e = looks_so wait (InQueuing flag LookIn) _ flag refl refl e
   wait_looks wait (InQueuing flag Load) e = absurd (cc)
   wait_looks wait (InQueuing flag (Take last)) e = absurd (cc)
   wait_looks wait (InQueuing flag (ArmToWait last)) e = absurd (cc)
@@ -159,7 +160,7 @@ module _ {C : Type 0} (limits : Limits) (again : Bool) where
   wait_looks wait (InQueuing flag (QueueToWait last)) e = absurd (cc)
   wait_looks wait PayInWait e = absurd (cc)
   wait_looks wait AwaitWakeInWait e = absurd (cc)
-  wait_looks wait LookOut e = looks_so wait LookOut _ false refl e
+  wait_looks wait LookOut e = looks_so wait LookOut _ false refl refl e
   wait_looks wait (InLeaving cause place) e = absurd (no_look (want_leaving wait place) (leaver_looks_not wait place) e)
 
   pub looks_by_asked : (walk : Walk C) → want_of walk ≡ Look limits again → LooksBy walk

@@ -36,3 +36,4 @@ pub mod Tells
 pub mod Variables
 pub mod Views
 pub mod Waits
+pub mod Wakings

@@ -15,7 +15,7 @@ abbrev pub asked_to_judge : {C : Type 0} → Judging → Request C
 asked_to_judge ToTell = IsQuiet
 asked_to_judge ToRelease = Release QuietWriter
 
--- a quiet release judges the section first
+-- what a call on the row was asked; a quiet release judges the section first
 abbrev pub asked_in_cells : {C : Type 0} → CellPlace → Request C
 asked_in_cells (GetLoad i) = Get i
 asked_in_cells (SetLoad i v) = Set i v

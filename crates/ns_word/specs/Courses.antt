@@ -62,12 +62,12 @@ pub record HasLeft {C : Type 0} {N : ℕ} (truths : Truths C) (seat : ℕ) (wait
   pub unmet : IsUnmet truths wait.on was.row
   pub committed : course.committed ≡ section_of truths.holds seat was (exit_for wait.on) ∷ left_by seat wait.on kept
 
--- a cause that a place keeps is the one that the last look has shown
+-- a cause that a place keeps is the one that the last look has shown; a place that keeps none says nothing of it
 abbrev pub KeptFits : Option (Option Cause) → Option Cause → Type 0
 KeptFits looked None = Unit {0}
 KeptFits looked (Some cause) = looked ≡ Some (Some cause)
 
--- a wait that something may end early has looked before it queues for a condition, and the look showed nothing
+-- a wait that something may end early has looked before it queues for a condition, and its last look showed nothing
 abbrev pub HasLookedFor : {C : Type 0} → Subject C → Limits → Option (Option Cause) → Type 0
 HasLookedFor (OnCondition c) limits looked = is_limited limits ≡ true → looked ≡ Some None
 HasLookedFor (OnVariable k) limits looked = Unit {0}
@@ -105,17 +105,17 @@ abbrev pub AcquireSoFar : {C : Type 0} {N : ℕ} → Truths C → ℕ → Aim C 
 AcquireSoFar truths seat (ForLock mode) course held = Unchanged course held
 AcquireSoFar truths seat (ForWait wait kept) course held = IsComing truths seat wait kept course
 
--- a release has changed nothing until it owes wakes alone
+-- a release has changed nothing until it owes wakes alone: then it has released
 abbrev pub ReleaseSoFar : {C : Type 0} {N : ℕ} → Truths C → ℕ → Releasing → ReleasePlace → Course C N → Option (Held C N) → Type 0
 ReleaseSoFar truths seat releasing Pay course held = HasReleased truths seat releasing course held
 ReleaseSoFar truths seat releasing place course held = Unchanged course held
 
--- nor has a call that wakes
+-- a call that wakes has changed nothing until it owes wakes alone: then it has committed its event
 abbrev pub SignalSoFar : {C : Type 0} {N : ℕ} → ℕ → Waking → ℕ → SignalPlace → Course C N → Option (Held C N) → Type 0
 SignalSoFar seat waking k PayTheWoken course held = HasWoken seat waking k course held
 SignalSoFar seat waking k place course held = Unchanged course held
 
--- How far a call has come, by its place: before it commits anything it has changed nothing, and behind that what it has committed.
+-- How far a call has come, by its place: before it commits anything it has changed nothing, and from then on the place tells what it has committed.
 abbrev pub SoFar : {C : Type 0} {N : ℕ} → Truths C → ℕ → Course C N → Walk C → Option (Held C N) → Type 0
 SoFar truths seat course (InTry mode place) held = Unchanged course held
 SoFar truths seat course (InAcquire aim place) held = AcquireSoFar truths seat aim course held
@@ -131,7 +131,7 @@ pub record GoesOn {C : Type 0} {N : ℕ} (truths : Truths C) (seat : ℕ) (reque
   pub asked : asked_of walk ≡ request
   pub so_far : SoFar truths seat course walk held
 
--- where a step leads a call that was asked to do this: it goes on, or its answer means what it says, where the history has left this row
+-- where a step leads a call that was asked to do this: it goes on, at once or after it has waited, or its answer means what it says, where the history has left this row
 abbrev pub CallGoes : {C : Type 0} {N : ℕ} → Truths C → ℕ → List ℕ → Request C → Course C N → Next C → Option (Held C N) → Type 0
 CallGoes truths seat row request course (On walk) held = GoesOn truths seat request course walk held
 CallGoes truths seat row request course (Idle walk) held = GoesOn truths seat request course walk held

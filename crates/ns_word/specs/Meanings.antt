@@ -1,4 +1,4 @@
--- What the answer of a call on the lock means.
+-- What the answer of a call on the lock means. How a section is told in the history (`section_of`, `entry_of`) is the machine's; that it is told as it was, legality says.
 use Rattle.std.specs.Prelude.{◌≡◌, ℕ, ◌⊎◌, Bool, true, false, List, [], ◌∷◌, Option, None, Some, IsSome, slice_index, slice_set}
 use Rattle.ns_model.specs.declared.event.Mode.{Mode}
 use Rattle.ns_model.specs.declared.event.Answer.{Answer}
@@ -92,7 +92,7 @@ MayAnswer limits looked Met = Unit {0}
 MayAnswer limits looked TimedOut = IsSome limits.deadline × (looked ≡ Some (Some Expired))
 MayAnswer limits looked Canceled = IsSome limits.note × (looked ≡ Some (Some Notified))
 
--- the section in hand began as the wait came back, at the row after the history, with nothing changed in it; and what it says of how it began is this
+-- the section in hand is in this mode, and began at the row after the history, with nothing changed in it
 pub record IsBack {C : Type 0} {N : ℕ} (row : List ℕ) (asked : Mode) (back : Held C N) : Type 0 where
   pub mode : back.mode ≡ asked
   pub before : back.before ≡ row
@@ -115,7 +115,7 @@ pub record ConditionWaitMeans {C : Type 0} {N : ℕ} (truths : Truths C) (seat :
   pub may : MayAnswer limits course.looked answer
   pub how : Unchanged course (Some back) ⊎ HasWaited truths seat row asked c course answer back
 
--- a wait for a variable that ended early has told that it left
+-- a wait for a variable that was ended early has told that it left; one that was woken, which is said by true, tells nothing
 abbrev pub leave_told : {C : Type 0} {N : ℕ} → ℕ → ℕ → Bool → List (Event C N)
 leave_told seat k true = []
 leave_told seat k false = TheEvent.Leave seat k ∷ []
@@ -137,7 +137,7 @@ WaitMeans truths seat row mode (OnVariable k) limits course answer back = Variab
 
 -- ---- calls that wake
 
--- one event was committed: whom the rule takes from some list of waiters
+-- one event was committed: whom the rule takes from some list of waiters. Which list that was, the law of the step says that takes them
 pub record HasWoken {C : Type 0} {N : ℕ} (seat : ℕ) (waking : Waking) (k : ℕ) (course : Course C N) (held : Option (Held C N)) : Type 0 where
   pub same : held ≡ course.began
   pub waiters : List (Waiter C)

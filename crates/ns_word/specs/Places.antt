@@ -131,7 +131,7 @@ ReleaseFits {C} {N} truths releasing (ScanCells last i) held = CanLeave truths r
 ReleaseFits truths releasing (ScanAndRelease last) held = CanLeave truths releasing held
 ReleaseFits truths releasing Pay held = held ≡ None
 
--- A call on the row has a settled section in hand, and loads a cell of it.
+-- A call on the row has a section in hand, in write mode but for a read, and names a cell of it.
 abbrev pub CellFits : {C : Type 0} {N : ℕ} → CellPlace → Option (Held C N) → Type 0
 CellFits {C} {N} (GetLoad i) held = IsSome held × (i < N)
 CellFits {C} {N} (SetLoad i v) held = HasMode Write held × (i < N)

@@ -426,14 +426,14 @@ pays (Some (InWait wait PayInWait)) = true
 pays (Some (InSignal waking k PayTheWoken)) = true
 pays walk = false
 
--- an acquire of one that was woken from the lock list, and hasn't acquired since
+-- an acquire of one that was woken from the lock list, and has neither acquired nor taken the queues since
 abbrev pub is_arrival_woken : AcquirePlace → Bool
 is_arrival_woken (AcquireLoad arrival) = is_woken arrival
 is_arrival_woken (AcquireExchange arrival last) = is_woken arrival
 is_arrival_woken (TakeToQueue arrival last) = is_woken arrival
 is_arrival_woken place = false
 
--- it was woken from the lock list, and hasn't acquired since
+-- it was woken from the lock list, and has neither acquired nor taken the queues since
 abbrev pub was_woken : {C : Type 0} → Option (Walk C) → Bool
 was_woken (Some (InAcquire aim place)) = is_arrival_woken place
 was_woken walk = false

@@ -1,30 +1,44 @@
 //! The laws by call: what a call has done at each of its places, and what its answer means.
 
-ghost use Rattle.std.specs.Prelude.{◌≡◌, ◌⊎◌, Bool, ℕ, ◌<◌, true, false, List, [], ◌∷◌, ◌++◌, length, Option, None, Some, slice_get};
+ghost use Rattle.std.specs.Prelude.{◌≡◌, ◌≢◌, ◌⊎◌, Bool, ℕ, true, false, if◌then◌else◌, List, [], ◌∷◌, ◌++◌, Option, None, Some, slice_get};
 ghost use Rattle.ns_model.specs.declared.event.Event.{Event};
 ghost use Rattle.ns_model.specs.Histories.{row_after};
 ghost use Rattle.ns_queue.specs.declared.waiter.Which.TheVariants.{Cv};
 ghost use Rattle.ns_queue.specs.Queues.{waiters_of};
-ghost use Rattle.ns_word.specs.declared.act.Act.TheVariants.{LoadFlag, Look};
+ghost use Rattle.ns_word.specs.declared.acquire_walk.AcquirePlace.TheVariants.{AcquireLoad, AwaitWake, Queue};
+ghost use Rattle.ns_word.specs.declared.act.Act.TheVariants.{LoadFlag, Look, PayWake};
 ghost use Rattle.ns_word.specs.declared.act.Found.{Found};
-ghost use Rattle.ns_word.specs.declared.act.Found.TheVariants.{Flag};
+ghost use Rattle.ns_word.specs.declared.act.Found.TheVariants.{Flag, Looked, Made, Saw};
 ghost use Rattle.ns_word.specs.declared.act.Waking.{Waking};
+ghost use Rattle.ns_word.specs.declared.limits.Cause.{Cause};
 ghost use Rattle.ns_word.specs.declared.limits.Limits.{Limits};
 ghost use Rattle.ns_word.specs.declared.request.Request.TheVariants.{Await, Wake};
+ghost use Rattle.ns_model.specs.declared.event.Mode.{Mode};
+ghost use Rattle.ns_model.specs.declared.event.Mode.TheVariants.{Read};
+ghost use Rattle.ns_word.specs.declared.try_walk.TryPlace.{TryPlace};
+ghost use Rattle.ns_word.specs.declared.try_walk.TryPlace.TheVariants.{TryAcquire};
 ghost use Rattle.ns_word.specs.declared.view.Held.{Held};
 ghost use Rattle.ns_word.specs.declared.view.SeatView.{SeatView};
+ghost use Rattle.ns_word.specs.declared.wait.Aim.{Aim};
 ghost use Rattle.ns_word.specs.declared.wait.Wait.{Wait};
 ghost use Rattle.ns_word.specs.declared.wait.WaitPlace.TheVariants.{AwaitWakeInWait};
 ghost use Rattle.ns_word.specs.declared.walk.Walk.{Walk};
-ghost use Rattle.ns_word.specs.declared.walk.Walk.TheVariants.{InWait};
+ghost use Rattle.ns_word.specs.declared.walk.Next.TheVariants.{Done, On};
+ghost use Rattle.ns_word.specs.declared.walk.Reply.TheVariants.{Answered, Busy};
+ghost use Rattle.ns_word.specs.declared.walk.Walk.TheVariants.{InAcquire, InTry, InWait};
+ghost use Rattle.ns_word.specs.declared.word.Arrival.{Arrival};
+ghost use Rattle.ns_word.specs.declared.word.Arrival.TheVariants.{AsFresh, AsWoken};
+ghost use Rattle.ns_word.specs.declared.word.Word.{Word};
+ghost use Rattle.ns_word.specs.Answers.{cause_kept, has_come_back};
 ghost use Rattle.ns_word.specs.Asked.{asked_of};
 ghost use Rattle.ns_word.specs.Begins.{IsFirst};
 ghost use Rattle.ns_word.specs.Courses.{course_after, CallGoes, SoFar};
 ghost use Rattle.ns_word.specs.Lawful.{IsLawful};
 ghost use Rattle.ns_word.specs.Meanings.{Course, course_from};
 ghost use Rattle.ns_word.specs.Steps.{State, Step, kept_by, taken_by, wake_of};
-ghost use Rattle.ns_word.specs.Waits.{is_limited};
-ghost use Rattle.ns_word.specs.Walks.{want_of, got_of, has_queues, walk_after, was_woken};
+ghost use Rattle.ns_word.specs.Waits.{answer_of, is_limited};
+ghost use Rattle.ns_word.specs.Walks.{want_of, got_of, calls_from_lock, walk_after, was_woken};
+ghost use Rattle.ns_word.specs.Words.{may_acquire, tries_of};
 
 use ns_model::condition::Condition;
 
@@ -48,11 +62,10 @@ pub fn steps_take_their_call_on<C: Condition<N>, const N: usize>()
         CallGoes C.means view.seat (row_after (history ++ commits)) (asked_of step.walk) (course_after found commits course) (got_of N step.walk found) step.held }
 {}
 
-/// A seat whose call is over owes nobody a wake, and has no queues in hand.
+/// A seat whose call is over owes nobody a wake.
 pub fn a_call_that_is_over_owes_nothing<C: Condition<N>, const N: usize>()
     ensures { (seats : ℕ) (history : List (Event C N)) (s : State C N) (at : ℕ) (view : SeatView C N) →
-        IsLawful C.means seats history s → slice_get s.views at ≡ Some view → view.walk ≡ None →
-        (view.owed ≡ []) × (has_queues view.walk ≡ false) }
+        IsLawful C.means seats history s → slice_get s.views at ≡ Some view → view.walk ≡ None → view.owed ≡ [] }
 {}
 
 /// A call that wakes commits its event as it takes the waiters: those whom the rule takes from its
@@ -66,21 +79,63 @@ pub fn wakes_take_whom_the_rule_takes<C: Condition<N>, const N: usize>()
         ⊎ ((commits ≡ wake_of view.seat waking k (taken_by waking (waiters_of old.lists (Cv k))) ∷ []) × (waiters_of new.lists (Cv k) ≡ kept_by waking (waiters_of old.lists (Cv k)))) }
 {}
 
-/// A look goes by what may end the wait that was asked.
+/// A look goes by what may end the wait that was asked, and knows whether that has come back.
 pub fn looks_are_by_the_limits_asked<C: Condition<N>, const N: usize>()
     ensures { (walk : Walk C) (limits : Limits) (again : Bool) → want_of walk ≡ Look limits again →
-        (wait : Wait C) × (asked_of walk ≡ Await wait) × (wait.limits ≡ limits) }
+        (wait : Wait C) × (asked_of walk ≡ Await wait) × (wait.limits ≡ limits) × (again ≡ has_come_back walk) }
 {}
 
-/// A wait that something may end early looks each time that it finds its flag still set.
+/// A wait that something may end early looks each time that it finds its flag still set, until it is
+/// woken or begins to leave.
 pub fn limited_waits_look_while_they_wait<C: Condition<N>, const N: usize>()
     ensures { (wait : Wait C) → is_limited wait.limits ≡ true →
         (next : Walk C) × (walk_after (got_of N (InWait wait AwaitWakeInWait) (Flag 1)) ≡ Some next) × (want_of next ≡ Look wait.limits false) }
 {}
 
-/// Only who has found its flag cleared by the wake of one taken from the lock list acquires as
-/// woken: not who has left a list by itself, nor who was woken from a variable's list.
+/// Only who has found its flag at 0 acquires as woken: not who has left a list by itself. A wake of
+/// one taken from the lock list stores 0, and one of a variable's list doesn't
+/// (`wakes_tell_where_they_come_from`).
 pub fn only_the_called_acquire_as_woken<C: Condition<N>, const N: usize>()
     ensures { (walk : Walk C) (found : Found) → was_woken (walk_after (got_of N walk found)) ≡ true →
         (was_woken (Some walk) ≡ true) ⊎ ((want_of walk ≡ LoadFlag) × (found ≡ Flag 0)) }
+{}
+
+/// A wake stores 0 into the flag of one that was taken from the lock list, and 2 into that of one
+/// that was taken from a variable's list.
+pub fn wakes_tell_where_they_come_from<C: Condition<N>, const N: usize>()
+    ensures { (walk : Walk C) (value : ℕ) → want_of walk ≡ PayWake value → value ≡ (if calls_from_lock (Some walk) then 0 else 2) }
+{}
+
+/// Who finds its flag cleared goes to acquire.
+pub fn who_was_woken_goes_to_acquire<C: Condition<N>, const N: usize>()
+    ensures { (walk : Walk C) (flag : ℕ) → want_of walk ≡ LoadFlag → flag ≢ 1 →
+        (aim : Aim C) × (arrival : Arrival) × (got_of N walk (Flag flag) ≡ On (InAcquire aim (AcquireLoad arrival))) }
+{}
+
+/// Who waits for the lock remembers how often it has failed: it waits with the tries with which it
+/// has queued, and is woken with those.
+pub fn failed_tries_are_remembered<C: Condition<N>, const N: usize>()
+    ensures queues { (aim : Aim C) (arrival : Arrival) (last : Word) → got_of N (InAcquire aim (Queue arrival last)) Made ≡ On (InAcquire aim (AwaitWake (tries_of arrival))) }
+    ensures woken { (aim : Aim C) (tries : ℕ) → got_of N (InAcquire aim (AwaitWake tries)) (Flag 0) ≡ On (InAcquire aim (AcquireLoad (AsWoken tries))) }
+{}
+
+/// A try is busy only where it has found a word by which it may not acquire, or its exchange has found
+/// another word than the one last seen.
+pub fn tries_are_busy_for_a_reason<C: Condition<N>, const N: usize>()
+    ensures { (mode : Mode) (place : TryPlace) (found : Found) → got_of {C = C} N (InTry mode place) found ≡ Done Busy →
+        (word : Word) × (found ≡ Saw word) × ((may_acquire mode AsFresh word ≡ false) ⊎ ((last : Word) × (place ≡ TryAcquire last))) }
+{}
+
+/// A look that shows what ends its wait ends it: the wait answers that, or goes on with that kept.
+pub fn a_shown_cause_ends_the_wait<C: Condition<N>, const N: usize>()
+    ensures { (walk : Walk C) (limits : Limits) (again : Bool) (cause : Cause) → want_of walk ≡ Look limits again →
+        (got_of N walk (Looked (Some cause)) ≡ Done (Answered (answer_of cause)))
+        ⊎ ((next : Walk C) × (walk_after (got_of N walk (Looked (Some cause))) ≡ Some next) × (cause_kept next ≡ Some cause)) }
+{}
+
+/// Readers join readers where nobody waits who keeps them out; and while a writer waits, a fresh
+/// reader stands back.
+pub fn readers_join_and_stand_back<C: Condition<N>, const N: usize>()
+    ensures join { (arrival : Arrival) (word : Word) → word.write ≡ false → word.writer_waits ≡ false → word.long ≡ false → may_acquire Read arrival word ≡ true }
+    ensures back { (word : Word) → word.writer_waits ≡ true → may_acquire Read AsFresh word ≡ false }
 {}

@@ -39,6 +39,9 @@
 
 ghost use Rattle.std.specs.Prelude.{◌≡◌, ◌≤◌, ⊤};
 ghost use Rattle.ns_word.specs.declared.cell_walk.Judging.TheVariants.{ToTell, ToRelease};
+ghost use Rattle.ns_word.specs.declared.request.Request.TheVariants as TheRequest;
+ghost use Rattle.ns_word.specs.declared.word.Releasing.TheVariants.{QuietWriter};
+ghost use Rattle.ns_word.specs.Asked.{asked_of};
 ghost use Rattle.ns_word.specs.Walks.{want_of, got_of, quiet_first, wait_first};
 
 use crate::acquire_walk::AcquirePlace;
@@ -127,7 +130,8 @@ impl<C: Copy> Clone for Next<C> {
 impl<C: Copy> Walk<C> {
     /// The first place of a call that locks in this mode.
     pub fn lock(mode: Mode) -> Walk<C>
-        ensures { result ≡ Walk.InAcquire (Aim.ForLock mode) (AcquirePlace.AcquireLoad Arrival.AsFresh) }
+        ensures first { result ≡ Walk.InAcquire (Aim.ForLock mode) (AcquirePlace.AcquireLoad Arrival.AsFresh) }
+        ensures asked { asked_of result ≡ TheRequest.Lock mode }
     {
         Walk::InAcquire(
             Aim::ForLock(mode),
@@ -137,28 +141,32 @@ impl<C: Copy> Walk<C> {
 
     /// The first place of a call that tries to lock in this mode.
     pub fn try_lock(mode: Mode) -> Walk<C>
-        ensures { result ≡ Walk.InTry mode TryPlace.TryLoad }
+        ensures first { result ≡ Walk.InTry mode TryPlace.TryLoad }
+        ensures asked { asked_of result ≡ TheRequest.TryLock mode }
     {
         Walk::InTry(mode, TryPlace::TryLoad)
     }
 
     /// The first place of a release of a section in this way.
     pub fn release(releasing: Releasing) -> Walk<C>
-        ensures { result ≡ Walk.InRelease releasing ReleasePlace.ReleaseLoad }
+        ensures first { result ≡ Walk.InRelease releasing ReleasePlace.ReleaseLoad }
+        ensures asked { asked_of result ≡ TheRequest.Release releasing }
     {
         Walk::InRelease(releasing, ReleasePlace::ReleaseLoad)
     }
 
     /// The place of a read of this cell.
     pub fn get(i: u8) -> Walk<C>
-        ensures { result ≡ Walk.InCells (CellPlace.GetLoad i) }
+        ensures first { result ≡ Walk.InCells (CellPlace.GetLoad i) }
+        ensures asked { asked_of result ≡ TheRequest.Get i }
     {
         Walk::InCells(CellPlace::GetLoad(i))
     }
 
     /// The first place of a write of this value into this cell.
     pub fn set(i: u8, value: u64) -> Walk<C>
-        ensures { result ≡ Walk.InCells (CellPlace.SetLoad i value) }
+        ensures first { result ≡ Walk.InCells (CellPlace.SetLoad i value) }
+        ensures asked { asked_of result ≡ TheRequest.Set i value }
     {
         Walk::InCells(CellPlace::SetLoad(i, value))
     }
@@ -168,7 +176,8 @@ impl<C: Copy> Walk<C> {
     /// Needs a row of at most 16 cells.
     pub fn quiet_release<const N: usize>() -> Walk<C>
         requires { N ≤ 16 }
-        ensures { result ≡ quiet_first N ToRelease }
+        ensures first { result ≡ quiet_first N ToRelease }
+        ensures asked { asked_of result ≡ TheRequest.Release QuietWriter }
     {
         Walk::InCells(quiet_place::<N>(Judging::ToRelease, 0))
     }
@@ -178,7 +187,8 @@ impl<C: Copy> Walk<C> {
     /// Needs a row of at most 16 cells.
     pub fn is_quiet<const N: usize>() -> Walk<C>
         requires { N ≤ 16 }
-        ensures { result ≡ quiet_first N ToTell }
+        ensures first { result ≡ quiet_first N ToTell }
+        ensures asked { asked_of result ≡ TheRequest.IsQuiet }
     {
         Walk::InCells(quiet_place::<N>(Judging::ToTell, 0))
     }
@@ -188,7 +198,8 @@ impl<C: Copy> Walk<C> {
     /// Needs a row of at most 16 cells.
     pub fn wait<const N: usize>(wait: Wait<C>) -> Walk<C>
         requires { N ≤ 16 }
-        ensures { result ≡ wait_first N wait }
+        ensures first { result ≡ wait_first N wait }
+        ensures asked { asked_of result ≡ TheRequest.Await wait }
     {
         match wait.on {
             Subject::OnCondition(_) => test_place::<C, N>(wait, Visit::OnEntry, 0),
@@ -200,7 +211,8 @@ impl<C: Copy> Walk<C> {
 
     /// The first place of a call that wakes those who wait for the variable of this number.
     pub fn signal(waking: Waking, k: u8) -> Walk<C>
-        ensures { result ≡ Walk.InSignal waking k SignalPlace.SignalLoad }
+        ensures first { result ≡ Walk.InSignal waking k SignalPlace.SignalLoad }
+        ensures asked { asked_of result ≡ TheRequest.Wake waking k }
     {
         Walk::InSignal(waking, k, SignalPlace::SignalLoad)
     }

@@ -1,5 +1,5 @@
 -- A seat's step and a call's beginning keep a world lawful.
-use Rattle.std.proofs.Common.{◌≡◌, ℕ, zero, suc, inl, inr, ◌<◌, ◌≤◌, List, [], ◌∷◌, ◌++◌, Option, Some, None, length, map, get_or, take, drop, slice_set, slice_get, refl, ap, sym, ◌∙◌, subst, zero-add, arith}
+use Rattle.std.proofs.Common.{◌≡◌, ℕ, suc, inl, inr, ◌<◌, ◌≤◌, List, [], ◌++◌, Option, Some, None, length, map, get_or, take, drop, slice_set, slice_get, refl, ap, sym, ◌∙◌, subst, zero-add, arith}
 use Rattle.std.proofs.lemmas.Option.{slice_get-get_or}
 use Rattle.std.proofs.lemmas.Bool.{cases_eq}
 use Rattle.std.proofs.lemmas.List.{append-nil, set-get_or, length-set, length-map}

@@ -1,0 +1,106 @@
+-- The rule of a gate's table: word 0 is the lock word, the cells follow, and then each seat's flag. The slot has the queues.
+use Rattle.std.specs.Prelude.{◌≡◌, ℕ, suc, zero, ◌+◌, ◌<◌, ◌≤◌, ◌==◌, Bool, true, false, List, [], ◌∷◌, length, replicate, None, Some, IfSome, slice_get, slice_index}
+use mathlib.Core.Option.{some, none}
+use mathlib.Core.Option as TheOption
+use Rattle.atomic_table.specs.Table.{State as TableState}
+use Rattle.ns_model.specs.declared.event.Event.{Event}
+use Rattle.ns_model.specs.Tallies.{total, one_if, Every}
+use Rattle.ns_model.specs.Truths.{Truths}
+use Rattle.ns_queue.specs.Queues.{Lists}
+use Rattle.ns_word.specs.declared.word.Word.{Word}
+use Rattle.ns_word.specs.declared.view.SeatView.{SeatView}
+use Rattle.ns_word.specs.Codec.{number_of}
+use Rattle.ns_word.specs.Courses.{SoFar}
+use Rattle.ns_word.specs.Lawful.{IsLawful}
+use Rattle.ns_word.specs.Meanings.{Course, course_from}
+use Rattle.ns_word.specs.Steps.{State}
+use Rattle.ns_word.specs.Told.{Told, IsTold, nothing_told}
+use Rattle.ns_word.specs.Walks.{has_queues}
+
+-- What one seat of a gate knows: how many seats there are, itself as the machine sees it, what it was told, how far the call in progress has come, and how the lists stood at home when it last made a step.
+pub record GateView (C : Type 0) (N : ℕ) : Type 0 where
+  pub limit : ℕ
+  pub at : SeatView C N
+  pub told : Told C N
+  pub course : Course C N
+  pub stood : Lists C
+
+-- what all seats know, a list for each seat of the table
+abbrev pub Views : Type 0 → ℕ → Type 0
+Views C N = List (List (GateView C N))
+
+-- the slot's content, where it is at home
+abbrev pub Homes : Type 0 → Type 0
+Homes C = List (TheOption.Option (Lists C))
+
+-- a sum over all seats
+abbrev pub tally : {C : Type 0} {N : ℕ} → (GateView C N → ℕ) → Views C N → ℕ
+tally f views = total (total f) views
+
+-- 1 for the seat of this number
+abbrev pub is_seat : {C : Type 0} {N : ℕ} → ℕ → GateView C N → ℕ
+is_seat seat view = one_if (view.at.seat == seat)
+
+-- the call that a seat is in has come so far, if it is in one
+abbrev pub HasCome : {C : Type 0} {N : ℕ} → Truths C → Course C N → SeatView C N → Type 0
+HasCome truths course view = IfSome view.walk (λ walk. SoFar truths view.seat course walk view.held)
+
+-- What one of so many seats knows fits the history and the state: it stands there at its number, was told of that history, and its call has come so far; who has the queues knows how they stood at home.
+pub record Fits {C : Type 0} {N : ℕ} (truths : Truths C) (limit : ℕ) (history : List (Event C N)) (s : State C N) (view : GateView C N) : Type 0 where
+  pub limited : view.limit ≡ limit
+  pub stands : slice_get s.views view.at.seat ≡ Some view.at
+  pub told : IsTold truths.holds limit history view.at.seat view.at.walk view.told
+  pub come : HasCome truths view.course view.at
+  pub stood : has_queues view.at.walk ≡ true → view.stood ≡ s.lists
+
+-- the table's words show this lock word, these cells and these flags
+pub record Shows (N : ℕ) (words : List ℕ) (word : Word) (row : List ℕ) (flags : ℕ → ℕ) : Type 0 where
+  pub width : length words ≡ N + 65
+  pub word_is : slice_index words 0 ≡ number_of word
+  pub cells : (i : ℕ) → i < N → slice_index words (i + 1) ≡ slice_index row i
+  pub flags_are : (seat : ℕ) → seat < 64 → slice_index words (seat + (N + 1)) ≡ flags seat
+
+-- the queues are at home while the spinlock bit is clear
+abbrev pub AtHome : {C : Type 0} → Bool → Lists C → Homes C → Type 0
+AtHome true lists homes = homes ≡ none ∷ []
+AtHome false lists homes = homes ≡ some lists ∷ []
+
+-- the state of the machine that a table shows, and the history
+pub record Shown (C : Type 0) (N : ℕ) : Type 0 where
+  pub state : State C N
+  pub history : List (Event C N)
+
+-- The rule: the words, the slot and the views make up a state that is lawful with this history, and each seat was told what a seat is told.
+pub record IsRuled {C : Type 0} {N : ℕ} (truths : Truths C) (limit : ℕ) (words : List ℕ) (homes : Homes C) (views : Views C N) (shown : Shown C N) : Type 0 where
+  pub few : limit ≤ 64
+  pub lawful : IsLawful truths limit shown.history shown.state
+  pub shows : Shows N words shown.state.word shown.state.row shown.state.flags
+  pub home : AtHome shown.state.word.spin shown.state.lists homes
+  pub once : (seat : ℕ) → tally (is_seat seat) views ≤ 1
+  pub each : Every (Every (Fits truths limit shown.history shown.state)) views
+
+-- The rule of a table with so many seats: there is such a state, and a history.
+abbrev pub Holds : {C : Type 0} {N : ℕ} → Truths C → ℕ → TableState (Lists C) (List (GateView C N)) → Type 0
+Holds {C} {N} truths limit s = (shown : Shown C N) × IsRuled truths limit s.words s.homes s.views shown
+
+-- nobody waits
+abbrev pub no_lists : {C : Type 0} → Lists C
+no_lists = record { lock = []; cvs = replicate 4 [] }
+
+-- a seat that has made no step
+abbrev pub fresh_seat : {C : Type 0} {N : ℕ} → ℕ → ℕ → GateView C N
+fresh_seat limit seat = record { limit = limit; at = record { seat = seat; walk = None; held = None; owed = [] }; told = nothing_told; course = course_from None; stood = no_lists }
+
+-- so many of them, from a number on
+abbrev pub fresh : {C : Type 0} {N : ℕ} → ℕ → ℕ → ℕ → List (GateView C N)
+fresh limit from zero = []
+fresh limit from (suc n) = fresh_seat limit from ∷ fresh limit (suc from) n
+
+-- the first seat of a view, alone, and the others
+abbrev pub first_of : {A : Type 0} → List A → List A
+first_of [] = []
+first_of (v ∷ vs) = v ∷ []
+
+abbrev pub rest_of : {A : Type 0} → List A → List A
+rest_of [] = []
+rest_of (v ∷ vs) = vs

@@ -1,0 +1,190 @@
+//! The gate: a lock word, a row and flags, shared by threads.
+
+ghost use Rattle.std.specs.Prelude.{◌≡◌, ◌<◌, None, Some, IfErr};
+ghost use Rattle.ns_word.specs.Codec.{word_of, IsPackable};
+ghost use Rattle.ns_word.specs.Finds.{exchanged};
+ghost use Rattle.ns_word.specs.Walks.{want_of};
+ghost use Rattle.ns_gate.specs.Steps.{CanStep, Performed, tried};
+
+use crate::plays::{Begin, Go, Law};
+use crate::room::Gated;
+use crate::saying::load_saying;
+use crate::view::View;
+use atomic_table::Table;
+use ns_model::condition::Condition;
+use ns_queue::queues::Queues;
+use ns_word::act::{Act, Found};
+use ns_word::codec::{encode, unpacked};
+use ns_word::wait::Aim;
+use ns_word::walk::Walk;
+use ns_word::word::{Arrival, Releasing, Word};
+use std::alloc::Global;
+use std::marker::Model;
+
+/// A seat of a gate's table.
+pub type GateSeat<C, const N: usize> = atomic_table::Seat<Queues<C, N>, View<C, N>>;
+
+/// A lock word, a row of `N` cells and 64 flags, shared by the threads that have its seats.
+#[derive(Drop)]
+pub struct Gate<C: Condition<N>, const N: usize> {
+    table: Table<Queues<C, N>, View<C, N>, u8, Law<C, N>, Global>,
+}
+
+impl<C: Condition<N>, const N: usize> Model for Gate<C, N> {
+    ghost use Rattle.std.specs.Prelude.{◌≡◌, ◌+◌};
+    ghost use Rattle.atomic_table.specs.Seated.{TableId};
+
+    ghost Value = { TableId };
+
+    ghost view = { λ g. g.table.shared.table_id };
+
+    ghost invariant = { λ g. (g.table.shared.table_id.words ≡ N + 65) × (g.table.shared.table_id.slots ≡ 1) };
+}
+
+/// What an exchange of the word last seen came to, where the word's number was this.
+fn came_to(found: u64, last: Word) -> Result<(), Word>
+    requires { IsPackable (word_of found) }
+    ensures word { IfErr result IsPackable }
+    ensures tried { tried result ≡ exchanged found last Found.Made }
+{
+    if found == encode(last) {
+        Ok(())
+    } else {
+        Err(unpacked(found))
+    }
+}
+
+impl<C: Gated<N>, const N: usize> Gate<C, N> {
+    /// Loads the lock word.
+    ///
+    /// Needs a seat of this gate, whose call wants that next.
+    pub fn load(&self, seat: &mut GateSeat<C, N>) -> Word
+        requires of { seat.old.table_id ≡ self.now }
+        requires can { CanStep C.means None Act.LoadWord seat.old.me }
+        ensures seat { seat.new.table_id ≡ seat.old.table_id }
+        ensures word { IsPackable result }
+        ensures did { Performed C.means None Act.LoadWord (Found.Saw result) seat.old.me seat.new.me }
+    {
+        unpacked(self.table.shared.load::<Go<C, N>>(seat, 0))
+    }
+
+    /// Begins a call by its first step, which loads the lock word.
+    ///
+    /// Needs a seat of this gate, whose last call is over, and a first place whose need is met.
+    pub fn begin_load(&self, seat: &mut GateSeat<C, N>, walk: Walk<C>) -> Word
+        requires of { seat.old.table_id ≡ self.now }
+        requires wants { want_of walk ≡ Act.LoadWord }
+        requires can { CanStep C.means (Some walk) Act.LoadWord seat.old.me }
+        ensures seat { seat.new.table_id ≡ seat.old.table_id }
+        ensures word { IsPackable result }
+        ensures did { Performed C.means (Some walk) Act.LoadWord (Found.Saw result) seat.old.me seat.new.me }
+    {
+        let shared = &self.table.shared;
+        let found = load_saying::<Queues<C, N>, View<C, N>, u8, Law<C, N>, Walk<C>, Begin<C, N>>(
+            shared, seat, 0, &walk,
+        );
+        unpacked(found)
+    }
+
+    /// Acquires the lock for this, where its word is still the one last seen; else tells the word.
+    ///
+    /// Needs a seat of this gate, whose call wants that next, and a word that has a number, as each
+    /// has that a load or an exchange has told.
+    pub fn exchange_to_acquire(
+        &self,
+        seat: &mut GateSeat<C, N>,
+        aim: Aim<C>,
+        arrival: Arrival,
+        last: Word,
+    ) -> Result<(), Word>
+        requires of { seat.old.table_id ≡ self.now }
+        requires last { IsPackable last }
+        requires can { CanStep C.means None (Act.Acquire aim arrival last) seat.old.me }
+        ensures seat { seat.new.table_id ≡ seat.old.table_id }
+        ensures word { IfErr result IsPackable }
+        ensures did { Performed C.means None (Act.Acquire aim arrival last) (tried result) seat.old.me seat.new.me }
+    {
+        let old = encode(last);
+        let new = encode(last.acquired(aim.mode(), arrival));
+        let found = self
+            .table
+            .shared
+            .compare_exchange::<Go<C, N>>(seat, 0, old, new);
+        came_to(found, last)
+    }
+
+    /// Releases the section in hand, where the lock word is still the one last seen; else tells the word.
+    ///
+    /// Needs a seat of this gate, whose call wants that next, and a word that has a number, as each
+    /// has that a load or an exchange has told.
+    pub fn exchange_to_release(
+        &self,
+        seat: &mut GateSeat<C, N>,
+        releasing: Releasing,
+        last: Word,
+    ) -> Result<(), Word>
+        requires of { seat.old.table_id ≡ self.now }
+        requires last { IsPackable last }
+        requires can { CanStep C.means None (Act.Release releasing last) seat.old.me }
+        ensures seat { seat.new.table_id ≡ seat.old.table_id }
+        ensures word { IfErr result IsPackable }
+        ensures did { Performed C.means None (Act.Release releasing last) (tried result) seat.old.me seat.new.me }
+    {
+        let old = encode(last);
+        let new = encode(last.released(releasing));
+        let found = self
+            .table
+            .shared
+            .compare_exchange::<Go<C, N>>(seat, 0, old, new);
+        came_to(found, last)
+    }
+
+    /// Loads a cell of the row.
+    ///
+    /// Needs a seat of this gate, whose call wants that next, and a cell below `N`.
+    pub fn load_cell(&self, seat: &mut GateSeat<C, N>, i: u8) -> u64
+        requires of { seat.old.table_id ≡ self.now }
+        requires cell { i < N }
+        requires can { CanStep C.means None (Act.LoadCell i) seat.old.me }
+        ensures seat { seat.new.table_id ≡ seat.old.table_id }
+        ensures did { Performed C.means None (Act.LoadCell i) (Found.Cell result) seat.old.me seat.new.me }
+    {
+        self.table.shared.load::<Go<C, N>>(seat, usize::from(i) + 1)
+    }
+
+    /// Begins a call by its first step, which loads a cell of the row.
+    ///
+    /// Needs a seat of this gate, whose last call is over, a first place whose need is met, and a cell
+    /// below `N`.
+    pub fn begin_load_cell(&self, seat: &mut GateSeat<C, N>, walk: Walk<C>, i: u8) -> u64
+        requires of { seat.old.table_id ≡ self.now }
+        requires wants { want_of walk ≡ Act.LoadCell i }
+        requires cell { i < N }
+        requires can { CanStep C.means (Some walk) (Act.LoadCell i) seat.old.me }
+        ensures seat { seat.new.table_id ≡ seat.old.table_id }
+        ensures did { Performed C.means (Some walk) (Act.LoadCell i) (Found.Cell result) seat.old.me seat.new.me }
+    {
+        let shared = &self.table.shared;
+        load_saying::<Queues<C, N>, View<C, N>, u8, Law<C, N>, Walk<C>, Begin<C, N>>(
+            shared,
+            seat,
+            usize::from(i) + 1,
+            &walk,
+        )
+    }
+
+    /// Stores a value into a cell of the row.
+    ///
+    /// Needs a seat of this gate, whose call wants that next, and a cell below `N`.
+    pub fn store_cell(&self, seat: &mut GateSeat<C, N>, i: u8, value: u64)
+        requires of { seat.old.table_id ≡ self.now }
+        requires cell { i < N }
+        requires can { CanStep C.means None (Act.StoreCell i value) seat.old.me }
+        ensures seat { seat.new.table_id ≡ seat.old.table_id }
+        ensures did { Performed C.means None (Act.StoreCell i value) Found.Made seat.old.me seat.new.me }
+    {
+        self.table
+            .shared
+            .store::<Go<C, N>>(seat, usize::from(i) + 1, value);
+    }
+}

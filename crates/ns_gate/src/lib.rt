@@ -1,0 +1,14 @@
+//! The lock between threads: one atomic step at a time on shared words, under the law of the machine.
+//!
+//! A [`gate::Gate`] is a table of atomic words: the lock word, the row's cells, and a flag for each
+//! seat; the waiter queues lie in its slot. The rule of the table says that these make up a state of
+//! ns_word's machine that is lawful with one history, and that each seat was told what ns_word says
+//! that a seat is told. So each step of a seat is a step of the machine, and what holds between any
+//! two of those holds between any two steps of any threads.
+#![tactic(auto)]
+
+pub mod gate;
+pub mod plays;
+pub mod room;
+pub mod saying;
+pub mod view;

@@ -1,0 +1,51 @@
+//! The rule of the table, and what each step on it tells.
+
+ghost use Rattle.std.specs.Prelude.{None};
+ghost use Rattle.ns_gate.specs.Law.{Holds, first_of, fresh, rest_of};
+ghost use Rattle.ns_gate.specs.Steps.{Stepped, act_in, act_of, first_said, the};
+
+use crate::saying::Telling;
+use crate::view::View;
+use atomic_table::{Play, Split, TableRule};
+use ns_model::condition::Condition;
+use ns_queue::queues::Queues;
+use ns_word::walk::Walk;
+use std::marker::PhantomData;
+
+/// The table shows a lawful state of the machine.
+pub struct Law<C, const N: usize> {
+    of: PhantomData<C>,
+}
+
+impl<C: Condition<N>, const N: usize> TableRule<Queues<C, N>, View<C, N>, u8> for Law<C, N> {
+    ghost holds = { λ limit s. Holds C.means limit s };
+
+    ghost first = { λ limit. fresh limit 0 limit };
+}
+
+/// The step that the seat's call wants next.
+pub struct Go<C, const N: usize> {
+    of: PhantomData<C>,
+}
+
+impl<C: Condition<N>, const N: usize> Play<Queues<C, N>, View<C, N>> for Go<C, N> {
+    ghost then = { λ st me found now. Stepped C.means None (act_in (the me.0)) found me now };
+}
+
+/// The first step of the call that it is told.
+pub struct Begin<C, const N: usize> {
+    of: PhantomData<C>,
+}
+
+impl<C: Condition<N>, const N: usize> Telling<Queues<C, N>, View<C, N>, Walk<C>> for Begin<C, N> {
+    ghost after = { λ walks st me found now. Stepped C.means (first_said walks) (act_of (first_said walks)) found me now };
+}
+
+/// The first seat of a view goes to a seat of its own.
+pub struct FirstOut;
+
+impl<C, const N: usize> Split<View<C, N>> for FirstOut {
+    ghost left = { rest_of };
+
+    ghost right = { first_of };
+}
