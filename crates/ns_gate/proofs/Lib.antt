@@ -1,3 +1,4 @@
 pub mod Keeps
+pub mod Starts
 pub mod Tells
 pub mod Turns

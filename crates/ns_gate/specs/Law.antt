@@ -3,6 +3,8 @@ use Rattle.std.specs.Prelude.{◌≡◌, ℕ, suc, zero, ◌+◌, ◌<◌, ◌�
 use mathlib.Core.Option.{some, none}
 use mathlib.Core.Option as TheOption
 use Rattle.atomic_table.specs.Table.{State as TableState}
+use Rattle.ns_gate.specs.declared.fault.Fault.{Fault}
+use Rattle.ns_gate.specs.declared.fault.Fault.TheVariants.{TooManySeats, OutOfMemory}
 use Rattle.ns_model.specs.declared.event.Event.{Event}
 use Rattle.ns_model.specs.Tallies.{total, one_if, Every}
 use Rattle.ns_model.specs.Truths.{Truths}
@@ -104,3 +106,8 @@ first_of (v ∷ vs) = v ∷ []
 abbrev pub rest_of : {A : Type 0} → List A → List A
 rest_of [] = []
 rest_of (v ∷ vs) = vs
+
+-- why no gate is made: more than 64 seats, or want of memory where there are no more
+abbrev pub NewFault : ℕ → Fault → Type 0
+NewFault seats TooManySeats = 64 < seats
+NewFault seats OutOfMemory = seats ≤ 64

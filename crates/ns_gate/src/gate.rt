@@ -1,16 +1,18 @@
 //! The gate: a lock word, a row and flags, shared by threads.
 
-ghost use Rattle.std.specs.Prelude.{◌≡◌, ◌<◌, None, Some, IfErr};
+ghost use Rattle.std.specs.Prelude.{◌≡◌, ◌+◌, ◌<◌, ◌≤◌, [], ◌∷◌, replicate, None, Some, IfErr, IfOk, MatchResult};
 ghost use Rattle.ns_word.specs.Codec.{word_of, IsPackable};
 ghost use Rattle.ns_word.specs.Finds.{exchanged};
 ghost use Rattle.ns_word.specs.Walks.{want_of};
+ghost use Rattle.ns_gate.specs.Law.{first_of, fresh, no_lists, rest_of, NewFault};
 ghost use Rattle.ns_gate.specs.Steps.{CanStep, Performed, tried};
 
-use crate::plays::{Begin, Go, Law};
+use crate::fault::Fault;
+use crate::plays::{Begin, FirstOut, Go, Law};
 use crate::room::Gated;
 use crate::saying::load_saying;
 use crate::view::View;
-use atomic_table::Table;
+use atomic_table::{Refused, Table};
 use ns_model::condition::Condition;
 use ns_queue::queues::Queues;
 use ns_word::act::{Act, Found};
@@ -18,7 +20,7 @@ use ns_word::codec::{encode, unpacked};
 use ns_word::wait::Aim;
 use ns_word::walk::Walk;
 use ns_word::word::{Arrival, Releasing, Word};
-use std::alloc::Global;
+use std::alloc::{AllocError, Global};
 use std::marker::Model;
 
 /// A seat of a gate's table.
@@ -54,7 +56,52 @@ fn came_to(found: u64, last: Word) -> Result<(), Word>
     }
 }
 
+/// So many words, each 0.
+fn zeros(alloc: Global, count: usize) -> Result<Vec<u64>, AllocError>
+    ensures { IfOk result (λ words. words.items ≡ replicate count 0) }
+{
+    vec![in alloc; 0; count]
+}
+
+/// Queues in which nobody stands.
+fn no_waiters<C: Gated<N>, const N: usize>(alloc: Global) -> Result<Vec<Queues<C, N>>, AllocError>
+    ensures { IfOk result (λ slots. slots.items ≡ no_lists ∷ []) }
+{
+    let mut slots = Vec::new(alloc);
+    slots.push(Queues::new())?;
+    Ok(slots)
+}
+
 impl<C: Gated<N>, const N: usize> Gate<C, N> {
+    /// A gate with a free lock over a row of zeros, and one seat that stands for so many; `part` takes
+    /// them out one by one.
+    ///
+    /// Needs at least one seat. Refuses more than 64 seats (`TooManySeats`) before it takes any memory,
+    /// and refuses where memory is refused (`OutOfMemory`).
+    pub fn new(alloc: Global, seats: usize) -> Result<(Self, GateSeat<C, N>), Fault>
+        requires { 0 < seats }
+        ensures { MatchResult result (λ r. (r.1.table_id ≡ r.0) × (r.1.me ≡ (fresh seats 0 seats, [])) × (seats ≤ 64)) (NewFault seats) }
+    {
+        if seats > 64 {
+            return Err(Fault::TooManySeats);
+        }
+        let words = zeros(alloc, N + 65)?;
+        let slots = no_waiters::<C, N>(alloc)?;
+        match Table::new(alloc, words.as_slice(), slots, &(seats as u8)) {
+            Ok((table, all)) => Ok((Gate { table }, all)),
+            Err(Refused { slots: _ }) => Err(Fault::OutOfMemory),
+        }
+    }
+
+    /// The first of the seats that this one stands for, which then stands for the others.
+    pub fn part(&self, all: &mut GateSeat<C, N>) -> GateSeat<C, N>
+        requires { all.old.table_id ≡ self.now }
+        ensures all { (all.new.table_id ≡ all.old.table_id) × (all.new.me.0 ≡ rest_of all.old.me.0) × (all.new.me.1 ≡ all.old.me.1) }
+        ensures part { (result.table_id ≡ all.old.table_id) × (result.me ≡ (first_of all.old.me.0, [])) }
+    {
+        self.table.shared.split_seat::<FirstOut>(all)
+    }
+
     /// Loads the lock word.
     ///
     /// Needs a seat of this gate, whose call wants that next.

@@ -1,0 +1,97 @@
+-- A new gate, and a seat that is cut in two.
+use Rattle.std.specs.Prelude.{slice_get}
+use Rattle.std.proofs.Common.{◌≡◌, ℕ, zero, suc, ◌+◌, ◌-◌, ◌<◌, ◌≤◌, eqb, List, [], ◌∷◌, length, set, get_or, replicate, map, Some, sym, refl, ap, ◌∙◌, arith, eq-eqb, inl, inr}
+use Rattle.std.proofs.lemmas.Bool.{ne_eqb, cases_eq}
+use Rattle.std.proofs.lemmas.List.{length-replicate, get_or-replicate}
+use Rattle.atomic_table.specs.Table.{Splits, opening}
+use Rattle.ns_gate.specs.Law.{GateView, is_seat, Fits, Holds, no_lists, fresh_seat, fresh, first_of, rest_of}
+use Rattle.ns_model.proofs.Tallies.{total_set, total-append, every_at, others_of, every_put, every-append}
+use Rattle.ns_model.specs.Tallies.{total, one_if, Every}
+use Rattle.ns_model.specs.Truths.{Truths}
+use Rattle.ns_queue.specs.Queues.{Lists}
+use Rattle.ns_word.proofs.Starts.{lawful_fresh}
+use Rattle.ns_word.proofs.Tells.{told_first}
+use Rattle.ns_word.specs.Begins.{fresh_state, fresh_views}
+use mathlib.Core.Option.{some}
+
+module _ (C : Type 0) (N : ℕ) where
+  cut_total : (f : GateView C N → ℕ) (vs : List (GateView C N)) → total f (rest_of vs) + total f (first_of vs) ≡ total f vs
+  cut_total f [] = refl
+  cut_total f (v ∷ vs) = omega arith
+
+  cut_every : (P : GateView C N → Type 0) (vs : List (GateView C N)) → Every P vs → Every P (rest_of vs) × Every P (first_of vs)
+  cut_every P [] h = (tt, tt)
+  cut_every P (v ∷ vs) h = (h.1, (h.0, tt))
+
+  -- the first seat of a view may go to a seat of its own
+  pub cuts : (truths : Truths C) (limit id : ℕ) (vs : List (GateView C N)) → Splits (Holds truths limit) id vs (rest_of vs) (first_of vs)
+  cuts truths limit id vs s h at =
+      let g = h.0 in
+      let l = h.1 in
+      let P = Fits truths limit g.history g.state in
+      let own = cut_every P vs (every_at (Every P) s.views id vs l.each at) in
+      (g, record {
+        few = l.few;
+        lawful = l.lawful;
+        shows = l.shows;
+        home = l.home;
+        once = λ who.
+            let f : GateView C N → ℕ = is_seat who in
+            let a = total-append (total f) (set s.views id (rest_of vs)) (first_of vs ∷ []) in
+            let b = total_set (total f) s.views id vs (rest_of vs) at in
+            let d = cut_total f vs in
+            let was = l.once who in omega (arith, a, b, d, was);
+        each = every-append (Every P) (set s.views id (rest_of vs)) (first_of vs ∷ []) (every_put (Every P) s.views id (rest_of vs) (others_of (Every P) s.views id l.each) own.0) (own.1, tt);
+      })
+
+  -- ---- a new gate
+
+  none_before : (limit from n who : ℕ) → who < from → total (is_seat who) (fresh {C = C} {N = N} limit from n) ≡ 0
+  none_before limit from zero who low = refl
+  none_before limit from (suc n) who low = let r = none_before limit (suc from) n who (omega (arith, low)) in let z : one_if (eqb from who) ≡ 0 = ap one_if (ne_eqb from who (λ e. omega (arith, e, low))) in omega (arith, r, z)
+
+  one_of_each : (limit from n who : ℕ) → total (is_seat who) (fresh {C = C} {N = N} limit from n) ≤ 1
+  one_of_each limit from zero who = omega arith
+  one_of_each limit from (suc n) who = elim (cases_eq from who) [
+    | inl e ↦ (let r = none_before limit (suc from) n who (omega (arith, e)) in let o : one_if (eqb from who) ≡ 1 = ap one_if (eq-eqb from who e) in omega (arith, r, o))
+    | inr ne ↦ (let r = one_of_each limit (suc from) n who in let z : one_if (eqb from who) ≡ 0 = ap one_if (ne_eqb from who ne) in omega (arith, r, z))
+  ]
+
+  stands_there : (first n i : ℕ) → i < n → slice_get (fresh_views {C = C} {N = N} first n) i ≡ Some (fresh_seat {C = C} {N = N} 0 (first + i)).at
+  stands_there first zero i low = absurd (omega (arith, low))
+  stands_there first (suc n) zero low = let e : first ≡ first + 0 = omega arith in ap (λ (k : ℕ). Some (fresh_seat {C = C} {N = N} 0 k).at) e
+  stands_there first (suc n) (suc i) low = let e : (first + 1) + i ≡ first + suc i = omega arith in stands_there (first + 1) n i (omega (arith, low)) ∙ ap (λ (k : ℕ). Some (fresh_seat {C = C} {N = N} 0 k).at) e
+
+  fits_fresh : (truths : Truths C) (limit from n : ℕ) → from + n ≡ limit → Every (Fits truths limit [] (fresh_state {C = C} {N = N} limit)) (fresh limit from n)
+  fits_fresh truths limit from zero e = tt
+  fits_fresh truths limit from (suc n) e = (
+    record { limited = refl; stands = stands_there 0 limit from (omega (arith, e)) ∙ ap (λ (k : ℕ). Some (fresh_seat {C = C} {N = N} 0 k).at) (let z : 0 + from ≡ from = omega arith in z); told = told_first truths.holds limit from; come = tt; stood = λ q. absurd (cc) },
+    fits_fresh truths limit (suc from) n (omega (arith, e)),
+  )
+
+  pub begins_with : (truths : Truths C) (limit : ℕ) (words : List ℕ) (slots : List (Lists C)) → limit ≤ 64 → words ≡ replicate (N + 65) 0 → slots ≡ no_lists ∷ [] → Holds truths limit (opening words slots (fresh {C = C} {N = N} limit 0 limit))
+  begins_with truths limit words slots few is home = let wide : length words ≡ N + 65 = ap length is ∙ length-replicate (N + 65) 0 in (
+    record { state = fresh_state {C = C} {N = N} limit; history = [] },
+    record {
+      few = few;
+      lawful = lawful_fresh C N truths limit few;
+      shows = record {
+        width = wide;
+        word_is = ap (λ (ws : List ℕ). get_or ws 0 0) is ∙ (get_or-replicate (N + 65) 0 0 0 (omega arith) ∙ refl);
+        cells = λ i low. ap (λ (ws : List ℕ). get_or ws (i + 1) 0) is ∙ (get_or-replicate (N + 65) (i + 1) 0 0 (omega (arith, low)) ∙ sym (get_or-replicate N i 0 0 low));
+        flags_are = λ seat low. ap (λ (ws : List ℕ). get_or ws (seat + (N + 1)) 0) is ∙ get_or-replicate (N + 65) (seat + (N + 1)) 0 0 (omega (arith, low));
+      };
+      home = ap (λ (xs : List (Lists C)). map some xs) home;
+      once = λ who. let o = one_of_each limit 0 limit who in omega (arith, o);
+      each = (fits_fresh truths limit 0 limit (omega arith), tt);
+    },
+  )
+
+  more : (limit i : ℕ) → i < limit → limit - i ≡ suc (limit - (i + 1))
+  more limit i h = omega (arith, h)
+
+  pub fresh_first : (limit i : ℕ) → i < limit → first_of (fresh {C = C} {N = N} limit i (limit - i)) ≡ fresh_seat limit i ∷ []
+  fresh_first limit i h = ap (λ (k : ℕ). first_of (fresh {C = C} {N = N} limit i k)) (more limit i h)
+
+  pub fresh_rest : (limit i : ℕ) → i < limit → rest_of (fresh {C = C} {N = N} limit i (limit - i)) ≡ fresh limit (i + 1) (limit - (i + 1))
+  fresh_rest limit i h = ap (λ (k : ℕ). rest_of (fresh {C = C} {N = N} limit i k)) (more limit i h) ∙ ap (λ (k : ℕ). fresh limit k (limit - (i + 1))) (let e : suc i ≡ i + 1 = omega arith in e)
