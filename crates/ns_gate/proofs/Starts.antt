@@ -29,20 +29,22 @@ module _ (C : Type 0) (N : ℕ) where
       let g = h.0 in
       let l = h.1 in
       let P = Fits truths limit g.history g.state in
-      let own = cut_every P vs (every_at (Every P) s.views id vs l.each at) in
-      (g, record {
-        few = l.few;
-        lawful = l.lawful;
-        shows = l.shows;
-        home = l.home;
-        once = λ who.
-            let f : GateView C N → ℕ = is_seat who in
-            let a = total-append (total f) (set s.views id (rest_of vs)) (first_of vs ∷ []) in
-            let b = total_set (total f) s.views id vs (rest_of vs) at in
-            let d = cut_total f vs in
-            let was = l.once who in omega (arith, a, b, d, was);
-        each = every-append (Every P) (set s.views id (rest_of vs)) (first_of vs ∷ []) (every_put (Every P) s.views id (rest_of vs) (others_of (Every P) s.views id l.each) own.0) (own.1, tt);
-      })
+      let own = cut_every P vs (every_at (Every P) s.views id vs l.each at) in (
+        g,
+        record {
+          few = l.few;
+          lawful = l.lawful;
+          shows = l.shows;
+          home = l.home;
+          once = λ who.
+              let f : GateView C N → ℕ = is_seat who in
+              let a = total-append (total f) (set s.views id (rest_of vs)) (first_of vs ∷ []) in
+              let b = total_set (total f) s.views id vs (rest_of vs) at in
+              let d = cut_total f vs in
+              let was = l.once who in omega (arith, a, b, d, was);
+          each = every-append (Every P) (set s.views id (rest_of vs)) (first_of vs ∷ []) (every_put (Every P) s.views id (rest_of vs) (others_of (Every P) s.views id l.each) own.0) (own.1, tt);
+        },
+      )
 
   -- ---- a new gate
 

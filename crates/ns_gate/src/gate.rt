@@ -212,11 +212,9 @@ impl<C: Gated<N>, const N: usize> Gate<C, N> {
         ensures did { Performed C.means (Some walk) (Act.LoadCell i) (Found.Cell result) seat.old.me seat.new.me }
     {
         let shared = &self.table.shared;
+        let word = usize::from(i) + 1;
         load_saying::<Queues<C, N>, View<C, N>, u8, Law<C, N>, Walk<C>, Begin<C, N>>(
-            shared,
-            seat,
-            usize::from(i) + 1,
-            &walk,
+            shared, seat, word, &walk,
         )
     }
 

@@ -145,7 +145,7 @@ pub record HasWoken {C : Type 0} {N : ℕ} (seat : ℕ) (waking : Waking) (k : �
 
 -- ---- every call
 
--- What an answer means of a call that was asked this, where the history has left this row: of the section in hand as the call began and as it is over, of what it has committed, and of what its looks have shown. Nobody answers anything else.
+-- What an answer means of a call that was asked this, where the history has left this row: of the section in hand as the call began and as it is over, of what it has committed, and of what its looks have shown. A call has no other answers.
 abbrev pub Means : {C : Type 0} {N : ℕ} → Truths C → ℕ → List ℕ → Request C → Course C N → Reply → Option (Held C N) → Type 0
 Means truths seat row (TheRequest.Lock mode) course Succeeded held = HasLocked row mode course held
 Means truths seat row (TheRequest.TryLock mode) course Succeeded held = HasLocked row mode course held

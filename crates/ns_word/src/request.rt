@@ -26,9 +26,9 @@ pub enum Request<C> {
     Set(u8, u64),
     /// To tell whether the section is quiet.
     IsQuiet,
-    /// To leave the section for this wait, and to come back.
+    /// To wait for this.
     Await(Wait<C>),
-    /// To wake those who wait for the variable of this number.
+    /// To wake one or more, or all, of those who wait for the variable of this number.
     Wake(Waking, u8),
 }
 

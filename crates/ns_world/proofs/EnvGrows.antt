@@ -19,7 +19,7 @@ use Rattle.ns_word.specs.declared.env_act.EnvAct.{EnvAct}
 use Rattle.ns_word.specs.declared.env_act.EnvAct.TheVariants.{LoadNext, TakeNext, StoreNote, NotifyNote, MoveClock, LoadClock, LoadNote}
 use Rattle.ns_word.specs.declared.env_act.EnvFound.{EnvFound}
 use Rattle.ns_word.specs.declared.env_act.EnvFound.TheVariants.{NextNumber, Taken, Stored, Clock, Note}
-use Rattle.ns_world.specs.World.{Now, Goes, Acts, Asks, Looks, LookGoes, Moves, StepOf, IsLawfulWorld, LedTo, AreEnvBy}
+use Rattle.ns_world.specs.World.{Now, Goes, Acts, Asks, Looks, LookGoes, Moves, StepOf, IsLawfulWorld, LedTo, AreEnvBy, env_done, step_done}
 use Rattle.ns_world.proofs.Looking.{first_if, noted}
 use Rattle.ns_world.proofs.Worlds.{env_begins}
 use Rattle.ns_word.proofs.Numbers.{set_same, set_again}
@@ -55,8 +55,8 @@ module _ {C : Type 0} {N : ℕ} (events : List EnvEvent) (old new : Now C N) (se
   looking within (Shown cause) kept p = going within kept p.0
   looking within next kept p = absurd p
 
-  nothing_more : LedTo events new → (more : List EnvEvent) × AreEnvBy seat more × LedTo (events ++ more) new
-  nothing_more p = ([], tt, subst (λ es. LedTo es new) (sym (append-nil events)) p)
+  nothing_more : LedTo events new → AreEnvBy seat [] × LedTo (events ++ []) new
+  nothing_more p = (tt, subst (λ es. LedTo es new) (sym (append-nil events)) p)
 
   -- by what kind of step it is
   pub acts_led : Acts old new seat step → LedTo events new
@@ -73,14 +73,14 @@ module _ {C : Type 0} {N : ℕ} (events : List EnvEvent) (old new : Now C N) (se
       let kept = keeps_env events [] (env_state old.env old.asking) (env_state old.env (slice_set old.asking seat (env_walk_after (env_got_of p.place p.found)))) seat p.found (record { walk = p.place; walks = p.stands; effect = p.effect; becomes = refl }) led in
       looking within (env_got_of p.place p.found) (subst (λ es. IsLawfulEnv es (env_state old.env (slice_set old.asking seat (env_walk_after (env_got_of p.place p.found))))) (append-nil events) kept) p.goes
 
-  moves_led : Moves old new seat step → (more : List EnvEvent) × AreEnvBy seat more × LedTo (events ++ more) new
+  moves_led : (p : Moves old new seat step) → AreEnvBy seat (env_done p) × LedTo (events ++ env_done p) new
   moves_led (inl p) = nothing_more (acts_led p)
-  moves_led (inr (inl p)) = (p.events, events_by seat (env_want_of p.makes.walk) (env_state old.env old.asking).plain p.found (env_state new.env new.asking).plain p.events p.makes.effect, asks_led p)
+  moves_led (inr (inl p)) = (events_by seat (env_want_of p.makes.walk) (env_state old.env old.asking).plain p.found (env_state new.env new.asking).plain p.events p.makes.effect, asks_led p)
   moves_led (inr (inr p)) = nothing_more (looks_led p)
 
 -- what has led to a world, and the events of a step, which are its seat's, lead to the world after it
-pub steps_led : {C : Type 0} {N : ℕ} (events : List EnvEvent) (old new : Now C N) (seat : ℕ) (step : Step) → IsLawfulWorld old → LedTo events old → StepOf old new seat step → (more : List EnvEvent) × AreEnvBy seat more × LedTo (events ++ more) new
-steps_led events old new seat Nothing lawful led p = ([], tt, subst (λ es. LedTo es new) (sym (append-nil events)) (subst (λ (world : Now _ _). LedTo events world) (sym p.0) led))
+pub steps_led : {C : Type 0} {N : ℕ} (events : List EnvEvent) (old new : Now C N) (seat : ℕ) (step : Step) → IsLawfulWorld old → LedTo events old → (p : StepOf old new seat step) → AreEnvBy seat (step_done old new seat step p) × LedTo (events ++ step_done old new seat step p) new
+steps_led events old new seat Nothing lawful led p = (tt, subst (λ es. LedTo es new) (sym (append-nil events)) (subst (λ (world : Now _ _). LedTo events world) (sym p.0) led))
 steps_led events old new seat Went lawful led p = moves_led events old new seat Went lawful led p
 steps_led events old new seat Idle lawful led p = moves_led events old new seat Idle lawful led p
 steps_led events old new seat (Finished reply) lawful led p = moves_led events old new seat (Finished reply) lawful led p

@@ -61,9 +61,9 @@ use Rattle.ns_world.specs.Asks.{env_state, env_step_of}
 use Rattle.ns_world.specs.Begins.{Starts, begun_at, BeginAnswers}
 use Rattle.ns_world.specs.Calls.{mode_of, start_of, mode_waited, CallFits}
 use Rattle.ns_world.specs.Looks.{looks_at, LookFits, AsksFor, look_of, note_in}
-use Rattle.ns_world.specs.Meanings.{WasShown, AnswersTo, held_at, limits_of, asks_of, held_in, AnswersCall, IsUnfinished, Happens, Meanwhile}
+use Rattle.ns_world.specs.Meanings.{WasShown, AnswersTo, held_at, limits_of, asks_of, held_in, AnswersCall, IsUnfinished, Happens, Meanwhile, happened, done_by}
 use Rattle.ns_world.specs.Performs.{step_of}
-use Rattle.ns_world.specs.World.{AreEnvBy, Goes, LookGoes, Moves, Now, StepOf, Asks, IsLawfulWorld, LedTo}
+use Rattle.ns_world.specs.World.{AreEnvBy, Goes, LookGoes, Moves, Now, StepOf, Asks, IsLawfulWorld, LedTo, env_done, step_done}
 use Rattle.ns_world.specs.declared.call.Asked.TheVariants.{OfLock, OfNotes}
 use Rattle.ns_world.specs.declared.call.Asked.{Asked}
 use Rattle.ns_world.specs.declared.call.Call.TheVariants.{Lock, RLock, TryLock, TryRLock, Unlock, RUnlock, UnlockQuiet, Get, Set, Wait, CvWait, Signal, Broadcast, NewNote, Notify, Advance, IsNotified, Expiry, NoteWait}
@@ -138,6 +138,7 @@ module _ (C : Type 0) (N : ℕ) (before : Now C N) (earlier : List EnvEvent) (se
     asking : Option EnvWalk
     asks : slice_get world.asking seat ≡ Some asking
     looking : LookSoFar earlier seat events asking
+    still : env_own events seat ≡ env_own earlier seat
 
   -- one on the clock and the notes has come so far
   record NotesUnderway (request : EnvRequest) (events : List EnvEvent) (world : Now C N) : Type 0 where
@@ -173,8 +174,8 @@ module _ (C : Type 0) (N : ℕ) (before : Now C N) (earlier : List EnvEvent) (se
     own_same : own new.history seat ≡ own old.history seat
     means : new.truths ≡ old.truths
 
-  lock_rests : (request : Request C) (events more : List EnvEvent) (old new : Now C N) → Untouched old new → LockUnderway request events old → LockUnderway request (events ++ more) new
-  lock_rests request events more old new same u = record {
+  lock_rests : (request : Request C) (events more : List EnvEvent) (old new : Now C N) → Untouched old new → env_own (events ++ more) seat ≡ env_own events seat → LockUnderway request events old → LockUnderway request (events ++ more) new
+  lock_rests request events more old new same own_same u = record {
     view = u.view;
     at = same.views ∙ u.at;
     walk = u.walk;
@@ -188,6 +189,7 @@ module _ (C : Type 0) (N : ℕ) (before : Now C N) (earlier : List EnvEvent) (se
     asking = u.asking;
     asks = same.asking ∙ u.asks;
     looking = look_on earlier seat events more u.asking u.looking;
+    still = own_same ∙ u.still;
   }
 
   notes_rest : (request : EnvRequest) (events more : List EnvEvent) (old new : Now C N) → Untouched old new → env_own (events ++ more) seat ≡ env_own events seat → NotesUnderway request events old → NotesUnderway request (events ++ more) new
@@ -208,7 +210,7 @@ module _ (C : Type 0) (N : ℕ) (before : Now C N) (earlier : List EnvEvent) (se
   }
 
   rests : (asked : Asked C) (events more : List EnvEvent) (old new : Now C N) → Untouched old new → env_own (events ++ more) seat ≡ env_own events seat → Underway asked events old → Underway asked (events ++ more) new
-  rests (OfLock request) events more old new same own_same u = lock_rests request events more old new same u
+  rests (OfLock request) events more old new same own_same u = lock_rests request events more old new same own_same u
   rests (OfNotes request) events more old new same own_same u = notes_rest request events more old new same own_same u
 
   -- another seat's step on the lock
@@ -274,7 +276,7 @@ module _ (C : Type 0) (N : ℕ) (before : Now C N) (earlier : List EnvEvent) (se
   still_looked truths act old found new commits looked none e = refl
 
   -- where a step of the seat leads a call on the lock, by the next place
-  module _ (request : Request C) (events : List EnvEvent) (new : Now C N) (course : Course C N) (began : course.began ≡ held_at before seat) (added : own new.history seat ≡ own before.history seat ++ course.committed) (shown : WasShown earlier events (limits_of request) course.looked) where
+  module _ (request : Request C) (events : List EnvEvent) (new : Now C N) (course : Course C N) (began : course.began ≡ held_at before seat) (added : own new.history seat ≡ own before.history seat ++ course.committed) (shown : WasShown earlier events (limits_of request) course.looked) (still : env_own events seat ≡ env_own earlier seat) where
     goes_on : (number : ℕ) (walk : Walk C) (held : Option (Held C N)) (owed : List ℕ) → GoesOn new.truths seat request course walk held → slice_get new.state.views seat ≡ Some (record { seat = number; walk = Some walk; held = held; owed = owed }) →
         slice_get new.asking seat ≡ Some (look_of (Some walk)) → LookSoFar earlier seat events (look_of (Some walk)) → LockUnderway request events new
     goes_on number walk held owed goes at asks looking = record {
@@ -291,6 +293,7 @@ module _ (C : Type 0) (N : ℕ) (before : Now C N) (earlier : List EnvEvent) (se
       asking = look_of (Some walk);
       asks = asks;
       looking = looking;
+      still = still;
     }
 
     settles : (number : ℕ) (next : Next C) (held : Option (Held C N)) (owed : List ℕ) → CallGoes new.truths seat (row_after new.history) request course next held → slice_get new.state.views seat ≡ Some (record { seat = number; walk = walk_after next; held = held; owed = owed }) →
@@ -302,6 +305,7 @@ module _ (C : Type 0) (N : ℕ) (before : Now C N) (earlier : List EnvEvent) (se
       began = began;
       added = added;
       shown = shown;
+      still = still;
       means = subst (λ h. Means new.truths seat (row_after new.history) request course reply h) (sym (ap held_in at)) goes;
     }
 
@@ -332,7 +336,7 @@ module _ (C : Type 0) (N : ℕ) (before : Now C N) (earlier : List EnvEvent) (se
       let asks = ap (λ xs. slice_get xs seat) p.asking ∙ set_here old.asking seat (look_of (walk_after next)) (slice_get_within old.asking seat u.asking u.asks) in
       let made : IfMade old.env.notes (note_in (walk_after next)) = noted N (IfMade old.env.notes) p.makes.walk p.found tt (subst (λ w. IfMade old.env.notes (note_in w)) p.makes.walks (lawful.noted seat p.view p.at)) in
       let looking = look_begins earlier seat events old.env.notes (look_of (walk_after next)) since (first_if old.env.notes (walk_after next) made) in
-      subst (λ s. Outcome (OfLock request) s events new) (sym p.answers) (settles request events new course u.began added shown p.view.seat next p.makes.held p.makes.owed goes_here at asks looking)
+      subst (λ s. Outcome (OfLock request) s events new) (sym p.answers) (settles request events new course u.began added shown u.still p.view.seat next p.makes.held p.makes.owed goes_here at asks looking)
 
   -- ---- a look of the wait
 
@@ -389,6 +393,7 @@ module _ (C : Type 0) (N : ℕ) (before : Now C N) (earlier : List EnvEvent) (se
           asking = Some place;
           asks = set_here old.asking seat (Some place) (slice_get_within old.asking seat u.asking u.asks);
           looking = (look, after, goes.so_far);
+          still = u.still;
         }))
     look_goes walk view look asked limits (Shown cause) given is after goes p =
         lock_goes request events old new step lawful since u p.0 (subst (λ found. WasShown earlier events (limits_of request) (looked_after found u.course.looked)) (sym p.1)
@@ -451,24 +456,26 @@ module _ (C : Type 0) (N : ℕ) (before : Now C N) (earlier : List EnvEvent) (se
 
   -- ---- any step of the seat
 
-  abbrev Leads : Asked C → List EnvEvent → Now C N → Step → Type 0
-  Leads asked events new step = (more : List EnvEvent) × LedTo (events ++ more) new × Outcome asked step (events ++ more) new
+  abbrev Leads : Asked C → List EnvEvent → Now C N → Step → List EnvEvent → Type 0
+  Leads asked events new step more = LedTo (events ++ more) new × Outcome asked step (events ++ more) new
 
   -- where the world is led by no event
   no_event : (events : List EnvEvent) (new : Now C N) → LedTo events new → LedTo (events ++ []) new
   no_event events new led = subst (λ es. LedTo es new) (sym (append-nil events)) led
 
+  no_more : (events : List EnvEvent) → env_own (events ++ []) seat ≡ env_own events seat
+  no_more events = ap (λ es. env_own es seat) (append-nil events)
+
   same_world : (world : Now C N) → Untouched world world
   same_world world = record { views = refl; asking = refl; own_same = refl; means = refl }
 
   -- of a call on the lock
-  lock_moves : (request : Request C) (events : List EnvEvent) (old new : Now C N) (step : Step) → IsLawfulWorld old → LedTo events old → BeginsWith events earlier → LockUnderway request events old → Moves old new seat step → Leads (OfLock request) events new step
+  lock_moves : (request : Request C) (events : List EnvEvent) (old new : Now C N) (step : Step) → IsLawfulWorld old → LedTo events old → BeginsWith events earlier → LockUnderway request events old → (p : Moves old new seat step) → Leads (OfLock request) events new step (env_done p)
   unfolding lock_rests
   lock_moves request events old new step lawful led since u (inl p) =
-      let now = lock_rests request events [] old old (same_world old) u in
+      let now = lock_rests request events [] old old (same_world old) (no_more events) u in
       let same : looked_after p.goes.found u.course.looked ≡ u.course.looked = still_looked old.truths (want_of p.goes.makes.walk) (part_of old.state p.goes.view.held p.goes.view.owed) p.goes.found (part_of new.state p.goes.makes.held p.goes.makes.owed) p.goes.commits u.course.looked p.is_no_look
       (subst (λ n. Effect old.truths n (want_of p.goes.makes.walk) (part_of old.state p.goes.view.held p.goes.view.owed) p.goes.found (part_of new.state p.goes.makes.held p.goes.makes.owed) p.goes.commits) p.goes.number p.goes.makes.effect) in (
-        [],
         no_event events new (acts_led events old new seat step lawful led p),
         lock_goes request (events ++ []) old new step lawful (begins_on earlier events [] since) now p.goes (subst (λ looked. WasShown earlier (events ++ []) (limits_of request) looked) (sym same) now.shown),
       )
@@ -487,22 +494,21 @@ module _ (C : Type 0) (N : ℕ) (before : Now C N) (earlier : List EnvEvent) (se
       let for : AsksFor (Some u.walk) (Some p.place) = subst (λ w. AsksFor w (Some p.place)) u.walks (lawful.right seat u.view (Some p.place) u.at p.stands) in
       let next = env_got_of p.place p.found in
       let goes = step_takes_on events [] (env_state old.env old.asking) (env_state old.env (slice_set old.asking seat (env_walk_after next))) seat p.found look.0 (record { walk = p.place; walks = p.stands; effect = p.effect; becomes = refl }) led look.2 in (
-        [],
         no_event events new (looks_led events old new seat step lawful led p),
-        look_goes request (events ++ []) old new step lawful (begins_on earlier events [] since) (lock_rests request events [] old old (same_world old) u) u.walk u.view (env_course_after [] look.0) (env_asked_of p.place) for.0 next
+        look_goes request (events ++ []) old new step lawful (begins_on earlier events [] since) (lock_rests request events [] old old (same_world old) (no_more events) u) u.walk u.view (env_course_after [] look.0) (env_asked_of p.place) for.0 next
             (limits_are u.walk request for.0 u.asked for.1) (place_asks for.0 p.place for.2) look.1 goes p.goes,
       )
 
   -- of a call on the clock and the notes
-  notes_move : (request : EnvRequest) (events : List EnvEvent) (old new : Now C N) (step : Step) → IsLawfulWorld old → LedTo events old → NotesUnderway request events old → Moves old new seat step → Leads (OfNotes request) events new step
+  notes_move : (request : EnvRequest) (events : List EnvEvent) (old new : Now C N) (step : Step) → IsLawfulWorld old → LedTo events old → NotesUnderway request events old → (p : Moves old new seat step) → Leads (OfNotes request) events new step (env_done p)
   notes_move request events old new step lawful led u (inl p) = let clash : Some None ≡ Some (Some u.walk) = sym p.unasked ∙ u.walks in absurd (cc)
-  notes_move request events old new step lawful led u (inr (inl p)) = (p.events, asks_led events old new seat step lawful led p, asks_goes request events old new step lawful led u p)
+  notes_move request events old new step lawful led u (inr (inl p)) = (asks_led events old new seat step lawful led p, asks_goes request events old new step lawful led u p)
   notes_move request events old new step lawful led u (inr (inr p)) =
       let views : Some p.view ≡ Some u.view = sym p.at ∙ u.at in
       let view_is : p.view ≡ u.view = cc in
       let clash : None ≡ Some p.walk = sym u.idle ∙ ap (λ v. v.walk) (sym view_is) ∙ p.walks in absurd (cc)
 
-  moves_on : (asked : Asked C) (events : List EnvEvent) (old new : Now C N) (step : Step) → IsLawfulWorld old → LedTo events old → BeginsWith events earlier → Underway asked events old → Moves old new seat step → Leads asked events new step
+  moves_on : (asked : Asked C) (events : List EnvEvent) (old new : Now C N) (step : Step) → IsLawfulWorld old → LedTo events old → BeginsWith events earlier → Underway asked events old → (p : Moves old new seat step) → Leads asked events new step (env_done p)
   moves_on (OfLock request) events old new step lawful led since u p = lock_moves request events old new step lawful led since u p
   moves_on (OfNotes request) events old new step lawful led since u p = notes_move request events old new step lawful led u p
 
@@ -514,7 +520,7 @@ module _ (C : Type 0) (N : ℕ) (before : Now C N) (earlier : List EnvEvent) (se
       let clash : None ≡ Some u.walk = sym idle ∙ ap (λ v. v.walk) view_is ∙ u.walks in absurd (cc)
   not_idle (OfNotes request) events world view u at idle unasked = let clash : Some None ≡ Some (Some u.walk) = sym unasked ∙ u.walks in absurd (cc)
 
-  step_on : (asked : Asked C) (events : List EnvEvent) (old new : Now C N) (step : Step) → IsLawfulWorld old → LedTo events old → BeginsWith events earlier → Underway asked events old → StepOf old new seat step → Leads asked events new step
+  step_on : (asked : Asked C) (events : List EnvEvent) (old new : Now C N) (step : Step) → IsLawfulWorld old → LedTo events old → BeginsWith events earlier → Underway asked events old → (p : StepOf old new seat step) → Leads asked events new step (step_done old new seat step p)
   step_on asked events old new Nothing lawful led since u p = absurd (not_idle asked events old p.1.view u p.1.at p.1.idle p.1.unasked)
   step_on asked events old new Went lawful led since u p = moves_on asked events old new Went lawful led since u p
   step_on asked events old new Idle lawful led since u p = moves_on asked events old new Idle lawful led since u p
@@ -596,6 +602,7 @@ module _ (C : Type 0) (N : ℕ) (before : Now C N) (earlier : List EnvEvent) (se
     asking = None;
     asks = unasked;
     looking = tt;
+    still = refl;
   }
   starts_at (OfNotes request) (Ask walk) view asked first at idle unasked = record {
     view = view;
@@ -617,20 +624,18 @@ module _ (C : Type 0) (N : ℕ) (before : Now C N) (earlier : List EnvEvent) (se
 
   -- ---- from the beginning to the answer
 
-  -- some events have led to a world in which the call is under way
-  record IsUnderway (asked : Asked C) (world : Now C N) : Type 0 where
-    events : List EnvEvent
+  -- these events have led to a world in which the call is under way
+  record IsUnderway (asked : Asked C) (events : List EnvEvent) (world : Now C N) : Type 0 where
     since : BeginsWith events earlier
     led : LedTo events world
     underway : Underway asked events world
 
-  begins_underway : (begun : Now C N) (call : Call C) → LedTo earlier before → Starts before begun seat call → IsUnderway (asks_of (mode_of (held_at before seat)) call) begun
+  begins_underway : (begun : Now C N) (call : Call C) → LedTo earlier before → Starts before begun seat call → IsUnderway (asks_of (mode_of (held_at before seat)) call) earlier begun
   begins_underway begun call led p =
       let mode = mode_of p.view.held in
       let is : held_at before seat ≡ p.view.held = ap held_in p.at in
       let first = first_at before.env.notes mode call p.fits in
-      subst (λ held. IsUnderway (asks_of (mode_of held) call) begun) (sym is) (subst (λ world. IsUnderway (asks_of mode call) world) (sym p.begins) (record {
-        events = earlier;
+      subst (λ held. IsUnderway (asks_of (mode_of held) call) earlier begun) (sym is) (subst (λ world. IsUnderway (asks_of mode call) earlier world) (sym p.begins) (record {
         since = begins_itself earlier;
         led = begins_led earlier before seat p.view (start_of N mode call) p.unasked first led;
         underway = starts_at (asks_of mode call) (start_of N mode call) p.view (asked_at mode call) first p.at p.idle p.unasked;
@@ -644,44 +649,53 @@ module _ (C : Type 0) (N : ℕ) (before : Now C N) (earlier : List EnvEvent) (se
   unfinished asked (Finished reply) events world goes p = absurd goes
 
   -- a step of the seat that doesn't finish the call, and a step of another
-  step_here : (asked : Asked C) (old new : Now C N) (step : Step) → IsLawfulWorld old → StepOf old new seat step → IsUnfinished step → IsUnderway asked old → IsUnderway asked new
-  step_here asked old new step lawful p goes u =
-      let on = step_on asked u.events old new step lawful u.led u.since u.underway p in
-      record { events = u.events ++ on.0; since = begins_on earlier u.events on.0 u.since; led = on.1; underway = unfinished asked step (u.events ++ on.0) new goes on.2 }
+  step_here : (asked : Asked C) (events : List EnvEvent) (old new : Now C N) (step : Step) → IsLawfulWorld old → (p : StepOf old new seat step) → IsUnfinished step → IsUnderway asked events old → IsUnderway asked (events ++ step_done old new seat step p) new
+  step_here asked events old new step lawful p goes u =
+      let on = step_on asked events old new step lawful u.led u.since u.underway p in
+      record { since = begins_on earlier events (step_done old new seat step p) u.since; led = on.0; underway = unfinished asked step (events ++ step_done old new seat step p) new goes on.1 }
 
-  step_away : (asked : Asked C) (old new : Now C N) (other : ℕ) (step : Step) → other ≢ seat → IsLawfulWorld old → StepOf old new other step → IsUnderway asked old → IsUnderway asked new
-  step_away asked old new other step ne lawful p u =
-      let led = steps_led u.events old new other step lawful u.led p in
-      let own_same : env_own (u.events ++ led.0) seat ≡ env_own u.events seat = env_own-append u.events led.0 seat ∙ ap (λ es. env_own u.events seat ++ es) (env_own_none other seat led.0 ne led.1) ∙ append-nil (env_own u.events seat) in
-      record { events = u.events ++ led.0; since = begins_on earlier u.events led.0 u.since; led = led.2; underway = rests asked u.events led.0 old new (step_there old new other step ne p) own_same u.underway }
+  step_by_itself : (asked : Asked C) (events : List EnvEvent) (old new : Now C N) (who : ℕ) (step : Step) → who ≡ seat → IsLawfulWorld old → (p : StepOf old new who step) → IsUnfinished step → IsUnderway asked events old → IsUnderway asked (events ++ step_done old new who step p) new
+  step_by_itself asked events old new who step same lawful p goes u =
+      subst (λ n. (q : StepOf old new n step) → IsUnderway asked (events ++ step_done old new n step q) new) (sym same) (λ q. step_here asked events old new step lawful q goes u) p
+
+  step_away : (asked : Asked C) (events : List EnvEvent) (old new : Now C N) (other : ℕ) (step : Step) → other ≢ seat → IsLawfulWorld old → (p : StepOf old new other step) → IsUnderway asked events old → IsUnderway asked (events ++ step_done old new other step p) new
+  step_away asked events old new other step ne lawful p u =
+      let led = steps_led events old new other step lawful u.led p in
+      let more = step_done old new other step p in
+      let own_same : env_own (events ++ more) seat ≡ env_own events seat = env_own-append events more seat ∙ ap (λ es. env_own events seat ++ es) (env_own_none other seat more ne led.0) ∙ append-nil (env_own events seat) in
+      record { since = begins_on earlier events more u.since; led = led.1; underway = rests asked events more old new (step_there old new other step ne p) own_same u.underway }
 
   -- another seat begins a call
-  begin_away : (asked : Asked C) (old new : Now C N) (other : ℕ) (call : Call C) → other ≢ seat → Starts old new other call → IsUnderway asked old → IsUnderway asked new
-  begin_away asked old new other call ne p u =
-      let led = subst (λ world. LedTo u.events world) (sym p.begins) (begins_led u.events old other p.view (start_of N (mode_of p.view.held) call) p.unasked (first_at old.env.notes (mode_of p.view.held) call p.fits) u.led) in
-      let none : env_own (u.events ++ []) seat ≡ env_own u.events seat = ap (λ es. env_own es seat) (append-nil u.events) in
-      record { events = u.events ++ []; since = begins_on earlier u.events [] u.since; led = no_event u.events new led; underway = rests asked u.events [] old new (begin_there old new other call ne p) none u.underway }
+  begin_away : (asked : Asked C) (events : List EnvEvent) (old new : Now C N) (other : ℕ) (call : Call C) → other ≢ seat → Starts old new other call → IsUnderway asked events old → IsUnderway asked (events ++ []) new
+  begin_away asked events old new other call ne p u =
+      let led = subst (λ world. LedTo events world) (sym p.begins) (begins_led events old other p.view (start_of N (mode_of p.view.held) call) p.unasked (first_at old.env.notes (mode_of p.view.held) call p.fits) u.led) in
+      record { since = begins_on earlier events [] u.since; led = no_event events new led; underway = rests asked events [] old new (begin_there old new other call ne p) (no_more events) u.underway }
 
-  happens_on : (asked : Asked C) (old new : Now C N) → IsLawfulWorld old → Happens seat old new → IsUnderway asked old → IsUnderway asked new
-  happens_on asked old new lawful p u = by_whom p.what (cases_eq p.who seat) where
-    by_whom : ((call : Call C) × BeginAnswers old new p.who call Started) ⊎ ((step : Step) × StepOf old new p.who step × (p.who ≡ seat → IsUnfinished step)) → (p.who ≡ seat) ⊎ (p.who ≢ seat) → IsUnderway asked new
-    by_whom (inl begun) (inl e) =
-        let at = subst (λ who. slice_get old.state.views who ≡ Some begun.1.view) e begun.1.at in
-        absurd (not_idle asked u.events old begun.1.view u.underway at begun.1.idle (subst (λ who. slice_get old.asking who ≡ Some None) e begun.1.unasked))
-    by_whom (inl begun) (inr ne) = begin_away asked old new p.who begun.0 ne begun.1 u
-    by_whom (inr stepped) (inl e) = step_here asked old new stepped.0 lawful (subst (λ who. StepOf old new who stepped.0) e stepped.1) (stepped.2 e) u
-    by_whom (inr stepped) (inr ne) = step_away asked old new p.who stepped.0 ne lawful stepped.1 u
+  happens_on : (asked : Asked C) (events : List EnvEvent) (old new : Now C N) → IsLawfulWorld old → (h : Happens seat old new) → IsUnderway asked events old → IsUnderway asked (events ++ done_by seat h.who old new h.what) new
+  happens_on asked events old new lawful h u = by_whom h.who h.what (cases_eq h.who seat) where
+    by_whom : (who : ℕ) (what : ((call : Call C) × BeginAnswers old new who call Started) ⊎ ((step : Step) × StepOf old new who step × (who ≡ seat → IsUnfinished step))) → (who ≡ seat) ⊎ (who ≢ seat) → IsUnderway asked (events ++ done_by seat who old new what) new
+    by_whom who (inl begun) (inl e) =
+        let at = subst (λ n. slice_get old.state.views n ≡ Some begun.1.view) e begun.1.at in
+        absurd (not_idle asked events old begun.1.view u.underway at begun.1.idle (subst (λ n. slice_get old.asking n ≡ Some None) e begun.1.unasked))
+    by_whom who (inl begun) (inr ne) = begin_away asked events old new who begun.0 ne begun.1 u
+    by_whom who (inr stepped) (inl e) = step_by_itself asked events old new who stepped.0 e lawful stepped.1 (stepped.2 e) u
+    by_whom who (inr stepped) (inr ne) = step_away asked events old new who stepped.0 ne lawful stepped.1 u
 
   -- a lawful world in which the call is under way
-  meanwhile_on : (asked : Asked C) (n : ℕ) (old new : Now C N) → IsLawfulWorld old → Meanwhile seat n old new → IsUnderway asked old → IsLawfulWorld new × IsUnderway asked new
-  meanwhile_on asked zero old new lawful p u = (subst IsLawfulWorld (sym p) lawful, subst (λ world. IsUnderway asked world) (sym p) u)
-  meanwhile_on asked (suc n) old new lawful p u = meanwhile_on asked n p.0 new p.1.lawful p.2 (happens_on asked old p.0 lawful p.1 u)
+  meanwhile_on : (asked : Asked C) (n : ℕ) (events : List EnvEvent) (old new : Now C N) → IsLawfulWorld old → (meanwhile : Meanwhile seat n old new) → IsUnderway asked events old → IsLawfulWorld new × IsUnderway asked (events ++ happened seat n old new meanwhile) new
+  meanwhile_on asked zero events old new lawful p u =
+      (subst IsLawfulWorld (sym p) lawful, subst (λ es. IsUnderway asked es new) (sym (append-nil events)) (subst (λ world. IsUnderway asked events world) (sym p) u))
+  meanwhile_on asked (suc n) events old new lawful p u =
+      let done = done_by seat p.1.who old p.0 p.1.what in
+      let on = meanwhile_on asked n (events ++ done) p.0 new p.1.lawful p.2 (happens_on asked events old p.0 lawful p.1 u) in
+      (on.0, subst (λ es. IsUnderway asked es new) (append_assoc events done (happened seat n p.0 new p.2)) on.1)
 
--- From its beginning to the step that finishes it, whatever others do meanwhile, a call comes to an answer that means what it says.
+-- Whatever others do between the beginning of a call and the step that finishes it, its answer means what it says.
 pub calls_mean : {C : Type 0} {N : ℕ} (n seat : ℕ) (before begun last after : Now C N) (earlier : List EnvEvent) (call : Call C) (reply : Reply) → LedTo earlier before → BeginAnswers before begun seat call Started → IsLawfulWorld begun →
-    Meanwhile seat n begun last → StepOf last after seat (Finished reply) → (later : List EnvEvent) × BeginsWith later earlier × LedTo later after × AnswersCall before earlier seat call reply after later
-calls_mean {C} {N} n seat before begun last after earlier call reply led starts lawful meanwhile finishes =
+    (meanwhile : Meanwhile seat n begun last) (finish : StepOf last after seat (Finished reply)) → let later = earlier ++ happened seat n begun last meanwhile ++ step_done last after seat (Finished reply) finish in
+    LedTo later after × AnswersCall before earlier seat call reply after later
+calls_mean {C} {N} n seat before begun last after earlier call reply led starts lawful meanwhile finish =
     let asked = asks_of (mode_of (held_at before seat)) call in
-    let on = meanwhile_on C N before earlier seat asked n begun last lawful meanwhile (begins_underway C N before earlier seat begun call led starts) in
-    let end = step_on C N before earlier seat asked on.1.events last after (Finished reply) on.0 on.1.led on.1.since on.1.underway finishes in
-    (on.1.events ++ end.0, begins_on earlier on.1.events end.0 on.1.since, end.1, end.2)
+    let on = meanwhile_on C N before earlier seat asked n earlier begun last lawful meanwhile (begins_underway C N before earlier seat begun call led starts) in
+    let end = step_on C N before earlier seat asked (earlier ++ happened seat n begun last meanwhile) last after (Finished reply) on.0 on.1.led on.1.since on.1.underway finish in
+    end

@@ -1,5 +1,6 @@
 -- What the answer of a call in a world means, whatever others do while it is in progress.
 use Rattle.std.specs.Prelude.{◌≡◌, ℕ, zero, suc, ◌⊎◌, List, ◌++◌, Option, None, Some, slice_get}
+use Rattle.std.proofs.Common.{inl, inr, []}
 use Rattle.ns_model.specs.declared.environment.EnvEvent.{EnvEvent}
 use Rattle.ns_model.specs.declared.event.Mode.{Mode}
 use Rattle.ns_model.specs.declared.event.Mode.TheVariants.{Write, Read}
@@ -28,7 +29,7 @@ use Rattle.ns_world.specs.declared.step.Step.{Step}
 use Rattle.ns_world.specs.declared.step.Step.TheVariants.{Finished}
 use Rattle.ns_world.specs.Begins.{BeginAnswers}
 use Rattle.ns_world.specs.Calls.{mode_of, mode_waited}
-use Rattle.ns_world.specs.World.{Now, IsLawfulWorld, StepOf}
+use Rattle.ns_world.specs.World.{Now, IsLawfulWorld, StepOf, step_done}
 
 -- ---- what was asked
 
@@ -75,12 +76,13 @@ abbrev pub WasShown : List EnvEvent → List EnvEvent → Limits → Option (Opt
 WasShown earlier now limits None = Unit {0}
 WasShown earlier now limits (Some shown) = AtSomePoint earlier now (Shows limits shown)
 
--- A call on the lock has this answer: it means what it says, where the call began with the section that the seat had in hand before; what the call has committed is just what the seat has added to the history; and what its looks have shown of the clock and the notes was so meanwhile.
+-- A call on the lock has this answer: it means what it says, where the call began with the section that the seat had in hand before; what the call has committed is just what the seat has added to the history; and what its looks have shown of the clock and the notes was so meanwhile, to which the seat has done nothing itself.
 pub record AnswersOfLock {C : Type 0} {N : ℕ} (before : Now C N) (earlier : List EnvEvent) (seat : ℕ) (request : Request C) (reply : Reply) (after : Now C N) (later : List EnvEvent) : Type 0 where
   pub course : Course C N
   pub began : course.began ≡ held_at before seat
   pub added : own after.history seat ≡ own before.history seat ++ course.committed
   pub shown : WasShown earlier later (limits_of request) course.looked
+  pub still : env_own later seat ≡ env_own earlier seat
   pub means : Means after.truths seat (row_after after.history) request course reply (held_at after seat)
 
 -- A call on the clock and the notes has this answer: it means what it says of what happened to them since the call began; what the call has done to them is just what the seat has; and the section in hand and the history of the row are as they were.
@@ -114,7 +116,17 @@ pub record Happens {C : Type 0} {N : ℕ} (seat : ℕ) (old new : Now C N) : Typ
   pub who : ℕ
   pub what : ((call : Call C) × BeginAnswers old new who call Started) ⊎ ((step : Step) × StepOf old new who step × (who ≡ seat → IsUnfinished step))
 
+-- what has happened to the clock and the notes then
+abbrev pub done_by : {C : Type 0} {N : ℕ} (seat who : ℕ) (old new : Now C N) → ((call : Call C) × BeginAnswers old new who call Started) ⊎ ((step : Step) × StepOf old new who step × (who ≡ seat → IsUnfinished step)) → List EnvEvent
+done_by seat who old new (inl begun) = []
+done_by seat who old new (inr stepped) = step_done old new who stepped.0 stepped.1
+
 -- so many such things happen, one after another
 abbrev pub Meanwhile : {C : Type 0} {N : ℕ} → ℕ → ℕ → Now C N → Now C N → Type 0
 Meanwhile seat zero old new = new ≡ old
 Meanwhile {C} {N} seat (suc n) old new = (next : Now C N) × Happens seat old next × Meanwhile seat n next new
+
+-- what they were to the clock and the notes, in that order
+abbrev pub happened : {C : Type 0} {N : ℕ} (seat n : ℕ) (old new : Now C N) → Meanwhile seat n old new → List EnvEvent
+happened seat zero old new same = []
+happened seat (suc n) old new meanwhile = done_by seat meanwhile.1.who old meanwhile.0 meanwhile.1.what ++ happened seat n meanwhile.0 new meanwhile.2

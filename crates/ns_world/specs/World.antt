@@ -1,6 +1,7 @@
 -- What a contract sees of a world, and a seat's step in it.
 use Rattle.std.specs.Prelude.{◌≡◌, ℕ, ◌⊎◌, Bool, false, ◌||◌, ◌<◌, ◌≤◌, ◌++◌, List, [], ◌∷◌, map, replicate, Option, Some, None, is_some, slice_get, slice_set, slice_index, length}
 use Rattle.std.specs.Option.{option_map_or}
+use Rattle.std.proofs.Common.{inl, inr}
 use Rattle.ns_model.specs.declared.environment.EnvEvent.{EnvEvent}
 use Rattle.ns_model.specs.declared.event.Event.{Event}
 use Rattle.ns_queue.specs.Queues.{Lists}
@@ -101,10 +102,6 @@ LedTo events world = IsLawfulEnv events (env_state world.env world.asking)
 abbrev pub AreEnvBy : ℕ → List EnvEvent → Type 0
 AreEnvBy seat [] = Unit {0}
 AreEnvBy seat (event ∷ events) = (env_who event ≡ seat) × AreEnvBy seat events
-
--- some such events have led to the world
-abbrev pub HasEnvHistory : {C : Type 0} {N : ℕ} → Now C N → Type 0
-HasEnvHistory world = (events : List EnvEvent) × LedTo events world
 
 -- A world has at most 64 seats, and it keeps the law of the lock with its history. Its clock and its notes are as some events of its seats leave them, and it keeps their law with these.
 pub record IsLawfulWorld {C : Type 0} {N : ℕ} (world : Now C N) : Type 0 where
@@ -216,6 +213,19 @@ StepOf old new seat Nothing = (new ≡ old) × IsIdle old seat
 StepOf old new seat Went = Moves old new seat Went
 StepOf old new seat Idle = Moves old new seat Idle
 StepOf old new seat (Finished reply) = Moves old new seat (Finished reply)
+
+-- the events that a seat's step is on the clock and the notes
+abbrev pub env_done : {C : Type 0} {N : ℕ} {old new : Now C N} {seat : ℕ} {step : Step} → Moves old new seat step → List EnvEvent
+env_done (inl acts) = []
+env_done (inr (inl asks)) = asks.events
+env_done (inr (inr looks)) = []
+
+-- the same of a step that may be none
+abbrev pub step_done : {C : Type 0} {N : ℕ} (old new : Now C N) (seat : ℕ) (step : Step) → StepOf old new seat step → List EnvEvent
+step_done old new seat Nothing p = []
+step_done old new seat Went p = env_done p
+step_done old new seat Idle p = env_done p
+step_done old new seat (Finished reply) p = env_done p
 
 -- The seat's next step finds the word that it has seen, and so commits an event: a release, a call that wakes, or that a wait for a variable is left in whose list it still stands.
 abbrev pub CommitsNext : {C : Type 0} {N : ℕ} → Now C N → ℕ → Type 0

@@ -21,26 +21,26 @@ use std::alloc::AllocError;
 /// A call.
 #[derive(Copy)]
 pub enum Call<C> {
-    /// Locks in write mode. Needs no section in hand. Answers `Ok`, once the lock was acquired.
+    /// Locks in write mode. Needs no section in hand. Answers `Succeeded`, once the lock was acquired.
     Lock,
-    /// Locks in read mode. Needs no section in hand. Answers `Ok`, once the lock was acquired.
+    /// Locks in read mode. Needs no section in hand. Answers `Succeeded`, once the lock was acquired.
     RLock,
-    /// Tries to lock in write mode. Needs no section in hand. Answers `Ok`, or `Busy` where the
-    /// lock is held or changed meanwhile.
+    /// Tries to lock in write mode. Needs no section in hand. Answers `Succeeded`, or `Busy` where the
+    /// lock is held, somebody waits long, or the lock changed meanwhile.
     TryLock,
-    /// Tries to lock in read mode. Needs no section in hand. Answers `Ok`, or `Busy` where the
-    /// lock is held in write mode, a writer waits, or the lock changed meanwhile.
+    /// Tries to lock in read mode. Needs no section in hand. Answers `Succeeded`, or `Busy` where the
+    /// lock is held in write mode, a writer waits, somebody waits long, or the lock changed meanwhile.
     TryRLock,
-    /// Releases a write section, and wakes whom it lets go on. Answers `Ok`.
+    /// Releases a write section, and wakes whom it lets go on. Answers `Succeeded`.
     Unlock,
-    /// Releases a read section, and wakes whom it lets go on. Answers `Ok`.
+    /// Releases a read section, and wakes whom it lets go on. Answers `Succeeded`.
     RUnlock,
-    /// Releases a write section that has made no false condition true. Answers `Ok`; or `Noisy`
+    /// Releases a write section that has made no false condition true. Answers `Succeeded`; or `Noisy`
     /// where it may have, and then the section stays in hand.
     UnlockQuiet,
     /// Reads a cell of the section in hand. Answers its `Number`.
     Get(u8),
-    /// Writes a cell of the write section in hand. Answers `Ok`.
+    /// Writes a cell of the write section in hand. Answers `Succeeded`.
     Set(u8, u64),
     /// Waits until the condition is true, and has a section in the same mode in hand then. Needs a
     /// section in hand, and the note, if one is given, made. Answers `Answered`: `Met` where the
@@ -56,17 +56,17 @@ pub enum Call<C> {
     CvWait(u8, Limits),
     /// Wakes at least one of those who wait for the condition variable of this number, if anybody does:
     /// the first, and if that one reads, every other reader and the first writer. Needs no section, and
-    /// leaves one that is in hand as it is. Answers `Ok`.
+    /// leaves one that is in hand as it is. Answers `Succeeded`.
     Signal(u8),
     /// Wakes everybody who waits for the condition variable of this number. Needs no section, and
-    /// leaves one that is in hand as it is. Answers `Ok`.
+    /// leaves one that is in hand as it is. Answers `Succeeded`.
     Broadcast(u8),
     /// Makes a note, below a parent that is made, if one is given, and with a deadline, in ticks,
     /// if one is given. Answers its `Number`, or `NotesFull` where 64 are taken.
     NewNote(Option<u8>, Option<u64>),
-    /// Notifies a note that is made. Answers `Ok`.
+    /// Notifies a note that is made. Answers `Succeeded`.
     Notify(u8),
-    /// Moves the clock on to a moment, in ticks, or leaves it where it stands later. Answers `Ok`.
+    /// Moves the clock on to a moment, in ticks, or leaves it where it stands later. Answers `Succeeded`.
     Advance(u64),
     /// Asks whether a note that is made is notified: it or one above it, by a call or by its
     /// deadline. Answers `Is`.

@@ -2,15 +2,14 @@
 
 ghost use Rattle.std.specs.Prelude.{ℕ, ◌++◌, List};
 ghost use Rattle.ns_model.specs.declared.environment.EnvEvent.{EnvEvent};
-ghost use Rattle.ns_model.specs.Beginnings.{BeginsWith};
 ghost use Rattle.ns_word.specs.declared.walk.Reply.{Reply};
 ghost use Rattle.ns_world.specs.declared.call.Call.{Call};
 ghost use Rattle.ns_world.specs.declared.step.Begun.TheVariants.{Started};
 ghost use Rattle.ns_world.specs.declared.step.Step.{Step};
 ghost use Rattle.ns_world.specs.declared.step.Step.TheVariants.{Finished};
 ghost use Rattle.ns_world.specs.Begins.{BeginAnswers};
-ghost use Rattle.ns_world.specs.Meanings.{AnswersCall, Meanwhile};
-ghost use Rattle.ns_world.specs.World.{Now, IsLawfulWorld, LedTo, StepOf, AreEnvBy};
+ghost use Rattle.ns_world.specs.Meanings.{AnswersCall, Meanwhile, happened};
+ghost use Rattle.ns_world.specs.World.{Now, IsLawfulWorld, LedTo, StepOf, AreEnvBy, step_done};
 
 use ns_model::condition::Condition;
 
@@ -19,17 +18,18 @@ use ns_model::condition::Condition;
 /// are those of the seat that steps.
 pub fn steps_extend_the_history_of_notes<C: Condition<N>, const N: usize>()
     ensures { (events : List EnvEvent) (old new : Now C N) (seat : ℕ) (step : Step) →
-        IsLawfulWorld old → LedTo events old → StepOf old new seat step →
-        (more : List EnvEvent) × AreEnvBy seat more × LedTo (events ++ more) new }
+        IsLawfulWorld old → LedTo events old → (made : StepOf old new seat step) →
+        AreEnvBy seat (step_done old new seat step made) × LedTo (events ++ step_done old new seat step made) new }
 {}
 
-/// From its beginning to the step that finishes it, whatever others do meanwhile, a call comes to an
-/// answer that means what it says: of the section that the seat had in hand before and of the one
+/// Whatever others do between the beginning of a call and the step that finishes it, its answer means
+/// what it says: of the section that the seat had in hand before and of the one
 /// that it has after, of what the call has committed, which is just what the seat has added to the
 /// history, and of what has happened to the clock and the notes since the call began.
 pub fn calls_mean_what_they_answer<C: Condition<N>, const N: usize>()
     ensures { (n seat : ℕ) (before begun last after : Now C N) (earlier : List EnvEvent) (call : Call C) (reply : Reply) →
         LedTo earlier before → BeginAnswers before begun seat call Started → IsLawfulWorld begun →
-        Meanwhile seat n begun last → StepOf last after seat (Finished reply) →
-        (later : List EnvEvent) × BeginsWith later earlier × LedTo later after × AnswersCall before earlier seat call reply after later }
+        (meanwhile : Meanwhile seat n begun last) → (finish : StepOf last after seat (Finished reply)) →
+        let later = earlier ++ happened seat n begun last meanwhile ++ step_done last after seat (Finished reply) finish in
+        LedTo later after × AnswersCall before earlier seat call reply after later }
 {}

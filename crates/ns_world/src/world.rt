@@ -5,11 +5,10 @@ ghost use Rattle.std.specs.List.{flat_map};
 ghost use Rattle.ns_model.specs.Histories.{IsLegal, IsBySeats};
 ghost use Rattle.ns_model.specs.Seats.{is_in};
 ghost use Rattle.ns_queue.specs.Waiters.{shown_of};
-ghost use Rattle.ns_word.specs.Lawful.{IsLawful};
 ghost use Rattle.ns_world.specs.Begins.{BeginAnswers, BeginFault};
 ghost use Rattle.ns_world.specs.Calls.{CallInRange};
 ghost use Rattle.ns_world.specs.Shows.{lists_shown, wakes_owed};
-ghost use Rattle.ns_world.specs.World.{fresh, now_of, is_busy, HasEnvHistory, NewFault, StepOf, StepFault};
+ghost use Rattle.ns_world.specs.World.{fresh, now_of, is_busy, IsLawfulWorld, NewFault, StepOf, StepFault};
 
 use crate::call::Call;
 use crate::environment::Environment;
@@ -89,7 +88,8 @@ impl<C: Seated<N>, const N: usize> World<C, N> {
     pub fn new(alloc: Global, seats: usize, counters: &[u32], onces: usize) -> Result<Self, Fault>
         requires counters { length counters.now ≤ 16 }
         requires onces { onces ≤ 16 }
-        ensures { MatchResult result (λ world. (now_of C.means world ≡ fresh C.means seats) × (seats ≤ 64)) (NewFault seats) }
+        ensures made { MatchResult result (λ world. (now_of C.means world ≡ fresh C.means seats) × (seats ≤ 64)) (NewFault seats) }
+        ensures lawful { IfOk result (λ world. IsLawfulWorld (now_of C.means world)) }
     {
         if seats > 64 {
             return Err(Fault::TooManySeats);
@@ -113,6 +113,7 @@ impl<C: Seated<N>, const N: usize> World<C, N> {
     /// nothing has changed.
     pub fn begin(&mut self, seat: u8, call: Call<C>) -> Result<Begun, Fault>
         requires { CallInRange N call }
+        ensures lawful { IsLawfulWorld (now_of C.means self.new) }
         ensures ok { IfOk result (λ begun. BeginAnswers (now_of C.means self.old) (now_of C.means self.new) seat call begun) }
         ensures err { IfErr result (λ fault. (now_of C.means self.new ≡ now_of C.means self.old) × BeginFault (now_of C.means self.old) seat fault) }
     {
@@ -135,6 +136,7 @@ impl<C: Seated<N>, const N: usize> World<C, N> {
     /// which can only come where a step commits an event, which is to be kept; then nothing has
     /// changed. A step on the clock or the notes takes no memory.
     pub fn step(&mut self, seat: u8) -> Result<Step, Fault>
+        ensures lawful { IsLawfulWorld (now_of C.means self.new) }
         ensures ok { IfOk result (λ step. StepOf (now_of C.means self.old) (now_of C.means self.new) seat step) }
         ensures err { IfErr result (λ fault. (now_of C.means self.new ≡ now_of C.means self.old) × StepFault (now_of C.means self.old) seat fault) }
     {
@@ -168,8 +170,7 @@ impl<C: Seated<N>, const N: usize> World<C, N> {
         ensures owed { result.owed.items ≡ wakes_owed self.now.views }
         ensures row { result.row ≡ self.now.row }
         ensures busy { (seat : ℕ) → is_in result.busy seat ≡ is_busy self.now.views self.now.asking seat }
-        ensures lawful { IsLawful C.means (length self.now.views) self.now.history (now_of C.means self.now).state }
-        ensures env_lawful { HasEnvHistory (now_of C.means self.now) }
+        ensures lawful { IsLawfulWorld (now_of C.means self.now) }
     {
         let queues = shown_queues(&self.queues, &self.seats, &self.row);
         State {

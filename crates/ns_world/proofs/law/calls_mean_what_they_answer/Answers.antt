@@ -2,5 +2,5 @@ use Rattle.ns_world.proofs.Underway.{calls_mean}
 use Rattle.ns_world.proofs.law.calls_mean_what_they_answer.Goals as goal
 
 pub returns : goal.returns
-returns g c = λ n seat before begun last after earlier call reply led starts lawful meanwhile finishes.
-    calls_mean n seat before begun last after earlier call reply led starts lawful meanwhile finishes
+returns g c = λ n seat before begun last after earlier call reply led starts lawful meanwhile finish.
+    calls_mean n seat before begun last after earlier call reply led starts lawful meanwhile finish

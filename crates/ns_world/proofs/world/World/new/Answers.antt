@@ -7,8 +7,11 @@ use Rattle.ns_world.proofs.world.World.new.Goals as goal
 pub invariant_of-result : goal.invariant_of-result
 invariant_of-result g c = rw (c.in_ok-seats.ensures.views, c.in_ok-seats.ensures.tests, c.in_ok-seats.ensures.asking, c.new.ensures, c.new-2.ensures, c.new-3.ensures.items, c.encode.ensures, decoded free_word, no_flags) (lawful_new g.row.C.Denot g.row.N g.C.Condition.means c.args.seats (omega arith))
 
-pub returns : goal.returns
-returns g c = (rw (c.in_ok-seats.ensures.views, c.in_ok-seats.ensures.tests, c.in_ok-seats.ensures.asking, c.new.ensures, c.new-2.ensures, c.new-3.ensures.items, c.encode.ensures, decoded free_word, no_flags) refl, omega arith)
+pub returns-clause-made : goal.returns-clause-made
+returns-clause-made g c = (rw (c.in_ok-seats.ensures.views, c.in_ok-seats.ensures.tests, c.in_ok-seats.ensures.asking, c.new.ensures, c.new-2.ensures, c.new-3.ensures.items, c.encode.ensures, decoded free_word, no_flags) refl, omega arith)
+
+pub returns-clause-lawful : goal.returns-clause-lawful
+returns-clause-lawful g c = rw (c.in_ok-seats.ensures.views, c.in_ok-seats.ensures.tests, c.in_ok-seats.ensures.asking, c.new.ensures, c.new-2.ensures, c.new-3.ensures.items, c.encode.ensures, decoded free_word, no_flags) (lawful_new g.row.C.Denot g.row.N g.C.Condition.means c.args.seats (omega arith))
 
 pub new-requires : goal.new-requires
 new-requires g c = g.met.C.Seated.queues_fit

@@ -55,10 +55,7 @@ pub returns-clause-owed : goal.returns-clause-owed
 returns-clause-owed g c = rw (← c.self.view_is) (rw c.deref-2.ensures.value at c.owed_wakes.ensures)
 
 pub returns-clause-lawful : goal.returns-clause-lawful
-returns-clause-lawful g c = rw (← c.self.view_is) c.self.invariant.lawful
+returns-clause-lawful g c = rw (← c.self.view_is) c.self.invariant
 
 pub returns-clause-row : goal.returns-clause-row
 returns-clause-row g c = rw (← c.self.view_is) refl
-
-pub returns-clause-env_lawful : goal.returns-clause-env_lawful
-returns-clause-env_lawful g c = rw (← c.self.view_is) (c.self.invariant.events, c.self.invariant.env_lawful)
