@@ -50,7 +50,7 @@ impl Condition<8> for Never {
 
 /// A condition that is never true, of rows of 2 cells.
 #[derive(Clone, Copy)]
-struct Plain;
+pub(crate) struct Plain;
 
 impl Condition<2> for Plain {
     ghost use Rattle.std.proofs.Common.{rules};

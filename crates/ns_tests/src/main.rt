@@ -13,6 +13,8 @@
 mod compare;
 #[cfg(test)]
 mod examples;
+#[cfg(test)]
+mod gate;
 mod memory;
 #[cfg(test)]
 mod model;
