@@ -1,23 +1,24 @@
 -- A step of the machine keeps the rule.
 use Rattle.std.specs.Prelude.{slice_get}
-use Rattle.std.proofs.Common.{◌≡◌, ◌≢◌, ◌⊎◌, inl, inr, ℕ, zero, suc, ◌<◌, ◌≤◌, true, false, cond, eqb, List, [], ◌∷◌, ◌++◌, Option, None, Some, IfSome, set, slice_set, refl, ap, sym, ◌∙◌, subst, arith, eq-eqb}
+use Rattle.std.proofs.Common.{◌≡◌, ◌≢◌, ◌⊎◌, inl, inr, ℕ, zero, suc, ◌<◌, ◌≤◌, true, false, cond, eqb, List, [], ◌∷◌, ◌++◌, Option, None, Some, IfSome, set, slice_set, take, drop, refl, ap, sym, ◌∙◌, subst, arith, eq-eqb}
 use Rattle.std.proofs.lemmas.Option.{slice_get_within}
 use Rattle.ns_gate.specs.Law.{GateView, Views, Homes, is_seat, HasCome, Fits, Shows, AtHome, Shown, IsRuled}
 use Rattle.ns_gate.specs.Steps.{walk_by, course_by, MayBegin, Did}
 use Rattle.ns_model.proofs.Tallies.{total_set, total_none, Others, every_at, others_of, others_both, others_map, others_none, every_both, every_put}
 use Rattle.ns_model.specs.Beginnings.{BeginsWith}
-use Rattle.ns_model.specs.Histories.{row_after}
+use Rattle.ns_model.specs.Histories.{row_after, standing_after}
 use Rattle.ns_model.specs.Tallies.{total, one_if, Every}
 use Rattle.ns_model.specs.Truths.{Truths, QuietKeeps}
 use Rattle.ns_model.specs.declared.event.Event.{Event}
+use Rattle.ns_word.proofs.Acts.{view_fits}
 use Rattle.ns_word.proofs.Courses.{takes_on, begins_unchanged}
 use Rattle.ns_word.proofs.EnvKeeps.{set_here, set_there}
-use Rattle.ns_word.proofs.Numbers.{step_at, begin_at, set_same}
+use Rattle.ns_word.proofs.Numbers.{step_at, begin_at, set_same, split_at}
 use Rattle.ns_word.proofs.Tells.{begins_if, seat_steps_keep, seat_step_tells, seat_step_by, told_there, seat_in}
 use Rattle.ns_word.specs.Asked.{asked_of}
 use Rattle.ns_word.specs.Begins.{BeginsIf, SeatStep, view_in}
 use Rattle.ns_word.specs.Courses.{CallGoes, SoFar, course_after}
-use Rattle.ns_word.specs.Lawful.{IsLawful}
+use Rattle.ns_word.specs.Lawful.{IsLawful, ViewFits}
 use Rattle.ns_word.specs.Meanings.{Course, course_from}
 use Rattle.ns_word.specs.Steps.{State, Part, part_of, Effect, Step}
 use Rattle.ns_word.specs.Told.{IsTold, told_after, calls_of}
@@ -129,6 +130,13 @@ module _ {C : Type 0} {N : ℕ} (truths : Truths C) (cells : 0 < N) (quiet : Qui
     pub lawful_after : IsLawful truths limit (shown.history ++ commits) after
     lawful_after = seat_steps_keep truths cells quiet limit shown.history r.few shown.state v.at begun found after commits made r.lawful
 
+    stands_after : slice_get after.views v.at.seat ≡ Some next
+    stands_after = set_here (slice_set shown.state.views v.at.seat (view_in v.at begun)) v.at.seat next (slice_get_within (slice_set shown.state.views v.at.seat (view_in v.at begun)) v.at.seat (view_in v.at begun) stands_between)
+
+    -- what the law says of the seat then
+    fits_after : ViewFits truths limit (standing_after (shown.history ++ commits)) part.row next
+    fits_after = view_fits truths limit r.few (shown.history ++ commits) after (take v.at.seat after.views) next (drop (suc v.at.seat) after.views) (split_at after.views v.at.seat next stands_after) lawful_after
+
     -- what the seat is told
     told_all : IsTold truths.holds limit (shown.history ++ commits) v.at.seat (walk_after (got_of N walk found)) (told_after shown.history commits (calls_of begun) v.told) × BeginsWith (shown.history ++ commits) v.told.seen
     unfolding made_all made
@@ -171,6 +179,8 @@ module _ {C : Type 0} {N : ℕ} (truths : Truths C) (cells : 0 < N) (quiet : Qui
           grows = told_all.1;
           course = refl;
           goes = subst (λ w. CallGoes truths v.at.seat (row_after (shown.history ++ commits)) (asked_of w) course (got_of N w found) part.held) (sym made_all.1) goes_on;
+          nobody_waits = r.nobody_waits;
+          fits = subst (λ n. ViewFits truths n (standing_after (shown.history ++ commits)) part.row next) limited fits_after;
           stood_was = its_fit.stood;
           stood_now = refl;
         }
@@ -194,12 +204,13 @@ module _ {C : Type 0} {N : ℕ} (truths : Truths C) (cells : 0 < N) (quiet : Qui
         by_lists (inr clear) stands has = absurd (none_takes after.views x.at.seat x.at (lawful_after.spin_held_once ∙ ap (λ b. cond b 1 0) clear) stands has)
 
     -- the rule, where the table's words show what the step leaves
-    pub ruled : (words' : List ℕ) (homes' : Homes C) → Shows N words' part.word part.row part.flags → AtHome part.word.spin part.lists homes' → (part.lists ≡ shown.state.lists) ⊎ (part.word.spin ≡ false) → IsRuled truths limit words' homes' (set views id (now ∷ [])) later
-    ruled words' homes' shows home kept = record {
+    pub ruled : (words' : List ℕ) (homes' : Homes C) → Shows N words' part.word part.row part.flags → AtHome part.word.spin part.lists homes' → part.word.waiting ≡ false → (part.lists ≡ shown.state.lists) ⊎ (part.word.spin ≡ false) → IsRuled truths limit words' homes' (set views id (now ∷ [])) later
+    ruled words' homes' shows home nobody kept = record {
       few = r.few;
       lawful = lawful_after;
       shows = shows;
       home = home;
+      nobody_waits = nobody;
       once = λ x. let s = total_set (total (is_seat x)) views id (v ∷ []) (now ∷ []) at in let was = r.once x in omega (arith, s, was);
       each = every_put (Every (Fits truths limit (shown.history ++ commits) after)) views id (now ∷ [])
           (others_both (Every (λ (x : GateView C N). is_seat v.at.seat x ≡ 0)) (Every (Fits truths limit shown.history shown.state)) (Every (Fits truths limit (shown.history ++ commits) after))
@@ -207,7 +218,7 @@ module _ {C : Type 0} {N : ℕ} (truths : Truths C) (cells : 0 < N) (quiet : Qui
           others_apart (others_of (Every (Fits truths limit shown.history shown.state)) views id r.each)) (
             record {
               limited = its_fit.limited;
-              stands = set_here (slice_set shown.state.views v.at.seat (view_in v.at begun)) v.at.seat next (slice_get_within (slice_set shown.state.views v.at.seat (view_in v.at begun)) v.at.seat (view_in v.at begun) stands_between);
+              stands = stands_after;
               told = told_all.0;
               come = has_come truths v.at.seat (row_after (shown.history ++ commits)) (asked_of walk) course (got_of N walk found) part.held part.owed goes_on;
               stood = λ has. refl;

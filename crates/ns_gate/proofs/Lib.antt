@@ -1,3 +1,4 @@
+pub mod Calls
 pub mod Keeps
 pub mod Starts
 pub mod Tells

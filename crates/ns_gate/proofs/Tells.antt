@@ -23,7 +23,7 @@ use Rattle.ns_word.specs.declared.word.Word.{Word}
 
 module _ {C : Type 0} {N : ℕ} (truths : Truths C) where
   -- a call that begins leaves the word
-  between_word : (b : Option (Walk C)) (old : State C N) (view : SeatView C N) (between : State C N) → BeginsIf truths old view b between → between.word ≡ old.word
+  pub between_word : (b : Option (Walk C)) (old : State C N) (view : SeatView C N) (between : State C N) → BeginsIf truths old view b between → between.word ≡ old.word
   between_word None old view between s = ap (λ (x : State C N). x.word) s
   between_word (Some walk) old view between s = ap (λ (x : State C N). x.word) s.becomes
 

@@ -1,5 +1,5 @@
 -- Each act on the table keeps the rule, by the machine's law.
-use Rattle.std.proofs.Common.{◌≡◌, ◌≢◌, inl, inr, ℕ, suc, ◌+◌, ◌<◌, Bool, cond, eqb, List, [], ◌∷◌, length, Option, None, Some, set, get_or, refl, ap, sym, ◌∙◌, subst, arith, eq-eqb, length-set, take, drop, slice_set}
+use Rattle.std.proofs.Common.{◌≡◌, ◌≢◌, inl, inr, ℕ, suc, ◌+◌, ◌<◌, Bool, false, cond, eqb, List, [], ◌∷◌, length, Option, None, Some, set, get_or, refl, ap, sym, ◌∙◌, subst, arith, eq-eqb, length-set, take, drop, slice_set}
 use Rattle.std.proofs.lemmas.Bool.{ne_eqb, cases_eq}
 use Rattle.std.proofs.lemmas.List.{get_or-set_same, get_or-set_other, set-get_or}
 use Rattle.atomic_table.specs.Table.{Me, Act as TableAct, keeps as keeps_slots, Valid, homes_after, carried_after, Allows}
@@ -50,6 +50,15 @@ released_spin : (releasing : Releasing) (w : Word) → (word_released releasing 
 released_spin Writer w = refl
 released_spin QuietWriter w = refl
 released_spin Reader w = refl
+
+acquired_waiting : (mode : Mode) (arrival : Arrival) (w : Word) → (word_acquired mode arrival w).waiting ≡ w.waiting
+acquired_waiting Write arrival w = refl
+acquired_waiting Read arrival w = refl
+
+released_waiting : (releasing : Releasing) (w : Word) → (word_released releasing w).waiting ≡ w.waiting
+released_waiting Writer w = refl
+released_waiting QuietWriter w = refl
+released_waiting Reader w = refl
 
 -- the section in hand
 held_of : {C : Type 0} {N : ℕ} (truths : Truths C) (releasing : Releasing) (o : Option (Held C N)) → CanLeave truths releasing o → (held : Held C N) × (o ≡ Some held) × (held.mode ≡ mode_released releasing)
@@ -137,20 +146,20 @@ module _ {C : Type 0} {N : ℕ} (truths : Truths C) (cells : 0 < N) (quiet : Qui
 
     -- the step, from its effect
     finish : (act : Act C) → want_of walk ≡ act → (k : ℕ) (found : Found) (part : Part C N) (commits : List (Event C N)) → Effect truths v.at.seat act old found part commits → found_of truths act v.at v.stood k ≡ found → (words' : List ℕ) → Shows N words' part.word part.row part.flags
-        → AtHome part.word.spin part.lists homes → part.lists ≡ g.state.lists → Owes homes views v cs words' act k
-    finish act wants k found part commits e is words' shows home kept =
+        → AtHome part.word.spin part.lists homes → part.word.waiting ≡ false → part.lists ≡ g.state.lists → Owes homes views v cs words' act k
+    finish act wants k found part commits e is words' shows home nobody kept =
         let e' : Effect truths v.at.seat (want_of walk) old found part commits = subst (λ x. Effect truths v.at.seat x old found part commits) (sym wants) e in (
           now truths cells quiet limit words homes views g r id v at b may walk walks found part commits e',
           keeps_slots,
           tt,
-          (later truths cells quiet limit words homes views g r id v at b may walk walks found part commits e', ruled truths cells quiet limit words homes views g r id v at b may walk walks found part commits e' words' homes shows home (inl kept)),
+          (later truths cells quiet limit words homes views g r id v at b may walk walks found part commits e', ruled truths cells quiet limit words homes views g r id v at b may walk walks found part commits e' words' homes shows home nobody (inl kept)),
           refl,
           subst (λ (x : Found). Did truths b x v (now truths cells quiet limit words homes views g r id v at b may walk walks found part commits e')) (sym is) (did truths cells quiet limit words homes views g r id v at b may walk walks found part commits e'),
         )
 
     -- nothing changes
     stays : (act : Act C) → want_of walk ≡ act → (k : ℕ) (found : Found) → Effect truths v.at.seat act old found old [] → found_of truths act v.at v.stood k ≡ found → (words' : List ℕ) → words' ≡ words → Owes homes views v cs words' act k
-    stays act wants k found e is words' same = finish act wants k found old [] e is words' (subst (λ ws. Shows N ws g.state.word g.state.row g.state.flags) (sym same) r.shows) r.home refl
+    stays act wants k found e is words' same = finish act wants k found old [] e is words' (subst (λ ws. Shows N ws g.state.word g.state.row g.state.flags) (sym same) r.shows) r.home r.nobody_waits refl
 
     -- a compare-exchange of the word last seen, which leaves the lists and the spinlock bit
     exchanges : (act : Act C) → want_of walk ≡ act → (last new : Word) (held : Option (Held C N)) (commits : List (Event C N))
@@ -158,12 +167,13 @@ module _ {C : Type 0} {N : ℕ} (truths : Truths C) (cells : 0 < N) (quiet : Qui
         → ((w : Word) → w ≡ g.state.word → w ≢ last → Effect truths v.at.seat act old (Saw w) old [])
         → (last ≡ g.state.word → Effect truths v.at.seat act old Made (record old { word = new; held = held }) commits)
         → (last ≡ g.state.word → new.spin ≡ g.state.word.spin)
+        → (last ≡ g.state.word → new.waiting ≡ g.state.word.waiting)
         → Owes homes views v cs (set words 0 (either (eqb (get_or words 0 0) (number_of last)) (number_of new) (get_or words 0 0))) act (get_or words 0 0)
-    exchanges act wants last new held commits is miss hit spin = let k = get_or words 0 0 in elim (cases_eq k (number_of last)) [
+    exchanges act wants last new held commits is miss hit spin waits = let k = get_or words 0 0 in elim (cases_eq k (number_of last)) [
       | inl e ↦ (let same : last ≡ g.state.word = same_word last g.state.word (sym e ∙ r.shows.word_is) in let yes_same = eq-eqb k (number_of last) e in let yes_other = eq-eqb (number_of last) k (sym e) in
           finish act wants k Made (record old { word = new; held = held }) commits (hit same) (is k ∙ ap (λ (x : Bool). cond x Made (Saw (word_of k))) yes_other)
           (set words 0 (either (eqb k (number_of last)) (number_of new) k)) (subst (λ (x : Bool). Shows N (set words 0 (either x (number_of new) k)) new g.state.row g.state.flags) (sym yes_same) (shows_word N words g.state.word new g.state.row g.state.flags r.shows))
-          (subst (λ s. AtHome s g.state.lists homes) (sym (spin same)) r.home) refl)
+          (subst (λ s. AtHome s g.state.lists homes) (sym (spin same)) r.home) (waits same ∙ r.nobody_waits) refl)
       | inr ne ↦ (let other = ne_eqb k (number_of last) ne in let other_way = ne_eqb (number_of last) k (λ e. ne (sym e)) in
           stays act wants k (Saw (word_of k)) (miss (word_of k) shown (λ f. ne (sym (encoded k) ∙ ap number_of f))) (is k ∙ ap (λ (x : Bool). cond x Made (Saw (word_of k))) other_way)
           (set words 0 (either (eqb k (number_of last)) (number_of new) k)) (ap (λ (x : Bool). set words 0 (either x (number_of new) k)) other ∙ set-get_or words 0 0))
@@ -180,13 +190,13 @@ module _ {C : Type 0} {N : ℕ} (truths : Truths C) (cells : 0 < N) (quiet : Qui
     acquires aim arrival last wants words homes views g r at =
         let f = fits v may walk walks words homes views g r at cs (Acquire aim arrival last) wants in
         exchanges v may walk walks words homes views g r at cs (Acquire aim arrival last) wants last (word_acquired (mode_for aim) arrival last) (Some (newly_held aim g.state.row)) []
-        (λ k. refl) (λ w e ne. (e, ne, refl, refl)) (λ same. (same, f.1, f.0, refl, refl)) (λ same. acquired_spin (mode_for aim) arrival last ∙ ap (λ (w : Word). w.spin) same)
+        (λ k. refl) (λ w e ne. (e, ne, refl, refl)) (λ same. (same, f.1, f.0, refl, refl)) (λ same. acquired_spin (mode_for aim) arrival last ∙ ap (λ (w : Word). w.spin) same) (λ same. acquired_waiting (mode_for aim) arrival last ∙ ap (λ (w : Word). w.waiting) same)
 
     pub releases : (releasing : Releasing) (last : Word) → want_of walk ≡ Release releasing last → Turns 0 (λ n. either (eqb n (number_of last)) (number_of (word_released releasing last)) n) (Release releasing last) v cs
     releases releasing last wants words homes views g r at =
         let h = held_of truths releasing v.at.held (fits v may walk walks words homes views g r at cs (Release releasing last) wants) in
         exchanges v may walk walks words homes views g r at cs (Release releasing last) wants last (word_released releasing last) None (section_of truths.holds v.at.seat h.0 TheExit.Plain ∷ [])
-        (λ k. refl) (λ w e ne. (e, ne, refl, refl)) (λ same. (h.0, h.1, h.2, same, refl, refl)) (λ same. released_spin releasing last ∙ ap (λ (w : Word). w.spin) same)
+        (λ k. refl) (λ w e ne. (e, ne, refl, refl)) (λ same. (h.0, h.1, h.2, same, refl, refl)) (λ same. released_spin releasing last ∙ ap (λ (w : Word). w.spin) same) (λ same. released_waiting releasing last ∙ ap (λ (w : Word). w.waiting) same)
 
     pub loads_cell : (i j : ℕ) → j ≡ i → want_of walk ≡ LoadCell i → Turns (j + 1) (λ n. n) (LoadCell i) v cs
     loads_cell i j at_i wants words homes views g r at =
@@ -207,7 +217,7 @@ module _ {C : Type 0} {N : ℕ} (truths : Truths C) (cells : 0 < N) (quiet : Qui
         finish v may walk walks words homes views g r at cs (StoreCell i x) wants (get_or words (j + 1) 0) Made
         (record { word = g.state.word; row = set g.state.row i x; lists = g.state.lists; flags = g.state.flags; held = Some (record h.0 { row = set h.0.row i x }); owed = v.at.owed }) []
         (h.0, h.1, h.2, refl, refl) refl (set words (j + 1) x) (subst (λ k. Shows N (set words (k + 1) x) g.state.word (set g.state.row i x) g.state.flags) (sym at_i) (shows_cell N words g.state.word g.state.row g.state.flags i x r.shows f.1 r.lawful.one_history.cells))
-        r.home refl
+        r.home r.nobody_waits refl
 
 -- ---- as the functions ask it
 

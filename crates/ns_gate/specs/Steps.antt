@@ -1,9 +1,9 @@
 -- What one step of a seat is: a step of the machine between two lawful states.
-use Rattle.std.specs.Prelude.{◌≡◌, ℕ, ◌≤◌, ◌++◌, true, List, [], ◌∷◌, Option, None, Some, Result, Ok, Err}
+use Rattle.std.specs.Prelude.{◌≡◌, ℕ, ◌≤◌, ◌++◌, true, false, List, [], ◌∷◌, Option, None, Some, Result, Ok, Err}
 use Rattle.atomic_table.specs.Table.{Me}
 use Rattle.ns_model.specs.declared.event.Event.{Event}
 use Rattle.ns_model.specs.Beginnings.{BeginsWith}
-use Rattle.ns_model.specs.Histories.{row_after}
+use Rattle.ns_model.specs.Histories.{row_after, standing_after}
 use Rattle.ns_model.specs.Truths.{Truths}
 use Rattle.ns_queue.specs.Queues.{Lists}
 use Rattle.ns_word.specs.declared.word.Word.{Word}
@@ -17,7 +17,7 @@ use Rattle.ns_word.specs.Asked.{asked_of}
 use Rattle.ns_word.specs.Begins.{IsFirst, SeatStep}
 use Rattle.ns_word.specs.Courses.{CallGoes, course_after}
 use Rattle.ns_word.specs.Finds.{found_of}
-use Rattle.ns_word.specs.Lawful.{IsLawful}
+use Rattle.ns_word.specs.Lawful.{IsLawful, ViewFits}
 use Rattle.ns_word.specs.Meanings.{Course, course_from}
 use Rattle.ns_word.specs.Places.{PlaceFits}
 use Rattle.ns_word.specs.Steps.{State}
@@ -77,6 +77,8 @@ pub record Did {C : Type 0} {N : ℕ} (truths : Truths C) (begun : Option (Walk 
   pub grows : BeginsWith w.told.seen v.told.seen
   pub course : w.course ≡ course_after found commits (course_by begun v)
   pub goes : CallGoes truths v.at.seat (row_after (history ++ commits)) (asked_of made.step.walk) w.course (got_of N made.step.walk found) w.at.held
+  pub nobody_waits : old.word.waiting ≡ false
+  pub fits : ViewFits truths v.limit (standing_after (history ++ commits)) new.row w.at
   pub stood_was : has_queues v.at.walk ≡ true → v.stood ≡ old.lists
   pub stood_now : w.stood ≡ new.lists
 
