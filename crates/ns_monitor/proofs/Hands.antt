@@ -1,0 +1,10 @@
+-- What is in hand.
+use Rattle.std.proofs.Common.{◌≡◌, ℕ, Option, None, Some, refl}
+use Rattle.ns_model.specs.declared.event.Mode.{Mode}
+use Rattle.ns_word.specs.declared.view.Held.{Held}
+use Rattle.ns_word.specs.Places.{HasMode}
+
+-- what has a mode is a section
+pub is_there_by : {C : Type 0} {N : ℕ} (mode : Mode) (held : Option (Held C N)) → HasMode mode held → (section : Held C N) × (held ≡ Some section) × (section.mode ≡ mode)
+is_there_by mode None h = absurd h
+is_there_by mode (Some section) h = (section, refl, h)

@@ -1,0 +1,4 @@
+pub mod Callers
+pub mod Hands
+pub mod Made
+pub mod Saves

@@ -1,0 +1,18 @@
+-- New seats.
+use Rattle.std.proofs.Common.{◌≡◌, ℕ, suc, ◌+◌, List, [], ◌∷◌, ◌++◌, length, ap, refl, sym, subst, ◌∙◌, arith, None}
+use Rattle.atomic_table.specs.Seated.{TableId}
+use Rattle.ns_gate.specs.Calls.{SeatOf, IsAtRest}
+use Rattle.ns_gate.specs.Law.{fresh_seat}
+use Rattle.ns_gate.specs.Steps.{the}
+use Rattle.ns_model.specs.Truths.{Truths}
+use Rattle.ns_monitor.specs.Known.{Known, known_of, AreNew}
+
+module _ (C : Type 0) (N : ℕ) where
+  -- one more behind the others
+  pub new_more : (limit : ℕ) (monitor : TableId) (from : ℕ) (seats : List (Known C N)) (seat : Known C N) → AreNew limit monitor from seats → seat ≡ known_of monitor (fresh_seat limit (from + length seats)) → AreNew limit monitor from (seats ++ seat ∷ [])
+  new_more limit monitor from [] seat are is = (is ∙ ap (λ (i : ℕ). known_of monitor (fresh_seat limit i)) (omega arith), tt)
+  new_more limit monitor from (x ∷ xs) seat are is = (are.0, new_more limit monitor (suc from) xs seat are.1 (is ∙ ap (λ (i : ℕ). known_of monitor (fresh_seat limit i)) (omega arith)))
+
+  -- a new seat is at rest, with nothing in hand
+  pub new_rests : (truths : Truths C) (limit i : ℕ) (me : SeatOf C N) → me ≡ (fresh_seat limit i ∷ [], []) → IsAtRest truths me × ((the me.0).at.held ≡ None)
+  new_rests truths limit i me is = subst (λ (m : SeatOf C N). IsAtRest truths m × ((the m.0).at.held ≡ None)) (sym is) (record { one = tt; empty = refl; over = refl; owes = refl; settled = tt; true_to = record { legal = tt; by_seats = tt; own = refl } }, refl)

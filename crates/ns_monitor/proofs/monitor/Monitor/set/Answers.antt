@@ -1,0 +1,14 @@
+use Rattle.std.proofs.Common.{◌∙◌, subst}
+use Rattle.ns_word.specs.declared.walk.Reply.TheVariants.{Succeeded}
+use Rattle.ns_gate.specs.Steps.{the}
+use Rattle.ns_monitor.specs.Known.{Known, known_of, Grows}
+use Rattle.ns_monitor.specs.Walks.{setting}
+use Rattle.ns_monitor.proofs.Callers.{grew, is_set, sets_next}
+use Rattle.ns_monitor.proofs.monitor.Monitor.set.Goals as goal
+
+pub returns-clause-grows : goal.returns-clause-grows
+returns-clause-grows g c = let t = g.C.Condition.means in let v = the c.held.inside.seat.me.0 in let s = c.store_cell.new.seat in
+    let at = sets_next t c.args.i c.args.value c.begin_load_cell-old.result c.set.result c.held.inside.seat.me c.begin_load_cell-old.new.seat.me c.set.ensures.first c.held.invariant.0 c.begin_load_cell-old.ensures.did in
+    let a = is_set t c.args.i c.args.value v c.begin_load_cell-old.new.seat.me s.me at c.store_cell.ensures.did in
+    subst (λ (k : Known _ _). Grows t (setting c.args.i c.args.value) k (known_of s.table_id (the s.me.0))) c.held.view_is
+    (grew t (setting c.args.i c.args.value) Succeeded c.held.inside.seat.table_id s.table_id v s.me (c.store_cell.ensures.seat ∙ c.begin_load_cell-old.ensures.seat) a)

@@ -1,0 +1,22 @@
+-- What a write section keeps of the row that it began at.
+use Rattle.std.specs.Prelude.{◌≡◌, ℕ, ◌<◌, List, Option, None, Some, length, slice_index, slice_index_or, slice_set, is_none, if◌then◌else◌}
+use Rattle.ns_word.specs.declared.view.Held.{Held}
+
+-- a cell's value as the section began: the one saved, or the one there is where none was
+abbrev pub value_before : Option ℕ → ℕ → ℕ
+value_before None now = now
+value_before (Some value) now = value
+
+-- of each of N cells the value as the section began is saved, or is still there
+pub record AreSaved (N : ℕ) (saved : List (Option ℕ)) (before row : List ℕ) : Type 0 where
+  pub width : length saved ≡ N
+  pub cells : (i : ℕ) → i < N → value_before (slice_index_or saved i None) (slice_index row i) ≡ slice_index before i
+
+-- the same of the section in hand
+abbrev pub HasSaved : {C : Type 0} {N : ℕ} → List (Option ℕ) → Option (Held C N) → Type 0
+HasSaved saved None = ⊥
+HasSaved {C} {N} saved (Some section) = AreSaved N saved section.before section.row
+
+-- what is saved once a cell that held this value is set
+abbrev pub saved_after : ℕ → ℕ → List (Option ℕ) → List (Option ℕ)
+saved_after i old saved = if is_none (slice_index_or saved i None) then slice_set saved i (Some old) else saved

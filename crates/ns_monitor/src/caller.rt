@@ -1,0 +1,114 @@
+//! A seat of a monitor, and the sections that it may have in hand.
+
+ghost use Rattle.std.specs.Prelude.{◌≡◌, ◌<◌, Option, None};
+ghost use Rattle.ns_model.specs.declared.event.Mode.{Mode};
+ghost use Rattle.ns_model.specs.declared.event.Mode.TheVariants.{Read, Write};
+ghost use Rattle.ns_word.specs.declared.view.Held.{Held};
+ghost use Rattle.ns_word.specs.Places.{HasMode};
+ghost use Rattle.ns_monitor.specs.Saved.{HasSaved, saved_after};
+
+use ns_gate::gate::GateSeat;
+use ns_model::condition::Condition;
+use std::marker::{Model, PhantomData};
+
+/// What a caller has in hand.
+pub trait Hand<C, const N: usize> {
+    /// Which section that is, or that it is none.
+    ghost fits: { Self → Option (Held C N) → Type 0 };
+}
+
+/// A section in hand, in either mode.
+pub trait Section<C, const N: usize>: Hand<C, N> {
+    /// Its mode.
+    ghost mode: { Mode };
+
+    /// There is one, in that mode.
+    ghost in_mode: { (me : Self) (held : Option (Held C N)) → Self.Hand.fits me held → HasMode mode held };
+}
+
+/// No section is in hand.
+#[derive(Drop)]
+pub struct Free;
+
+impl<C, const N: usize> Hand<C, N> for Free {
+    ghost fits = { λ me held. held ≡ None };
+}
+
+/// A section in hand that reads.
+#[derive(Drop)]
+pub struct Reading;
+
+impl<C, const N: usize> Hand<C, N> for Reading {
+    ghost fits = { λ me held. HasMode Read held };
+}
+
+impl<C, const N: usize> Section<C, N> for Reading {
+    ghost mode = { Read };
+
+    ghost in_mode = { λ me held h. h };
+}
+
+/// A section in hand that writes, with what it found in the cells that it has set.
+#[derive(Drop)]
+pub struct Writing<const N: usize> {
+    /// For each cell, what it held as the section began, if the section has set it.
+    pub(crate) saved: [Option<u64>; N],
+}
+
+impl<C, const N: usize> Hand<C, N> for Writing<N> {
+    ghost fits = { λ me held. HasMode Write held × HasSaved me.saved held };
+}
+
+impl<C, const N: usize> Section<C, N> for Writing<N> {
+    ghost mode = { Write };
+
+    ghost in_mode = { λ me held h. h.0 };
+}
+
+/// A caller of a monitor, with what it has in hand.
+///
+/// For contracts it carries which monitor it is of, how many seats that has, its own number, the
+/// history that it has seen, its own events in it, the calls that it has begun, and its section, if
+/// it has one in hand.
+#[derive(Drop)]
+pub struct Caller<H: Hand<C, N>, C: Condition<N>, const N: usize> {
+    /// The seat of the gate, which carries what is known.
+    pub(crate) seat: GateSeat<C, N>,
+    /// What is in hand.
+    pub(crate) hand: H,
+}
+
+impl<H: Hand<C, N>, C: Condition<N>, const N: usize> Model for Caller<H, C, N> {
+    ghost use Rattle.ns_gate.specs.Calls.{IsAtRest};
+    ghost use Rattle.ns_gate.specs.Steps.{the};
+    ghost use Rattle.ns_monitor.specs.Known.{Known, known_of};
+
+    ghost Value = { Known C N };
+
+    ghost view = { λ c. known_of c.seat.table_id (the c.seat.me.0) };
+
+    ghost invariant = { λ c. IsAtRest C.means c.seat.me × H.fits c.hand (the c.seat.me.0).at.held };
+}
+
+/// A seat with no section in hand.
+pub type Seat<C, const N: usize> = Caller<Free, C, N>;
+
+/// A write section in hand.
+pub type WriteHeld<C, const N: usize> = Caller<Writing<N>, C, N>;
+
+/// A read section in hand.
+pub type ReadHeld<C, const N: usize> = Caller<Reading, C, N>;
+
+impl<const N: usize> Writing<N> {
+    /// Saves what a cell held, if that was not done before.
+    ///
+    /// Needs a cell below `N`.
+    pub(crate) fn save(&mut self, i: usize, old: u64)
+        requires { i < N }
+        ensures { self.new.saved ≡ saved_after i old self.old.saved }
+    {
+        if self.saved[i].is_none() {
+            self.saved[i] = Some(old);
+        }
+    }
+}
