@@ -1,22 +1,26 @@
 -- What a step tells its caller.
-use Rattle.std.proofs.Common.{◌≡◌, ℕ, Bool, cond, inl, inr, List, Option, None, Some, refl, ap, sym, ◌∙◌, subst}
+use Rattle.std.specs.Prelude.{slice_index}
+use Rattle.std.proofs.Common.{◌≡◌, ℕ, Bool, cond, inl, inr, List, ◌++◌, Option, None, Some, refl, ap, sym, ◌∙◌, subst}
 use Rattle.std.proofs.lemmas.Bool.{ne_eqb, cases_eq}
 use Rattle.atomic_table.specs.Table.{Me}
 use Rattle.ns_gate.specs.Law.{GateView}
-use Rattle.ns_gate.specs.Steps.{the, CanStep, Did, Performed, Stepped, act_in, act_of}
+use Rattle.ns_gate.specs.Steps.{the, walk_by, CanStep, Did, Performed, Stepped, Judged, cell_of, act_in, act_of}
+use Rattle.ns_model.specs.Histories.{standing_after}
 use Rattle.ns_model.specs.Truths.{Truths}
 use Rattle.ns_queue.specs.Queues.{Lists}
 use Rattle.ns_word.proofs.Codes.{decoded}
 use Rattle.ns_word.proofs.Seen.{packable, found_fits}
 use Rattle.ns_word.specs.Begins.{BeginsIf, view_in}
 use Rattle.ns_word.specs.Codec.{number_of, word_of, IsPackable}
-use Rattle.ns_word.specs.Finds.{found_of, exchanged}
-use Rattle.ns_word.specs.Steps.{State}
+use Rattle.ns_word.specs.Finds.{found_of, exchanged, row_in}
+use Rattle.ns_word.specs.Lawful.{SectionFits}
+use Rattle.ns_word.specs.Steps.{State, Part, part_of, Effect}
 use Rattle.ns_word.specs.Walks.{want_of}
-use Rattle.ns_word.specs.declared.act.Act.TheVariants.{LoadWord}
+use Rattle.ns_word.specs.declared.act.Act.TheVariants.{LoadWord, LoadCell}
 use Rattle.ns_word.specs.declared.act.Act.{Act}
-use Rattle.ns_word.specs.declared.act.Found.TheVariants.{Saw, Made}
+use Rattle.ns_word.specs.declared.act.Found.TheVariants.{Saw, Made, Cell}
 use Rattle.ns_word.specs.declared.act.Found.{Found}
+use Rattle.ns_word.specs.declared.view.Held.{Held}
 use Rattle.ns_word.specs.declared.view.SeatView.{SeatView}
 use Rattle.ns_word.specs.declared.walk.Walk.{Walk}
 use Rattle.ns_word.specs.declared.word.Word.{Word}
@@ -51,3 +55,22 @@ module _ {C : Type 0} {N : ℕ} (truths : Truths C) where
 
   pub meant_in : (act : Act C) (me : Me (Lists C) (List (GateView C N))) → CanStep truths None act me → act_in (the me.0) ≡ act
   meant_in act me can = ap act_of can.walks ∙ can.wants
+
+  -- the number that a seat loads as it judges is its section's own
+  pub judged_cell : (b : Option (Walk C)) (meant act : Act C) (k : ℕ) (me now : Me (Lists C) (List (GateView C N))) → meant ≡ act → Judged truths b meant k me now → k ≡ slice_index (row_in (the me.0).at.held) (cell_of act)
+  judged_cell b meant act k me now e j = j.cell ∙ ap (λ a. slice_index (row_in (the me.0).at.held) (cell_of a)) e
+
+  -- the walk that a step goes on with
+  walk_is : (b : Option (Walk C)) (found : Found) (walk : Walk C) (v w : GateView C N) (d : Did truths b found v w) → walk_by b v.at.walk ≡ Some walk → d.made.step.walk ≡ walk
+  walk_is None found walk v w d walks = let same = d.made.step.walks in cc
+  walk_is (Some other) found walk v w d walks = let same = d.made.step.walks in cc
+
+  -- A cell that was loaded is the cell of the section in hand.
+  pub cell_in_hand : (b : Option (Walk C)) (i value : ℕ) (held : Held C N) (me now : Me (Lists C) (List (GateView C N))) → CanStep truths b (LoadCell i) me → Performed truths b (LoadCell i) (Cell value) me now → (the now.0).at.held ≡ Some held → value ≡ slice_index held.row i
+  cell_in_hand b i value held me now can p has =
+      let d = p.did in
+      let view = view_in (the me.0).at b in
+      let wants : want_of d.made.step.walk ≡ LoadCell i = ap want_of (walk_is b (Cell value) can.walk (the me.0) (the now.0) d can.walks) ∙ can.wants in
+      let e = subst (λ a. Effect truths view.seat a (part_of d.made.between view.held view.owed) (Cell value) (part_of d.new d.made.step.held d.made.step.owed) d.commits) wants d.made.step.effect in
+      let fits = subst (λ o. SectionFits (standing_after (d.history ++ d.commits)) d.new.row (the now.0).at.seat (the now.0).at.walk o) has d.fits.section in
+      e.0 ∙ ap (λ row. slice_index row i) (sym (fits.cells ∙ ap (λ (q : Part C N). q.row) e.1))

@@ -1,23 +1,26 @@
 -- Each act on the table keeps the rule, by the machine's law.
+use Rattle.std.specs.Prelude.{slice_index}
 use Rattle.std.proofs.Common.{◌≡◌, ◌≢◌, inl, inr, ℕ, suc, ◌+◌, ◌<◌, Bool, false, cond, eqb, List, [], ◌∷◌, length, Option, None, Some, set, get_or, refl, ap, sym, ◌∙◌, subst, arith, eq-eqb, length-set, take, drop, slice_set}
 use Rattle.std.proofs.lemmas.Bool.{ne_eqb, cases_eq}
 use Rattle.std.proofs.lemmas.List.{get_or-set_same, get_or-set_other, set-get_or}
 use Rattle.atomic_table.specs.Table.{Me, Act as TableAct, keeps as keeps_slots, Valid, homes_after, carried_after, Allows}
-use Rattle.ns_gate.proofs.Keeps.{between, lawful_between, stands_between, walk_in, now, later, did, ruled}
+use Rattle.ns_gate.proofs.Keeps.{its_fit, between, lawful_between, stands_between, walk_in, now, later, did, ruled}
 use Rattle.ns_gate.specs.Law.{GateView, Views, Homes, Shows, AtHome, Shown, IsRuled, Holds}
-use Rattle.ns_gate.specs.Steps.{the, IsOne, walk_by, MayBegin, CanStep, Did, Stepped}
+use Rattle.ns_gate.specs.Steps.{the, IsOne, walk_by, MayBegin, CanStep, Did, Stepped, Judged, cell_of}
+use Rattle.ns_model.specs.Histories.{standing_after}
 use Rattle.ns_model.specs.Truths.{Truths, QuietKeeps}
 use Rattle.ns_model.specs.declared.event.Event.{Event}
 use Rattle.ns_model.specs.declared.event.Exit.TheVariants as TheExit
 use Rattle.ns_model.specs.declared.event.Mode.TheVariants.{Read, Write}
 use Rattle.ns_model.specs.declared.event.Mode.{Mode}
 use Rattle.ns_queue.specs.Queues.{Lists}
-use Rattle.ns_word.proofs.Acts.{act_fits}
+use Rattle.ns_word.proofs.Acts.{act_fits, view_fits}
 use Rattle.ns_word.proofs.Codes.{decoded, encoded}
 use Rattle.ns_word.proofs.Numbers.{split_at}
 use Rattle.ns_word.specs.Begins.{view_in}
 use Rattle.ns_word.specs.Codec.{number_of, word_of}
 use Rattle.ns_word.specs.Finds.{found_of, exchanged, row_in, before_in}
+use Rattle.ns_word.specs.Lawful.{SectionFits}
 use Rattle.ns_word.specs.Places.{ActFits, CanLeave, HasMode}
 use Rattle.ns_word.specs.Steps.{Part, part_of, Effect, newly_held, section_of}
 use Rattle.ns_word.specs.Waits.{mode_for}
@@ -123,6 +126,20 @@ module _ {C : Type 0} {N : ℕ} (truths : Truths C) (cells : 0 < N) (quiet : Qui
       let q = subst (λ (f : Found). found_by act (the me.0) s.views s.homes me.1 (set s.words i x) f) (same (get_or s.words i 0)) r in
       (q.0 ∷ [], q.1, q.2, q.3, record { made = record { one = tt; carried = q.4; did = q.5 } })
 
+  -- the word i has this number, by the rule
+  abbrev pub Reads : ℕ → ℕ → GateView C N → Type 0
+  Reads i k v = (words : List ℕ) (homes : Homes C) (views : Views C N) (g : Shown C N) → IsRuled truths limit words homes views g → get_elem? views id ≡ some (v ∷ []) → get_or words i 0 ≡ k
+
+  reads_at : (i k : ℕ) (vs : List (GateView C N)) → IsOne vs → Reads i k (the vs) → (words : List ℕ) (homes : Homes C) (views : Views C N) (g : Shown C N) → IsRuled truths limit words homes views g → get_elem? views id ≡ some vs → get_or words i 0 ≡ k
+  reads_at i k [] one t words homes views g r at = absurd one
+  reads_at i k (v ∷ []) one t words homes views g r at = t words homes views g r at
+  reads_at i k (v ∷ x ∷ xs) one t words homes views g r at = absurd one
+
+  pub allows_judging : (slots i : ℕ) (f : ℕ → ℕ) (act : Act C) (me : Me (Lists C) (List (GateView C N))) → IsOne me.0 → Turns i f act (the me.0) me.1 → Reads i (slice_index (row_in (the me.0).at.held) (cell_of act)) (the me.0)
+      → Allows (Holds truths limit) slots id me i f (λ k now. Judged truths b act k me now)
+  allows_judging slots i f act me one t reads s h _ at _ = let r = turn_at i f act me.0 me.1 one t s.words s.homes s.views h.0 h.1 at in
+      (r.0 ∷ [], r.1, r.2, r.3, record { stepped = record { made = record { one = tt; carried = r.4; did = r.5 } }; cell = reads_at i (slice_index (row_in (the me.0).at.held) (cell_of act)) me.0 one reads s.words s.homes s.views h.0 h.1 at })
+
   module _ (v : GateView C N) (may : MayBegin truths b v.at) (walk : Walk C) (walks : walk_by b v.at.walk ≡ Some walk) (words : List ℕ) (homes : Homes C) (views : Views C N) (g : Shown C N) (r : IsRuled truths limit words homes views g) (at : get_elem? views id ≡ some (v ∷ [])) (cs : Slots) where
     abbrev old : Part C N
     old = part_of g.state v.at.held v.at.owed
@@ -140,6 +157,13 @@ module _ {C : Type 0} {N : ℕ} (truths : Truths C) (cells : 0 < N) (quiet : Qui
           plain : (x : Option (Walk C)) → ActFits truths limit (view_in v.at x).seat (want_of walk) (part_of (record g.state { views = slice_set g.state.views v.at.seat (view_in v.at x) }) (view_in v.at x).held (view_in v.at x).owed) → ActFits truths limit v.at.seat (want_of walk) (part_of g.state v.at.held v.at.owed)
           plain None p = p
           plain (Some first) p = p
+
+    -- a section in hand has the row's cells
+    pub has_row : (held : Held C N) → v.at.held ≡ Some held → held.row ≡ g.state.row
+    has_row held is =
+        let stands = (its_fit truths cells quiet limit words homes views g r id v at b may).stands in
+        let f = view_fits truths limit r.few g.history g.state (take v.at.seat g.state.views) v.at (drop (suc v.at.seat) g.state.views) (split_at g.state.views v.at.seat v.at stands) r.lawful in
+        (subst (λ o. SectionFits (standing_after g.history) g.state.row v.at.seat v.at.walk o) is f.section).cells
 
     pub shown : word_of (get_or words 0 0) ≡ g.state.word
     shown = ap word_of r.shows.word_is ∙ decoded g.state.word
@@ -210,6 +234,12 @@ module _ {C : Type 0} {N : ℕ} (truths : Truths C) (cells : 0 < N) (quiet : Qui
         stays v may walk walks words homes views g r at cs (JudgeQuiet i) wants (get_or words (j + 1) 0) (Quiet (truths.quiet (before_in v.at.held) (row_in v.at.held)))
         (h.0, h.1, ap (λ (o : Option (Held C N)). truths.quiet (before_in o) (row_in o)) h.1, refl, refl) refl (set words (j + 1) (get_or words (j + 1) 0)) (set-get_or words (j + 1) 0)
 
+    pub reads_own : (i j : ℕ) → j ≡ i → want_of walk ≡ JudgeQuiet i → Reads (j + 1) (slice_index (row_in v.at.held) i) v
+    reads_own i j at_i wants words homes views g r at =
+        let f = fits v may walk walks words homes views g r at cs (JudgeQuiet i) wants in
+        let h = with_mode v.at.held f.0 in
+        ap (λ (k : ℕ). get_or words (k + 1) 0) at_i ∙ (r.shows.cells i f.1 ∙ (ap (λ (row : List ℕ). slice_index row i) (sym (has_row v may walk walks words homes views g r at cs h.0 h.1)) ∙ ap (λ (o : Option (Held C N)). slice_index (row_in o) i) (sym h.1)))
+
     pub stores_cell : (i j x : ℕ) → j ≡ i → want_of walk ≡ StoreCell i x → Turns (j + 1) (λ _. x) (StoreCell i x) v cs
     stores_cell i j x at_i wants words homes views g r at =
         let f = fits v may walk walks words homes views g r at cs (StoreCell i x) wants in
@@ -247,8 +277,9 @@ module _ {C : Type 0} {N : ℕ} (truths : Truths C) (cells : 0 < N) (quiet : Qui
   pub may_load_cell : (meant : Act C) (i j : ℕ) → meant ≡ LoadCell i → j ≡ i → CanStep truths b (LoadCell i) me → AllowsAct meant (j + 1) (λ n. n)
   may_load_cell meant i j e at_i can = as_meant (LoadCell i) meant e (j + 1) (λ n. n) (allows_act (LoadCell i) can (j + 1) (λ n. n) (loads_cell truths cells quiet limit id b (the me.0) can.may can.walk can.walks me.1 i j at_i can.wants))
 
-  pub may_judge_quiet : (meant : Act C) (i j : ℕ) → meant ≡ JudgeQuiet i → j ≡ i → CanStep truths b (JudgeQuiet i) me → AllowsAct meant (j + 1) (λ n. n)
-  may_judge_quiet meant i j e at_i can = as_meant (JudgeQuiet i) meant e (j + 1) (λ n. n) (allows_act (JudgeQuiet i) can (j + 1) (λ n. n) (judges_quiet truths cells quiet limit id b (the me.0) can.may can.walk can.walks me.1 i j at_i can.wants))
+  pub may_judge_quiet : (meant : Act C) (i j : ℕ) → meant ≡ JudgeQuiet i → j ≡ i → CanStep truths b (JudgeQuiet i) me → Allows (Holds truths limit) slots id me (j + 1) (λ n. n) (λ k now. Judged truths b meant k me now)
+  may_judge_quiet meant i j e at_i can = subst (λ a. Allows (Holds truths limit) slots id me (j + 1) (λ n. n) (λ k now. Judged truths b a k me now)) (sym e)
+      (allows_judging truths cells quiet limit id b slots (j + 1) (λ n. n) (JudgeQuiet i) me can.one (judges_quiet truths cells quiet limit id b (the me.0) can.may can.walk can.walks me.1 i j at_i can.wants) (reads_own truths cells quiet limit id b (the me.0) can.may can.walk can.walks me.1 i j at_i can.wants))
 
   pub may_store_cell : (meant : Act C) (i j x : ℕ) → meant ≡ StoreCell i x → j ≡ i → CanStep truths b (StoreCell i x) me → Allows (Holds truths limit) slots id me (j + 1) (λ _. x) (λ _ now. Stepped truths b meant x me now)
   may_store_cell meant i j x e at_i can = subst (λ a. Allows (Holds truths limit) slots id me (j + 1) (λ _. x) (λ _ now. Stepped truths b a x me now)) (sym e)

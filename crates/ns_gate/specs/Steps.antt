@@ -1,5 +1,5 @@
 -- What one step of a seat is: a step of the machine between two lawful states.
-use Rattle.std.specs.Prelude.{◌≡◌, ℕ, ◌≤◌, ◌++◌, true, false, List, [], ◌∷◌, Option, None, Some, Result, Ok, Err}
+use Rattle.std.specs.Prelude.{◌≡◌, ℕ, ◌≤◌, ◌++◌, true, false, List, [], ◌∷◌, Option, None, Some, Result, Ok, Err, slice_index}
 use Rattle.atomic_table.specs.Table.{Me}
 use Rattle.ns_model.specs.declared.event.Event.{Event}
 use Rattle.ns_model.specs.Beginnings.{BeginsWith}
@@ -10,13 +10,13 @@ use Rattle.ns_word.specs.declared.word.Word.{Word}
 use Rattle.ns_word.specs.declared.view.SeatView.{SeatView}
 use Rattle.ns_word.specs.declared.walk.Walk.{Walk}
 use Rattle.ns_word.specs.declared.act.Act.{Act}
-use Rattle.ns_word.specs.declared.act.Act.TheVariants.{LoadWord}
+use Rattle.ns_word.specs.declared.act.Act.TheVariants.{LoadWord, LoadCell, JudgeQuiet, JudgeMet}
 use Rattle.ns_word.specs.declared.act.Found.{Found}
 use Rattle.ns_word.specs.declared.act.Found.TheVariants.{Made, Saw}
 use Rattle.ns_word.specs.Asked.{asked_of}
 use Rattle.ns_word.specs.Begins.{IsFirst, SeatStep}
 use Rattle.ns_word.specs.Courses.{CallGoes, course_after}
-use Rattle.ns_word.specs.Finds.{found_of}
+use Rattle.ns_word.specs.Finds.{found_of, row_in}
 use Rattle.ns_word.specs.Lawful.{IsLawful, ViewFits}
 use Rattle.ns_word.specs.Meanings.{Course, course_from}
 use Rattle.ns_word.specs.Places.{PlaceFits}
@@ -91,6 +91,18 @@ pub record Performed {C : Type 0} {N : ℕ} (truths : Truths C) (begun : Option 
 -- the same, where the word that the act loads or compares had this number
 pub record Stepped {C : Type 0} {N : ℕ} (truths : Truths C) (begun : Option (Walk C)) (act : Act C) (number : ℕ) (me now : Me (Lists C) (List (GateView C N))) : Type 0 where
   pub made : Performed truths begun act (found_of truths act (the me.0).at (the me.0).stood number) me now
+
+-- the cell that an act loads
+abbrev pub cell_of : {C : Type 0} → Act C → ℕ
+cell_of (LoadCell i) = i
+cell_of (JudgeQuiet i) = i
+cell_of (JudgeMet i c) = i
+cell_of act = 0
+
+-- The same for a seat that judges the section in hand: the number that it loads is the section's own cell.
+pub record Judged {C : Type 0} {N : ℕ} (truths : Truths C) (begun : Option (Walk C)) (act : Act C) (number : ℕ) (me now : Me (Lists C) (List (GateView C N))) : Type 0 where
+  pub stepped : Stepped truths begun act number me now
+  pub cell : number ≡ slice_index (row_in (the me.0).at.held) (cell_of act)
 
 -- the act that a call wants
 abbrev pub act_of : {C : Type 0} → Option (Walk C) → Act C

@@ -1,14 +1,14 @@
 //! The gate: a lock word, a row and flags, shared by threads.
 
-ghost use Rattle.std.specs.Prelude.{◌≡◌, ◌+◌, ◌<◌, ◌≤◌, [], ◌∷◌, replicate, None, Some, IfErr, IfOk, MatchResult};
+ghost use Rattle.std.specs.Prelude.{◌≡◌, ◌+◌, ◌<◌, ◌≤◌, [], ◌∷◌, replicate, None, Some, IfErr, IfOk, MatchResult, slice_index};
 ghost use Rattle.ns_word.specs.Codec.{word_of, IsPackable};
-ghost use Rattle.ns_word.specs.Finds.{exchanged};
+ghost use Rattle.ns_word.specs.Finds.{before_in, exchanged, row_in};
 ghost use Rattle.ns_word.specs.Walks.{want_of};
 ghost use Rattle.ns_gate.specs.Law.{first_of, fresh, no_lists, rest_of, NewFault};
-ghost use Rattle.ns_gate.specs.Steps.{CanStep, Performed, tried};
+ghost use Rattle.ns_gate.specs.Steps.{CanStep, Performed, the, tried};
 
 use crate::fault::Fault;
-use crate::plays::{Begin, FirstOut, Go, Law};
+use crate::plays::{Begin, BeginJudging, FirstOut, Go, Judge, Law};
 use crate::room::Gated;
 use crate::saying::load_saying;
 use crate::view::View;
@@ -215,6 +215,44 @@ impl<C: Gated<N>, const N: usize> Gate<C, N> {
         let word = usize::from(i) + 1;
         load_saying::<Queues<C, N>, View<C, N>, u8, Law<C, N>, Walk<C>, Begin<C, N>>(
             shared, seat, word, &walk,
+        )
+    }
+
+    /// Loads the last cell of the row for a call that judges whether its section is quiet; the number
+    /// is the cell of the section in hand.
+    ///
+    /// Needs a seat of this gate, whose call wants that next, and a cell below `N`.
+    pub fn judge_quiet(&self, seat: &mut GateSeat<C, N>, i: u8) -> u64
+        requires of { seat.old.table_id ≡ self.now }
+        requires cell { i < N }
+        requires can { CanStep C.means None (Act.JudgeQuiet i) seat.old.me }
+        ensures seat { seat.new.table_id ≡ seat.old.table_id }
+        ensures did { Performed C.means None (Act.JudgeQuiet i) (Found.Quiet (C.means.quiet (before_in (the seat.old.me.0).at.held) (row_in (the seat.old.me.0).at.held))) seat.old.me seat.new.me }
+        ensures cell { result ≡ slice_index (row_in (the seat.old.me.0).at.held) i }
+    {
+        self.table
+            .shared
+            .load::<Judge<C, N>>(seat, usize::from(i) + 1)
+    }
+
+    /// Begins a call that judges whether its section is quiet by its first step, which loads the last
+    /// cell of the row; the number is the cell of the section in hand.
+    ///
+    /// Needs a seat of this gate, whose last call is over, a first place whose need is met, and a cell
+    /// below `N`.
+    pub fn begin_judge_quiet(&self, seat: &mut GateSeat<C, N>, walk: Walk<C>, i: u8) -> u64
+        requires of { seat.old.table_id ≡ self.now }
+        requires wants { want_of walk ≡ Act.JudgeQuiet i }
+        requires cell { i < N }
+        requires can { CanStep C.means (Some walk) (Act.JudgeQuiet i) seat.old.me }
+        ensures seat { seat.new.table_id ≡ seat.old.table_id }
+        ensures did { Performed C.means (Some walk) (Act.JudgeQuiet i) (Found.Quiet (C.means.quiet (before_in (the seat.old.me.0).at.held) (row_in (the seat.old.me.0).at.held))) seat.old.me seat.new.me }
+        ensures cell { result ≡ slice_index (row_in (the seat.old.me.0).at.held) i }
+    {
+        let shared = &self.table.shared;
+        let last_cell = usize::from(i) + 1;
+        load_saying::<Queues<C, N>, View<C, N>, u8, Law<C, N>, Walk<C>, BeginJudging<C, N>>(
+            shared, seat, last_cell, &walk,
         )
     }
 

@@ -2,7 +2,7 @@
 
 ghost use Rattle.std.specs.Prelude.{None};
 ghost use Rattle.ns_gate.specs.Law.{Holds, first_of, fresh, rest_of};
-ghost use Rattle.ns_gate.specs.Steps.{Stepped, act_in, act_of, first_said, the};
+ghost use Rattle.ns_gate.specs.Steps.{Judged, Stepped, act_in, act_of, first_said, the};
 
 use crate::saying::Telling;
 use crate::view::View;
@@ -39,6 +39,25 @@ pub struct Begin<C, const N: usize> {
 
 impl<C: Condition<N>, const N: usize> Telling<Queues<C, N>, View<C, N>, Walk<C>> for Begin<C, N> {
     ghost after = { λ walks st me found now. Stepped C.means (first_said walks) (act_of (first_said walks)) found me now };
+}
+
+/// The load that the seat's call wants next, which judges the section in hand.
+pub struct Judge<C, const N: usize> {
+    of: PhantomData<C>,
+}
+
+impl<C: Condition<N>, const N: usize> Play<Queues<C, N>, View<C, N>> for Judge<C, N> {
+    ghost then = { λ st me found now. Judged C.means None (act_in (the me.0)) found me now };
+}
+
+/// The first step of the call that it is told, which judges the section in hand.
+pub struct BeginJudging<C, const N: usize> {
+    of: PhantomData<C>,
+}
+
+impl<C: Condition<N>, const N: usize> Telling<Queues<C, N>, View<C, N>, Walk<C>>
+    for BeginJudging<C, N> {
+    ghost after = { λ walks st me found now. Judged C.means (first_said walks) (act_of (first_said walks)) found me now };
 }
 
 /// The first seat of a view goes to a seat of its own.
