@@ -1,5 +1,6 @@
 pub mod Calls
 pub mod Keeps
+pub mod Meets
 pub mod Starts
 pub mod Tells
 pub mod Turns

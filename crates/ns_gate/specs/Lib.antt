@@ -1,4 +1,5 @@
 pub mod Calls
 pub mod Law
+pub mod Meetings
 pub mod Room
 pub mod Steps

@@ -4,11 +4,13 @@ ghost use Rattle.std.specs.Prelude.{◌≡◌, ◌+◌, ◌<◌, ◌≤◌, [], 
 ghost use Rattle.ns_word.specs.Codec.{word_of, IsPackable};
 ghost use Rattle.ns_word.specs.Finds.{before_in, exchanged, row_in};
 ghost use Rattle.ns_word.specs.Walks.{want_of};
+ghost use Rattle.ns_gate.specs.Calls.{IsAtRest};
 ghost use Rattle.ns_gate.specs.Law.{first_of, fresh, no_lists, rest_of, NewFault};
+ghost use Rattle.ns_gate.specs.Meetings.{HaveMet};
 ghost use Rattle.ns_gate.specs.Steps.{CanStep, Performed, the, tried};
 
 use crate::fault::Fault;
-use crate::plays::{Begin, BeginJudging, FirstOut, Go, Judge, Law};
+use crate::plays::{Begin, BeginJudging, FirstOut, Go, Judge, Law, Learn, Together};
 use crate::room::Gated;
 use crate::saying::load_saying;
 use crate::view::View;
@@ -100,6 +102,29 @@ impl<C: Gated<N>, const N: usize> Gate<C, N> {
         ensures part { (result.table_id ≡ all.old.table_id) × (result.me ≡ (first_of all.old.me.0, [])) }
     {
         self.table.shared.split_seat::<FirstOut>(all)
+    }
+
+    /// Two seats compare what they have seen: of what one had seen and what the other had, one begins
+    /// the other, and now both have seen one history that begins with it. They are two, and where both
+    /// have a section in hand, both read.
+    ///
+    /// Needs two seats of this gate, both between their calls.
+    pub fn meet(
+        &self,
+        first: GateSeat<C, N>,
+        second: GateSeat<C, N>,
+    ) -> (GateSeat<C, N>, GateSeat<C, N>)
+        requires first { (first.table_id ≡ self.now) × IsAtRest C.means first.me }
+        requires second { (second.table_id ≡ self.now) × IsAtRest C.means second.me }
+        ensures seats { (result.0.table_id ≡ self.now) × IsAtRest C.means result.0.me × (result.1.table_id ≡ self.now) × IsAtRest C.means result.1.me }
+        ensures met { HaveMet C.means (the first.me.0) (the second.me.0) (the result.0.me.0) (the result.1.me.0) }
+    {
+        let shared = &self.table.shared;
+        let mut both = first;
+        shared.join_seat::<Together>(&mut both, second);
+        shared.load::<Learn<C, N>>(&mut both, 0);
+        let first = shared.split_seat::<FirstOut>(&mut both);
+        (first, both)
     }
 
     /// Loads the lock word.

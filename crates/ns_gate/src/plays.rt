@@ -1,12 +1,13 @@
 //! The rule of the table, and what each step on it tells.
 
-ghost use Rattle.std.specs.Prelude.{None};
+ghost use Rattle.std.specs.Prelude.{◌++◌, [], None};
 ghost use Rattle.ns_gate.specs.Law.{Holds, first_of, fresh, rest_of};
+ghost use Rattle.ns_gate.specs.Meetings.{HaveLearned};
 ghost use Rattle.ns_gate.specs.Steps.{Judged, Stepped, act_in, act_of, first_said, the};
 
 use crate::saying::Telling;
 use crate::view::View;
-use atomic_table::{Play, Split, TableRule};
+use atomic_table::{Join, Play, Split, TableRule};
 use ns_model::condition::Condition;
 use ns_queue::queues::Queues;
 use ns_word::walk::Walk;
@@ -67,4 +68,22 @@ impl<C, const N: usize> Split<View<C, N>> for FirstOut {
     ghost left = { rest_of };
 
     ghost right = { first_of };
+}
+
+/// A load by two seats that are joined: both see the history so far.
+pub struct Learn<C, const N: usize> {
+    of: PhantomData<C>,
+}
+
+impl<C: Condition<N>, const N: usize> Play<Queues<C, N>, View<C, N>> for Learn<C, N> {
+    ghost then = { λ st me found now. HaveLearned C.means me now };
+}
+
+/// Two seats stand for both their seats together, while they meet.
+pub struct Together;
+
+impl<C, const N: usize> Join<View<C, N>> for Together {
+    ghost both = { λ v w. v ++ w };
+
+    ghost spent = { [] };
 }

@@ -1,0 +1,23 @@
+use Rattle.std.proofs.Common.{rules, ap, ◌∙◌}
+use Rattle.ns_gate.specs.Calls.{SeatOf}
+use Rattle.ns_gate.proofs.Starts.{cuts}
+use Rattle.ns_gate.proofs.Meets.{glues, learns, pair_of, met_at}
+use Rattle.ns_gate.proofs.gate.Gate.meet.Goals as goal
+
+pub join_seat-requires : goal.join_seat-requires
+join_seat-requires g c = (search rules, search rules, c.requires.second.1.empty, search rules, glues _ _ _ _ _ _)
+
+pub load-requires : goal.load-requires
+load-requires g c = (search rules, search rules, learns _ _ _ _ c.join_seat.new.seat.me (pair_of c.args.first.me.0 c.args.second.me.0 _ c.requires.first.1.one c.requires.second.1.one (ap (λ (m : SeatOf _ _). m.0) c.join_seat.ensures.2)))
+
+pub split_seat-first-requires : goal.split_seat-first-requires
+split_seat-first-requires g c = (search rules, search rules, cuts _ _ _ _ _ _)
+
+pub returns-clause-seats : goal.returns-clause-seats
+returns-clause-seats g c =
+    let s = c.split_seat-first.ensures in
+    let m = met_at _ c.args.first.me c.args.second.me _ _ _ _ c.requires.first.1 c.requires.second.1 c.join_seat.ensures.2 c.load.ensures.2 s.4 s.2 in
+    let kept = c.load.ensures.0 ∙ (c.join_seat.ensures.0 ∙ c.requires.first.0) in (s.3 ∙ kept, m.0, s.0 ∙ kept, m.1)
+
+pub returns-clause-met : goal.returns-clause-met
+returns-clause-met g c = let s = c.split_seat-first.ensures in (met_at _ c.args.first.me c.args.second.me _ _ _ _ c.requires.first.1 c.requires.second.1 c.join_seat.ensures.2 c.load.ensures.2 s.4 s.2).2
