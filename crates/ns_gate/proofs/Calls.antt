@@ -1,14 +1,15 @@
 -- A step takes its call on, as its caller follows it.
-use Rattle.std.proofs.Common.{◌≡◌, ℕ, false, List, [], ◌∷◌, ◌++◌, Option, None, Some, refl, ap, sym, ◌∙◌, subst}
+use Rattle.std.proofs.Common.{◌≡◌, ℕ, false, List, [], ◌∷◌, ◌++◌, length, Option, None, Some, refl, ap, sym, ◌∙◌, subst}
 use Rattle.std.proofs.lemmas.List.{append_assoc, append-nil}
-use Rattle.ns_gate.specs.Calls.{SeatOf, IsTrueToHistory, IsAtRest, HasSince, IsAt, Leads}
+use Rattle.ns_gate.specs.Calls.{SeatOf, IsTrueToHistory, IsWide, IsAtRest, HasSince, IsAt, Leads}
 use Rattle.ns_gate.specs.Law.{GateView}
 use Rattle.ns_gate.specs.Steps.{the, IsOne, walk_by, CanStep, Did, Performed}
 use Rattle.ns_model.proofs.Beginnings.{begins_through}
-use Rattle.ns_model.specs.Histories.{row_after}
+use Rattle.ns_model.specs.Histories.{Standing, row_after, standing_after}
 use Rattle.ns_model.specs.Truths.{Truths}
 use Rattle.ns_word.specs.Asked.{asked_of}
 use Rattle.ns_word.specs.Courses.{CallGoes}
+use Rattle.ns_word.specs.Lawful.{SectionFits}
 use Rattle.ns_word.specs.Lists.{has_some}
 use Rattle.ns_word.specs.Meanings.{Course}
 use Rattle.ns_word.specs.Places.{PlaceFits}
@@ -23,6 +24,7 @@ use Rattle.ns_word.specs.Begins.{IsFirst, view_in}
 use Rattle.ns_word.specs.Steps.{Effect, Part}
 use Rattle.ns_model.specs.declared.event.Event.{Event}
 use Rattle.ns_gate.proofs.Tells.{between_word}
+use Rattle.ns_word.specs.declared.view.Held.{Held}
 use Rattle.ns_word.specs.declared.view.SeatView.{SeatView}
 use Rattle.ns_word.specs.declared.walk.Next.TheVariants.{On, Idle, Done}
 use Rattle.ns_word.specs.declared.walk.Next.{Next}
@@ -31,6 +33,10 @@ use Rattle.ns_word.specs.declared.walk.Walk.{Walk}
 none_of : {A : Type 0} (xs : List A) → has_some xs ≡ false → xs ≡ []
 none_of [] e = refl
 none_of (x ∷ xs) e = absurd (cc)
+
+wide_by : {C : Type 0} {N : ℕ} (now : Standing C) (row : List ℕ) (seat : ℕ) (walk : Option (Walk C)) (held : Option (Held C N)) → SectionFits now row seat walk held → length row ≡ N → length now.row ≡ N → IsWide held
+wide_by now row seat walk None fits a b = tt
+wide_by now row seat walk (Some held) fits a b = (ap length fits.starts ∙ b, ap length fits.cells ∙ a)
 
 module _ {C : Type 0} {N : ℕ} (truths : Truths C) where
   true_after : (found : Found) (b : Option (Walk C)) (v w : GateView C N) → Did truths b found v w → IsTrueToHistory truths w.limit w.at.seat w.told.seen w.told.mine
@@ -92,6 +98,7 @@ module _ {C : Type 0} {N : ℕ} (truths : Truths C) where
       over = over;
       owes = none_of w.at.owed (d.fits.owes ∙ ap pays over);
       settled = subst (λ x. PlaceFits truths x w.at.held) over d.fits.place;
+      wide = wide_by (standing_after (d.history ++ d.commits)) d.new.row w.at.seat w.at.walk w.at.held d.fits.section d.lawful_now.one_history.cells d.lawful_now.one_history.cells_after;
       true_to = since.true_to;
     }
 

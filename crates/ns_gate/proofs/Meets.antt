@@ -4,7 +4,7 @@ use Rattle.std.proofs.Common.{◌≡◌, ◌≢◌, ℕ, zero, suc, ◌+◌, ◌
 use Rattle.std.proofs.lemmas.List.{set-get_or}
 use Rattle.atomic_table.proofs.Lists.{at_set}
 use Rattle.atomic_table.specs.Table.{keeps as keeps_slots, Allows, Joins}
-use Rattle.ns_gate.specs.Calls.{SeatOf, IsAtRest}
+use Rattle.ns_gate.specs.Calls.{SeatOf, IsWide, IsAtRest}
 use Rattle.ns_gate.specs.Law.{GateView, Views, Homes, is_seat, Fits, Shows, Shown, IsRuled, Holds, first_of, rest_of}
 use Rattle.ns_gate.specs.Meetings.{the_second, ArePair, HasLearned, SawAllOf, AreOfOneHistory, ShareTheLock, HaveMet, HaveLearned}
 use Rattle.ns_gate.specs.Steps.{the, IsOne}
@@ -236,6 +236,7 @@ module _ {C : Type 0} {N : ℕ} (truths : Truths C) where
     over = ap (λ (x : SeatView C N). x.walk) h.at ∙ rest.over;
     owes = ap (λ (x : SeatView C N). x.owed) h.at ∙ rest.owes;
     settled = subst (λ o. IsSettled truths o) (sym (ap (λ (x : SeatView C N). x.held) h.at)) rest.settled;
+    wide = subst (λ (o : Option (Held C N)). IsWide o) (sym (ap (λ (x : SeatView C N). x.held) h.at)) rest.wide;
     true_to = h.true_to;
   }
 

@@ -1,11 +1,12 @@
 -- How far a call has come, as its caller follows it from step to step.
-use Rattle.std.specs.Prelude.{◌≡◌, ℕ, List, [], ◌∷◌, ◌++◌, None, Some}
+use Rattle.std.specs.Prelude.{◌≡◌, ℕ, List, [], ◌∷◌, ◌++◌, length, Option, None, Some}
 use Rattle.atomic_table.specs.Table.{Me}
 use Rattle.ns_model.specs.declared.event.Event.{Event}
 use Rattle.ns_model.specs.Beginnings.{BeginsWith}
 use Rattle.ns_model.specs.Histories.{IsLegal, IsBySeats, own as own_of, row_after}
 use Rattle.ns_model.specs.Truths.{Truths}
 use Rattle.ns_queue.specs.Queues.{Lists}
+use Rattle.ns_word.specs.declared.view.Held.{Held}
 use Rattle.ns_word.specs.declared.walk.Next.{Next}
 use Rattle.ns_word.specs.declared.walk.Next.TheVariants.{On, Idle, Done}
 use Rattle.ns_word.specs.declared.walk.Reply.{Reply}
@@ -27,13 +28,19 @@ pub record IsTrueToHistory {C : Type 0} {N : ℕ} (truths : Truths C) (limit sea
   pub by_seats : IsBySeats limit seen
   pub own : own_of seen seat ≡ mine
 
--- A seat between its calls: it stands for itself alone and carries nothing, is in no call and owes no wake; its section, if it has one in hand, may be left.
+-- the rows of a section in hand have N cells
+abbrev pub IsWide : {C : Type 0} {N : ℕ} → Option (Held C N) → Type 0
+IsWide None = Unit {0}
+IsWide {C} {N} (Some held) = (length held.before ≡ N) × (length held.row ≡ N)
+
+-- A seat between its calls: it stands for itself alone and carries nothing, is in no call and owes no wake; its section, if it has one in hand, may be left, and its rows are as wide as the lock's.
 pub record IsAtRest {C : Type 0} {N : ℕ} (truths : Truths C) (me : SeatOf C N) : Type 0 where
   pub one : IsOne me.0
   pub empty : me.1 ≡ []
   pub over : (the me.0).at.walk ≡ None
   pub owes : (the me.0).at.owed ≡ []
   pub settled : IsSettled truths (the me.0).at.held
+  pub wide : IsWide (the me.0).at.held
   pub true_to : IsTrueToHistory truths (the me.0).limit (the me.0).at.seat (the me.0).told.seen (the me.0).told.mine
 
 -- The same seat, behind some steps of the call that began with this first place: it has seen more; its own events are those that it had, and behind them those that the call has committed; and it has begun that call and no other.
