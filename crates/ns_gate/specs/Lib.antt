@@ -1,4 +1,5 @@
 pub mod Calls
+pub mod Endings
 pub mod Law
 pub mod Meetings
 pub mod Room

@@ -5,10 +5,12 @@ ghost use Rattle.ns_word.specs.Codec.{word_of, IsPackable};
 ghost use Rattle.ns_word.specs.Finds.{before_in, exchanged, row_in};
 ghost use Rattle.ns_word.specs.Walks.{want_of};
 ghost use Rattle.ns_gate.specs.Calls.{IsAtRest};
+ghost use Rattle.ns_gate.specs.Endings.{EndsAs};
 ghost use Rattle.ns_gate.specs.Law.{first_of, fresh, no_lists, rest_of, NewFault};
 ghost use Rattle.ns_gate.specs.Meetings.{HaveMet};
-ghost use Rattle.ns_gate.specs.Steps.{CanStep, Performed, the, tried};
+ghost use Rattle.ns_gate.specs.Steps.{CanStep, IsOne, Performed, the, tried};
 
+use crate::closed::{Closed, cells};
 use crate::fault::Fault;
 use crate::plays::{Begin, BeginJudging, FirstOut, Go, Judge, Law, Learn, Together};
 use crate::room::Gated;
@@ -294,5 +296,26 @@ impl<C: Gated<N>, const N: usize> Gate<C, N> {
         self.table
             .shared
             .store::<Go<C, N>>(seat, usize::from(i) + 1, value);
+    }
+
+    /// Ends the gate, and tells the cells as they stand, and whether the lock is free. Where it is, they
+    /// are the row after all that was committed.
+    ///
+    /// Needs a seat of this gate. The others may be in their calls, or have a section in hand; the cells
+    /// then show also what a writer has not committed.
+    pub fn close(self, seat: GateSeat<C, N>) -> Closed<N>
+        requires { (seat.table_id ≡ self) × IsOne seat.me.0 }
+        ensures { EndsAs C.means (the seat.me.0) result.row result.free }
+    {
+        let Gate { table } = self;
+        let mut closed = table.close_with(seat);
+        let word = unpacked(closed.word(0));
+        let row = cells(&closed);
+        drop(closed.take(0));
+        closed.free();
+        Closed {
+            row,
+            free: !word.is_held(),
+        }
     }
 }

@@ -7,6 +7,7 @@
 //! two of those holds between any two steps of any threads.
 #![tactic(auto)]
 
+pub mod closed;
 pub mod fault;
 pub mod gate;
 pub mod plays;
