@@ -1,5 +1,5 @@
 -- What one step of a seat is: a step of the machine between two lawful states.
-use Rattle.std.specs.Prelude.{◌≡◌, ℕ, ◌≤◌, ◌++◌, true, false, List, [], ◌∷◌, Option, None, Some, Result, Ok, Err, slice_index}
+use Rattle.std.specs.Prelude.{◌≡◌, ℕ, ◌<◌, ◌≤◌, ◌++◌, true, false, List, [], ◌∷◌, Option, None, Some, Result, Ok, Err, slice_index}
 use Rattle.atomic_table.specs.Table.{Me}
 use Rattle.ns_model.specs.declared.event.Event.{Event}
 use Rattle.ns_model.specs.Beginnings.{BeginsWith}
@@ -10,11 +10,12 @@ use Rattle.ns_word.specs.declared.word.Word.{Word}
 use Rattle.ns_word.specs.declared.view.SeatView.{SeatView}
 use Rattle.ns_word.specs.declared.walk.Walk.{Walk}
 use Rattle.ns_word.specs.declared.act.Act.{Act}
-use Rattle.ns_word.specs.declared.act.Act.TheVariants.{LoadWord, LoadCell, JudgeQuiet, JudgeMet}
+use Rattle.ns_word.specs.declared.act.Act.TheVariants.{LoadWord, Acquire, Release, LoadCell, JudgeQuiet, JudgeMet, StoreCell}
 use Rattle.ns_word.specs.declared.act.Found.{Found}
 use Rattle.ns_word.specs.declared.act.Found.TheVariants.{Made, Saw}
 use Rattle.ns_word.specs.Asked.{asked_of}
 use Rattle.ns_word.specs.Begins.{IsFirst, SeatStep}
+use Rattle.ns_word.specs.Codec.{IsPackable}
 use Rattle.ns_word.specs.Courses.{CallGoes, course_after}
 use Rattle.ns_word.specs.Finds.{found_of, row_in}
 use Rattle.ns_word.specs.Lawful.{IsLawful, ViewFits}
@@ -122,3 +123,12 @@ first_said (walk ∷ walks) = Some walk
 abbrev pub tried : {A : Type 0} → Result A Word → Found
 tried (Ok x) = Made
 tried (Err word) = Saw word
+
+-- the gate makes acts of this kind at once: a load of the word, an acquire or a release by a word that has a number, and a load or a store of a cell of the row
+abbrev pub IsMadeHere : {C : Type 0} → ℕ → Act C → Type 0
+IsMadeHere N LoadWord = Unit {0}
+IsMadeHere N (Acquire aim arrival last) = IsPackable last
+IsMadeHere N (Release releasing last) = IsPackable last
+IsMadeHere N (LoadCell i) = i < N
+IsMadeHere N (StoreCell i v) = i < N
+IsMadeHere N act = ⊥

@@ -8,7 +8,7 @@ ghost use Rattle.ns_gate.specs.Calls.{IsAtRest};
 ghost use Rattle.ns_gate.specs.Endings.{EndsAs};
 ghost use Rattle.ns_gate.specs.Law.{first_of, fresh, no_lists, rest_of, NewFault};
 ghost use Rattle.ns_gate.specs.Meetings.{HaveMet};
-ghost use Rattle.ns_gate.specs.Steps.{CanStep, IsOne, Performed, the, tried};
+ghost use Rattle.ns_gate.specs.Steps.{CanStep, IsMadeHere, IsOne, Performed, the, tried};
 
 use crate::closed::{Closed, cells};
 use crate::fault::Fault;
@@ -57,6 +57,16 @@ fn came_to(found: u64, last: Word) -> Result<(), Word>
         Ok(())
     } else {
         Err(unpacked(found))
+    }
+}
+
+/// The same, as the machine says it.
+fn found_by(tries: Result<(), Word>) -> Found
+    ensures { result ≡ tried tries }
+{
+    match tries {
+        Ok(()) => Found::Made,
+        Err(word) => Found::Saw(word),
     }
 }
 
@@ -296,6 +306,35 @@ impl<C: Gated<N>, const N: usize> Gate<C, N> {
         self.table
             .shared
             .store::<Go<C, N>>(seat, usize::from(i) + 1, value);
+    }
+
+    /// Makes the act that the seat's call wants next: a load of the lock word, an acquire, a release, or
+    /// a load or a store of a cell.
+    ///
+    /// Needs a seat of this gate, whose call wants that next; for an acquire and a release a word that has
+    /// a number, as each has that a load or an exchange has told; for a cell one below `N`.
+    pub fn perform(&self, seat: &mut GateSeat<C, N>, act: Act<C>) -> Found
+        requires of { seat.old.table_id ≡ self.now }
+        requires kind { IsMadeHere N act }
+        requires can { CanStep C.means None act seat.old.me }
+        ensures seat { seat.new.table_id ≡ seat.old.table_id }
+        ensures did { Performed C.means None act result seat.old.me seat.new.me }
+    {
+        match act {
+            Act::LoadWord => Found::Saw(self.load(seat)),
+            Act::Acquire(aim, arrival, last) => {
+                found_by(self.exchange_to_acquire(seat, aim, arrival, last))
+            }
+            Act::Release(releasing, last) => {
+                found_by(self.exchange_to_release(seat, releasing, last))
+            }
+            Act::LoadCell(i) => Found::Cell(self.load_cell(seat, i)),
+            Act::StoreCell(i, value) => {
+                self.store_cell(seat, i, value);
+                Found::Made
+            }
+            _ => unreachable!(),
+        }
     }
 
     /// Ends the gate, and tells the cells as they stand, and whether the lock is free. Where it is, they
