@@ -3,7 +3,7 @@ use Rattle.std.specs.Prelude.{not, nat_lt, ◌||◌}
 use Rattle.std.proofs.Common.{◌≡◌, ℕ, zero, suc, ◌+◌, ◌<◌, ◌≤◌, Bool, true, false, List, [], ◌∷◌, length, get_or, refl, ap, sym, ◌∙◌, subst, arith}
 use Rattle.std.proofs.lemmas.List.{ext_get_or}
 use Rattle.atomic_table.specs.Table.{Final, Seen}
-use Rattle.ns_gate.specs.Endings.{EndsAs, FreeEnding}
+use Rattle.ns_gate.specs.Endings.{EndsAs}
 use Rattle.ns_gate.specs.Law.{GateView, Views, Homes, Fits, Shown, IsRuled, Holds}
 use Rattle.ns_gate.specs.Steps.{the, IsOne}
 use Rattle.ns_model.proofs.Tallies.{every_at}
@@ -63,6 +63,7 @@ module _ {C : Type 0} {N : ℕ} (truths : Truths C) (limit id : ℕ) where
           lawful = subst (λ k. IsLawful truths k g.history g.state) limited r.lawful;
           row_is = shows_row row wide each;
           free_is = is ∙ ap (λ (w : Word). not (is_held w)) (shows_word n word);
+          after = λ none. shows_row row wide each ∙ r.lawful.one_history.free (no_writer g.state.word (sym (is ∙ ap (λ (w : Word). not (is_held w)) (shows_word n word)) ∙ none));
           stands = fit.stands;
           told = subst (λ k. IsTold truths.holds k g.history (the vs).at.seat (the vs).at.walk (the vs).told) limited fit.told;
         }
@@ -81,14 +82,3 @@ module _ {C : Type 0} {N : ℕ} (truths : Truths C) (limit id : ℕ) where
   ends vs words slots row free n f one word wide each is =
       let s = f.0 in
       ends_so s.words s.homes s.views f.1.0.0 f.1.0.1 vs row free n f.1.1 one (subst (λ ws. get_elem? ws 0 ≡ some n) (sym f.2) word) wide (λ k below. subst (λ ws. get_elem? ws (k + 1) ≡ some (get_or row k 0)) (sym f.2) (each k below)) is
-
--- Where nobody holds the lock, the row is the one after the history.
-pub free_ending : {C : Type 0} {N : ℕ} (truths : Truths C) (v : GateView C N) (row : List ℕ) (free : Bool) → EndsAs truths v row free → free ≡ true → FreeEnding truths v row
-free_ending truths v row free e is = record {
-  history = e.history;
-  legal = e.lawful.one_history.legal;
-  by_seats = e.lawful.one_history.by_seats;
-  begins = e.told.seen_of;
-  own = sym e.told.own_of;
-  row_is = e.row_is ∙ e.lawful.one_history.free (no_writer e.state.word (sym e.free_is ∙ is));
-}

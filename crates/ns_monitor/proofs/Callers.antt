@@ -68,9 +68,6 @@ module _ {C : Type 0} {N : ℕ} (truths : Truths C) where
 
   -- ---- tries
 
-  pub tries_first : (mode : Mode) (walk : Walk C) (me : SeatOf C N) → walk ≡ trying mode → IsAtRest truths me → (the me.0).at.held ≡ None → CanStep truths (Some walk) LoadWord me
-  tries_first mode walk me is rest free = subst (λ w. CanStep truths (Some w) LoadWord me) (sym is) (can_begin truths (trying mode) me rest tt (free, tt))
-
   -- the word that was loaded decides
   loaded : (mode : Mode) (walk : Walk C) (word : Word) (me now : SeatOf C N) → walk ≡ trying mode → IsAtRest truths me → Performed truths (Some walk) LoadWord (Saw word) me now → Leads truths (trying mode) (got_of N (trying mode) (Saw word)) (the me.0) now
   loaded mode walk word me now is rest p = begins truths (trying mode) LoadWord (Saw word) (got_of N (trying mode) (Saw word)) me now rest refl (subst (λ w. Performed truths (Some w) LoadWord (Saw word) me now) is p)

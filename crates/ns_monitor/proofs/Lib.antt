@@ -1,4 +1,6 @@
 pub mod Callers
 pub mod Hands
+pub mod Judging
 pub mod Made
+pub mod Meetings
 pub mod Saves

@@ -15,4 +15,4 @@ module _ (C : Type 0) (N : ℕ) where
 
   -- a new seat is at rest, with nothing in hand
   pub new_rests : (truths : Truths C) (limit i : ℕ) (me : SeatOf C N) → me ≡ (fresh_seat limit i ∷ [], []) → IsAtRest truths me × ((the me.0).at.held ≡ None)
-  new_rests truths limit i me is = subst (λ (m : SeatOf C N). IsAtRest truths m × ((the m.0).at.held ≡ None)) (sym is) (record { one = tt; empty = refl; over = refl; owes = refl; settled = tt; true_to = record { legal = tt; by_seats = tt; own = refl } }, refl)
+  new_rests truths limit i me is = subst (λ (m : SeatOf C N). IsAtRest truths m × ((the m.0).at.held ≡ None)) (sym is) (record { one = tt; empty = refl; over = refl; owes = refl; settled = tt; wide = tt; true_to = record { legal = tt; by_seats = tt; own = refl } }, refl)

@@ -1,13 +1,16 @@
 -- What contracts see of a caller, and how it grows.
-use Rattle.std.specs.Prelude.{◌≡◌, ℕ, suc, List, [], ◌∷◌, ◌++◌, Option, Some}
+use Rattle.std.specs.Prelude.{◌≡◌, ℕ, suc, ◌⊎◌, Bool, true, not, List, [], ◌∷◌, ◌++◌, Option, Some}
 use Rattle.atomic_table.specs.Seated.{TableId}
 use Rattle.ns_model.specs.declared.event.Event.{Event}
 use Rattle.ns_model.specs.declared.event.Mode.{Mode}
 use Rattle.ns_model.specs.Beginnings.{BeginsWith}
-use Rattle.ns_model.specs.Histories.{row_after}
+use Rattle.ns_model.specs.Histories.{own as own_of, row_after}
 use Rattle.ns_model.specs.Truths.{Truths}
 use Rattle.ns_word.specs.declared.view.Held.{Held}
 use Rattle.ns_word.specs.declared.walk.Walk.{Walk}
+use Rattle.ns_word.specs.Lawful.{IsLawful}
+use Rattle.ns_word.specs.Steps.{State}
+use Rattle.ns_word.specs.Words.{is_held}
 use Rattle.ns_word.specs.Meanings.{new_section}
 use Rattle.ns_gate.specs.Calls.{IsTrueToHistory}
 use Rattle.ns_gate.specs.Law.{GateView, fresh_seat}
@@ -51,3 +54,35 @@ pub record HasLocked {C : Type 0} {N : ℕ} (truths : Truths C) (call : Walk C) 
 abbrev pub AreNew : {C : Type 0} {N : ℕ} → ℕ → TableId → ℕ → List (Known C N) → Type 0
 AreNew limit monitor from [] = Unit {0}
 AreNew limit monitor from (seat ∷ seats) = (seat ≡ known_of monitor (fresh_seat limit from)) × AreNew limit monitor (suc from) seats
+
+-- Nothing of the caller has changed but what it has seen: a legal history by the seats that there are, which begins with what it had seen, and in which its own events are just its own.
+pub record HasLearned {C : Type 0} {N : ℕ} (truths : Truths C) (old new : Known C N) : Type 0 where
+  pub monitor : new.monitor ≡ old.monitor
+  pub limit : new.limit ≡ old.limit
+  pub seat : new.seat ≡ old.seat
+  pub begins : BeginsWith new.seen old.seen
+  pub mine : new.mine ≡ old.mine
+  pub begun : new.begun ≡ old.begun
+  pub held : new.held ≡ old.held
+  pub true_to : IsTrueToHistory truths new.limit new.seat new.seen new.mine
+
+-- Of two callers, one has seen all that the other has: a history that begins with what the other has seen, in which the events of both are just their own.
+pub record SawAllOf {C : Type 0} {N : ℕ} (ahead behind : Known C N) : Type 0 where
+  pub begins : BeginsWith ahead.seen behind.seen
+  pub own : own_of ahead.seen ahead.seat ≡ ahead.mine
+  pub theirs : own_of ahead.seen behind.seat ≡ behind.mine
+
+-- Of two callers, one has seen all that the other has.
+abbrev pub AreOfOneHistory : {C : Type 0} {N : ℕ} → Known C N → Known C N → Type 0
+AreOfOneHistory first second = SawAllOf first second ⊎ SawAllOf second first
+
+-- The monitor has come to a lawful state, with a history that begins with what the caller has seen and has just the caller's events as its own; the cells are that state's row, and the lock is free or held as is told. Where it is free, they are the row after that history.
+pub record EndsAs {C : Type 0} {N : ℕ} (truths : Truths C) (k : Known C N) (row : List ℕ) (free : Bool) : Type 0 where
+  pub history : List (Event C N)
+  pub state : State C N
+  pub lawful : IsLawful truths k.limit history state
+  pub begins : BeginsWith history k.seen
+  pub own : own_of history k.seat ≡ k.mine
+  pub row_is : row ≡ state.row
+  pub free_is : free ≡ not (is_held state.word)
+  pub after : free ≡ true → row ≡ row_after history

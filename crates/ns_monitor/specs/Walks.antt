@@ -2,6 +2,8 @@
 use Rattle.std.specs.Prelude.{ℕ}
 use Rattle.ns_model.specs.declared.event.Mode.{Mode}
 use Rattle.ns_word.specs.declared.cell_walk.CellPlace.TheVariants.{GetLoad, SetLoad}
+use Rattle.ns_word.specs.Walks.{quiet_first}
+use Rattle.ns_word.specs.declared.cell_walk.Judging.TheVariants.{ToTell}
 use Rattle.ns_word.specs.declared.release_walk.ReleasePlace.TheVariants.{ReleaseLoad}
 use Rattle.ns_word.specs.declared.try_walk.TryPlace.TheVariants.{TryLoad}
 use Rattle.ns_word.specs.declared.walk.Walk.{Walk}
@@ -23,3 +25,7 @@ getting i = InCells (GetLoad i)
 -- a write of this value into this cell
 abbrev pub setting : {C : Type 0} → ℕ → ℕ → Walk C
 setting i value = InCells (SetLoad i value)
+
+-- a question whether a section of N cells is quiet
+abbrev pub judging : {C : Type 0} → ℕ → Walk C
+judging N = quiet_first N ToTell

@@ -1,11 +1,11 @@
 //! A seat of a monitor, and the sections that it may have in hand.
 
-ghost use Rattle.std.specs.Prelude.{◌≡◌, ◌<◌, Option, None};
+ghost use Rattle.std.specs.Prelude.{◌≡◌, ◌<◌, ℕ, Option, None, length, slice_index, slice_index_or};
 ghost use Rattle.ns_model.specs.declared.event.Mode.{Mode};
 ghost use Rattle.ns_model.specs.declared.event.Mode.TheVariants.{Read, Write};
 ghost use Rattle.ns_word.specs.declared.view.Held.{Held};
 ghost use Rattle.ns_word.specs.Places.{HasMode};
-ghost use Rattle.ns_monitor.specs.Saved.{HasSaved, saved_after};
+ghost use Rattle.ns_monitor.specs.Saved.{HasSaved, saved_after, value_before};
 
 use ns_gate::gate::GateSeat;
 use ns_model::condition::Condition;
@@ -110,5 +110,19 @@ impl<const N: usize> Writing<N> {
         if self.saved[i].is_none() {
             self.saved[i] = Some(old);
         }
+    }
+
+    /// The row as the section began, where this is the row now.
+    pub(crate) fn before(&self, row: &[u64; N]) -> [u64; N]
+        ensures width { length result ≡ length row.now }
+        ensures cells { (i : ℕ) → i < N → slice_index result i ≡ value_before (slice_index_or self.now.saved i None) (slice_index row.now i) }
+    {
+        let mut before = *row;
+        for i in 0..N {
+            if let Some(old) = self.saved[i] {
+                before[i] = old;
+            }
+        }
+        before
     }
 }

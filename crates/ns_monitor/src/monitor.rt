@@ -3,18 +3,20 @@
 ghost use Rattle.std.specs.Prelude.{◌≡◌, ◌<◌, ◌++◌, [], ◌∷◌, if◌then◌else◌, None, Some, IfErr, IfOk, OnOk, length, slice_index, slice_set};
 ghost use Rattle.ns_model.specs.declared.event.Exit.TheVariants as TheExit;
 ghost use Rattle.ns_model.specs.declared.event.Mode.TheVariants.{Read, Write};
-ghost use Rattle.ns_word.specs.declared.walk.Reply.TheVariants.{Busy, Succeeded};
+ghost use Rattle.ns_word.specs.declared.walk.Reply.TheVariants.{Busy, Is, Succeeded};
 ghost use Rattle.ns_word.specs.declared.word.Releasing.TheVariants.{Reader, Writer};
+ghost use Rattle.ns_word.specs.Finds.{before_in, row_in};
 ghost use Rattle.ns_word.specs.Meanings.{InHand};
-ghost use Rattle.ns_word.specs.Places.{CanLeave};
+ghost use Rattle.ns_word.specs.Places.{CanLeave, HasMode};
 ghost use Rattle.ns_word.specs.Steps.{section_of};
 ghost use Rattle.ns_gate.specs.Calls.{HasAnswered, IsAtRest};
 ghost use Rattle.ns_gate.specs.Law.{NewFault};
 ghost use Rattle.ns_gate.specs.Steps.{the};
-ghost use Rattle.ns_monitor.specs.Known.{AreNew, Grows, HasLocked, HasSeenMore, known_of};
-ghost use Rattle.ns_monitor.specs.Walks.{getting, releasing_by, setting, trying};
+ghost use Rattle.ns_monitor.specs.Known.{AreNew, AreOfOneHistory, EndsAs, Grows, HasLearned, HasLocked, HasSeenMore, known_of};
+ghost use Rattle.ns_monitor.specs.Walks.{getting, judging, releasing_by, setting, trying};
 
 use crate::caller::{Caller, Free, ReadHeld, Reading, Seat, Section, WriteHeld, Writing};
+use ns_gate::closed::Closed;
 use ns_gate::fault::Fault;
 use ns_gate::gate::{Gate, GateSeat};
 use ns_gate::room::Gated;
@@ -169,6 +171,87 @@ impl<C: Gated<N>, const N: usize> Monitor<C, N> {
         held.hand.save(i, old);
     }
 
+    /// Loads the row of the section in hand, for a call that judges whether it is quiet.
+    fn load_to_judge(&self, seat: &mut GateSeat<C, N>) -> [u64; N]
+        requires of { seat.old.table_id ≡ self.now }
+        requires rest { IsAtRest C.means seat.old.me }
+        requires writes { HasMode Write (the seat.old.me.0).at.held }
+        ensures seat { seat.new.table_id ≡ seat.old.table_id }
+        ensures judged { HasAnswered C.means (judging N) (Is (C.means.quiet (before_in (the seat.old.me.0).at.held) (row_in (the seat.old.me.0).at.held))) (the seat.old.me.0) seat.new.me }
+        ensures row { result ≡ row_in (the seat.old.me.0).at.held }
+    {
+        let first = Walk::is_quiet::<N>();
+        let mut row = [0; N];
+        if N == 1 {
+            row[0] = self.gate.begin_judge_quiet(seat, first, 0);
+            return row;
+        }
+        row[0] = self.gate.begin_load_cell(seat, first, 0);
+        for i in 1..N - 1 {
+            row[i] = self.gate.load_cell(seat, i as u8);
+        }
+        row[N - 1] = self.gate.judge_quiet(seat, (N - 1) as u8);
+        row
+    }
+
+    /// Whether what the section has changed since it began is quiet, so that it made no false
+    /// condition true: whether the condition type declares it so.
+    pub fn is_quiet(&self, held: &mut WriteHeld<C, N>) -> bool
+        requires { held.old.monitor ≡ self.now }
+        ensures saw { HasSeenMore C.means (judging N) held.old held.new }
+        ensures quiet { InHand held.old.held (λ section. result ≡ C.means.quiet section.before section.row) }
+    {
+        let row = self.load_to_judge(&mut held.seat);
+        let before = held.hand.before(&row);
+        C::quiet(&before, &row)
+    }
+
+    /// Both sections read, and their callers compare what they have seen: of what one had seen and
+    /// what the other had, one begins the other, with just the events of both as their own; and now
+    /// both have seen one history that begins with it.
+    pub fn both_read<H: Section<C, N>, K: Section<C, N>>(
+        &self,
+        first: Caller<H, C, N>,
+        second: Caller<K, C, N>,
+    ) -> (Caller<H, C, N>, Caller<K, C, N>)
+        requires { (first.monitor ≡ self.now) × (second.monitor ≡ self.now) }
+        ensures read { HasMode Read first.held × HasMode Read second.held }
+        ensures learned { HasLearned C.means first result.0 × HasLearned C.means second result.1 }
+        ensures before { AreOfOneHistory first second }
+        ensures after { result.1.seen ≡ result.0.seen }
+    {
+        let Caller { seat: one, hand } = first;
+        let Caller {
+            seat: other,
+            hand: other_hand,
+        } = second;
+        let (one, other) = self.gate.meet(one, other);
+        let first = Caller { seat: one, hand };
+        let second = Caller {
+            seat: other,
+            hand: other_hand,
+        };
+        (first, second)
+    }
+
+    /// Two callers compare what they have seen: of what one had seen and what the other had, one
+    /// begins the other, with just the events of both as their own; and now both have seen one
+    /// history that begins with it.
+    pub fn meet(&self, first: Seat<C, N>, second: Seat<C, N>) -> (Seat<C, N>, Seat<C, N>)
+        requires { (first.monitor ≡ self.now) × (second.monitor ≡ self.now) }
+        ensures learned { HasLearned C.means first result.0 × HasLearned C.means second result.1 }
+        ensures before { AreOfOneHistory first second }
+        ensures after { result.1.seen ≡ result.0.seen }
+    {
+        let Caller { seat: one, hand: _ } = first;
+        let Caller {
+            seat: other,
+            hand: _,
+        } = second;
+        let (one, other) = self.gate.meet(one, other);
+        (seated(one), seated(other))
+    }
+
     /// Releases the section in hand, in its mode, and again by the word found where another step
     /// came between.
     fn release<R: Wait>(&self, rt: &R, seat: &mut GateSeat<C, N>, releasing: Releasing)
@@ -208,5 +291,19 @@ impl<C: Gated<N>, const N: usize> Monitor<C, N> {
         let Caller { mut seat, hand: _ } = held;
         self.release(rt, &mut seat, Releasing::Reader);
         seated(seat)
+    }
+
+    /// Ends the monitor, and tells the cells as they stand, and whether the lock is free. Where it
+    /// is, they are the row after a history that begins with all that the seat has seen.
+    ///
+    /// The other seats may be dropped, or have a section in hand: then the lock is held, and the
+    /// cells show also what a writer has not committed.
+    pub fn close(self, seat: Seat<C, N>) -> Closed<N>
+        requires { seat.monitor ≡ self }
+        ensures { EndsAs C.means seat result.row result.free }
+    {
+        let Monitor { gate } = self;
+        let Caller { seat, hand: _ } = seat;
+        gate.close(seat)
     }
 }
