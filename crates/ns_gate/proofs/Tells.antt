@@ -61,16 +61,15 @@ module _ {C : Type 0} {N : ℕ} (truths : Truths C) where
   judged_cell b meant act k me now e j = j.cell ∙ ap (λ a. slice_index (row_in (the me.0).at.held) (cell_of a)) e
 
   -- the walk that a step goes on with
-  walk_is : (b : Option (Walk C)) (found : Found) (walk : Walk C) (v w : GateView C N) (d : Did truths b found v w) → walk_by b v.at.walk ≡ Some walk → d.made.step.walk ≡ walk
+  pub walk_is : (b : Option (Walk C)) (found : Found) (walk : Walk C) (v w : GateView C N) (d : Did truths b found v w) → walk_by b v.at.walk ≡ Some walk → d.made.step.walk ≡ walk
   walk_is None found walk v w d walks = let same = d.made.step.walks in cc
   walk_is (Some other) found walk v w d walks = let same = d.made.step.walks in cc
 
   -- A cell that was loaded is the cell of the section in hand.
-  pub cell_in_hand : (b : Option (Walk C)) (i value : ℕ) (held : Held C N) (me now : Me (Lists C) (List (GateView C N))) → CanStep truths b (LoadCell i) me → Performed truths b (LoadCell i) (Cell value) me now → (the now.0).at.held ≡ Some held → value ≡ slice_index held.row i
-  cell_in_hand b i value held me now can p has =
+  pub cell_in_hand : (b : Option (Walk C)) (i value : ℕ) (held : Held C N) (me now : Me (Lists C) (List (GateView C N))) → Performed truths b (LoadCell i) (Cell value) me now → (the now.0).at.held ≡ Some held → value ≡ slice_index held.row i
+  cell_in_hand b i value held me now p has =
       let d = p.did in
       let view = view_in (the me.0).at b in
-      let wants : want_of d.made.step.walk ≡ LoadCell i = ap want_of (walk_is b (Cell value) can.walk (the me.0) (the now.0) d can.walks) ∙ can.wants in
-      let e = subst (λ a. Effect truths view.seat a (part_of d.made.between view.held view.owed) (Cell value) (part_of d.new d.made.step.held d.made.step.owed) d.commits) wants d.made.step.effect in
+      let e = subst (λ a. Effect truths view.seat a (part_of d.made.between view.held view.owed) (Cell value) (part_of d.new d.made.step.held d.made.step.owed) d.commits) p.act_is d.made.step.effect in
       let fits = subst (λ o. SectionFits (standing_after (d.history ++ d.commits)) d.new.row (the now.0).at.seat (the now.0).at.walk o) has d.fits.section in
       e.0 ∙ ap (λ row. slice_index row i) (sym (fits.cells ∙ ap (λ (q : Part C N). q.row) e.1))

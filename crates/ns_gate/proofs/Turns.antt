@@ -5,6 +5,7 @@ use Rattle.std.proofs.lemmas.Bool.{ne_eqb, cases_eq}
 use Rattle.std.proofs.lemmas.List.{get_or-set_same, get_or-set_other, set-get_or}
 use Rattle.atomic_table.specs.Table.{Me, Act as TableAct, keeps as keeps_slots, Valid, homes_after, carried_after, Allows}
 use Rattle.ns_gate.proofs.Keeps.{its_fit, between, lawful_between, stands_between, walk_in, now, later, did, ruled}
+use Rattle.ns_gate.proofs.Tells.{walk_is}
 use Rattle.ns_gate.specs.Law.{GateView, Views, Homes, Shows, AtHome, Shown, IsRuled, Holds}
 use Rattle.ns_gate.specs.Steps.{the, IsOne, walk_by, MayBegin, CanStep, Did, Stepped, Judged, cell_of}
 use Rattle.ns_model.specs.Histories.{standing_after}
@@ -97,11 +98,15 @@ module _ {C : Type 0} {N : ℕ} (truths : Truths C) (cells : 0 < N) (quiet : Qui
   abbrev Slots : Type 0
   Slots = List (ℕ × Lists C)
 
+  -- the step was this act, and found this
+  abbrev Makes : Act C → Found → GateView C N → GateView C N → Type 0
+  Makes act found v w = (d : Did truths b found v w) × (want_of d.made.step.walk ≡ act)
+
   -- what is owed of a step that leaves these words, where the word had this number
   abbrev pub Owes : Homes C → Views C N → GateView C N → Slots → List ℕ → Act C → ℕ → Type 0
   Owes homes views v cs words' act k = (w : GateView C N) × (a : TableAct (Lists C)) × Valid homes cs a
       × ((g : Shown C N) × IsRuled truths limit words' (homes_after homes cs a) (set views id (w ∷ [])) g)
-      × (carried_after cs a ≡ cs) × Did truths b (found_of truths act v.at v.stood k) v w
+      × (carried_after cs a ≡ cs) × Makes act (found_of truths act v.at v.stood k) v w
 
   -- the seat may make the act, which changes the word i by f
   abbrev pub Turns : ℕ → (ℕ → ℕ) → Act C → GateView C N → Slots → Type 0
@@ -114,17 +119,17 @@ module _ {C : Type 0} {N : ℕ} (truths : Truths C) (cells : 0 < N) (quiet : Qui
   turn_at i f act (v ∷ x ∷ xs) cs one t words homes views g r at = absurd one
 
   pub allows : (slots i : ℕ) (f : ℕ → ℕ) (act : Act C) (me : Me (Lists C) (List (GateView C N))) → IsOne me.0 → Turns i f act (the me.0) me.1 → Allows (Holds truths limit) slots id me i f (λ k now. Stepped truths b act k me now)
-  allows slots i f act me one t s h _ at _ = let r = turn_at i f act me.0 me.1 one t s.words s.homes s.views h.0 h.1 at in (r.0 ∷ [], r.1, r.2, r.3, record { made = record { one = tt; carried = r.4; did = r.5 } })
+  allows slots i f act me one t s h _ at _ = let r = turn_at i f act me.0 me.1 one t s.words s.homes s.views h.0 h.1 at in (r.0 ∷ [], r.1, r.2, r.3, record { made = record { one = tt; carried = r.4; did = r.5.0; act_is = r.5.1 } })
 
   -- a store tells of the number stored
   abbrev found_by : Act C → GateView C N → Views C N → Homes C → Slots → List ℕ → Found → Type 0
-  found_by act v views homes cs words' f = (w : GateView C N) × (a : TableAct (Lists C)) × Valid homes cs a × ((g : Shown C N) × IsRuled truths limit words' (homes_after homes cs a) (set views id (w ∷ [])) g) × (carried_after cs a ≡ cs) × Did truths b f v w
+  found_by act v views homes cs words' f = (w : GateView C N) × (a : TableAct (Lists C)) × Valid homes cs a × ((g : Shown C N) × IsRuled truths limit words' (homes_after homes cs a) (set views id (w ∷ [])) g) × (carried_after cs a ≡ cs) × Makes act f v w
 
   pub allows_store : (slots i x : ℕ) (act : Act C) (me : Me (Lists C) (List (GateView C N))) → ((k : ℕ) → found_of truths act (the me.0).at (the me.0).stood k ≡ found_of truths act (the me.0).at (the me.0).stood x) → IsOne me.0 → Turns i (λ _. x) act (the me.0) me.1 → Allows (Holds truths limit) slots id me i (λ _. x) (λ _ now. Stepped truths b act x me now)
   allows_store slots i x act me same one t s h _ at _ =
       let r = turn_at i (λ _. x) act me.0 me.1 one t s.words s.homes s.views h.0 h.1 at in
       let q = subst (λ (f : Found). found_by act (the me.0) s.views s.homes me.1 (set s.words i x) f) (same (get_or s.words i 0)) r in
-      (q.0 ∷ [], q.1, q.2, q.3, record { made = record { one = tt; carried = q.4; did = q.5 } })
+      (q.0 ∷ [], q.1, q.2, q.3, record { made = record { one = tt; carried = q.4; did = q.5.0; act_is = q.5.1 } })
 
   -- the word i has this number, by the rule
   abbrev pub Reads : ℕ → ℕ → GateView C N → Type 0
@@ -138,7 +143,7 @@ module _ {C : Type 0} {N : ℕ} (truths : Truths C) (cells : 0 < N) (quiet : Qui
   pub allows_judging : (slots i : ℕ) (f : ℕ → ℕ) (act : Act C) (me : Me (Lists C) (List (GateView C N))) → IsOne me.0 → Turns i f act (the me.0) me.1 → Reads i (slice_index (row_in (the me.0).at.held) (cell_of act)) (the me.0)
       → Allows (Holds truths limit) slots id me i f (λ k now. Judged truths b act k me now)
   allows_judging slots i f act me one t reads s h _ at _ = let r = turn_at i f act me.0 me.1 one t s.words s.homes s.views h.0 h.1 at in
-      (r.0 ∷ [], r.1, r.2, r.3, record { stepped = record { made = record { one = tt; carried = r.4; did = r.5 } }; cell = reads_at i (slice_index (row_in (the me.0).at.held) (cell_of act)) me.0 one reads s.words s.homes s.views h.0 h.1 at })
+      (r.0 ∷ [], r.1, r.2, r.3, record { stepped = record { made = record { one = tt; carried = r.4; did = r.5.0; act_is = r.5.1 } }; cell = reads_at i (slice_index (row_in (the me.0).at.held) (cell_of act)) me.0 one reads s.words s.homes s.views h.0 h.1 at })
 
   module _ (v : GateView C N) (may : MayBegin truths b v.at) (walk : Walk C) (walks : walk_by b v.at.walk ≡ Some walk) (words : List ℕ) (homes : Homes C) (views : Views C N) (g : Shown C N) (r : IsRuled truths limit words homes views g) (at : get_elem? views id ≡ some (v ∷ [])) (cs : Slots) where
     abbrev old : Part C N
@@ -172,13 +177,14 @@ module _ {C : Type 0} {N : ℕ} (truths : Truths C) (cells : 0 < N) (quiet : Qui
     finish : (act : Act C) → want_of walk ≡ act → (k : ℕ) (found : Found) (part : Part C N) (commits : List (Event C N)) → Effect truths v.at.seat act old found part commits → found_of truths act v.at v.stood k ≡ found → (words' : List ℕ) → Shows N words' part.word part.row part.flags
         → AtHome part.word.spin part.lists homes → part.word.waiting ≡ false → part.lists ≡ g.state.lists → Owes homes views v cs words' act k
     finish act wants k found part commits e is words' shows home nobody kept =
-        let e' : Effect truths v.at.seat (want_of walk) old found part commits = subst (λ x. Effect truths v.at.seat x old found part commits) (sym wants) e in (
+        let e' : Effect truths v.at.seat (want_of walk) old found part commits = subst (λ x. Effect truths v.at.seat x old found part commits) (sym wants) e in
+        let d = did truths cells quiet limit words homes views g r id v at b may walk walks found part commits e' in (
           now truths cells quiet limit words homes views g r id v at b may walk walks found part commits e',
           keeps_slots,
           tt,
           (later truths cells quiet limit words homes views g r id v at b may walk walks found part commits e', ruled truths cells quiet limit words homes views g r id v at b may walk walks found part commits e' words' homes shows home nobody (inl kept)),
           refl,
-          subst (λ (x : Found). Did truths b x v (now truths cells quiet limit words homes views g r id v at b may walk walks found part commits e')) (sym is) (did truths cells quiet limit words homes views g r id v at b may walk walks found part commits e'),
+          subst (λ (x : Found). Makes act x v (now truths cells quiet limit words homes views g r id v at b may walk walks found part commits e')) (sym is) (d, ap want_of (walk_is truths b found walk v (now truths cells quiet limit words homes views g r id v at b may walk walks found part commits e') d walks) ∙ wants),
         )
 
     -- nothing changes

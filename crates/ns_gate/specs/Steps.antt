@@ -88,6 +88,7 @@ pub record Performed {C : Type 0} {N : ℕ} (truths : Truths C) (begun : Option 
   pub one : IsOne now.0
   pub carried : now.1 ≡ me.1
   pub did : Did truths begun found (the me.0) (the now.0)
+  pub act_is : want_of did.made.step.walk ≡ act
 
 -- the same, where the word that the act loads or compares had this number
 pub record Stepped {C : Type 0} {N : ℕ} (truths : Truths C) (begun : Option (Walk C)) (act : Act C) (number : ℕ) (me now : Me (Lists C) (List (GateView C N))) : Type 0 where

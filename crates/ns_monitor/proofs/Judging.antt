@@ -89,13 +89,13 @@ module _ {C : Type 0} {N : ℕ} (truths : Truths C) where
   first_cell walk value me now is many rest writes p =
       let there = is_there_by Write (the me.0).at.held writes in
       let at = loads_first walk value me now is many rest p in
-      cell_in_hand truths (Some walk) 0 value there.0 me now (judges_first walk me is many rest writes) p (same_section 1 (the me.0) now at ∙ there.1) ∙ ap (λ (o : Option (Held C N)). slice_index (row_in o) 0) (sym there.1)
+      cell_in_hand truths (Some walk) 0 value there.0 me now p (same_section 1 (the me.0) now at ∙ there.1) ∙ ap (λ (o : Option (Held C N)). slice_index (row_in o) 0) (sym there.1)
 
   pub next_cell : (i value : ℕ) (v : GateView C N) (me now : SeatOf C N) → i < N - 1 → HasMode Write v.at.held → HasLoaded i v me → Performed truths None (LoadCell i) (Cell value) me now → value ≡ slice_index (row_in v.at.held) i
   next_cell i value v me now low writes at p =
       let there = is_there_by Write v.at.held writes in
       let then = loads_next i value v me now low at p in
-      cell_in_hand truths None i value there.0 me now (judges_next i v me low at) p (same_section (i + 1) v now then ∙ there.1) ∙ ap (λ (o : Option (Held C N)). slice_index (row_in o) i) (sym there.1)
+      cell_in_hand truths None i value there.0 me now p (same_section (i + 1) v now then ∙ there.1) ∙ ap (λ (o : Option (Held C N)). slice_index (row_in o) i) (sym there.1)
 
 -- so many cells of a row were read
 pub record AreRead (N : ℕ) (row read : List ℕ) (i : ℕ) : Type 0 where
