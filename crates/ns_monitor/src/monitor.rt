@@ -248,8 +248,8 @@ impl<C: Gated<N>, const N: usize> Monitor<C, N> {
             seat: other,
             hand: _,
         } = second;
-        let (one, other) = self.gate.meet(one, other);
-        (seated(one), seated(other))
+        let (first, second) = self.gate.meet(one, other);
+        (seated(first), seated(second))
     }
 
     /// Releases the section in hand, in its mode, and again by the word found where another step

@@ -19,6 +19,8 @@ mod memory;
 #[cfg(test)]
 mod model;
 #[cfg(test)]
+mod monitor;
+#[cfg(test)]
 mod note;
 #[cfg(test)]
 mod queue;

@@ -1,0 +1,264 @@
+//! What no clause says of a monitor: that its calls succeed where they can, and that threads meet in
+//! it.
+
+ghost use Rattle.std.specs.Prelude.{◌≡◌, nat_le, slice_index, false, IfOk, IfErr, IfSome};
+ghost use Rattle.ns_model.specs.Truths.{truths};
+ghost use Rattle.std.specs.Thread.{IsSync};
+
+use crate::examples::Plain;
+use ns_gate::fault::Fault;
+use ns_model::condition::Condition;
+use ns_monitor::caller::{ReadHeld, Seat};
+use ns_monitor::monitor::Monitor;
+use std::alloc::Global;
+use std::sync::Wait;
+use std::test::Fail;
+use std::thread::{Threads, join};
+
+/// A condition that is never true. A change is quiet where the first cell has not risen.
+#[derive(Clone, Copy)]
+struct Falling;
+
+impl Condition<2> for Falling {
+    ghost use Rattle.std.proofs.Common.{rules};
+
+    ghost means = { truths (λ c row. false) (λ c d. false) (λ before after. nat_le (slice_index after 0) (slice_index before 0)) };
+
+    fn test(&self, _row: &[u64; 2]) -> bool {
+        false
+    }
+
+    fn same(&self, _other: &Self) -> bool {
+        false
+    }
+
+    fn quiet(before: &[u64; 2], after: &[u64; 2]) -> bool {
+        after[0] <= before[0]
+    }
+
+    ghost same_agrees = { λ c d row n e. absurd (Prim.cc) };
+
+    ghost quiet_keeps = { λ c before after n m quiet h. absurd (Prim.cc) };
+
+    ghost has_cells = { Prim.search rules };
+
+    ghost has_room = { Prim.search rules };
+}
+
+/// How often a thread tries.
+const TRIES: u64 = 10_000;
+
+/// How often a thread tries that has to succeed.
+const MANY_TRIES: u32 = 1_000_000;
+
+/// A monitor and its two seats.
+fn two_seats(alloc: Global) -> Option<(Monitor<Plain, 2>, Seat<Plain, 2>, Seat<Plain, 2>)>
+    ensures { IfSome result (λ r. (r.1.monitor ≡ r.0) × (r.2.monitor ≡ r.0)) }
+{
+    let (monitor, mut seats) = Monitor::<Plain, 2>::new(alloc, 2).ok()?;
+    let second = seats.pop()?;
+    let first = seats.pop()?;
+    Some((monitor, first, second))
+}
+
+/// A writer, then a reader, and a writer that finds the lock held.
+#[test]
+fn tries(rt: HostRuntime) -> Result<(), Fail> {
+    let Some((monitor, first, second)) = two_seats(rt.alloc()) else {
+        panic!(rt; "no monitor")
+    };
+    let Ok(mut held) = monitor.try_lock(first) else { panic!(rt; "busy") };
+    monitor.set(&mut held, 1, 7);
+    let first = monitor.unlock(&rt, held);
+    let Ok(mut held) = monitor.try_rlock(first) else { panic!(rt; "busy for a reader") };
+    assert_eq!(rt; monitor.get(&mut held, 1), 7);
+    let Err(second) = monitor.try_lock(second) else { panic!(rt; "two hold the lock") };
+    let Ok(other) = monitor.try_rlock(second) else { panic!(rt; "busy beside a reader") };
+    let first = monitor.runlock(&rt, held);
+    let second = monitor.runlock(&rt, other);
+    let (first, _) = monitor.meet(first, second);
+    let closed = monitor.close(first);
+    assert!(rt; closed.free);
+    assert_eq!(rt; closed.row, [0, 7]);
+    Ok(())
+}
+
+/// A monitor that is closed while a section is in hand says so.
+#[test]
+fn closed_while_held(rt: HostRuntime) -> Result<(), Fail> {
+    let Some((monitor, first, second)) = two_seats(rt.alloc()) else {
+        panic!(rt; "no monitor")
+    };
+    let Ok(mut held) = monitor.try_lock(first) else { panic!(rt; "busy") };
+    monitor.set(&mut held, 0, 3);
+    let closed = monitor.close(second);
+    assert!(rt; !closed.free);
+    assert_eq!(rt; closed.row, [3, 0]);
+    Ok(())
+}
+
+/// A fall of a cell is quiet, a rise is not, and a rise that is taken back is.
+#[test]
+fn quiet_sections(rt: HostRuntime) -> Result<(), Fail> {
+    let Ok((monitor, mut seats)) = Monitor::<Falling, 2>::new(rt.alloc(), 1) else {
+        panic!(rt; "no monitor")
+    };
+    let Some(seat) = seats.pop() else { panic!(rt; "no seat") };
+    let Ok(mut held) = monitor.try_lock(seat) else { panic!(rt; "busy") };
+    assert!(rt; monitor.is_quiet(&mut held));
+    monitor.set(&mut held, 0, 3);
+    assert!(rt; !monitor.is_quiet(&mut held));
+    let seat = monitor.unlock(&rt, held);
+    let Ok(mut held) = monitor.try_lock(seat) else { panic!(rt; "busy again") };
+    monitor.set(&mut held, 0, 2);
+    assert!(rt; monitor.is_quiet(&mut held));
+    monitor.set(&mut held, 0, 4);
+    assert!(rt; !monitor.is_quiet(&mut held));
+    monitor.set(&mut held, 0, 3);
+    assert!(rt; monitor.is_quiet(&mut held));
+    monitor.unlock(&rt, held);
+    Ok(())
+}
+
+/// Tries to lock, and adds 1 to a cell where it succeeds; tells how often it did.
+fn add_many<R: Wait>(
+    rt: &R,
+    monitor: &Monitor<Plain, 2>,
+    mut seat: Seat<Plain, 2>,
+) -> (Seat<Plain, 2>, u64)
+    requires { seat.monitor ≡ monitor.now }
+    ensures { result.0.monitor ≡ seat.monitor }
+{
+    let mut won = 0u64;
+    for _ in 0..TRIES {
+        seat = match monitor.try_lock(seat) {
+            Ok(mut held) => {
+                let value = monitor.get(&mut held, 0);
+                monitor.set(&mut held, 0, value.wrapping_add(1));
+                won = won.wrapping_add(1);
+                monitor.unlock(rt, held)
+            }
+            Err(back) => back,
+        };
+    }
+    (seat, won)
+}
+
+/// Two threads add, each as often as its tries succeed.
+fn add_twice<R: Threads + Wait + Sync>(
+    rt: &R,
+    monitor: &Monitor<Plain, 2>,
+    first: Seat<Plain, 2>,
+    second: Seat<Plain, 2>,
+) -> ((Seat<Plain, 2>, u64), (Seat<Plain, 2>, u64))
+    requires { (first.monitor ≡ monitor.now) × (second.monitor ≡ monitor.now) }
+    ensures { result.0.0.monitor ≡ monitor.now }
+{
+    join(
+        rt,
+        move || -> (Seat<Plain, 2>, u64)
+            requires { IsSync R.row × (first.monitor ≡ monitor.now) }
+            ensures { result.0.monitor ≡ monitor.entry.now }
+        { add_many(rt, monitor, first) },
+        move || -> (Seat<Plain, 2>, u64)
+            requires { IsSync R.row × (second.monitor ≡ monitor.now) }
+        { add_many(rt, monitor, second) },
+    )
+}
+
+/// No addition is lost, and the lock ends free.
+#[test]
+fn two_adders(rt: HostRuntime) -> Result<(), Fail> {
+    let Some((monitor, first, second)) = two_seats(rt.alloc()) else {
+        panic!(rt; "no monitor")
+    };
+    let ((seat, won), (_, other)) = add_twice(&rt, &monitor, first, second);
+    let closed = monitor.close(seat);
+    assert!(rt; closed.free);
+    assert_eq!(rt; closed.row[0], won.wrapping_add(other));
+    assert!(rt; closed.row[0] > 0);
+    Ok(())
+}
+
+/// Locks to read, after as many tries as it takes.
+fn read_soon(
+    monitor: &Monitor<Plain, 2>,
+    mut seat: Seat<Plain, 2>,
+) -> Result<ReadHeld<Plain, 2>, Seat<Plain, 2>>
+    requires { seat.monitor ≡ monitor.now }
+    ensures { IfOk result (λ held. held.monitor ≡ monitor.now) × IfErr result (λ back. back.monitor ≡ monitor.now) }
+{
+    for _ in 0..MANY_TRIES {
+        match monitor.try_rlock(seat) {
+            Ok(held) => return Ok(held),
+            Err(back) => seat = back,
+        }
+    }
+    Err(seat)
+}
+
+/// Two threads lock to read.
+fn read_twice<R: Threads>(
+    rt: &R,
+    monitor: &Monitor<Plain, 2>,
+    first: Seat<Plain, 2>,
+    second: Seat<Plain, 2>,
+) -> (
+    Result<ReadHeld<Plain, 2>, Seat<Plain, 2>>,
+    Result<ReadHeld<Plain, 2>, Seat<Plain, 2>>,
+)
+    requires { (first.monitor ≡ monitor.now) × (second.monitor ≡ monitor.now) }
+    ensures { IfOk result.0 (λ held. held.monitor ≡ monitor.now) × IfOk result.1 (λ held. held.monitor ≡ monitor.now) }
+{
+    join(
+        rt,
+        move || -> Result<ReadHeld<Plain, 2>, Seat<Plain, 2>>
+            requires { first.monitor ≡ monitor.now }
+            ensures { IfOk result (λ held. held.monitor ≡ monitor.entry.now) }
+        { read_soon(monitor, first) },
+        move || -> Result<ReadHeld<Plain, 2>, Seat<Plain, 2>>
+            requires { second.monitor ≡ monitor.now }
+            ensures { IfOk result (λ held. held.monitor ≡ monitor.entry.now) }
+        { read_soon(monitor, second) },
+    )
+}
+
+/// Two threads hold read sections at once, which meet.
+#[test]
+fn two_readers_meet(rt: HostRuntime) -> Result<(), Fail> {
+    let Some((monitor, first, second)) = two_seats(rt.alloc()) else {
+        panic!(rt; "no monitor")
+    };
+    let (Ok(first), Ok(second)) = read_twice(&rt, &monitor, first, second) else {
+        panic!(rt; "a reader was kept out")
+    };
+    let (mut first, mut second) = monitor.both_read(first, second);
+    assert_eq!(rt; monitor.get(&mut first, 0), monitor.get(&mut second, 0));
+    let first = monitor.runlock(&rt, first);
+    let second = monitor.runlock(&rt, second);
+    let (first, _) = monitor.meet(first, second);
+    assert!(rt; monitor.close(first).free);
+    Ok(())
+}
+
+/// 64 seats are made, and 65 are refused before any memory is asked for.
+#[test]
+fn too_many_seats(rt: HostRuntime) {
+    match Monitor::<Plain, 2>::new(rt.alloc(), 64) {
+        Ok((_monitor, seats)) => assert_eq!(rt; seats.len(), 64),
+        Err(_) => panic!(rt; "no monitor"),
+    }
+    match Monitor::<Plain, 2>::new(rt.alloc(), 65) {
+        Ok((_monitor, _seats)) => panic!(rt; "a monitor of 65 seats"),
+        Err(fault) => assert_eq!(rt; fault, Fault::TooManySeats),
+    }
+}
+
+/// With each allocation refused in turn no monitor is made, for that reason.
+#[test]
+fn refused_memory(rt: HostRuntime) {
+    match Monitor::<Plain, 2>::new(rt.alloc(), 3) {
+        Ok((_monitor, seats)) => assert_eq!(rt; seats.len(), 3),
+        Err(fault) => assert_eq!(rt; fault, Fault::OutOfMemory),
+    }
+}
