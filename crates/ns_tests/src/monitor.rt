@@ -67,13 +67,21 @@ fn tries(rt: HostRuntime) -> Result<(), Fail> {
     let Some((monitor, first, second)) = two_seats(rt.alloc()) else {
         panic!(rt; "no monitor")
     };
-    let Ok(mut held) = monitor.try_lock(first) else { panic!(rt; "busy") };
+    let Ok(mut held) = monitor.try_lock(first) else {
+        panic!(rt; "busy")
+    };
     monitor.set(&mut held, 1, 7);
     let first = monitor.unlock(&rt, held);
-    let Ok(mut held) = monitor.try_rlock(first) else { panic!(rt; "busy for a reader") };
+    let Ok(mut held) = monitor.try_rlock(first) else {
+        panic!(rt; "busy for a reader")
+    };
     assert_eq!(rt; monitor.get(&mut held, 1), 7);
-    let Err(second) = monitor.try_lock(second) else { panic!(rt; "two hold the lock") };
-    let Ok(other) = monitor.try_rlock(second) else { panic!(rt; "busy beside a reader") };
+    let Err(second) = monitor.try_lock(second) else {
+        panic!(rt; "two hold the lock")
+    };
+    let Ok(other) = monitor.try_rlock(second) else {
+        panic!(rt; "busy beside a reader")
+    };
     let first = monitor.runlock(&rt, held);
     let second = monitor.runlock(&rt, other);
     let (first, _) = monitor.meet(first, second);
@@ -89,7 +97,9 @@ fn closed_while_held(rt: HostRuntime) -> Result<(), Fail> {
     let Some((monitor, first, second)) = two_seats(rt.alloc()) else {
         panic!(rt; "no monitor")
     };
-    let Ok(mut held) = monitor.try_lock(first) else { panic!(rt; "busy") };
+    let Ok(mut held) = monitor.try_lock(first) else {
+        panic!(rt; "busy")
+    };
     monitor.set(&mut held, 0, 3);
     let closed = monitor.close(second);
     assert!(rt; !closed.free);
@@ -103,13 +113,19 @@ fn quiet_sections(rt: HostRuntime) -> Result<(), Fail> {
     let Ok((monitor, mut seats)) = Monitor::<Falling, 2>::new(rt.alloc(), 1) else {
         panic!(rt; "no monitor")
     };
-    let Some(seat) = seats.pop() else { panic!(rt; "no seat") };
-    let Ok(mut held) = monitor.try_lock(seat) else { panic!(rt; "busy") };
+    let Some(seat) = seats.pop() else {
+        panic!(rt; "no seat")
+    };
+    let Ok(mut held) = monitor.try_lock(seat) else {
+        panic!(rt; "busy")
+    };
     assert!(rt; monitor.is_quiet(&mut held));
     monitor.set(&mut held, 0, 3);
     assert!(rt; !monitor.is_quiet(&mut held));
     let seat = monitor.unlock(&rt, held);
-    let Ok(mut held) = monitor.try_lock(seat) else { panic!(rt; "busy again") };
+    let Ok(mut held) = monitor.try_lock(seat) else {
+        panic!(rt; "busy again")
+    };
     monitor.set(&mut held, 0, 2);
     assert!(rt; monitor.is_quiet(&mut held));
     monitor.set(&mut held, 0, 4);
@@ -229,8 +245,12 @@ fn two_readers_meet(rt: HostRuntime) -> Result<(), Fail> {
     let Some((monitor, first, second)) = two_seats(rt.alloc()) else {
         panic!(rt; "no monitor")
     };
-    let (Ok(first), Ok(second)) = read_twice(&rt, &monitor, first, second) else {
-        panic!(rt; "a reader was kept out")
+    let (first, second) = read_twice(&rt, &monitor, first, second);
+    let Ok(first) = first else {
+        panic!(rt; "the first reader was kept out")
+    };
+    let Ok(second) = second else {
+        panic!(rt; "the second reader was kept out")
     };
     let (mut first, mut second) = monitor.both_read(first, second);
     assert_eq!(rt; monitor.get(&mut first, 0), monitor.get(&mut second, 0));
