@@ -14,7 +14,7 @@ use Rattle.ns_monitor.proofs.Hands.{is_there_by}
 use Rattle.ns_monitor.specs.Walks.{judging}
 use Rattle.ns_word.specs.Finds.{row_in}
 use Rattle.ns_word.specs.Places.{HasMode}
-use Rattle.ns_word.specs.Walks.{quiet_place}
+use Rattle.ns_word.specs.Walks.{quiet_place, want_of}
 use Rattle.ns_word.specs.declared.act.Act.TheVariants.{LoadCell, JudgeQuiet}
 use Rattle.ns_word.specs.declared.act.Found.TheVariants.{Cell, Quiet}
 use Rattle.ns_word.specs.declared.cell_walk.CellPlace.TheVariants.{QuietCells, QuietLast}
@@ -38,6 +38,14 @@ module _ {C : Type 0} (N : ℕ) where
 
   only_is : N ≡ 1 → judging {C = C} N ≡ InCells (QuietLast ToTell 0)
   only_is one = let low : N - 1 ≤ 0 = omega (arith, one) in let zero : N - 1 ≡ 0 = omega (arith, one) in ap (λ place. InCells place) (last_cell N 0 low ∙ ap (λ (n : ℕ). QuietLast ToTell n) zero)
+
+module _ (C : Type 0) (N : ℕ) where
+  -- what its first place wants
+  pub first_wants : (walk : Walk C) → walk ≡ judging N → 0 < N - 1 → want_of walk ≡ LoadCell 0
+  first_wants walk is many = ap want_of (is ∙ first_is N many)
+
+  pub only_wants : (walk : Walk C) → walk ≡ judging N → N ≡ 1 → want_of walk ≡ JudgeQuiet 0
+  only_wants walk is one = ap want_of (is ∙ only_is N one)
 
 module _ {C : Type 0} {N : ℕ} (truths : Truths C) where
   -- a call that has loaded so many cells of the section
