@@ -1,5 +1,5 @@
 -- The lock word has a number, and so has the word that a seat has last seen.
-use Rattle.std.proofs.Common.{◌≡◌, ℕ, ◌+◌, ◌-◌, ◌/◌, ◌≤◌, ◌==◌, Bool, true, false, not, cond, ltb, inl, inr, List, Option, None, Some, sym, subst, arith}
+use Rattle.std.proofs.Common.{◌≡◌, ℕ, ◌+◌, ◌-◌, ◌≤◌, ◌==◌, Bool, true, false, not, cond, ltb, List, Option, None, Some, sym, subst, arith}
 use Rattle.ns_model.specs.declared.event.Mode.{Mode}
 use Rattle.ns_model.specs.declared.event.Event.{Event}
 use Rattle.ns_model.specs.Truths.{Truths}
@@ -46,7 +46,7 @@ use Rattle.ns_word.specs.declared.act.Act.{Act}
 use Rattle.ns_word.specs.declared.act.Act.TheVariants.{LoadWord, Acquire, TakeQueues, ReturnQueues, Release, ReleaseReturning, WaitReturning}
 use Rattle.ns_word.specs.declared.act.Found.{Found}
 use Rattle.ns_word.specs.declared.act.Found.TheVariants.{Saw, Made, Cell, Quiet, Tested, Scanned, Paid, Left, Woke, Flag, Looked}
-use Rattle.ns_word.specs.Codec.{word_of, IsPackable, IsBad}
+use Rattle.ns_word.specs.Codec.{IsPackable}
 use Rattle.ns_word.specs.Words.{may_acquire, needs_scan, word_taken}
 use Rattle.ns_word.specs.Waits.{is_limited, mode_for, arrival_of, kept_in}
 use Rattle.ns_word.specs.Views.{readers}
@@ -62,13 +62,7 @@ packable truths seats h s few p =
     let count : s.word.readers ≡ readers s.views = p.readers_counted in
     record { few = omega (arith, most, few, count); alone = λ e. let none : readers s.views ≡ 0 = p.one_writer.alone e in omega (arith, count, none) }
 
--- the number of such a word is not refused
-pub not_bad : (bits : ℕ) → IsPackable (word_of bits) → IsBad bits → ⊥
-unfolding word_of
-not_bad bits p (inl bad) = let none : bits / 256 ≡ 0 = p.alone bad.0 in omega (arith, none, bad.1)
-not_bad bits p (inr bad) = let few : bits / 256 ≤ 64 = p.few in omega (arith, few, bad)
-
--- nor does one who takes the queues change who holds the lock
+-- who takes the queues doesn't change who holds the lock
 pub taken_packable : (taking : Taking) (word : Word) → IsPackable word → IsPackable (word_taken taking word)
 taken_packable ToChange word p = record { few = p.few; alone = p.alone }
 taken_packable (ToQueue mode arrival) word p = record { few = p.few; alone = p.alone }

@@ -2,7 +2,7 @@
 //! `specs/Codec.antt`, and nowhere else.
 //! The table of the bits, with the value of each, is at the head of `word.rt`.
 
-ghost use Rattle.std.specs.Prelude.{◌≡◌, ◌*◌, ◌<◌, ◌≤◌, Ok, MatchResult};
+ghost use Rattle.std.specs.Prelude.{◌≡◌, ◌*◌, ◌/◌, ◌<◌, ◌≤◌, Ok, MatchResult};
 ghost use Rattle.ns_word.specs.Begins.{free_word};
 ghost use Rattle.ns_word.specs.Codec.{bit, number_of, word_of, is_set, IsPackable, IsBad};
 
@@ -72,15 +72,30 @@ pub fn a_free_word_is_zero()
     ensures word { Word.FREE ≡ free_word }
 {}
 
-/// The word of a number that is one's, as a lawful lock's always is.
+/// The word of a number, taken apart bit by bit.
+fn taken_apart(bits: u64) -> Word
+    requires { bits / 256 < 256 }
+    ensures { result ≡ word_of bits }
+{
+    Word {
+        write: is_set(bits, WRITE),
+        spin: is_set(bits, SPIN),
+        waiting: is_set(bits, WAITING),
+        desig: is_set(bits, DESIGNATED),
+        cond: is_set(bits, CONDITIONAL),
+        writer_waits: is_set(bits, WRITER_WAITS),
+        all_false: is_set(bits, ALL_FALSE),
+        long: is_set(bits, LONG),
+        readers: (bits / READER) as u8,
+    }
+}
+
+/// The word of a number that is one's, as a lawful lock's always is: nothing is tested.
 pub fn unpacked(bits: u64) -> Word
     requires { IsPackable (word_of bits) }
     ensures { result ≡ word_of bits }
 {
-    match decode(bits) {
-        Ok(word) => word,
-        Err(_) => unreachable!(),
-    }
+    taken_apart(bits)
 }
 
 /// The word of a number, so that decoding undoes encoding. Refuses (`BadWord`) a number with a
@@ -94,15 +109,5 @@ pub fn decode(bits: u64) -> Result<Word, BadWord>
     if readers > MOST_READERS || write && readers > 0 {
         return Err(BadWord);
     }
-    Ok(Word {
-        write,
-        spin: is_set(bits, SPIN),
-        waiting: is_set(bits, WAITING),
-        desig: is_set(bits, DESIGNATED),
-        cond: is_set(bits, CONDITIONAL),
-        writer_waits: is_set(bits, WRITER_WAITS),
-        all_false: is_set(bits, ALL_FALSE),
-        long: is_set(bits, LONG),
-        readers: readers as u8,
-    })
+    Ok(taken_apart(bits))
 }

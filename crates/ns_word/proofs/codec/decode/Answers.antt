@@ -1,18 +1,14 @@
-use Rattle.std.proofs.Common.{refl}
+use Rattle.std.proofs.Common.{◌≡◌, ◌∙◌, ◌≤◌, ◌/◌, ◌⊎◌, true, false, Ok, ap, sym, subst}
 use Rattle.ns_word.specs.Codec.{word_of}
-use Rattle.ns_word.proofs.Codes.{read_back}
+use Rattle.ns_word.specs.declared.word.Word.{Word}
+use Rattle.ns_word.proofs.Codes.{decoded, read_back}
 use Rattle.ns_word.proofs.codec.decode.Goals as goal
+
+pub returns-clause-undoes : goal.returns-clause-undoes
+returns-clause-undoes c = λ word p e. ap Ok (c.taken_apart.ensures ∙ (ap word_of e ∙ decoded word))
 
 pub returns-clause-gives : goal.returns-clause-gives
 unfolding word_of
-returns-clause-gives c = read_back c.args.bits _
-    (rw (
-      c.is_set-write.ensures,
-      c.is_set.ensures,
-      c.is_set-2.ensures,
-      c.is_set-3.ensures,
-      c.is_set-4.ensures,
-      c.is_set-5.ensures,
-      c.is_set-6.ensures,
-      c.is_set-7.ensures,
-    ) refl) c.if-readers-gt-MOST_READERS.false c.if-readers-gt0.either
+returns-clause-gives c = let bits = c.args.bits in
+    let same = c.is_set-write.ensures ∙ sym (ap (λ (w : Word). w.write) c.taken_apart.ensures) in
+    read_back bits c.taken_apart.result c.taken_apart.ensures c.if-readers-gt-MOST_READERS.false (subst (λ b. ((b ≡ true) × (bits / 256 ≤ 0)) ⊎ (b ≡ false)) same c.if-readers-gt0.either)

@@ -1,5 +1,7 @@
-use Rattle.ns_word.proofs.Seen.{not_bad}
+use Rattle.std.proofs.Common.{◌≤◌, ◌/◌, arith}
+use Rattle.ns_word.specs.Codec.{word_of}
 use Rattle.ns_word.proofs.codec.unpacked.Goals as goal
 
-pub unreachable-requires : goal.unreachable-requires
-unreachable-requires c = not_bad c.args.bits c.requires c.in-Err.ensures.gives
+pub taken_apart-requires : goal.taken_apart-requires
+unfolding word_of
+taken_apart-requires c = let few : c.args.bits / 256 ≤ 64 = c.requires.few in omega (arith, few)
