@@ -108,6 +108,8 @@ impl<C: Gated<N>, const N: usize> Gate<C, N> {
     }
 
     /// The first of the seats that this one stands for, which then stands for the others.
+    ///
+    /// Needs a seat of this gate. One that stands for nobody any more gives one that does neither.
     pub fn part(&self, all: &mut GateSeat<C, N>) -> GateSeat<C, N>
         requires { all.old.table_id ≡ self.now }
         ensures all { (all.new.table_id ≡ all.old.table_id) × (all.new.me.0 ≡ rest_of all.old.me.0) × (all.new.me.1 ≡ all.old.me.1) }

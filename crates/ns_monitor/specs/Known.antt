@@ -1,5 +1,5 @@
 -- What contracts see of a caller, and how it grows.
-use Rattle.std.specs.Prelude.{◌≡◌, ℕ, suc, ◌⊎◌, Bool, true, not, List, [], ◌∷◌, ◌++◌, Option, Some}
+use Rattle.std.specs.Prelude.{◌≡◌, ℕ, suc, ◌⊎◌, Bool, true, not, List, [], ◌∷◌, ◌++◌, Option, None, Some}
 use Rattle.atomic_table.specs.Seated.{TableId}
 use Rattle.ns_model.specs.declared.event.Event.{Event}
 use Rattle.ns_model.specs.declared.event.Mode.{Mode}
@@ -13,7 +13,7 @@ use Rattle.ns_word.specs.Steps.{State}
 use Rattle.ns_word.specs.Words.{is_held}
 use Rattle.ns_word.specs.Meanings.{new_section}
 use Rattle.ns_gate.specs.Calls.{IsTrueToHistory}
-use Rattle.ns_gate.specs.Law.{GateView, fresh_seat}
+use Rattle.ns_gate.specs.Law.{GateView}
 
 -- what contracts see of a seat or a section: its monitor, how many seats that has, its own number, the history that it has seen, its own events, the calls that it has begun, by their first places, and the section in hand
 pub record Known (C : Type 0) (N : ℕ) : Type 0 where
@@ -50,10 +50,14 @@ pub record HasLocked {C : Type 0} {N : ℕ} (truths : Truths C) (call : Walk C) 
   pub mine : new.mine ≡ old.mine
   pub section : new.held ≡ Some (new_section mode (row_after new.seen))
 
--- the seats of a new monitor, from a number on: none has seen or done anything
+-- a seat of a new monitor with so many: it has seen and done nothing, and has nothing in hand
+abbrev pub new_seat : {C : Type 0} {N : ℕ} → TableId → ℕ → ℕ → Known C N
+new_seat monitor limit seat = record { monitor = monitor; limit = limit; seat = seat; seen = []; mine = []; begun = []; held = None }
+
+-- the seats of a new monitor, from a number on
 abbrev pub AreNew : {C : Type 0} {N : ℕ} → ℕ → TableId → ℕ → List (Known C N) → Type 0
 AreNew limit monitor from [] = Unit {0}
-AreNew limit monitor from (seat ∷ seats) = (seat ≡ known_of monitor (fresh_seat limit from)) × AreNew limit monitor (suc from) seats
+AreNew limit monitor from (seat ∷ seats) = (seat ≡ new_seat monitor limit from) × AreNew limit monitor (suc from) seats
 
 -- Nothing of the caller has changed but what it has seen: a legal history by the seats that there are, which begins with what it had seen, and in which its own events are just its own.
 pub record HasLearned {C : Type 0} {N : ℕ} (truths : Truths C) (old new : Known C N) : Type 0 where

@@ -9,3 +9,6 @@
 
 pub mod caller;
 pub mod monitor;
+
+pub use ns_gate::closed::Closed;
+pub use ns_gate::fault::Fault;

@@ -1,6 +1,6 @@
 //! The monitor, and its calls.
 
-ghost use Rattle.std.specs.Prelude.{◌≡◌, ◌<◌, ◌++◌, [], ◌∷◌, if◌then◌else◌, None, Some, IfErr, IfOk, OnOk, length, slice_index, slice_set};
+ghost use Rattle.std.specs.Prelude.{◌≡◌, ◌<◌, ◌≤◌, ◌++◌, [], ◌∷◌, if◌then◌else◌, None, Some, IfErr, IfOk, OnOk, length, slice_index, slice_set};
 ghost use Rattle.ns_model.specs.declared.event.Exit.TheVariants as TheExit;
 ghost use Rattle.ns_model.specs.declared.event.Mode.TheVariants.{Read, Write};
 ghost use Rattle.ns_word.specs.declared.walk.Reply.TheVariants.{Busy, Is, Succeeded};
@@ -16,8 +16,7 @@ ghost use Rattle.ns_monitor.specs.Known.{AreNew, AreOfOneHistory, EndsAs, Grows,
 ghost use Rattle.ns_monitor.specs.Walks.{getting, judging, releasing_by, setting, trying};
 
 use crate::caller::{Caller, Free, ReadHeld, Reading, Seat, Section, WriteHeld, Writing};
-use ns_gate::closed::Closed;
-use ns_gate::fault::Fault;
+use crate::{Closed, Fault};
 use ns_gate::gate::{Gate, GateSeat};
 use ns_gate::room::Gated;
 use ns_model::condition::Condition;
@@ -70,7 +69,7 @@ impl<C: Gated<N>, const N: usize> Monitor<C, N> {
     /// memory, and refuses where memory is refused (`OutOfMemory`).
     pub fn new(alloc: Global, seats: usize) -> Result<(Self, Vec<Seat<C, N>>), Fault>
         requires { 0 < seats }
-        ensures made { IfOk result (λ r. (length r.1.items ≡ seats) × AreNew seats r.0 0 r.1.items) }
+        ensures made { IfOk result (λ r. (seats ≤ 64) × (length r.1.items ≡ seats) × AreNew seats r.0 0 r.1.items) }
         ensures refused { IfErr result (NewFault seats) }
     {
         let (gate, mut all) = Gate::new(alloc, seats)?;
@@ -146,6 +145,7 @@ impl<C: Gated<N>, const N: usize> Monitor<C, N> {
         requires of { held.old.monitor ≡ self.now }
         requires cell { i < N }
         ensures saw { HasSeenMore C.means (getting i) held.old held.new }
+        ensures wide { InHand held.old.held (λ section. length section.row ≡ N) }
         ensures value { InHand held.old.held (λ section. result ≡ slice_index section.row i) }
     {
         let cell = i as u8;
@@ -161,6 +161,7 @@ impl<C: Gated<N>, const N: usize> Monitor<C, N> {
         requires cell { i < N }
         ensures grows { Grows C.means (setting i value) held.old held.new }
         ensures mine { held.new.mine ≡ held.old.mine }
+        ensures wide { InHand held.old.held (λ section. length section.row ≡ N) }
         ensures section { InHand held.old.held (λ section. held.new.held ≡ Some (record section { row = slice_set section.row i value })) }
     {
         let cell = i as u8;
@@ -194,8 +195,8 @@ impl<C: Gated<N>, const N: usize> Monitor<C, N> {
         row
     }
 
-    /// Whether what the section has changed since it began is quiet, so that it made no false
-    /// condition true: whether the condition type declares it so.
+    /// Whether what the section has changed since it began is quiet: whether the condition type
+    /// declares that such a change makes no false condition true.
     pub fn is_quiet(&self, held: &mut WriteHeld<C, N>) -> bool
         requires { held.old.monitor ≡ self.now }
         ensures saw { HasSeenMore C.means (judging N) held.old held.new }
@@ -272,6 +273,9 @@ impl<C: Gated<N>, const N: usize> Monitor<C, N> {
     }
 
     /// Ends a write section: it is committed as it is, and the caller's events have it as their last.
+    ///
+    /// Goes round until its exchange is made, since another may change the word meanwhile; for that
+    /// it takes `rt`.
     pub fn unlock<R: Wait>(&self, rt: &R, held: WriteHeld<C, N>) -> Seat<C, N>
         requires { held.monitor ≡ self.now }
         ensures grows { Grows C.means (releasing_by Writer) held result }
@@ -283,6 +287,8 @@ impl<C: Gated<N>, const N: usize> Monitor<C, N> {
     }
 
     /// Ends a read section: it is committed, and the caller's events have it as their last.
+    ///
+    /// Goes round as [`Monitor::unlock`] does.
     pub fn runlock<R: Wait>(&self, rt: &R, held: ReadHeld<C, N>) -> Seat<C, N>
         requires { held.monitor ≡ self.now }
         ensures grows { Grows C.means (releasing_by Reader) held result }

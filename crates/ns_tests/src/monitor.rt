@@ -6,8 +6,8 @@ ghost use Rattle.ns_model.specs.Truths.{truths};
 ghost use Rattle.std.specs.Thread.{IsSync};
 
 use crate::examples::Plain;
-use ns_gate::fault::Fault;
 use ns_model::condition::Condition;
+use ns_monitor::Fault;
 use ns_monitor::caller::{ReadHeld, Seat};
 use ns_monitor::monitor::Monitor;
 use std::alloc::Global;
@@ -132,6 +132,9 @@ fn quiet_sections(rt: HostRuntime) -> Result<(), Fail> {
     assert!(rt; !monitor.is_quiet(&mut held));
     monitor.set(&mut held, 0, 3);
     assert!(rt; monitor.is_quiet(&mut held));
+    monitor.set(&mut held, 0, 5);
+    monitor.set(&mut held, 0, 4);
+    assert!(rt; !monitor.is_quiet(&mut held)); // 4 is more than the 3 that it began at
     monitor.unlock(&rt, held);
     Ok(())
 }
