@@ -1,10 +1,33 @@
-//! Sections of a guarded row, as values that move between callers.
+//! A lock round a row of numbers, shared between threads: sections as values that move.
 //!
-//! A [`monitor::Monitor`] has a lock round a row of `N` cells. Each caller has a
-//! [`caller::Seat`]; a call that acquires takes it and gives a section, a
-//! [`caller::WriteHeld`] or a [`caller::ReadHeld`], and the release gives the seat back. So a second
-//! acquire, a section used after its release, a write through a read section and a release in the
-//! wrong mode don't compile.
+//! A caller has a seat. To acquire it gives its seat and gets a section, and to release it gives the
+//! section and gets its seat back:
+//!
+//! ```rust
+//! let (monitor, mut seats) = Monitor::<Plain, 2>::new(rt.alloc(), 2)?; // `Plain` is any `Condition<2>`
+//! let Some(mut seat) = seats.pop() else { return Ok(()) }; // a seat for each thread
+//!
+//! seat = match monitor.try_lock(seat) {
+//!     Ok(mut held) => {
+//!         let value = monitor.get(&mut held, 0);
+//!         monitor.set(&mut held, 0, value.wrapping_add(1));
+//!         monitor.unlock(&rt, held)
+//!     }
+//!     Err(seat) => seat, // somebody else holds the lock, or has just changed its word
+//! };
+//! let closed = monitor.close(seat);
+//! assert!(rt; closed.free);
+//! ```
+//!
+//! So a second acquire by one seat, a section used after its release, a write through a read section
+//! and a release in the wrong mode don't compile. Many readers may hold the lock beside each other, or
+//! one writer alone.
+//!
+//! What is promised: there is one legal history of all sections, that begins with what each caller has
+//! seen, and in which its own events are just the sections that it has released. A section begins at
+//! the row after that history. Two callers compare what they have seen by [`monitor::Monitor::meet`],
+//! or, with sections that read, by [`monitor::Monitor::both_read`]; between callers that never met,
+//! nothing is said of the order. Nobody waits for the lock here yet: a try takes it or comes back.
 #![tactic(auto)]
 
 pub mod caller;

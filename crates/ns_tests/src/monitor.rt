@@ -285,3 +285,24 @@ fn refused_memory(rt: HostRuntime) {
         Err(fault) => assert_eq!(rt; fault, Fault::OutOfMemory),
     }
 }
+
+/// The example at the head of the crate.
+#[test]
+fn head_example(rt: HostRuntime) -> Result<(), Fail> {
+    let (monitor, mut seats) = Monitor::<Plain, 2>::new(rt.alloc(), 2)?; // `Plain` is any `Condition<2>`
+    let Some(mut seat) = seats.pop() else {
+        return Ok(())
+    }; // a seat for each thread
+
+    seat = match monitor.try_lock(seat) {
+        Ok(mut held) => {
+            let value = monitor.get(&mut held, 0);
+            monitor.set(&mut held, 0, value.wrapping_add(1));
+            monitor.unlock(&rt, held)
+        }
+        Err(seat) => seat, // somebody else holds the lock, or has just changed its word
+    };
+    let closed = monitor.close(seat);
+    assert!(rt; closed.free);
+    Ok(())
+}
