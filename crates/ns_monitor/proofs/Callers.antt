@@ -1,20 +1,16 @@
 -- What a call of the gate's seat tells its caller.
-use Rattle.std.proofs.Common.{◌≡◌, ℕ, ◌<◌, ◌&&◌, Bool, true, false, not, cond, [], ◌∷◌, ◌++◌, None, Some, IsSome, Result, Ok, Err, slice_index, slice_set, refl, ap, sym, ◌∙◌, subst}
+use Rattle.std.proofs.Common.{◌≡◌, ℕ, ◌&&◌, Bool, true, false, not, cond, [], ◌++◌, None, Some, Result, Ok, Err, slice_index, refl, ap, ◌∙◌, subst}
 use Rattle.std.proofs.lemmas.List.{append-nil}
 use Rattle.atomic_table.specs.Seated.{TableId}
 use Rattle.ns_model.specs.Truths.{Truths}
-use Rattle.ns_model.specs.declared.event.Exit.TheVariants as TheExit
 use Rattle.ns_model.specs.declared.event.Mode.{Mode}
-use Rattle.ns_model.specs.declared.event.Mode.TheVariants.{Write}
-use Rattle.ns_gate.proofs.Calls.{can_begin, begins, goes_on, nobody_waits}
+use Rattle.ns_gate.proofs.Calls.{begins, goes_on, nobody_waits}
 use Rattle.ns_gate.specs.Calls.{SeatOf, IsAtRest, IsAt, HasAnswered, Leads}
 use Rattle.ns_gate.specs.Law.{GateView}
-use Rattle.ns_gate.specs.Steps.{the, CanStep, Performed, tried}
+use Rattle.ns_gate.specs.Steps.{the, Performed, tried}
 use Rattle.ns_monitor.specs.Known.{known_of, Grows, HasSeenMore}
 use Rattle.ns_monitor.specs.Walks.{trying, releasing_by, getting, setting}
 use Rattle.ns_word.specs.Meanings.{Unchanged, InHand}
-use Rattle.ns_word.specs.Places.{CanLeave, HasMode}
-use Rattle.ns_word.specs.Steps.{section_of}
 use Rattle.ns_word.specs.Walks.{got_of, release_by}
 use Rattle.ns_word.specs.Words.{is_excused, may_acquire, needs_scan}
 use Rattle.ns_word.specs.declared.act.Act.TheVariants.{LoadWord, Acquire, Release, LoadCell, StoreCell}
@@ -84,13 +80,6 @@ module _ {C : Type 0} {N : ℕ} (truths : Truths C) where
 
   -- ---- releases
 
-  pub releases_first : (releasing : Releasing) (walk : Walk C) (me : SeatOf C N) → walk ≡ releasing_by releasing → IsAtRest truths me → CanLeave truths releasing (the me.0).at.held → CanStep truths (Some walk) LoadWord me
-  releases_first releasing walk me is rest can = subst (λ w. CanStep truths (Some w) LoadWord me) (sym is) (can_begin truths (releasing_by releasing) me rest tt can)
-
-  pub releases_next : (releasing : Releasing) (walk : Walk C) (word : Word) (me now : SeatOf C N) → walk ≡ releasing_by releasing → IsAtRest truths me → Performed truths (Some walk) LoadWord (Saw word) me now → IsAt truths (releasing_by releasing) (InRelease releasing (ReleaseExchange word)) (the me.0) now
-  releases_next releasing walk word me now is rest p =
-      begins truths (releasing_by releasing) LoadWord (Saw word) (On (InRelease releasing (ReleaseExchange word))) me now rest (no_scan releasing word (nobody_waits truths (Some walk) LoadWord word me now p)) (subst (λ w. Performed truths (Some w) LoadWord (Saw word) me now) is p)
-
   -- another step came between
   pub releases_again : (releasing : Releasing) (last word : Word) (v : GateView C N) (me now : SeatOf C N) → IsAt truths (releasing_by releasing) (InRelease releasing (ReleaseExchange last)) v me → Performed truths None (Release releasing last) (Saw word) me now → IsAt truths (releasing_by releasing) (InRelease releasing (ReleaseExchange word)) v now
   releases_again releasing last word v me now at p =
@@ -99,17 +88,7 @@ module _ {C : Type 0} {N : ℕ} (truths : Truths C) where
   pub is_released : (releasing : Releasing) (last : Word) (v : GateView C N) (me now : SeatOf C N) → IsAt truths (releasing_by releasing) (InRelease releasing (ReleaseExchange last)) v me → Performed truths None (Release releasing last) Made me now → HasAnswered truths (releasing_by releasing) Succeeded v now
   is_released releasing last v me now at p = goes_on truths (releasing_by releasing) (InRelease releasing (ReleaseExchange last)) (Release releasing last) Made (Done Succeeded) v me now at refl p
 
-  -- the section that was left is the caller's last event
-  pub left : (releasing : Releasing) (old new : TableId) (v : GateView C N) (me : SeatOf C N) → HasAnswered truths (releasing_by releasing) Succeeded v me → (section : Held C N) → v.at.held ≡ Some section → (the me.0).told.mine ≡ v.told.mine ++ section_of truths.holds v.at.seat section TheExit.Plain ∷ []
-  left releasing old new v me a section is =
-      let m = a.means in
-      let same : m.was ≡ section = (let began = a.since.began in let b = m.began in cc) in
-      a.since.mine ∙ ap (λ es. v.told.mine ++ es) (m.committed ∙ (λ i. section_of truths.holds (a.since.seat i) (same i) TheExit.Plain ∷ []))
-
   -- ---- the row
-
-  pub gets_first : (i : ℕ) (walk : Walk C) (me : SeatOf C N) → walk ≡ getting i → IsAtRest truths me → i < N → IsSome (the me.0).at.held → CanStep truths (Some walk) (LoadCell i) me
-  gets_first i walk me is rest low there = subst (λ w. CanStep truths (Some w) (LoadCell i) me) (sym is) (can_begin truths (getting i) me rest tt ((there, low), rest.settled))
 
   pub is_got : (i value : ℕ) (walk : Walk C) (me now : SeatOf C N) → walk ≡ getting i → IsAtRest truths me → Performed truths (Some walk) (LoadCell i) (Cell value) me now → HasAnswered truths (getting i) (Number value) (the me.0) now
   is_got i value walk me now is rest p = begins truths (getting i) (LoadCell i) (Cell value) (Done (Number value)) me now rest refl (subst (λ w. Performed truths (Some w) (LoadCell i) (Cell value) me now) is p)
@@ -118,18 +97,8 @@ module _ {C : Type 0} {N : ℕ} (truths : Truths C) where
   pub got_value : (i value : ℕ) (v : GateView C N) (me : SeatOf C N) → HasAnswered truths (getting i) (Number value) v me → InHand v.at.held (λ section. value ≡ slice_index section.row i)
   got_value i value v me a = subst (λ held. InHand held (λ (section : Held C N). value ≡ slice_index section.row i)) (a.means.0.same ∙ a.since.began) a.means.1
 
-  pub sets_first : (i value : ℕ) (walk : Walk C) (me : SeatOf C N) → walk ≡ setting i value → IsAtRest truths me → i < N → HasMode Write (the me.0).at.held → CanStep truths (Some walk) (LoadCell i) me
-  sets_first i value walk me is rest low writes = subst (λ w. CanStep truths (Some w) (LoadCell i) me) (sym is) (can_begin truths (setting i value) me rest tt ((writes, low), rest.settled))
-
   pub sets_next : (i value old : ℕ) (walk : Walk C) (me now : SeatOf C N) → walk ≡ setting i value → IsAtRest truths me → Performed truths (Some walk) (LoadCell i) (Cell old) me now → IsAt truths (setting i value) (InCells (SetStore i value)) (the me.0) now
   sets_next i value old walk me now is rest p = begins truths (setting i value) (LoadCell i) (Cell old) (On (InCells (SetStore i value))) me now rest refl (subst (λ w. Performed truths (Some w) (LoadCell i) (Cell old) me now) is p)
 
   pub is_set : (i value : ℕ) (v : GateView C N) (me now : SeatOf C N) → IsAt truths (setting i value) (InCells (SetStore i value)) v me → Performed truths None (StoreCell i value) Made me now → HasAnswered truths (setting i value) Succeeded v now
   is_set i value v me now at p = goes_on truths (setting i value) (InCells (SetStore i value)) (StoreCell i value) Made (Done Succeeded) v me now at refl p
-
-  -- the section is the one that was in hand, with the cell set
-  pub set_section : (i value : ℕ) (v : GateView C N) (me : SeatOf C N) → HasAnswered truths (setting i value) Succeeded v me → (section : Held C N) → v.at.held ≡ Some section → (the me.0).at.held ≡ Some (record section { row = slice_set section.row i value })
-  set_section i value v me a section is =
-      let m = a.means in
-      let same : m.was ≡ section = (let began = a.since.began in let b = m.began in cc) in
-      m.section ∙ ap (λ (s : Held C N). Some (record s { row = slice_set s.row i value })) same

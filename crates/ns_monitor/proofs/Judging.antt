@@ -83,11 +83,6 @@ module _ {C : Type 0} {N : ℕ} (truths : Truths C) where
   judges_only walk me is one rest writes =
       subst (λ w. CanStep truths (Some w) (JudgeQuiet 0) me) (sym (is ∙ only_is N one)) (can_begin truths (InCells (QuietLast ToTell 0)) me rest refl ((writes, sym one), rest.settled))
 
-  pub is_judged_only : (walk : Walk C) (quiet : Bool) (me now : SeatOf C N) → walk ≡ judging N → N ≡ 1 → IsAtRest truths me → Performed truths (Some walk) (JudgeQuiet 0) (Quiet quiet) me now → HasAnswered truths (judging N) (Is quiet) (the me.0) now
-  is_judged_only walk quiet me now is one rest p =
-      subst (λ w. HasAnswered truths w (Is quiet) (the me.0) now) (sym (only_is N one))
-      (begins truths (InCells (QuietLast ToTell 0)) (JudgeQuiet 0) (Quiet quiet) (Done (Is quiet)) me now rest refl (subst (λ w. Performed truths (Some w) (JudgeQuiet 0) (Quiet quiet) me now) (is ∙ only_is N one) p))
-
   -- the section stays as it was
   pub same_section : (i : ℕ) (v : GateView C N) (me : SeatOf C N) → HasLoaded i v me → (the me.0).at.held ≡ v.at.held
   same_section i v me at = at.so_far.same ∙ at.since.began
