@@ -1,10 +1,11 @@
 -- A step takes its call on, as its caller follows it.
-use Rattle.std.proofs.Common.{◌≡◌, ℕ, false, List, [], ◌∷◌, ◌++◌, length, Option, None, Some, refl, ap, sym, ◌∙◌, subst}
+use Rattle.std.proofs.Common.{◌≡◌, ℕ, ◌≤◌, true, false, arith, List, [], ◌∷◌, ◌++◌, length, Option, None, Some, refl, ap, sym, ◌∙◌, subst}
 use Rattle.std.proofs.lemmas.List.{append_assoc, append-nil}
-use Rattle.ns_gate.specs.Calls.{SeatOf, IsTrueToHistory, IsWide, IsAtRest, HasSince, IsAt, Leads}
+use Rattle.ns_gate.specs.Calls.{SeatOf, IsTrueToHistory, IsWide, IsAtRest, OwesBelow, HasSince, IsAt, HasAnswered, Leads}
+use Rattle.ns_gate.proofs.Tells.{fits_now}
 use Rattle.ns_gate.specs.Law.{GateView}
-use Rattle.ns_gate.specs.Steps.{the, IsOne, walk_by, CanStep, Did, Performed}
-use Rattle.ns_model.proofs.Beginnings.{begins_through}
+use Rattle.ns_gate.specs.Steps.{the, IsOne, walk_by, course_by, CanStep, Did, Performed}
+use Rattle.ns_model.proofs.Beginnings.{begins_itself, begins_through}
 use Rattle.ns_model.specs.Histories.{Standing, row_after, standing_after}
 use Rattle.ns_model.specs.Truths.{Truths}
 use Rattle.ns_word.specs.Asked.{asked_of}
@@ -12,21 +13,23 @@ use Rattle.ns_word.specs.Courses.{CallGoes}
 use Rattle.ns_word.specs.Lawful.{SectionFits}
 use Rattle.ns_word.specs.Lists.{has_some}
 use Rattle.ns_word.specs.Meanings.{Course}
-use Rattle.ns_word.specs.Places.{PlaceFits}
+use Rattle.ns_word.specs.Places.{PlaceFits, ActFits, OwesOne}
+use Rattle.ns_word.specs.Steps.{part_of}
+use Rattle.ns_word.specs.declared.act.Act.TheVariants.{PayWake}
+use Rattle.ns_word.specs.declared.release_walk.ReleasePlace.TheVariants.{Pay}
+use Rattle.ns_word.specs.declared.signal_walk.SignalPlace.TheVariants.{PayTheWoken}
+use Rattle.ns_word.specs.declared.wait.WaitPlace.TheVariants.{PayInWait}
+use Rattle.ns_word.specs.declared.walk.Walk.TheVariants.{InTry, InAcquire, InRelease, InCells, InWait, InSignal}
 use Rattle.ns_word.specs.Told.{Told, IsTold}
-use Rattle.ns_word.specs.Walks.{want_of, got_of, walk_after, pays}
+use Rattle.ns_word.specs.Walks.{want_of, got_of, walk_after, pays, has_queues}
 use Rattle.ns_word.specs.declared.act.Act.{Act}
-use Rattle.ns_word.specs.declared.act.Act.TheVariants.{Acquire, LoadWord, Release, ReleaseReturning, ReturnQueues, TakeQueues, WaitReturning}
 use Rattle.ns_word.specs.declared.act.Found.{Found}
-use Rattle.ns_word.specs.declared.act.Found.TheVariants.{Saw}
-use Rattle.ns_word.specs.declared.word.Word.{Word}
-use Rattle.ns_word.specs.Begins.{IsFirst, view_in}
-use Rattle.ns_word.specs.Steps.{Effect, Part}
-use Rattle.ns_model.specs.declared.event.Event.{Event}
-use Rattle.ns_gate.proofs.Tells.{between_word}
+use Rattle.ns_word.specs.Begins.{IsFirst}
 use Rattle.ns_word.specs.declared.view.Held.{Held}
 use Rattle.ns_word.specs.declared.view.SeatView.{SeatView}
 use Rattle.ns_word.specs.declared.walk.Next.TheVariants.{On, Idle, Done}
+use Rattle.ns_word.specs.declared.request.Request.{Request}
+use Rattle.ns_word.specs.declared.walk.Reply.{Reply}
 use Rattle.ns_word.specs.declared.walk.Next.{Next}
 use Rattle.ns_word.specs.declared.walk.Walk.{Walk}
 
@@ -38,40 +41,69 @@ wide_by : {C : Type 0} {N : ℕ} (now : Standing C) (row : List ℕ) (seat : ℕ
 wide_by now row seat walk None fits a b = tt
 wide_by now row seat walk (Some held) fits a b = (ap length fits.starts ∙ b, ap length fits.cells ∙ a)
 
+-- who is about to pay a wake wants to pay it
+pays_wants : {C : Type 0} (walk : Walk C) → pays (Some walk) ≡ true → (value : ℕ) × (want_of walk ≡ PayWake value)
+pays_wants (InRelease releasing Pay) e = (0, refl)
+pays_wants (InWait wait PayInWait) e = (0, refl)
+pays_wants (InSignal waking k PayTheWoken) e = (2, refl)
+pays_wants (InRelease releasing _) e = absurd (cc)
+pays_wants (InWait wait _) e = absurd (cc)
+pays_wants (InSignal waking k _) e = absurd (cc)
+pays_wants (InTry mode place) e = absurd (cc)
+pays_wants (InAcquire aim place) e = absurd (cc)
+pays_wants (InCells place) e = absurd (cc)
+
+below_by : (limit : ℕ) (owed : List ℕ) → limit ≤ 64 → (has_some owed ≡ true → OwesOne limit owed) → OwesBelow owed
+below_by limit [] few one = tt
+below_by limit (woken ∷ others) few one = let below = one refl in omega (arith, few, below)
+
 module _ {C : Type 0} {N : ℕ} (truths : Truths C) where
+  -- who is owed the next wake is one of the seats
+  owes_below : (b : Option (Walk C)) (found : Found) (v w : GateView C N) → Did truths b found v w → OwesBelow w.at.owed
+  owes_below b found v w d = below_by v.limit w.at.owed d.few (λ some. at_walk w.at.walk refl (sym d.fits.owes ∙ some)) where
+    at_walk : (o : Option (Walk C)) → w.at.walk ≡ o → pays w.at.walk ≡ true → OwesOne v.limit w.at.owed
+    at_walk None is e = absurd (let n : pays w.at.walk ≡ false = ap pays is in cc)
+    at_walk (Some walk) is e =
+        let wants = pays_wants walk (ap pays (sym is) ∙ e) in
+        subst (λ act. ActFits truths v.limit w.at.seat act (part_of d.new w.at.held w.at.owed)) wants.1 (fits_now truths b found v w walk d is)
+
   true_after : (found : Found) (b : Option (Walk C)) (v w : GateView C N) → Did truths b found v w → IsTrueToHistory truths w.limit w.at.seat w.told.seen w.told.mine
   true_after found b v w d =
       let told = subst (λ n. IsTold truths.holds n (d.history ++ d.commits) w.at.seat w.at.walk w.told) (sym d.limit) d.told_now in
       record { legal = told.legal; by_seats = told.by_seats; own = sym told.own_seen }
 
-  -- behind the first step
-  since_first : (first : Walk C) (found : Found) (v w : GateView C N) → Did truths (Some first) found v w → HasSince truths first v w
-  since_first first found v w d = record {
+  -- behind a step that begins the call, or goes on in it
+  since_step : (b : Option (Walk C)) (found : Found) (v w : GateView C N) → Did truths b found v w → HasSince truths b v w
+  since_step b found v w d = record {
     limit = d.limit;
     seat = ap (λ (x : SeatView C N). x.seat) d.becomes;
     begins = d.grows;
-    mine = ap (λ (t : Told C N). t.mine) d.tells ∙ ap (λ es. v.told.mine ++ es) (sym (ap (λ (c : Course C N). c.committed) d.course));
-    begun = ap (λ (t : Told C N). t.begun) d.tells;
+    commits = d.commits;
+    mine = ap (λ (t : Told C N). t.mine) d.tells;
+    committed = ap (λ (c : Course C N). c.committed) d.course;
     began = ap (λ (c : Course C N). c.began) d.course;
-    true_to = true_after found (Some first) v w d;
+    calls = ap (λ (t : Told C N). t.begun) d.tells;
+    true_to = true_after found b v w d;
   }
 
-  -- behind one more
-  since_next : (first : Walk C) (found : Found) (v u w : GateView C N) → HasSince truths first v u → Did truths None found u w → HasSince truths first v w
-  since_next first found v u w s d = record {
-    limit = d.limit ∙ s.limit;
-    seat = ap (λ (x : SeatView C N). x.seat) d.becomes ∙ s.seat;
-    begins = begins_through w.told.seen u.told.seen v.told.seen d.grows s.begins;
-    mine = ap (λ (t : Told C N). t.mine) d.tells ∙ (ap (λ es. es ++ d.commits) s.mine ∙ (append_assoc v.told.mine u.course.committed d.commits ∙ ap (λ es. v.told.mine ++ es) (sym (ap (λ (c : Course C N). c.committed) d.course))));
-    begun = ap (λ (t : Told C N). t.begun) d.tells ∙ (append-nil u.told.begun ∙ s.begun);
-    began = ap (λ (c : Course C N). c.began) d.course ∙ s.began;
-    true_to = true_after found None u w d;
+  -- the steps of one call, and further steps of it
+  pub since_then : (b : Option (Walk C)) (v u w : GateView C N) → HasSince truths b v u → HasSince truths None u w → HasSince truths b v w
+  since_then b v u w s t = record {
+    limit = t.limit ∙ s.limit;
+    seat = t.seat ∙ s.seat;
+    begins = begins_through w.told.seen u.told.seen v.told.seen t.begins s.begins;
+    commits = s.commits ++ t.commits;
+    mine = t.mine ∙ (ap (λ es. es ++ t.commits) s.mine ∙ append_assoc v.told.mine s.commits t.commits);
+    committed = t.committed ∙ (ap (λ es. es ++ t.commits) s.committed ∙ append_assoc (course_by b v).committed s.commits t.commits);
+    began = t.began ∙ s.began;
+    calls = t.calls ∙ (append-nil u.told.begun ∙ s.calls);
+    true_to = t.true_to;
   }
 
   -- where the step leads
-  leads : (first walk : Walk C) (b : Option (Walk C)) (found : Found) (next : Next C) (v u : GateView C N) (now : SeatOf C N) → IsOne now.0 → now.1 ≡ [] → asked_of walk ≡ asked_of first → walk_by b u.at.walk ≡ Some walk → got_of N walk found ≡ next
-      → (d : Did truths b found u (the now.0)) → HasSince truths first v (the now.0) → Leads truths first next v now
-  leads first walk b found next v u now one empty asked walks is d since = goes next is (subst (λ w. CallGoes truths u.at.seat (row_after (d.history ++ d.commits)) (asked_of w) (the now.0).course (got_of N w found) (the now.0).at.held) same d.goes) where
+  leads : (calls b : Option (Walk C)) (walk : Walk C) (found : Found) (next : Next C) (v u : GateView C N) (now : SeatOf C N) → IsOne now.0 → (has_queues (walk_after next) ≡ false → now.1 ≡ []) → walk_by b u.at.walk ≡ Some walk → got_of N walk found ≡ next
+      → (d : Did truths b found u (the now.0)) → HasSince truths calls v (the now.0) → Leads truths calls (asked_of walk) next v now
+  leads calls b walk found next v u now one empty walks is d since = goes next is empty (subst (λ w. CallGoes truths u.at.seat (row_after (d.history ++ d.commits)) (asked_of w) (the now.0).course (got_of N w found) (the now.0).at.held) same d.goes) where
     same : d.made.step.walk ≡ walk
     same = stepped b d walks where
       stepped : (b : Option (Walk C)) (d : Did truths b found u (the now.0)) → walk_by b u.at.walk ≡ Some walk → d.made.step.walk ≡ walk
@@ -85,60 +117,85 @@ module _ {C : Type 0} {N : ℕ} (truths : Truths C) where
     walks_now = ap (λ (x : SeatView C N). x.walk) d.becomes ∙ ap (λ x. walk_after (got_of N x found)) same
 
     -- the seat that the course speaks of, and the row
-    as_now : (next : Next C) → CallGoes truths u.at.seat (row_after (d.history ++ d.commits)) (asked_of walk) w.course next w.at.held → CallGoes truths w.at.seat (row_after w.told.seen) (asked_of first) w.course next w.at.held
+    as_now : (next : Next C) → CallGoes truths u.at.seat (row_after (d.history ++ d.commits)) (asked_of walk) w.course next w.at.held → CallGoes truths w.at.seat (row_after w.told.seen) (asked_of walk) w.course next w.at.held
     as_now next g =
         let at_seat = subst (λ n. CallGoes truths n (row_after (d.history ++ d.commits)) (asked_of walk) w.course next w.at.held) (sym (ap (λ (x : SeatView C N). x.seat) d.becomes)) g in
-        let at_row = subst (λ h. CallGoes truths w.at.seat (row_after h) (asked_of walk) w.course next w.at.held) (sym (ap (λ (t : Told C N). t.seen) d.tells)) at_seat in
-        subst (λ r. CallGoes truths w.at.seat (row_after w.told.seen) r w.course next w.at.held) asked at_row
+        subst (λ h. CallGoes truths w.at.seat (row_after h) (asked_of walk) w.course next w.at.held) (sym (ap (λ (t : Told C N). t.seen) d.tells)) at_seat
 
-    at_rest : w.at.walk ≡ None → IsAtRest truths now
-    at_rest over = record {
+    is_wide : IsWide w.at.held
+    is_wide = wide_by (standing_after (d.history ++ d.commits)) d.new.row w.at.seat w.at.walk w.at.held d.fits.section d.lawful_now.one_history.cells d.lawful_now.one_history.cells_after
+
+    at_rest : now.1 ≡ [] → w.at.walk ≡ None → IsAtRest truths now
+    at_rest none over = record {
       one = one;
-      empty = empty;
+      empty = none;
       over = over;
       owes = none_of w.at.owed (d.fits.owes ∙ ap pays over);
       settled = subst (λ x. PlaceFits truths x w.at.held) over d.fits.place;
-      wide = wide_by (standing_after (d.history ++ d.commits)) d.new.row w.at.seat w.at.walk w.at.held d.fits.section d.lawful_now.one_history.cells d.lawful_now.one_history.cells_after;
+      wide = is_wide;
       true_to = since.true_to;
     }
 
-    goes : (next : Next C) → got_of N walk found ≡ next → CallGoes truths u.at.seat (row_after (d.history ++ d.commits)) (asked_of walk) w.course (got_of N walk found) w.at.held → Leads truths first next v now
-    goes next is g = by_next next (walks_now ∙ ap walk_after is) (as_now next (subst (λ x. CallGoes truths u.at.seat (row_after (d.history ++ d.commits)) (asked_of walk) w.course x w.at.held) is g)) where
-      by_next : (next : Next C) → w.at.walk ≡ walk_after next → CallGoes truths w.at.seat (row_after w.told.seen) (asked_of first) w.course next w.at.held → Leads truths first next v now
-      by_next (On at) e g = record { one = one; empty = empty; walks = e; asked = g.asked; so_far = g.so_far; since = since }
-      by_next (Idle at) e g = record { one = one; empty = empty; walks = e; asked = g.asked; so_far = g.so_far; since = since }
-      by_next (Done reply) e g = record { rest = at_rest e; since = since; means = g }
-
-  -- the word that a step saw was the lock's
-  saw_word : (seat : ℕ) (act : Act C) (old : Part C N) (word : Word) (new : Part C N) (commits : List (Event C N)) → Effect truths seat act old (Saw word) new commits → word ≡ old.word
-  saw_word seat LoadWord old word new commits e = e.0
-  saw_word seat (Acquire aim arrival last) old word new commits e = e.0
-  saw_word seat (TakeQueues taking last) old word new commits e = e.0
-  saw_word seat (ReturnQueues change last) old word new commits e = e.0
-  saw_word seat (Release releasing last) old word new commits e = e.0
-  saw_word seat (ReleaseReturning releasing last) old word new commits e = e.0
-  saw_word seat (WaitReturning wait again last) old word new commits e = e.0
-  saw_word seat act old word new commits e = absurd e
-
-  -- Nobody waits for the lock, by the word that a step saw.
-  pub nobody_waits : (b : Option (Walk C)) (act : Act C) (word : Word) (me now : SeatOf C N) → Performed truths b act (Saw word) me now → word.waiting ≡ false
-  nobody_waits b act word me now p =
-      let d = p.did in
-      let same = saw_word (view_in (the me.0).at b).seat (want_of d.made.step.walk) _ word _ d.commits d.made.step.effect in
-      ap (λ (w : Word). w.waiting) (same ∙ between_word truths b d.old (the me.0).at d.made.between d.made.begins) ∙ d.nobody_waits
+    goes : (next : Next C) → got_of N walk found ≡ next → (has_queues (walk_after next) ≡ false → now.1 ≡ []) → CallGoes truths u.at.seat (row_after (d.history ++ d.commits)) (asked_of walk) w.course (got_of N walk found) w.at.held → Leads truths calls (asked_of walk) next v now
+    goes next is empty g = by_next next empty (walks_now ∙ ap walk_after is) (as_now next (subst (λ x. CallGoes truths u.at.seat (row_after (d.history ++ d.commits)) (asked_of walk) w.course x w.at.held) is g)) where
+      by_next : (next : Next C) → (has_queues (walk_after next) ≡ false → now.1 ≡ []) → w.at.walk ≡ walk_after next → CallGoes truths w.at.seat (row_after w.told.seen) (asked_of walk) w.course next w.at.held → Leads truths calls (asked_of walk) next v now
+      by_next (On at) empty e g = record { one = one; empty = empty; walks = e; so_far = g.so_far; owes = owes_below b found u w d; fits = subst (λ x. PlaceFits truths x w.at.held) e d.fits.place; wide = is_wide; since = since }
+      by_next (Idle at) empty e g = record { one = one; empty = empty; walks = e; so_far = g.so_far; owes = owes_below b found u w d; fits = subst (λ x. PlaceFits truths x w.at.held) e d.fits.place; wide = is_wide; since = since }
+      by_next (Done reply) empty e g = record { rest = at_rest (empty refl) e; since = since; means = g }
 
   -- A seat at rest may begin a call whose first place fits what it has in hand.
   pub can_begin : (first : Walk C) (me : SeatOf C N) → IsAtRest truths me → IsFirst N first → PlaceFits truths (Some first) (the me.0).at.held → CanStep truths (Some first) (want_of first) me
   can_begin first me rest is fits = record { one = rest.one; may = (rest.over, is, fits); walk = first; walks = refl; wants = refl }
 
   -- A call may go on from its place.
-  pub can_go : (first walk : Walk C) (v : GateView C N) (me : SeatOf C N) → IsAt truths first walk v me → CanStep truths None (want_of walk) me
-  can_go first walk v me at = record { one = at.one; may = tt; walk = walk; walks = at.walks; wants = refl }
+  pub can_go : (calls : Option (Walk C)) (walk : Walk C) (v : GateView C N) (me : SeatOf C N) → IsAt truths calls walk v me → CanStep truths None (want_of walk) me
+  can_go calls walk v me at = record { one = at.one; may = tt; walk = walk; walks = at.walks; wants = refl }
 
   -- The first step of a call leads it on.
-  pub begins : (first : Walk C) (act : Act C) (found : Found) (next : Next C) (me now : SeatOf C N) → IsAtRest truths me → got_of N first found ≡ next → Performed truths (Some first) act found me now → Leads truths first next (the me.0) now
-  begins first act found next me now rest is p = leads first first (Some first) found next (the me.0) (the me.0) now p.one (p.carried ∙ rest.empty) refl refl is p.did (since_first first found (the me.0) (the now.0) p.did)
+  pub begins : (first : Walk C) (act : Act C) (found : Found) (next : Next C) (me now : SeatOf C N) → IsAtRest truths me → got_of N first found ≡ next → (IsAtRest truths me → has_queues (walk_after next) ≡ false → now.1 ≡ []) → Performed truths (Some first) act found me now → Leads truths (Some first) (asked_of first) next (the me.0) now
+  begins first act found next me now rest is empty p = leads (Some first) (Some first) first found next (the me.0) (the me.0) now p.one (empty rest) refl is p.did (since_step (Some first) found (the me.0) (the now.0) p.did)
 
   -- Each further step does.
-  pub goes_on : (first walk : Walk C) (act : Act C) (found : Found) (next : Next C) (v : GateView C N) (me now : SeatOf C N) → IsAt truths first walk v me → got_of N walk found ≡ next → Performed truths None act found me now → Leads truths first next v now
-  goes_on first walk act found next v me now at is p = leads first walk None found next v (the me.0) now p.one (p.carried ∙ at.empty) at.asked at.walks is p.did (since_next first found v (the me.0) (the now.0) at.since p.did)
+  pub goes_on : (calls : Option (Walk C)) (walk : Walk C) (act : Act C) (found : Found) (next : Next C) (v : GateView C N) (me now : SeatOf C N) → IsAt truths calls walk v me → got_of N walk found ≡ next → (has_queues (walk_after next) ≡ false → now.1 ≡ []) → Performed truths None act found me now → Leads truths calls (asked_of walk) next v now
+  goes_on calls walk act found next v me now at is empty p = leads calls None walk found next v (the me.0) now p.one empty at.walks is p.did (since_then calls v (the me.0) (the now.0) at.since (since_step None found (the me.0) (the now.0) p.did))
+
+  -- ---- the steps of one call, part by part
+
+  since_itself : (v : GateView C N) → IsTrueToHistory truths v.limit v.at.seat v.told.seen v.told.mine → HasSince truths None v v
+  since_itself v true_to = record { limit = refl; seat = refl; begins = begins_itself v.told.seen; commits = []; mine = sym (append-nil v.told.mine); committed = sym (append-nil v.course.committed); began = refl; calls = sym (append-nil v.told.begun); true_to = true_to }
+
+  -- a part begins where the call stands
+  pub from_here : (calls : Option (Walk C)) (walk : Walk C) (v : GateView C N) (me : SeatOf C N) → IsAt truths calls walk v me → IsAt truths None walk (the me.0) me
+  from_here calls walk v me at = record { one = at.one; empty = at.empty; walks = at.walks; so_far = at.so_far; owes = at.owes; fits = at.fits; wide = at.wide; since = since_itself (the me.0) at.since.true_to }
+
+  -- and takes it on to a place
+  pub then_at : (calls : Option (Walk C)) (walk : Walk C) (v u : GateView C N) (now : SeatOf C N) → HasSince truths calls v u → IsAt truths None walk u now → IsAt truths calls walk v now
+  then_at calls walk v u now s at = record { one = at.one; empty = at.empty; walks = at.walks; so_far = at.so_far; owes = at.owes; fits = at.fits; wide = at.wide; since = since_then calls v u (the now.0) s at.since }
+
+  -- or to its answer
+  pub then_answered : (calls : Option (Walk C)) (request : Request C) (reply : Reply) (v u : GateView C N) (now : SeatOf C N) → HasSince truths calls v u → HasAnswered truths None request reply u now → HasAnswered truths calls request reply v now
+  then_answered calls request reply v u now s a = record { rest = a.rest; since = since_then calls v u (the now.0) s a.since; means = a.means }
+
+  -- ---- where a step leads, part by part
+
+  -- how the call came where it was led
+  pub since_of : (calls : Option (Walk C)) (request : Request C) (next : Next C) (v : GateView C N) (me : SeatOf C N) → Leads truths calls request next v me → HasSince truths calls v (the me.0)
+  since_of calls request (On walk) v me led = led.since
+  since_of calls request (Idle walk) v me led = led.since
+  since_of calls request (Done reply) v me led = led.since
+
+  -- a part begins there
+  pub leads_here : (calls : Option (Walk C)) (request : Request C) (next : Next C) (v : GateView C N) (me : SeatOf C N) → Leads truths calls request next v me → Leads truths None request next (the me.0) me
+  leads_here calls request (On walk) v me led = from_here calls walk v me led
+  leads_here calls request (Idle walk) v me led = from_here calls walk v me led
+  leads_here calls request (Done reply) v me led = record { rest = led.rest; since = since_itself (the me.0) led.since.true_to; means = led.means }
+
+  -- and leads on
+  pub onward : (calls : Option (Walk C)) (request : Request C) (next : Next C) (v u : GateView C N) (now : SeatOf C N) → HasSince truths calls v u → Leads truths None request next u now → Leads truths calls request next v now
+  onward calls request (On walk) v u now s led = then_at calls walk v u now s led
+  onward calls request (Idle walk) v u now s led = then_at calls walk v u now s led
+  onward calls request (Done reply) v u now s led = then_answered calls request reply v u now s led
+
+  -- a call stands where it is whatever its seat makes of the queues in hand
+  pub works : (calls : Option (Walk C)) (walk : Walk C) (v : GateView C N) (me now : SeatOf C N) → IsAt truths calls walk v me → has_queues (Some walk) ≡ true → now.0 ≡ me.0 → IsAt truths calls walk v now
+  works calls walk v me now at has same = subst (λ (vs : List (GateView C N)). IsAt truths calls walk v (vs, now.1)) (sym same) (record { one = at.one; empty = λ e. absurd (let f : true ≡ false = sym has ∙ e in cc); walks = at.walks; so_far = at.so_far; owes = at.owes; fits = at.fits; wide = at.wide; since = at.since })

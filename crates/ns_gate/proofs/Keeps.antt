@@ -179,7 +179,6 @@ module _ {C : Type 0} {N : ℕ} (truths : Truths C) (cells : 0 < N) (quiet : Qui
           grows = told_all.1;
           course = refl;
           goes = subst (λ w. CallGoes truths v.at.seat (row_after (shown.history ++ commits)) (asked_of w) course (got_of N w found) part.held) (sym made_all.1) goes_on;
-          nobody_waits = r.nobody_waits;
           fits = subst (λ n. ViewFits truths n (standing_after (shown.history ++ commits)) part.row next) limited fits_after;
           stood_was = its_fit.stood;
           stood_now = refl;
@@ -204,13 +203,12 @@ module _ {C : Type 0} {N : ℕ} (truths : Truths C) (cells : 0 < N) (quiet : Qui
         by_lists (inr clear) stands has = absurd (none_takes after.views x.at.seat x.at (lawful_after.spin_held_once ∙ ap (λ b. cond b 1 0) clear) stands has)
 
     -- the rule, where the table's words show what the step leaves
-    pub ruled : (words' : List ℕ) (homes' : Homes C) → Shows N words' part.word part.row part.flags → AtHome part.word.spin part.lists homes' → part.word.waiting ≡ false → (part.lists ≡ shown.state.lists) ⊎ (part.word.spin ≡ false) → IsRuled truths limit words' homes' (set views id (now ∷ [])) later
-    ruled words' homes' shows home nobody kept = record {
+    pub ruled : (words' : List ℕ) (homes' : Homes C) → Shows N words' part.word part.row part.flags → AtHome part.word.spin part.lists homes' → (part.lists ≡ shown.state.lists) ⊎ (part.word.spin ≡ false) → IsRuled truths limit words' homes' (set views id (now ∷ [])) later
+    ruled words' homes' shows home kept = record {
       few = r.few;
       lawful = lawful_after;
       shows = shows;
       home = home;
-      nobody_waits = nobody;
       once = λ x. let s = total_set (total (is_seat x)) views id (v ∷ []) (now ∷ []) at in let was = r.once x in omega (arith, s, was);
       each = every_put (Every (Fits truths limit (shown.history ++ commits) after)) views id (now ∷ [])
           (others_both (Every (λ (x : GateView C N). is_seat v.at.seat x ≡ 0)) (Every (Fits truths limit shown.history shown.state)) (Every (Fits truths limit (shown.history ++ commits) after))

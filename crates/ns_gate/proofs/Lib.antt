@@ -1,7 +1,9 @@
 pub mod Calls
 pub mod Endings
 pub mod Keeps
+pub mod Looks
 pub mod Meets
 pub mod Starts
+pub mod Stays
 pub mod Tells
 pub mod Turns

@@ -113,7 +113,6 @@ module _ {C : Type 0} {N : ℕ} (truths : Truths C) (limit : ℕ) where
           lawful = l.lawful;
           shows = l.shows;
           home = l.home;
-          nobody_waits = l.nobody_waits;
           once = λ seat.
               let f : GateView C N → ℕ = is_seat seat in
               let a = total-append f vs us in
@@ -187,7 +186,6 @@ module _ {C : Type 0} {N : ℕ} (truths : Truths C) (limit : ℕ) where
       lawful = r.lawful;
       shows = subst (λ ws. Shows N ws g.state.word g.state.row g.state.flags) (sym same) r.shows;
       home = r.home;
-      nobody_waits = r.nobody_waits;
       once = λ seat. let t = total_set (total (is_seat seat)) views id (v ∷ u ∷ []) both at in let was = r.once seat in omega (arith, t, was);
       each = every_put (Every (Fits truths limit g.history g.state)) views id both (others_of (Every (Fits truths limit g.history g.state)) views id r.each) (fits_now words homes views g r v own_fits.0, (fits_now words homes views g r u own_fits.1.0, tt));
     }

@@ -36,7 +36,6 @@ module _ (C : Type 0) (N : ℕ) where
           lawful = l.lawful;
           shows = l.shows;
           home = l.home;
-          nobody_waits = l.nobody_waits;
           once = λ who.
               let f : GateView C N → ℕ = is_seat who in
               let a = total-append (total f) (set s.views id (rest_of vs)) (first_of vs ∷ []) in
@@ -85,7 +84,6 @@ module _ (C : Type 0) (N : ℕ) where
         flags_are = λ seat low. ap (λ (ws : List ℕ). get_or ws (seat + (N + 1)) 0) is ∙ get_or-replicate (N + 65) (seat + (N + 1)) 0 0 (omega (arith, low));
       };
       home = ap (λ (xs : List (Lists C)). map some xs) home;
-      nobody_waits = refl;
       once = λ who. let o = one_of_each limit 0 limit who in omega (arith, o);
       each = (fits_fresh truths limit 0 limit (omega arith), tt);
     },

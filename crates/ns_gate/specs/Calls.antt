@@ -1,5 +1,5 @@
 -- How far a call has come, as its caller follows it from step to step.
-use Rattle.std.specs.Prelude.{◌≡◌, ℕ, List, [], ◌∷◌, ◌++◌, length, Option, None, Some}
+use Rattle.std.specs.Prelude.{◌≡◌, ℕ, ◌<◌, false, List, [], ◌∷◌, ◌++◌, length, Option, None, Some}
 use Rattle.atomic_table.specs.Table.{Me}
 use Rattle.ns_model.specs.declared.event.Event.{Event}
 use Rattle.ns_model.specs.Beginnings.{BeginsWith}
@@ -11,12 +11,14 @@ use Rattle.ns_word.specs.declared.walk.Next.{Next}
 use Rattle.ns_word.specs.declared.walk.Next.TheVariants.{On, Idle, Done}
 use Rattle.ns_word.specs.declared.walk.Reply.{Reply}
 use Rattle.ns_word.specs.declared.walk.Walk.{Walk}
-use Rattle.ns_word.specs.Asked.{asked_of}
+use Rattle.ns_word.specs.declared.request.Request.{Request}
 use Rattle.ns_word.specs.Courses.{SoFar}
 use Rattle.ns_word.specs.Meanings.{Means}
-use Rattle.ns_word.specs.Places.{IsSettled}
+use Rattle.ns_word.specs.Places.{IsSettled, PlaceFits}
+use Rattle.ns_word.specs.Told.{calls_of}
+use Rattle.ns_word.specs.Walks.{has_queues}
 use Rattle.ns_gate.specs.Law.{GateView}
-use Rattle.ns_gate.specs.Steps.{the, IsOne}
+use Rattle.ns_gate.specs.Steps.{the, IsOne, course_by}
 
 -- what the table says of one of its seats: its view, and the slots that it carries
 abbrev pub SeatOf : Type 0 → ℕ → Type 0
@@ -43,33 +45,42 @@ pub record IsAtRest {C : Type 0} {N : ℕ} (truths : Truths C) (me : SeatOf C N)
   pub wide : IsWide (the me.0).at.held
   pub true_to : IsTrueToHistory truths (the me.0).limit (the me.0).at.seat (the me.0).told.seen (the me.0).told.mine
 
--- The same seat, behind some steps of the call that began with this first place: it has seen more; its own events are those that it had, and behind them those that the call has committed; and it has begun that call and no other.
-pub record HasSince {C : Type 0} {N : ℕ} (truths : Truths C) (first : Walk C) (v w : GateView C N) : Type 0 where
+-- The same seat behind some steps of one call, the first of which began it, if the call is named, and else in the midst of it: it has seen more; what the call has committed since stands behind its own events, and behind what the call had committed; and it has begun that call and no other.
+pub record HasSince {C : Type 0} {N : ℕ} (truths : Truths C) (begun : Option (Walk C)) (v w : GateView C N) : Type 0 where
   pub limit : w.limit ≡ v.limit
   pub seat : w.at.seat ≡ v.at.seat
   pub begins : BeginsWith w.told.seen v.told.seen
-  pub mine : w.told.mine ≡ v.told.mine ++ w.course.committed
-  pub begun : w.told.begun ≡ v.told.begun ++ first ∷ []
-  pub began : w.course.began ≡ v.at.held
+  pub commits : List (Event C N)
+  pub mine : w.told.mine ≡ v.told.mine ++ commits
+  pub committed : w.course.committed ≡ (course_by begun v).committed ++ commits
+  pub began : w.course.began ≡ (course_by begun v).began
+  pub calls : w.told.begun ≡ v.told.begun ++ calls_of begun
   pub true_to : IsTrueToHistory truths w.limit w.at.seat w.told.seen w.told.mine
 
--- A call that began with the one place stands at the other: it is still the one that was asked, and has come as far as the place tells.
-pub record IsAt {C : Type 0} {N : ℕ} (truths : Truths C) (first walk : Walk C) (v : GateView C N) (me : SeatOf C N) : Type 0 where
+-- the number of the seat that is owed the next wake is below 64
+abbrev pub OwesBelow : List ℕ → Type 0
+OwesBelow [] = Unit {0}
+OwesBelow (woken ∷ others) = woken < 64
+
+-- A seat stands at this place of its call, which has come as far as the place tells, with what the place needs; the rows of its section, if it has one in hand, are as wide as the lock's; it carries nothing, but where the place has the queues. It came there by some steps of that call, which began it, if it is named.
+pub record IsAt {C : Type 0} {N : ℕ} (truths : Truths C) (begun : Option (Walk C)) (walk : Walk C) (v : GateView C N) (me : SeatOf C N) : Type 0 where
   pub one : IsOne me.0
-  pub empty : me.1 ≡ []
+  pub empty : has_queues (Some walk) ≡ false → me.1 ≡ []
   pub walks : (the me.0).at.walk ≡ Some walk
-  pub asked : asked_of walk ≡ asked_of first
   pub so_far : SoFar truths (the me.0).at.seat (the me.0).course walk (the me.0).at.held
-  pub since : HasSince truths first v (the me.0)
+  pub owes : OwesBelow (the me.0).at.owed
+  pub fits : PlaceFits truths (Some walk) (the me.0).at.held
+  pub wide : IsWide (the me.0).at.held
+  pub since : HasSince truths begun v (the me.0)
 
--- A call that began so is over, and its answer means what it says.
-pub record HasAnswered {C : Type 0} {N : ℕ} (truths : Truths C) (first : Walk C) (reply : Reply) (v : GateView C N) (me : SeatOf C N) : Type 0 where
+-- A call that was asked to do this is over, and its answer means what it says. It came there by some steps, which began it, if it is named.
+pub record HasAnswered {C : Type 0} {N : ℕ} (truths : Truths C) (begun : Option (Walk C)) (request : Request C) (reply : Reply) (v : GateView C N) (me : SeatOf C N) : Type 0 where
   pub rest : IsAtRest truths me
-  pub since : HasSince truths first v (the me.0)
-  pub means : Means truths (the me.0).at.seat (row_after (the me.0).told.seen) (asked_of first) (the me.0).course reply (the me.0).at.held
+  pub since : HasSince truths begun v (the me.0)
+  pub means : Means truths (the me.0).at.seat (row_after (the me.0).told.seen) request (the me.0).course reply (the me.0).at.held
 
--- where a step leads a call that began so: to a place, at once or after it has waited, or to its answer
-abbrev pub Leads : {C : Type 0} {N : ℕ} → Truths C → Walk C → Next C → GateView C N → SeatOf C N → Type 0
-Leads truths first (On walk) v me = IsAt truths first walk v me
-Leads truths first (Idle walk) v me = IsAt truths first walk v me
-Leads truths first (Done reply) v me = HasAnswered truths first reply v me
+-- where a step leads a call that was asked to do this: to a place, at once or after it has waited, or to its answer
+abbrev pub Leads : {C : Type 0} {N : ℕ} → Truths C → Option (Walk C) → Request C → Next C → GateView C N → SeatOf C N → Type 0
+Leads truths begun request (On walk) v me = IsAt truths begun walk v me
+Leads truths begun request (Idle walk) v me = IsAt truths begun walk v me
+Leads truths begun request (Done reply) v me = HasAnswered truths begun request reply v me

@@ -72,13 +72,12 @@ pub record Shown (C : Type 0) (N : ℕ) : Type 0 where
   pub state : State C N
   pub history : List (Event C N)
 
--- The rule: the words, the slot and the views make up a state that is lawful with this history, and each seat was told what a seat is told. No step on the table queues, so nobody waits for the lock.
+-- The rule: the words, the slot and the views make up a state that is lawful with this history, and each seat was told what a seat is told.
 pub record IsRuled {C : Type 0} {N : ℕ} (truths : Truths C) (limit : ℕ) (words : List ℕ) (homes : Homes C) (views : Views C N) (shown : Shown C N) : Type 0 where
   pub few : limit ≤ 64
   pub lawful : IsLawful truths limit shown.history shown.state
   pub shows : Shows N words shown.state.word shown.state.row shown.state.flags
   pub home : AtHome shown.state.word.spin shown.state.lists homes
-  pub nobody_waits : shown.state.word.waiting ≡ false
   pub once : (seat : ℕ) → tally (is_seat seat) views ≤ 1
   pub each : Every (Every (Fits truths limit shown.history shown.state)) views
 

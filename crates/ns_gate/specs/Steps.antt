@@ -1,18 +1,21 @@
 -- What one step of a seat is: a step of the machine between two lawful states.
-use Rattle.std.specs.Prelude.{◌≡◌, ℕ, ◌<◌, ◌≤◌, ◌++◌, true, false, List, [], ◌∷◌, Option, None, Some, Result, Ok, Err, slice_index}
-use Rattle.atomic_table.specs.Table.{Me}
+use Rattle.std.specs.Prelude.{◌≡◌, ℕ, ◌<◌, ◌≤◌, ◌++◌, true, List, [], ◌∷◌, Option, None, Some, Result, Ok, Err, slice_index}
+use Rattle.atomic_table.specs.Table.{Me, rest}
 use Rattle.ns_model.specs.declared.event.Event.{Event}
 use Rattle.ns_model.specs.Beginnings.{BeginsWith}
 use Rattle.ns_model.specs.Histories.{row_after, standing_after}
 use Rattle.ns_model.specs.Truths.{Truths}
 use Rattle.ns_queue.specs.Queues.{Lists}
+use Rattle.ns_queue.specs.Scans.{woken_of, left_of}
+use Rattle.ns_queue.specs.declared.waiter.Waiter.{Waiter}
 use Rattle.ns_word.specs.declared.word.Word.{Word}
 use Rattle.ns_word.specs.declared.view.SeatView.{SeatView}
+use Rattle.ns_word.specs.declared.limits.Cause.{Cause}
 use Rattle.ns_word.specs.declared.walk.Walk.{Walk}
 use Rattle.ns_word.specs.declared.act.Act.{Act}
-use Rattle.ns_word.specs.declared.act.Act.TheVariants.{LoadWord, Acquire, Release, LoadCell, JudgeQuiet, JudgeMet, StoreCell}
+use Rattle.ns_word.specs.declared.act.Act.TheVariants.{LoadWord, Acquire, TakeQueues, ReturnQueues, Release, ReleaseReturning, WaitReturning, LoadCell, JudgeQuiet, JudgeMet, StoreCell}
 use Rattle.ns_word.specs.declared.act.Found.{Found}
-use Rattle.ns_word.specs.declared.act.Found.TheVariants.{Made, Saw}
+use Rattle.ns_word.specs.declared.act.Found.TheVariants.{Made, Saw, Scanned, Left, Woke, Looked}
 use Rattle.ns_word.specs.Asked.{asked_of}
 use Rattle.ns_word.specs.Begins.{IsFirst, SeatStep}
 use Rattle.ns_word.specs.Codec.{IsPackable}
@@ -21,7 +24,10 @@ use Rattle.ns_word.specs.Finds.{found_of, row_in}
 use Rattle.ns_word.specs.Lawful.{IsLawful, ViewFits}
 use Rattle.ns_word.specs.Meanings.{Course, course_from}
 use Rattle.ns_word.specs.Places.{PlaceFits}
-use Rattle.ns_word.specs.Steps.{State}
+use Rattle.ns_word.specs.Lists.{has_some, bits_of}
+use Rattle.ns_word.specs.Steps.{State, meets_at, with_lock}
+use Rattle.ns_word.specs.Words.{word_released_returning}
+use Rattle.ns_word.specs.declared.word.Releasing.{Releasing}
 use Rattle.ns_word.specs.Told.{IsTold, told_after, calls_of}
 use Rattle.ns_word.specs.Walks.{want_of, got_of, walk_after, has_queues}
 use Rattle.ns_gate.specs.Law.{GateView, fresh_seat}
@@ -78,15 +84,32 @@ pub record Did {C : Type 0} {N : ℕ} (truths : Truths C) (begun : Option (Walk 
   pub grows : BeginsWith w.told.seen v.told.seen
   pub course : w.course ≡ course_after found commits (course_by begun v)
   pub goes : CallGoes truths v.at.seat (row_after (history ++ commits)) (asked_of made.step.walk) w.course (got_of N made.step.walk found) w.at.held
-  pub nobody_waits : old.word.waiting ≡ false
   pub fits : ViewFits truths v.limit (standing_after (history ++ commits)) new.row w.at
   pub stood_was : has_queues v.at.walk ≡ true → v.stood ≡ old.lists
   pub stood_now : w.stood ≡ new.lists
 
--- the seat has made the act, and found this; the slots that it holds are as they were
+-- The slots that the seat holds behind the act, where the lists then stand so: who takes the queues has them as they stood, and who puts them back has none.
+abbrev pub carried_by : {C : Type 0} → Act C → Found → Lists C → List (ℕ × Lists C) → List (ℕ × Lists C)
+carried_by (TakeQueues taking last) Made stood slots = (0, stood) ∷ slots
+carried_by (ReturnQueues change last) Made stood slots = rest slots
+carried_by (ReturnQueues change last) (Left stands) stood slots = rest slots
+carried_by (ReturnQueues change last) (Woke owes) stood slots = rest slots
+carried_by (ReleaseReturning releasing last) (Scanned owes tests) stood slots = rest slots
+carried_by (WaitReturning wait again last) (Scanned owes tests) stood slots = rest slots
+carried_by act found stood slots = slots
+
+-- the seat has these lists in hand, and no other slot
+abbrev pub Carries : {C : Type 0} {N : ℕ} → Lists C → Me (Lists C) (List (GateView C N)) → Type 0
+Carries lists me = me.1 ≡ (0, lists) ∷ []
+
+-- the lists in hand are as they stood at home
+abbrev pub HasTaken : {C : Type 0} {N : ℕ} → Me (Lists C) (List (GateView C N)) → Type 0
+HasTaken me = Carries (the me.0).stood me
+
+-- the seat has made the act, and found this
 pub record Performed {C : Type 0} {N : ℕ} (truths : Truths C) (begun : Option (Walk C)) (act : Act C) (found : Found) (me now : Me (Lists C) (List (GateView C N))) : Type 0 where
   pub one : IsOne now.0
-  pub carried : now.1 ≡ me.1
+  pub carried : now.1 ≡ carried_by act found (the now.0).stood me.1
   pub did : Did truths begun found (the me.0) (the now.0)
   pub act_is : want_of did.made.step.walk ≡ act
 
@@ -120,15 +143,42 @@ abbrev pub first_said : {C : Type 0} → List (Walk C) → Option (Walk C)
 first_said [] = None
 first_said (walk ∷ walks) = Some walk
 
--- what an exchange came to, as the machine says it
-abbrev pub tried : {A : Type 0} → Result A Word → Found
-tried (Ok x) = Made
-tried (Err word) = Saw word
+-- what an exchange came to, as the machine says it, where this is found if it is made
+abbrev pub tried_for : {A : Type 0} → Found → Result A Word → Found
+tried_for found (Ok x) = found
+tried_for found (Err word) = Saw word
 
--- the gate makes acts of this kind at once: a load of the word, an acquire or a release by a word that has a number, and a load or a store of a cell of the row
+-- the same where nothing else is found
+abbrev pub tried : {A : Type 0} → Result A Word → Found
+tried r = tried_for Made r
+
+-- the first of the causes that a step was told of, if it was told of one
+abbrev pub first_cause : List (Option Cause) → Option Cause
+first_cause [] = None
+first_cause (cause ∷ causes) = cause
+
+-- the look that the seat's call wants was made, and has shown this
+pub record HasLooked {C : Type 0} {N : ℕ} (truths : Truths C) (cause : Option Cause) (me now : Me (Lists C) (List (GateView C N))) : Type 0 where
+  pub made : Performed truths None (act_in (the me.0)) (Looked cause) me now
+
+-- the lists that a scan at this row leaves
+abbrev pub lists_scanned : {C : Type 0} → Truths C → List ℕ → Lists C → Lists C
+lists_scanned truths row lists = with_lock lists (left_of (meets_at truths row) lists.lock)
+
+-- the word of a release with a scan of the first list at this row, which puts back the second
+abbrev pub word_scanned : {C : Type 0} → Truths C → Releasing → Word → List ℕ → List (Waiter C) → List (Waiter C) → Word
+word_scanned truths releasing last row lock stay = word_released_returning releasing (has_some (woken_of (meets_at truths row) lock)) (bits_of stay) last
+
+-- a wake is owed to this seat next
+abbrev pub IsOwedNext : ℕ → List ℕ → Type 0
+IsOwedNext woken [] = ⊥
+IsOwedNext woken (next ∷ others) = next ≡ woken
+
+-- the gate makes acts of this kind at once: a load of the word, an acquire, a release or the taking of the queues by a word that has a number, and a load or a store of a cell of the row
 abbrev pub IsMadeHere : {C : Type 0} → ℕ → Act C → Type 0
 IsMadeHere N LoadWord = Unit {0}
 IsMadeHere N (Acquire aim arrival last) = IsPackable last
+IsMadeHere N (TakeQueues taking last) = IsPackable last
 IsMadeHere N (Release releasing last) = IsPackable last
 IsMadeHere N (LoadCell i) = i < N
 IsMadeHere N (StoreCell i v) = i < N

@@ -3,16 +3,17 @@
 ghost use Rattle.std.specs.Prelude.{◌≡◌, ◌+◌, ◌<◌, ◌≤◌, [], ◌∷◌, replicate, None, Some, IfErr, IfOk, MatchResult, slice_index};
 ghost use Rattle.ns_word.specs.Codec.{word_of, IsPackable};
 ghost use Rattle.ns_word.specs.Finds.{before_in, exchanged, row_in};
+ghost use Rattle.ns_word.specs.Steps.{MayShow};
 ghost use Rattle.ns_word.specs.Walks.{want_of};
 ghost use Rattle.ns_gate.specs.Calls.{IsAtRest};
 ghost use Rattle.ns_gate.specs.Endings.{EndsAs};
 ghost use Rattle.ns_gate.specs.Law.{first_of, fresh, no_lists, rest_of, NewFault};
 ghost use Rattle.ns_gate.specs.Meetings.{HaveMet};
-ghost use Rattle.ns_gate.specs.Steps.{CanStep, IsMadeHere, IsOne, Performed, the, tried};
+ghost use Rattle.ns_gate.specs.Steps.{CanStep, IsMadeHere, IsOne, Performed, the, tried, tried_for};
 
 use crate::closed::{Closed, cells};
 use crate::fault::Fault;
-use crate::plays::{Begin, BeginJudging, FirstOut, Go, Judge, Law, Learn, Together};
+use crate::plays::{Begin, BeginJudging, FirstOut, Go, Judge, Law, Learn, Look, Together};
 use crate::room::Gated;
 use crate::saying::load_saying;
 use crate::view::View;
@@ -21,6 +22,7 @@ use ns_model::condition::Condition;
 use ns_queue::queues::Queues;
 use ns_word::act::{Act, Found};
 use ns_word::codec::{encode, unpacked};
+use ns_word::limits::{Cause, Limits};
 use ns_word::wait::Aim;
 use ns_word::walk::Walk;
 use ns_word::word::{Arrival, Releasing, Word};
@@ -33,7 +35,7 @@ pub type GateSeat<C, const N: usize> = atomic_table::Seat<Queues<C, N>, View<C, 
 /// A lock word, a row of `N` cells and 64 flags, shared by the threads that have its seats.
 #[derive(Drop)]
 pub struct Gate<C: Condition<N>, const N: usize> {
-    table: Table<Queues<C, N>, View<C, N>, u8, Law<C, N>, Global>,
+    pub(crate) table: Table<Queues<C, N>, View<C, N>, u8, Law<C, N>, Global>,
 }
 
 impl<C: Condition<N>, const N: usize> Model for Gate<C, N> {
@@ -48,10 +50,10 @@ impl<C: Condition<N>, const N: usize> Model for Gate<C, N> {
 }
 
 /// What an exchange of the word last seen came to, where the word's number was this.
-fn came_to(found: u64, last: Word) -> Result<(), Word>
+pub(crate) fn came_to(found: u64, last: Word) -> Result<(), Word>
     requires { IsPackable (word_of found) }
     ensures word { IfErr result IsPackable }
-    ensures tried { tried result ≡ exchanged found last Found.Made }
+    ensures tried { (made : Found) → tried_for made result ≡ exchanged found last made }
 {
     if found == encode(last) {
         Ok(())
@@ -295,6 +297,79 @@ impl<C: Gated<N>, const N: usize> Gate<C, N> {
         )
     }
 
+    /// Loads the last cell of the row for a call that tests its condition; the number is the cell of the
+    /// section in hand.
+    ///
+    /// Needs a seat of this gate, whose call wants that next, and a cell below `N`.
+    pub fn judge_met(&self, seat: &mut GateSeat<C, N>, i: u8, _condition: C) -> u64
+        requires of { seat.old.table_id ≡ self.now }
+        requires cell { i < N }
+        requires can { CanStep C.means None (Act.JudgeMet i _condition) seat.old.me }
+        ensures seat { seat.new.table_id ≡ seat.old.table_id }
+        ensures did { Performed C.means None (Act.JudgeMet i _condition) (Found.Tested (C.means.holds _condition (row_in (the seat.old.me.0).at.held))) seat.old.me seat.new.me }
+        ensures cell { result ≡ slice_index (row_in (the seat.old.me.0).at.held) i }
+    {
+        let tested = usize::from(i) + 1;
+        self.table.shared.load::<Judge<C, N>>(seat, tested)
+    }
+
+    /// Begins a call that tests its condition by its first step, which loads the last cell of the row;
+    /// the number is the cell of the section in hand.
+    ///
+    /// Needs a seat of this gate, whose last call is over, a first place whose need is met, and a cell
+    /// below `N`.
+    pub fn begin_judge_met(
+        &self,
+        seat: &mut GateSeat<C, N>,
+        walk: Walk<C>,
+        i: u8,
+        _condition: C,
+    ) -> u64
+        requires of { seat.old.table_id ≡ self.now }
+        requires wants { want_of walk ≡ Act.JudgeMet i _condition }
+        requires cell { i < N }
+        requires can { CanStep C.means (Some walk) (Act.JudgeMet i _condition) seat.old.me }
+        ensures seat { seat.new.table_id ≡ seat.old.table_id }
+        ensures did { Performed C.means (Some walk) (Act.JudgeMet i _condition) (Found.Tested (C.means.holds _condition (row_in (the seat.old.me.0).at.held))) seat.old.me seat.new.me }
+        ensures cell { result ≡ slice_index (row_in (the seat.old.me.0).at.held) i }
+    {
+        let shared = &self.table.shared;
+        let tested_cell = usize::from(i) + 1;
+        load_saying::<Queues<C, N>, View<C, N>, u8, Law<C, N>, Walk<C>, BeginJudging<C, N>>(
+            shared,
+            seat,
+            tested_cell,
+            &walk,
+        )
+    }
+
+    /// Tells a seat's call what the look that it wants next has shown. A look changes no word of the
+    /// gate, so any load may be told of it; this one, of the seat's own flag, is made for that.
+    ///
+    /// Needs a seat of this gate, whose call wants that next, its number, below 64, and something that
+    /// such a look may show.
+    pub fn look(
+        &self,
+        seat: &mut GateSeat<C, N>,
+        number: u8,
+        _limits: Limits,
+        _again: bool,
+        cause: Option<Cause>,
+    )
+        requires of { seat.old.table_id ≡ self.now }
+        requires number { (number ≡ (the seat.old.me.0).at.seat) × (number < 64) }
+        requires may { MayShow _limits cause }
+        requires can { CanStep C.means None (Act.Look _limits _again) seat.old.me }
+        ensures seat { seat.new.table_id ≡ seat.old.table_id }
+        ensures did { Performed C.means None (Act.Look _limits _again) (Found.Looked cause) seat.old.me seat.new.me }
+    {
+        let shared = &self.table.shared;
+        let flag = Self::flag_at(number);
+        load_saying::<Queues<C, N>, View<C, N>, u8, Law<C, N>, Option<Cause>, Look<C, N>>(
+            shared, seat, flag, &cause,
+        );
+    }
+
     /// Stores a value into a cell of the row.
     ///
     /// Needs a seat of this gate, whose call wants that next, and a cell below `N`.
@@ -310,11 +385,12 @@ impl<C: Gated<N>, const N: usize> Gate<C, N> {
             .store::<Go<C, N>>(seat, usize::from(i) + 1, value);
     }
 
-    /// Makes the act that the seat's call wants next: a load of the lock word, an acquire, a release, or
-    /// a load or a store of a cell.
+    /// Makes the act that the seat's call wants next: a load of the lock word, an acquire, a release, the
+    /// taking of the queues, or a load or a store of a cell.
     ///
-    /// Needs a seat of this gate, whose call wants that next; for an acquire and a release a word that has
-    /// a number, as each has that a load or an exchange has told; for a cell one below `N`.
+    /// Needs a seat of this gate, whose call wants that next; for an exchange a word that has a number, as
+    /// each has that a load or an exchange has told; for a cell one below `N`. The other acts need what
+    /// their own functions ask for: the seat's number, the lists in hand, or the row.
     pub fn perform(&self, seat: &mut GateSeat<C, N>, act: Act<C>) -> Found
         requires of { seat.old.table_id ≡ self.now }
         requires kind { IsMadeHere N act }
@@ -327,6 +403,7 @@ impl<C: Gated<N>, const N: usize> Gate<C, N> {
             Act::Acquire(aim, arrival, last) => {
                 found_by(self.exchange_to_acquire(seat, aim, arrival, last))
             }
+            Act::TakeQueues(taking, last) => found_by(self.exchange_to_take(seat, taking, last)),
             Act::Release(releasing, last) => {
                 found_by(self.exchange_to_release(seat, releasing, last))
             }

@@ -9,8 +9,10 @@
 
 pub mod closed;
 pub mod fault;
+pub mod flags;
 pub mod gate;
 pub mod plays;
+pub mod queues;
 pub mod room;
 pub mod saying;
 pub mod view;

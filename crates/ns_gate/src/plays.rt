@@ -3,13 +3,14 @@
 ghost use Rattle.std.specs.Prelude.{◌++◌, [], None};
 ghost use Rattle.ns_gate.specs.Law.{Holds, first_of, fresh, rest_of};
 ghost use Rattle.ns_gate.specs.Meetings.{HaveLearned};
-ghost use Rattle.ns_gate.specs.Steps.{Judged, Stepped, act_in, act_of, first_said, the};
+ghost use Rattle.ns_gate.specs.Steps.{HasLooked, Judged, Stepped, act_in, act_of, first_cause, first_said, the};
 
 use crate::saying::Telling;
 use crate::view::View;
 use atomic_table::{Join, Play, Split, TableRule};
 use ns_model::condition::Condition;
 use ns_queue::queues::Queues;
+use ns_word::limits::Cause;
 use ns_word::walk::Walk;
 use std::marker::PhantomData;
 
@@ -59,6 +60,16 @@ pub struct BeginJudging<C, const N: usize> {
 impl<C: Condition<N>, const N: usize> Telling<Queues<C, N>, View<C, N>, Walk<C>>
     for BeginJudging<C, N> {
     ghost after = { λ walks st me found now. Judged C.means (first_said walks) (act_of (first_said walks)) found me now };
+}
+
+/// The look that the seat's call wants next, which has shown what it is told.
+pub struct Look<C, const N: usize> {
+    of: PhantomData<C>,
+}
+
+impl<C: Condition<N>, const N: usize> Telling<Queues<C, N>, View<C, N>, Option<Cause>>
+    for Look<C, N> {
+    ghost after = { λ causes st me found now. HasLooked C.means (first_cause causes) me now };
 }
 
 /// The first seat of a view goes to a seat of its own.

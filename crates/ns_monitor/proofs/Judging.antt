@@ -21,6 +21,7 @@ use Rattle.ns_word.specs.declared.cell_walk.CellPlace.TheVariants.{QuietCells, Q
 use Rattle.ns_word.specs.declared.cell_walk.Judging.TheVariants.{ToTell}
 use Rattle.ns_word.specs.declared.view.Held.{Held}
 use Rattle.ns_word.specs.declared.walk.Next.TheVariants.{On, Done}
+use Rattle.ns_word.specs.declared.request.Request.TheVariants.{IsQuiet}
 use Rattle.ns_word.specs.declared.walk.Reply.TheVariants.{Is}
 use Rattle.ns_word.specs.declared.walk.Walk.{Walk}
 use Rattle.ns_word.specs.declared.walk.Walk.TheVariants.{InCells}
@@ -50,7 +51,7 @@ module _ (C : Type 0) (N : ℕ) where
 module _ {C : Type 0} {N : ℕ} (truths : Truths C) where
   -- a call that has loaded so many cells of the section
   abbrev pub HasLoaded : ℕ → GateView C N → SeatOf C N → Type 0
-  HasLoaded i v me = IsAt truths (judging N) (InCells (quiet_place N ToTell i)) v me
+  HasLoaded i v me = IsAt truths (Some (judging N)) (InCells (quiet_place N ToTell i)) v me
 
   -- the first of several cells
   pub judges_first : (walk : Walk C) (me : SeatOf C N) → walk ≡ judging N → 0 < N - 1 → IsAtRest truths me → HasMode Write (the me.0).at.held → CanStep truths (Some walk) (LoadCell 0) me
@@ -59,24 +60,24 @@ module _ {C : Type 0} {N : ℕ} (truths : Truths C) where
 
   pub loads_first : (walk : Walk C) (value : ℕ) (me now : SeatOf C N) → walk ≡ judging N → 0 < N - 1 → IsAtRest truths me → Performed truths (Some walk) (LoadCell 0) (Cell value) me now → HasLoaded 1 (the me.0) now
   loads_first walk value me now is many rest p =
-      subst (λ w. IsAt truths w (InCells (quiet_place N ToTell 1)) (the me.0) now) (sym (first_is N many))
-      (begins truths (InCells (QuietCells ToTell 0)) (LoadCell 0) (Cell value) (On (InCells (quiet_place N ToTell 1))) me now rest refl (subst (λ w. Performed truths (Some w) (LoadCell 0) (Cell value) me now) (is ∙ first_is N many) p))
+      subst (λ w. IsAt truths (Some w) (InCells (quiet_place N ToTell 1)) (the me.0) now) (sym (first_is N many))
+      (begins truths (InCells (QuietCells ToTell 0)) (LoadCell 0) (Cell value) (On (InCells (quiet_place N ToTell 1))) me now rest refl (λ r _. p.carried ∙ r.empty) (subst (λ w. Performed truths (Some w) (LoadCell 0) (Cell value) me now) (is ∙ first_is N many) p))
 
   -- one more
   pub judges_next : (i : ℕ) (v : GateView C N) (me : SeatOf C N) → i < N - 1 → HasLoaded i v me → CanStep truths None (LoadCell i) me
-  judges_next i v me low at = can_go truths (judging N) (InCells (QuietCells ToTell i)) v me (subst (λ place. IsAt truths (judging N) (InCells place) v me) (more_cells N i low) at)
+  judges_next i v me low at = can_go truths (Some (judging N)) (InCells (QuietCells ToTell i)) v me (subst (λ place. IsAt truths (Some (judging N)) (InCells place) v me) (more_cells N i low) at)
 
   pub loads_next : (i value : ℕ) (v : GateView C N) (me now : SeatOf C N) → i < N - 1 → HasLoaded i v me → Performed truths None (LoadCell i) (Cell value) me now → HasLoaded (i + 1) v now
   loads_next i value v me now low at p =
-      goes_on truths (judging N) (InCells (QuietCells ToTell i)) (LoadCell i) (Cell value) (On (InCells (quiet_place N ToTell (i + 1)))) v me now (subst (λ place. IsAt truths (judging N) (InCells place) v me) (more_cells N i low) at) refl p
+      goes_on truths (Some (judging N)) (InCells (QuietCells ToTell i)) (LoadCell i) (Cell value) (On (InCells (quiet_place N ToTell (i + 1)))) v me now (subst (λ place. IsAt truths (Some (judging N)) (InCells place) v me) (more_cells N i low) at) refl (λ _. p.carried ∙ at.empty refl) p
 
   -- the last one
   pub judges_last : (i : ℕ) (v : GateView C N) (me : SeatOf C N) → i ≡ N - 1 → HasLoaded i v me → CanStep truths None (JudgeQuiet (N - 1)) me
-  judges_last i v me is at = can_go truths (judging N) (InCells (QuietLast ToTell (N - 1))) v me (subst (λ place. IsAt truths (judging N) (InCells place) v me) (last_cell N i (omega (arith, is))) at)
+  judges_last i v me is at = can_go truths (Some (judging N)) (InCells (QuietLast ToTell (N - 1))) v me (subst (λ place. IsAt truths (Some (judging N)) (InCells place) v me) (last_cell N i (omega (arith, is))) at)
 
-  pub is_judged : (i : ℕ) (quiet : Bool) (v : GateView C N) (me now : SeatOf C N) → i ≡ N - 1 → HasLoaded i v me → Performed truths None (JudgeQuiet (N - 1)) (Quiet quiet) me now → HasAnswered truths (judging N) (Is quiet) v now
+  pub is_judged : (i : ℕ) (quiet : Bool) (v : GateView C N) (me now : SeatOf C N) → i ≡ N - 1 → HasLoaded i v me → Performed truths None (JudgeQuiet (N - 1)) (Quiet quiet) me now → HasAnswered truths (Some (judging N)) IsQuiet (Is quiet) v now
   is_judged i quiet v me now is at p =
-      goes_on truths (judging N) (InCells (QuietLast ToTell (N - 1))) (JudgeQuiet (N - 1)) (Quiet quiet) (Done (Is quiet)) v me now (subst (λ place. IsAt truths (judging N) (InCells place) v me) (last_cell N i (omega (arith, is))) at) refl p
+      goes_on truths (Some (judging N)) (InCells (QuietLast ToTell (N - 1))) (JudgeQuiet (N - 1)) (Quiet quiet) (Done (Is quiet)) v me now (subst (λ place. IsAt truths (Some (judging N)) (InCells place) v me) (last_cell N i (omega (arith, is))) at) refl (λ _. p.carried ∙ at.empty refl) p
 
   -- the only one
   pub judges_only : (walk : Walk C) (me : SeatOf C N) → walk ≡ judging N → N ≡ 1 → IsAtRest truths me → HasMode Write (the me.0).at.held → CanStep truths (Some walk) (JudgeQuiet 0) me

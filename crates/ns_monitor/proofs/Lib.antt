@@ -1,6 +1,12 @@
 pub mod Callers
 pub mod Hands
 pub mod Judging
+pub mod Locks
+pub mod Looks
 pub mod Made
 pub mod Meetings
+pub mod Releases
+pub mod Returns
 pub mod Saves
+pub mod Tests
+pub mod Waits

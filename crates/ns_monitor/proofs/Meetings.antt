@@ -4,17 +4,21 @@ use Rattle.atomic_table.specs.Seated.{TableId}
 use Rattle.ns_model.specs.Truths.{Truths}
 use Rattle.ns_model.specs.declared.event.Mode.{Mode}
 use Rattle.ns_model.specs.declared.event.Mode.TheVariants.{Read}
+use Rattle.ns_gate.specs.Calls.{SeatOf, IsAtRest}
 use Rattle.ns_gate.specs.Endings.{EndsAs as SeatEndsAs}
 use Rattle.ns_gate.specs.Law.{GateView}
 use Rattle.ns_gate.specs.Meetings.{HasLearned as SeatHasLearned, ShareTheLock}
+use Rattle.ns_gate.specs.Steps.{the}
 use Rattle.ns_monitor.specs.Known.{known_of, HasLearned, EndsAs}
 use Rattle.ns_word.specs.declared.view.Held.{Held}
 use Rattle.ns_word.specs.declared.view.SeatView.{SeatView}
 use Rattle.ns_word.specs.Places.{HasMode}
+use Rattle.ns_word.specs.Walks.{has_queues}
 
 module _ {C : Type 0} {N : ℕ} (truths : Truths C) where
-  pub learned : (old new : TableId) (v w : GateView C N) → new ≡ old → SeatHasLearned truths v w → HasLearned truths (known_of old v) (known_of new w)
-  learned old new v w same h = record { monitor = same; limit = h.limit; seat = ap (λ (x : SeatView C N). x.seat) h.at; begins = h.begins; mine = h.mine; begun = h.begun; held = ap (λ (x : SeatView C N). x.held) h.at; true_to = h.true_to }
+  -- what a seat has learned that rests, as its caller sees it
+  pub learned : (old new : TableId) (v : GateView C N) (me : SeatOf C N) → new ≡ old → IsAtRest truths me → SeatHasLearned truths v (the me.0) → HasLearned truths (known_of old v) (known_of new (the me.0))
+  learned old new v me same rest h = record { monitor = same; limit = h.limit; seat = ap (λ (x : SeatView C N). x.seat) h.at; begins = h.begins; mine = h.mine; begun = h.begun; held = ap (λ (x : SeatView C N). x.held) h.at; true_to = h.true_to; over = rest.over; owes = rest.owes; no_queues = ap has_queues rest.over }
 
 -- both read, since both have a section
 pub both_modes : {C : Type 0} {N : ℕ} (one other : Mode) (a b : Option (Held C N)) → HasMode one a → HasMode other b → ShareTheLock a b → HasMode Read a × HasMode Read b

@@ -1,5 +1,6 @@
 -- What a write section keeps of the row that it began at.
 use Rattle.std.specs.Prelude.{◌≡◌, ℕ, ◌<◌, List, Option, None, Some, length, slice_index, slice_index_or, slice_set, is_none, if◌then◌else◌}
+use Rattle.ns_model.specs.declared.event.Mode.{Mode}
 use Rattle.ns_word.specs.declared.view.Held.{Held}
 
 -- a cell's value as the section began: the one saved, or the one there is where none was
@@ -20,3 +21,14 @@ HasSaved {C} {N} saved (Some section) = AreSaved N saved section.before section.
 -- what is saved once a cell that held this value is set
 abbrev pub saved_after : ℕ → ℕ → List (Option ℕ) → List (Option ℕ)
 saved_after i old saved = if is_none (slice_index_or saved i None) then slice_set saved i (Some old) else saved
+
+-- a section in this mode that has just begun, over a row of N cells: nothing has changed in it
+pub record IsFresh {C : Type 0} {N : ℕ} (cells : ℕ) (mode : Mode) (held : Held C N) : Type 0 where
+  pub mode_is : held.mode ≡ mode
+  pub width : length held.before ≡ cells
+  pub row_is : held.row ≡ held.before
+
+-- such a section is in hand
+abbrev pub IsFreshIn : {C : Type 0} {N : ℕ} → ℕ → Mode → Option (Held C N) → Type 0
+IsFreshIn N mode None = ⊥
+IsFreshIn N mode (Some held) = IsFresh N mode held

@@ -1,18 +1,28 @@
 -- The first place of each call of a monitor, by which a caller's calls are told.
-use Rattle.std.specs.Prelude.{ℕ}
+use Rattle.std.specs.Prelude.{ℕ, Option, option_map}
 use Rattle.ns_model.specs.declared.event.Mode.{Mode}
 use Rattle.ns_word.specs.declared.cell_walk.CellPlace.TheVariants.{GetLoad, SetLoad}
-use Rattle.ns_word.specs.Walks.{quiet_first}
+use Rattle.ns_note.specs.declared.note.Note.{Note}
+use Rattle.ns_word.specs.Walks.{quiet_first, wait_first}
+use Rattle.ns_word.specs.declared.wait.Subject.TheVariants.{OnCondition}
+use Rattle.ns_word.specs.declared.wait.Wait.{Wait}
 use Rattle.ns_word.specs.declared.cell_walk.Judging.TheVariants.{ToTell}
 use Rattle.ns_word.specs.declared.release_walk.ReleasePlace.TheVariants.{ReleaseLoad}
+use Rattle.ns_word.specs.declared.acquire_walk.AcquirePlace.TheVariants.{AcquireLoad}
+use Rattle.ns_word.specs.declared.wait.Aim.TheVariants.{ForLock}
+use Rattle.ns_word.specs.declared.word.Arrival.TheVariants.{AsFresh}
 use Rattle.ns_word.specs.declared.try_walk.TryPlace.TheVariants.{TryLoad}
 use Rattle.ns_word.specs.declared.walk.Walk.{Walk}
-use Rattle.ns_word.specs.declared.walk.Walk.TheVariants.{InTry, InRelease, InCells}
+use Rattle.ns_word.specs.declared.walk.Walk.TheVariants.{InTry, InAcquire, InRelease, InCells}
 use Rattle.ns_word.specs.declared.word.Releasing.{Releasing}
 
 -- a try for this mode
 abbrev pub trying : {C : Type 0} → Mode → Walk C
 trying mode = InTry mode TryLoad
+
+-- a call that locks in this mode
+abbrev pub locking : {C : Type 0} → Mode → Walk C
+locking mode = InAcquire (ForLock mode) (AcquireLoad AsFresh)
 
 -- a release of a section in this way
 abbrev pub releasing_by : {C : Type 0} → Releasing → Walk C
@@ -29,3 +39,15 @@ setting i value = InCells (SetLoad i value)
 -- a question whether a section of N cells is quiet
 abbrev pub judging : {C : Type 0} → ℕ → Walk C
 judging N = quiet_first N ToTell
+
+-- what a wait in this mode is for this condition, with this deadline and the note of this number
+abbrev pub waits_by : {C : Type 0} → Mode → C → Option ℕ → Option ℕ → Wait C
+waits_by mode c deadline number = record { mode = mode; on = OnCondition c; limits = record { deadline = deadline; note = number } }
+
+-- the same with this note
+abbrev pub waits_for : {C : Type 0} → Mode → C → Option ℕ → Option Note → Wait C
+waits_for mode c deadline note = waits_by mode c deadline (option_map (λ n. n.index) note)
+
+-- such a wait, over a row of N cells
+abbrev pub waiting : {C : Type 0} → ℕ → Mode → C → Option ℕ → Option Note → Walk C
+waiting N mode c deadline note = wait_first N (waits_for mode c deadline note)

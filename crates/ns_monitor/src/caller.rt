@@ -1,14 +1,15 @@
 //! A seat of a monitor, and the sections that it may have in hand.
 
-ghost use Rattle.std.specs.Prelude.{◌≡◌, ◌<◌, ℕ, Option, None, length, slice_index, slice_index_or};
+ghost use Rattle.std.specs.Prelude.{◌≡◌, ◌<◌, ℕ, Option, None, Some, length, slice_index, slice_index_or};
 ghost use Rattle.ns_model.specs.declared.event.Mode.{Mode};
 ghost use Rattle.ns_model.specs.declared.event.Mode.TheVariants.{Read, Write};
 ghost use Rattle.ns_word.specs.declared.view.Held.{Held};
 ghost use Rattle.ns_word.specs.Places.{HasMode};
-ghost use Rattle.ns_monitor.specs.Saved.{HasSaved, saved_after, value_before};
+ghost use Rattle.ns_monitor.specs.Saved.{HasSaved, IsFresh, saved_after, value_before};
 
 use ns_gate::gate::GateSeat;
 use ns_model::condition::Condition;
+use ns_model::event::Mode;
 use std::marker::{Model, PhantomData};
 
 /// What a caller has in hand.
@@ -24,6 +25,17 @@ pub trait Section<C, const N: usize>: Hand<C, N> {
 
     /// There is one, in that mode.
     ghost in_mode: { (me : Self) (held : Option (Held C N)) → Self.Hand.fits me held → HasMode mode held };
+}
+
+/// A section that may begin anew.
+pub trait Renewed<C, const N: usize>: Section<C, N> + Drop {
+    /// Its mode.
+    fn mode() -> Mode
+        ensures { result ≡ Self.Section.mode };
+
+    /// What is in hand where such a section has just begun.
+    fn begun() -> Self
+        ensures { (held : Held C N) → IsFresh N Self.Section.mode held → Self.Hand.fits result (Some held) };
 }
 
 /// No section is in hand.
@@ -48,6 +60,16 @@ impl<C, const N: usize> Section<C, N> for Reading {
     ghost in_mode = { λ me held h. h };
 }
 
+impl<C, const N: usize> Renewed<C, N> for Reading {
+    fn mode() -> Mode {
+        Mode::Read
+    }
+
+    fn begun() -> Self {
+        Reading
+    }
+}
+
 /// A section in hand that writes, with what it found in the cells that it has set.
 #[derive(Drop)]
 pub struct Writing<const N: usize> {
@@ -65,6 +87,16 @@ impl<C, const N: usize> Section<C, N> for Writing<N> {
     ghost in_mode = { λ me held h. h.0 };
 }
 
+impl<C, const N: usize> Renewed<C, N> for Writing<N> {
+    fn mode() -> Mode {
+        Mode::Write
+    }
+
+    fn begun() -> Self {
+        Writing { saved: [None; N] }
+    }
+}
+
 /// A caller of a monitor, with what it has in hand.
 ///
 /// For contracts it carries which monitor it is of, how many seats that has, its own number, the
@@ -74,6 +106,8 @@ impl<C, const N: usize> Section<C, N> for Writing<N> {
 pub struct Caller<H: Hand<C, N>, C: Condition<N>, const N: usize> {
     /// The seat of the gate, which carries what is known.
     pub(crate) seat: GateSeat<C, N>,
+    /// The seat's number.
+    pub(crate) number: u8,
     /// What is in hand.
     pub(crate) hand: H,
 }
@@ -82,12 +116,13 @@ impl<H: Hand<C, N>, C: Condition<N>, const N: usize> Model for Caller<H, C, N> {
     ghost use Rattle.ns_gate.specs.Calls.{IsAtRest};
     ghost use Rattle.ns_gate.specs.Steps.{the};
     ghost use Rattle.ns_monitor.specs.Known.{Known, known_of};
+    ghost use Rattle.ns_monitor.specs.Locks.{IsNumberOf};
 
     ghost Value = { Known C N };
 
     ghost view = { λ c. known_of c.seat.table_id (the c.seat.me.0) };
 
-    ghost invariant = { λ c. IsAtRest C.means c.seat.me × H.fits c.hand (the c.seat.me.0).at.held };
+    ghost invariant = { λ c. IsAtRest C.means c.seat.me × IsNumberOf c.number c.seat.me × H.fits c.hand (the c.seat.me.0).at.held };
 }
 
 /// A seat with no section in hand.

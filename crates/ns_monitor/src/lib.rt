@@ -7,13 +7,14 @@
 //! let (monitor, mut seats) = Monitor::<Plain, 2>::new(rt.alloc(), 2)?; // `Plain` is any `Condition<2>`
 //! let Some(mut seat) = seats.pop() else { return Ok(()) }; // a seat for each thread
 //!
-//! seat = match monitor.try_lock(seat) {
-//!     Ok(mut held) => {
-//!         let value = monitor.get(&mut held, 0);
-//!         monitor.set(&mut held, 0, value.wrapping_add(1));
-//!         monitor.unlock(&rt, held)
-//!     }
-//!     Err(seat) => seat, // somebody else holds the lock, or has just changed its word
+//! let mut held = monitor.lock(&rt, seat); // waits while somebody else holds the lock
+//! let value = monitor.get(&mut held, 0);
+//! monitor.set(&mut held, 0, value.wrapping_add(1));
+//! seat = monitor.unlock(&rt, held);
+//!
+//! seat = match monitor.try_rlock(seat) {
+//!     Ok(held) => monitor.runlock(&rt, held),
+//!     Err(seat) => seat, // somebody else writes or waits to, or has just changed the lock's word
 //! };
 //! let closed = monitor.close(seat);
 //! assert!(rt; closed.free);
@@ -27,11 +28,21 @@
 //! seen, and in which its own events are just the sections that it has released. A section begins at
 //! the row after that history. Two callers compare what they have seen by [`monitor::Monitor::meet`],
 //! or, with sections that read, by [`monitor::Monitor::both_read`]; between callers that never met,
-//! nothing is said of the order. Nobody waits for the lock here yet: a try takes it or comes back.
+//! nothing is said of the order.
+//!
+//! [`monitor::Monitor::wait`] leaves a section until a condition on the row is true, and comes back with
+//! another in the same mode; the one with a deadline may be ended by that or by a note of ns_note, and
+//! says which. The behaviour is that of nsync's `nsync_mu` and `nsync_mu_wait`: waiters queue, one
+//! designated waker is enough, and conditions are tested by whoever releases.
 #![tactic(auto)]
 
+mod acquiring;
 pub mod caller;
 pub mod monitor;
+mod releasing;
+mod rounds;
+mod testing;
+mod waiting;
 
 pub use ns_gate::closed::Closed;
 pub use ns_gate::fault::Fault;

@@ -1,10 +1,11 @@
 //! The monitor, and its calls.
 
-ghost use Rattle.std.specs.Prelude.{◌≡◌, ◌<◌, ◌≤◌, ◌++◌, [], ◌∷◌, if◌then◌else◌, None, Some, IfErr, IfOk, OnOk, length, slice_index, slice_set};
+ghost use Rattle.std.specs.Prelude.{◌≡◌, ◌<◌, ◌≤◌, ◌++◌, [], ◌∷◌, if◌then◌else◌, None, Some, true, IfErr, IfOk, IfSome, OnOk, length, slice_index, slice_set};
 ghost use Rattle.ns_model.specs.declared.event.Exit.TheVariants as TheExit;
 ghost use Rattle.ns_model.specs.declared.event.Mode.TheVariants.{Read, Write};
+ghost use Rattle.ns_word.specs.declared.request.Request.TheVariants.{IsQuiet, TryLock};
 ghost use Rattle.ns_word.specs.declared.walk.Reply.TheVariants.{Busy, Is, Succeeded};
-ghost use Rattle.ns_word.specs.declared.word.Releasing.TheVariants.{Reader, Writer};
+ghost use Rattle.ns_word.specs.declared.word.Releasing.TheVariants.{QuietWriter, Reader, Writer};
 ghost use Rattle.ns_word.specs.Finds.{before_in, row_in};
 ghost use Rattle.ns_word.specs.Meanings.{InHand};
 ghost use Rattle.ns_word.specs.Places.{CanLeave, HasMode};
@@ -13,15 +14,23 @@ ghost use Rattle.ns_gate.specs.Calls.{HasAnswered, IsAtRest};
 ghost use Rattle.ns_gate.specs.Law.{NewFault};
 ghost use Rattle.ns_gate.specs.Steps.{the};
 ghost use Rattle.ns_monitor.specs.Known.{AreNew, AreOfOneHistory, EndsAs, Grows, HasLearned, HasLocked, HasSeenMore, known_of};
-ghost use Rattle.ns_monitor.specs.Walks.{getting, judging, releasing_by, setting, trying};
+ghost use Rattle.ns_monitor.specs.Locks.{IsNumberOf};
+ghost use Rattle.ns_monitor.specs.Waits.{EndedBy, HasWaited};
+ghost use Rattle.ns_monitor.specs.Walks.{getting, judging, locking, releasing_by, setting, trying, waiting};
+ghost use Rattle.ns_model.specs.Environments.{IsMade};
+ghost use Rattle.ns_note.specs.Known.{Grows as EnvGrows};
 
-use crate::caller::{Caller, Free, ReadHeld, Reading, Seat, Section, WriteHeld, Writing};
+use crate::caller::{Caller, Free, ReadHeld, Reading, Renewed, Seat, Section, WriteHeld, Writing};
 use crate::{Closed, Fault};
 use ns_gate::gate::{Gate, GateSeat};
 use ns_gate::room::Gated;
 use ns_model::condition::Condition;
-use ns_model::event::Mode;
-use ns_word::wait::Aim;
+use ns_model::event::{Answer, Mode};
+use ns_note::env::Env;
+use ns_note::note::{Note, index_of};
+use ns_note::seat::EnvSeat;
+use ns_word::limits::Limits;
+use ns_word::wait::{Aim, Subject, Wait as Waiting, answer_of};
 use ns_word::walk::Walk;
 use ns_word::word::{Arrival, Releasing};
 use std::alloc::{AllocError, Global};
@@ -44,11 +53,15 @@ impl<C: Condition<N>, const N: usize> Model for Monitor<C, N> {
 }
 
 /// A seat of a monitor.
-fn seated<C: Gated<N>, const N: usize>(seat: GateSeat<C, N>) -> Seat<C, N>
-    requires { IsAtRest C.means seat.me × ((the seat.me.0).at.held ≡ None) }
+fn seated<C: Gated<N>, const N: usize>(seat: GateSeat<C, N>, number: u8) -> Seat<C, N>
+    requires { IsAtRest C.means seat.me × IsNumberOf number seat.me × ((the seat.me.0).at.held ≡ None) }
     ensures { result ≡ known_of seat.table_id (the seat.me.0) }
 {
-    Caller { seat, hand: Free }
+    Caller {
+        seat,
+        number,
+        hand: Free,
+    }
 }
 
 /// Puts a seat behind the others.
@@ -74,9 +87,9 @@ impl<C: Gated<N>, const N: usize> Monitor<C, N> {
     {
         let (gate, mut all) = Gate::new(alloc, seats)?;
         let mut given = Vec::new(alloc);
-        for _who in 0..seats {
+        for who in 0..seats {
             let seat = gate.part(&mut all);
-            add(&mut given, seated(seat))?;
+            add(&mut given, seated(seat, who as u8))?;
         }
         Ok((Monitor { gate }, given))
     }
@@ -87,7 +100,7 @@ impl<C: Gated<N>, const N: usize> Monitor<C, N> {
         requires rest { IsAtRest C.means seat.old.me }
         requires free { (the seat.old.me.0).at.held ≡ None }
         ensures seat { seat.new.table_id ≡ seat.old.table_id }
-        ensures tried { HasAnswered C.means (trying mode) (if result then Succeeded else Busy) (the seat.old.me.0) seat.new.me }
+        ensures tried { HasAnswered C.means (Some (trying mode)) (TryLock mode) (if result then Succeeded else Busy) (the seat.old.me.0) seat.new.me }
     {
         let word = self.gate.begin_load(seat, Walk::try_lock(mode));
         if !word.may_acquire(mode, Arrival::AsFresh) {
@@ -109,12 +122,16 @@ impl<C: Gated<N>, const N: usize> Monitor<C, N> {
         ensures locked { IfOk result (λ held. HasLocked C.means (trying Write) Write seat held) }
         ensures busy { IfErr result (λ back. HasSeenMore C.means (trying Write) seat back) }
     {
-        let Caller { mut seat, hand } = seat;
+        let Caller {
+            mut seat,
+            number,
+            hand,
+        } = seat;
         if self.try_acquire(&mut seat, Mode::Write) {
             let hand = Writing { saved: [None; N] };
-            Ok(Caller { seat, hand })
+            Ok(Caller { seat, number, hand })
         } else {
-            Err(Caller { seat, hand })
+            Err(Caller { seat, number, hand })
         }
     }
 
@@ -127,14 +144,54 @@ impl<C: Gated<N>, const N: usize> Monitor<C, N> {
         ensures locked { IfOk result (λ held. HasLocked C.means (trying Read) Read seat held) }
         ensures busy { IfErr result (λ back. HasSeenMore C.means (trying Read) seat back) }
     {
-        let Caller { mut seat, hand } = seat;
+        let Caller {
+            mut seat,
+            number,
+            hand,
+        } = seat;
         if self.try_acquire(&mut seat, Mode::Read) {
             Ok(Caller {
                 seat,
+                number,
                 hand: Reading,
             })
         } else {
-            Err(Caller { seat, hand })
+            Err(Caller { seat, number, hand })
+        }
+    }
+
+    /// Acquires the lock to write, and waits as long as it has to. The section begins at the row after
+    /// all that it has seen.
+    pub fn lock<R: Wait>(&self, rt: &R, seat: Seat<C, N>) -> WriteHeld<C, N>
+        requires { seat.monitor ≡ self.now }
+        ensures { HasLocked C.means (locking Write) Write seat result }
+    {
+        let Caller {
+            mut seat,
+            number,
+            hand: _,
+        } = seat;
+        self.acquire_first(rt, &mut seat, number, Mode::Write);
+        let hand = Writing { saved: [None; N] };
+        Caller { seat, number, hand }
+    }
+
+    /// Acquires the lock to read, beside other readers, and waits as long as it has to. The section
+    /// begins at the row after all that it has seen.
+    pub fn rlock<R: Wait>(&self, rt: &R, seat: Seat<C, N>) -> ReadHeld<C, N>
+        requires { seat.monitor ≡ self.now }
+        ensures { HasLocked C.means (locking Read) Read seat result }
+    {
+        let Caller {
+            mut seat,
+            number,
+            hand: _,
+        } = seat;
+        self.acquire_first(rt, &mut seat, number, Mode::Read);
+        Caller {
+            seat,
+            number,
+            hand: Reading,
         }
     }
 
@@ -178,7 +235,7 @@ impl<C: Gated<N>, const N: usize> Monitor<C, N> {
         requires rest { IsAtRest C.means seat.old.me }
         requires writes { HasMode Write (the seat.old.me.0).at.held }
         ensures seat { seat.new.table_id ≡ seat.old.table_id }
-        ensures judged { HasAnswered C.means (judging N) (Is (C.means.quiet (before_in (the seat.old.me.0).at.held) (row_in (the seat.old.me.0).at.held))) (the seat.old.me.0) seat.new.me }
+        ensures judged { HasAnswered C.means (Some (judging N)) IsQuiet (Is (C.means.quiet (before_in (the seat.old.me.0).at.held) (row_in (the seat.old.me.0).at.held))) (the seat.old.me.0) seat.new.me }
         ensures row { result ≡ row_in (the seat.old.me.0).at.held }
     {
         let first = Walk::is_quiet::<N>();
@@ -221,15 +278,25 @@ impl<C: Gated<N>, const N: usize> Monitor<C, N> {
         ensures before { AreOfOneHistory first second }
         ensures after { result.1.seen ≡ result.0.seen }
     {
-        let Caller { seat: one, hand } = first;
+        let Caller {
+            seat: one,
+            number,
+            hand,
+        } = first;
         let Caller {
             seat: other,
+            number: other_number,
             hand: other_hand,
         } = second;
         let (one, other) = self.gate.meet(one, other);
-        let first = Caller { seat: one, hand };
+        let first = Caller {
+            seat: one,
+            number,
+            hand,
+        };
         let second = Caller {
             seat: other,
+            number: other_number,
             hand: other_hand,
         };
         (first, second)
@@ -244,46 +311,37 @@ impl<C: Gated<N>, const N: usize> Monitor<C, N> {
         ensures before { AreOfOneHistory first second }
         ensures after { result.1.seen ≡ result.0.seen }
     {
-        let Caller { seat: one, hand: _ } = first;
+        let Caller {
+            seat: one,
+            number,
+            hand: _,
+        } = first;
         let Caller {
             seat: other,
+            number: other_number,
             hand: _,
         } = second;
         let (first, second) = self.gate.meet(one, other);
-        (seated(first), seated(second))
-    }
-
-    /// Releases the section in hand, in its mode, and again by the word found where another step
-    /// came between.
-    fn release<R: Wait>(&self, rt: &R, seat: &mut GateSeat<C, N>, releasing: Releasing)
-        requires of { seat.old.table_id ≡ self.now }
-        requires rest { IsAtRest C.means seat.old.me }
-        requires can { CanLeave C.means releasing (the seat.old.me.0).at.held }
-        ensures seat { seat.new.table_id ≡ seat.old.table_id }
-        ensures released { HasAnswered C.means (releasing_by releasing) Succeeded (the seat.old.me.0) seat.new.me }
-    {
-        let mut word = self.gate.begin_load(seat, Walk::release(releasing));
-        for _ in rt.forever() {
-            match self.gate.exchange_to_release(seat, releasing, word) {
-                Ok(()) => return,
-                Err(other) => word = other,
-            }
-        }
-        unreachable!()
+        (seated(first, number), seated(second, other_number))
     }
 
     /// Ends a write section: it is committed as it is, and the caller's events have it as their last.
     ///
-    /// Goes round until its exchange is made, since another may change the word meanwhile; for that
-    /// it takes `rt`.
+    /// Where waiters may be able to go on, it tests their conditions, here in this thread, and wakes
+    /// those who can. It tries its exchange again where another has changed the word meanwhile, and goes
+    /// round while another has the waiter queues.
     pub fn unlock<R: Wait>(&self, rt: &R, held: WriteHeld<C, N>) -> Seat<C, N>
         requires { held.monitor ≡ self.now }
         ensures grows { Grows C.means (releasing_by Writer) held result }
         ensures mine { InHand held.held (λ section. result.mine ≡ held.mine ++ section_of C.means.holds held.seat section TheExit.Plain ∷ []) }
     {
-        let Caller { mut seat, hand: _ } = held;
+        let Caller {
+            mut seat,
+            number,
+            hand: _,
+        } = held;
         self.release(rt, &mut seat, Releasing::Writer);
-        seated(seat)
+        seated(seat, number)
     }
 
     /// Ends a read section: it is committed, and the caller's events have it as their last.
@@ -294,9 +352,134 @@ impl<C: Gated<N>, const N: usize> Monitor<C, N> {
         ensures grows { Grows C.means (releasing_by Reader) held result }
         ensures mine { InHand held.held (λ section. result.mine ≡ held.mine ++ section_of C.means.holds held.seat section TheExit.Plain ∷ []) }
     {
-        let Caller { mut seat, hand: _ } = held;
+        let Caller {
+            mut seat,
+            number,
+            hand: _,
+        } = held;
         self.release(rt, &mut seat, Releasing::Reader);
-        seated(seat)
+        seated(seat, number)
+    }
+
+    /// Ends a write section that can't have made a false condition true: it is committed as it is, as
+    /// [`Monitor::unlock`] does, but waiters whose conditions are known to be false aren't tested.
+    ///
+    /// Needs a section that is quiet, by [`Monitor::is_quiet`].
+    pub fn unlock_without_wakeup<R: Wait>(&self, rt: &R, held: WriteHeld<C, N>) -> Seat<C, N>
+        requires of { held.monitor ≡ self.now }
+        requires quiet { InHand held.held (λ section. C.means.quiet section.before section.row ≡ true) }
+        ensures grows { Grows C.means (releasing_by QuietWriter) held result }
+        ensures mine { InHand held.held (λ section. result.mine ≡ held.mine ++ section_of C.means.holds held.seat section TheExit.Plain ∷ []) }
+    {
+        let Caller {
+            mut seat,
+            number,
+            hand: _,
+        } = held;
+        self.release(rt, &mut seat, Releasing::QuietWriter);
+        seated(seat, number)
+    }
+
+    /// Waits until the condition is true of the row, in a section in the same mode. Where it is true of
+    /// the section in hand, nothing is released.
+    ///
+    /// Else the section is committed, with the condition as its exit, and the call sleeps until another
+    /// has woken it; the section that it comes back with begins at the row after all that it has seen.
+    /// The condition is tested also by others, who release the lock.
+    pub fn wait<H: Renewed<C, N>, R: Wait>(
+        &self,
+        rt: &R,
+        held: Caller<H, C, N>,
+        condition: C,
+    ) -> Caller<H, C, N>
+        requires { held.monitor ≡ self.now }
+        ensures grows { Grows C.means (waiting N H.mode condition None None) held result }
+        ensures waited { HasWaited C.means condition Answer.Met held result }
+    {
+        let Caller {
+            mut seat,
+            number,
+            hand,
+        } = held;
+        let limits = Limits {
+            deadline: None,
+            note: None,
+        };
+        let wait = Waiting {
+            mode: H::mode(),
+            on: Subject::OnCondition(condition),
+            limits,
+        };
+        let mut row = [0; N];
+        if self.test_first(&mut seat, wait, condition, &mut row) {
+            return Caller { seat, number, hand };
+        }
+        self.wait_until_met(rt, &mut seat, number, wait, condition, &mut row);
+        Caller {
+            seat,
+            number,
+            hand: H::begun(),
+        }
+    }
+
+    /// Waits as [`Monitor::wait`] does, and returns earlier once its note is notified or its deadline, in
+    /// ticks, has come, whichever of them is given.
+    ///
+    /// `Met` says that the condition is true of the section that it returns with; else `Canceled` that
+    /// the note was notified, and `TimedOut` that the deadline had come while the note wasn't. Where that
+    /// is so as the call begins, nothing is released.
+    ///
+    /// Needs the environment's own seat, and a note, if one is given, that it has seen made. While it
+    /// waits with a deadline or a note it goes round between its wake and a look.
+    pub fn wait_with_deadline<H: Renewed<C, N>, R: Wait>(
+        &self,
+        rt: &R,
+        held: Caller<H, C, N>,
+        condition: C,
+        deadline: Option<u64>,
+        note: Option<Note>,
+        env: &Env,
+        env_seat: &mut EnvSeat,
+    ) -> (Caller<H, C, N>, Answer)
+        requires of { held.monitor ≡ self.now }
+        requires env { env_seat.old.env ≡ env.now }
+        requires made { IfSome note (λ n. IsMade env_seat.old.seen n.index) }
+        ensures grows { Grows C.means (waiting N H.mode condition deadline note) held result.0 }
+        ensures waited { HasWaited C.means condition result.1 held result.0 }
+        ensures env_grows { EnvGrows env_seat.old env_seat.new }
+        ensures env_mine { env_seat.new.mine ≡ env_seat.old.mine }
+        ensures ended { EndedBy note deadline env_seat.old.seen env_seat.new.seen result.1 }
+    {
+        env_seat.attest();
+        let limits = Limits {
+            deadline,
+            note: index_of(note),
+        };
+        if !limits.is_some() {
+            return (self.wait(rt, held, condition), Answer::Met);
+        }
+        let Caller {
+            mut seat,
+            number,
+            hand,
+        } = held;
+        let wait = Waiting {
+            mode: H::mode(),
+            on: Subject::OnCondition(condition),
+            limits,
+        };
+        let mut row = [0; N];
+        if self.test_first(&mut seat, wait, condition, &mut row) {
+            return (Caller { seat, number, hand }, Answer::Met);
+        }
+        if let Some(cause) = self.look_in(&mut seat, number, wait, false, note, env, env_seat) {
+            return (Caller { seat, number, hand }, answer_of(cause));
+        }
+        let answer = self.wait_until_ended(
+            rt, &mut seat, number, wait, condition, &mut row, note, env, env_seat,
+        );
+        let hand = H::begun();
+        (Caller { seat, number, hand }, answer)
     }
 
     /// Ends the monitor, and tells the cells as they stand, and whether the lock is free. Where it
@@ -309,7 +492,11 @@ impl<C: Gated<N>, const N: usize> Monitor<C, N> {
         ensures { EndsAs C.means seat result.row result.free }
     {
         let Monitor { gate } = self;
-        let Caller { seat, hand: _ } = seat;
+        let Caller {
+            seat,
+            number: _,
+            hand: _,
+        } = seat;
         gate.close(seat)
     }
 }

@@ -14,7 +14,7 @@ pub struct Note {
 }
 
 /// The number of a note, if there is one.
-pub(crate) fn index_of(note: Option<Note>) -> Option<u8>
+pub fn index_of(note: Option<Note>) -> Option<u8>
     ensures { result ≡ option_map (λ n. n.index) note }
 {
     match note {

@@ -1,5 +1,7 @@
 //! The seats through which callers use an environment.
 
+ghost use Rattle.ns_note.specs.Known.{IsTrueToHistory};
+
 use crate::view::View;
 use std::marker::Model;
 
@@ -24,4 +26,14 @@ impl Model for EnvSeat {
     ghost view = { λ s. known_of s.seat.table_id (the s.seat.me.0) };
 
     ghost invariant = { λ s. IsAtRest s.seat.table_id s.seat.me };
+}
+
+impl EnvSeat {
+    /// Attests what is so of each seat: what it has seen is a legal history by the seats that there
+    /// are, in which its own events are just its own. It does nothing.
+    pub fn attest(&self)
+        ensures { IsTrueToHistory self.now }
+    {
+        let _ = &self.seat;
+    }
 }

@@ -40,7 +40,7 @@
 //! What the list holds is told while nobody has the queues.
 
 ghost use Rattle.std.specs.Prelude.{◌≡◌, ◌≢◌, ◌<◌, true, false};
-ghost use Rattle.ns_word.specs.Words.{is_held, is_woken, tries_of, may_acquire, needs_scan, word_acquired, word_taken, word_returned, word_released, word_released_returning};
+ghost use Rattle.ns_word.specs.Words.{is_held, is_woken, tries_of, releasing_of, may_acquire, needs_scan, word_acquired, word_taken, word_returned, word_released, word_released_returning};
 
 use ns_model::event::Mode;
 use ns_queue::waiter::LONG_TRIES;
@@ -135,6 +135,18 @@ impl Arrival {
                     LONG_TRIES
                 }
             }
+        }
+    }
+}
+
+impl Releasing {
+    /// How a wait releases a section in this mode.
+    pub fn of(mode: Mode) -> Releasing
+        ensures { result ≡ releasing_of mode }
+    {
+        match mode {
+            Mode::Write => Releasing::Writer,
+            Mode::Read => Releasing::Reader,
         }
     }
 }

@@ -6,7 +6,7 @@ ghost use Rattle.ns_queue.specs.Queues.{IsList, times};
 ghost use Rattle.ns_word.specs.Places.{CanLeave, CanWait, ChangeFits, IsInRange};
 ghost use Rattle.ns_word.specs.Steps.{change_commits, entry_of, exit_for, opening_for, section_of, Effect};
 ghost use Rattle.ns_word.specs.Waits.{mode_for};
-ghost use Rattle.ns_word.specs.Words.{is_woken, releasing_of, may_acquire};
+ghost use Rattle.ns_word.specs.Words.{is_woken, may_acquire};
 ghost use Rattle.ns_world.specs.Commits.{IsEvent};
 ghost use Rattle.ns_world.specs.Performs.{part, IsSeat, Makes};
 
@@ -332,16 +332,6 @@ pub(crate) fn release_returning<C: Seated<N>, const N: usize>(
     })
 }
 
-/// How a section in this mode is released by a wait.
-fn leaving_of(mode: Mode) -> Releasing
-    ensures { result ≡ releasing_of mode }
-{
-    match mode {
-        Mode::Write => Releasing::Writer,
-        Mode::Read => Releasing::Reader,
-    }
-}
-
 /// How a section ends that is left for such a wait.
 fn exit_for<C: Copy>(on: Subject<C>) -> Exit<C>
     ensures { result ≡ exit_for on }
@@ -400,7 +390,7 @@ pub(crate) fn wait_returning<C: Seated<N>, const N: usize>(
     leave_section(seat.number, &mut seat.held, history, wait.on, again)?;
     let scan = scan_and_queue(queues, row, seat.number, wait, again);
     let owes = !scan.woken.is_empty();
-    *word = last.released_returning(leaving_of(wait.mode), owes, bits(queues));
+    *word = last.released_returning(Releasing::of(wait.mode), owes, bits(queues));
     seat.owed = scan.woken;
     Ok(Found::Scanned {
         owes,

@@ -22,7 +22,7 @@ pub returns-clause-ok : goal.returns-clause-ok
 returns-clause-ok g c = λ flags.
     waited _ c.args.seat.now.number c.args.wait c.args.again c.args.last c.args.word.now c.released_returning.result c.args.row.now flags c.args.history.now.items c.leave_section.new.history.items
     c.args.queues.now c.scan_and_queue-scan.new.queues c.args.seat.now.owed.items c.scan_and_queue-scan.result.woken.items c.args.seat.now.held c.leave_section.new.held (not c.is_empty-owes.result) c.scan_and_queue-scan.result.tests c.bits.result
-    c.requires.can c.in_ok-leave_section.ensures.ok (c.if-not-is_same.ensures.same refl) (rw (← c.leaving_of.ensures) c.released_returning.ensures) c.in_ok-leave_section.ensures.over
+    c.requires.can c.in_ok-leave_section.ensures.ok (c.if-not-is_same.ensures.same refl) (rw (← c.of.ensures) c.released_returning.ensures) c.in_ok-leave_section.ensures.over
     c.scan_and_queue-scan.ensures.lists c.scan_and_queue-scan.ensures.woken (ap not c.is_empty-owes.ensures ∙ some_left _) c.bits.ensures c.scan_and_queue-scan.ensures.tests
 
 pub returns-then-not-is_same-clause-kept : goal.returns-then-not-is_same-clause-kept

@@ -2,6 +2,7 @@ use Rattle.std.proofs.Common.{rules, arith, refl, ◌∙◌, ap}
 use Rattle.ns_word.specs.Codec.{number_of}
 use Rattle.ns_word.specs.Words.{word_acquired}
 use Rattle.ns_word.specs.declared.act.Act.TheVariants.{Acquire}
+use Rattle.ns_word.specs.declared.act.Found.TheVariants.{Made}
 use Rattle.ns_gate.proofs.Turns.{may_acquire_word}
 use Rattle.ns_gate.proofs.Tells.{found_packs, performed, meant_in}
 use Rattle.ns_gate.proofs.gate.Gate.exchange_to_acquire.Goals as goal
@@ -17,7 +18,7 @@ compare_exchange-found-requires g c = (
 )
 
 pub came_to-requires : goal.came_to-requires
-came_to-requires g c = found_packs _ _ _ (Acquire c.args.aim c.args.arrival c.args.last) _ c.args.last _ _ (meant_in _ _ _ c.requires.can) refl c.requires.last c.compare_exchange-found.ensures.2
+came_to-requires g c = found_packs _ _ _ (Acquire c.args.aim c.args.arrival c.args.last) _ c.args.last Made _ _ (meant_in _ _ _ c.requires.can) refl c.requires.last c.compare_exchange-found.ensures.2
 
 pub returns-clause-did : goal.returns-clause-did
-returns-clause-did g c = performed _ _ _ (Acquire c.args.aim c.args.arrival c.args.last) _ _ _ _ (meant_in _ _ _ c.requires.can) c.came_to.ensures.tried c.compare_exchange-found.ensures.2
+returns-clause-did g c = performed _ _ _ (Acquire c.args.aim c.args.arrival c.args.last) _ _ _ _ (meant_in _ _ _ c.requires.can) (c.came_to.ensures.tried Made) c.compare_exchange-found.ensures.2

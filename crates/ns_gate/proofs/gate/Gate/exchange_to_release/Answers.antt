@@ -1,6 +1,7 @@
 use Rattle.std.proofs.Common.{rules, refl, ◌∙◌, ap}
 use Rattle.ns_word.specs.Codec.{number_of}
 use Rattle.ns_word.specs.declared.act.Act.TheVariants.{Release}
+use Rattle.ns_word.specs.declared.act.Found.TheVariants.{Made}
 use Rattle.ns_gate.proofs.Turns.{may_release_word}
 use Rattle.ns_gate.proofs.Tells.{found_packs, performed, meant_in}
 use Rattle.ns_gate.proofs.gate.Gate.exchange_to_release.Goals as goal
@@ -13,7 +14,7 @@ compare_exchange-found-requires g c = (
 )
 
 pub came_to-requires : goal.came_to-requires
-came_to-requires g c = found_packs _ _ _ (Release c.args.releasing c.args.last) _ c.args.last _ _ (meant_in _ _ _ c.requires.can) refl c.requires.last c.compare_exchange-found.ensures.2
+came_to-requires g c = found_packs _ _ _ (Release c.args.releasing c.args.last) _ c.args.last Made _ _ (meant_in _ _ _ c.requires.can) refl c.requires.last c.compare_exchange-found.ensures.2
 
 pub returns-clause-did : goal.returns-clause-did
-returns-clause-did g c = performed _ _ _ (Release c.args.releasing c.args.last) _ _ _ _ (meant_in _ _ _ c.requires.can) c.came_to.ensures.tried c.compare_exchange-found.ensures.2
+returns-clause-did g c = performed _ _ _ (Release c.args.releasing c.args.last) _ _ _ _ (meant_in _ _ _ c.requires.can) (c.came_to.ensures.tried Made) c.compare_exchange-found.ensures.2

@@ -5,16 +5,18 @@ use Rattle.ns_gate.specs.Law.{GateView, first_of, fresh_seat, rest_of}
 use Rattle.ns_gate.specs.Steps.{the}
 use Rattle.ns_monitor.proofs.Made.{new_more, new_rests}
 use Rattle.ns_monitor.specs.Known.{AreNew, known_of}
+use Rattle.ns_monitor.specs.Locks.{IsNumberOf}
 use Rattle.ns_monitor.proofs.monitor.Monitor.new.Goals as goal
 
 pub seated-requires : goal.seated-requires
-seated-requires g c = let n = c.args.seats in let i = c.loop-who._who in let lt : i < n = omega arith in
+seated-requires g c = let few = c.in_ok-gate.ensures.2 in let n = c.args.seats in let i = c.loop-who.who in let lt : i < n = omega arith in
     let is = c.part-seat.ensures.part.1 ∙ ap (λ (vs : List (GateView g.row.C.Denot g.row.N)). (vs, [])) (ap first_of c.loop-who.invariant.1 ∙ fresh_first g.row.C.Denot g.row.N n i lt) in
+    let number : IsNumberOf i c.part-seat.result.me = (ap (λ (m : SeatOf g.row.C.Denot g.row.N). (the m.0).at.seat) (sym is), omega (arith, lt, few)) in
     let rests = new_rests g.row.C.Denot g.row.N g.C.Condition.means n i c.part-seat.result.me is in
-    (g.met.C.Gated.queues_fit, (search rules, (search rules, (rests.0, rests.1))))
+    (g.met.C.Gated.queues_fit, (search rules, (search rules, (rests.0, number, rests.1))))
 
 pub loop-who-preserved : goal.loop-who-preserved
-loop-who-preserved g c = let v = c.loop-who.invariant in let n = c.args.seats in let i = c.loop-who._who in let lt : i < n = omega arith in let p = c.in_ok-add.ensures in let t = c.in_ok-gate.all.table_id in
+loop-who-preserved g c = let v = c.loop-who.invariant in let n = c.args.seats in let i = c.loop-who.who in let lt : i < n = omega arith in let p = c.in_ok-add.ensures in let t = c.in_ok-gate.all.table_id in
     let is = ap (λ (m : SeatOf g.row.C.Denot g.row.N). the m.0) c.part-seat.ensures.part.1 ∙ ap the (ap first_of v.1 ∙ fresh_first g.row.C.Denot g.row.N n i lt) in
     let k : c.seated.result ≡ known_of t (fresh_seat n i) = c.seated.ensures ∙ (λ j. known_of ((c.part-seat.ensures.part.0 ∙ v.0) j) (is j)) in
     let e : i ≡ 0 + length c.loop-who.given.items = omega arith in (

@@ -1,0 +1,16 @@
+use Rattle.std.proofs.Common.{rules, ap, ◌∙◌}
+use Rattle.ns_word.specs.Steps.{changed}
+use Rattle.ns_word.specs.Lists.{bits_of}
+use Rattle.ns_word.specs.declared.act.Change.TheVariants.{QueueSelf}
+use Rattle.ns_gate.specs.Steps.{the}
+use Rattle.ns_gate.proofs.Tells.{has_slot, was_in_hand, now_in_hand}
+use Rattle.ns_gate.proofs.gate.Gate.queue_in_hand.Goals as goal
+
+pub slot_mut-queues-requires : goal.slot_mut-queues-requires
+slot_mut-queues-requires g c = (search rules, has_slot _ _ c.requires.has)
+
+pub returns-clause-lists : goal.returns-clause-lists
+returns-clause-lists g c = λ last. now_in_hand (the c.args.seat.now.me.0).stood _ _ c.args.seat.now.me.1 c.requires.has (c.queue_self.ensures last ∙ ap (λ lists. changed c.args.number (QueueSelf c.args.mode c.args.arrival) last lists) (was_in_hand _ _ c.args.seat.now.me.1 c.requires.has c.slot_mut-queues.ensures.value))
+
+pub returns-clause-bits : goal.returns-clause-bits
+returns-clause-bits g c = λ last. c.bits.ensures ∙ ap (λ lists. bits_of lists.lock) (c.queue_self.ensures last ∙ ap (λ lists. changed c.args.number (QueueSelf c.args.mode c.args.arrival) last lists) (was_in_hand _ _ c.args.seat.now.me.1 c.requires.has c.slot_mut-queues.ensures.value))

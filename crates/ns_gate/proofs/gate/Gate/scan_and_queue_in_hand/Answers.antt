@@ -1,0 +1,6 @@
+use Rattle.std.proofs.Common.{rules}
+use Rattle.ns_gate.proofs.Tells.{has_slot}
+use Rattle.ns_gate.proofs.gate.Gate.scan_and_queue_in_hand.Goals as goal
+
+pub slot_mut-queues-requires : goal.slot_mut-queues-requires
+slot_mut-queues-requires g c = (search rules, has_slot _ _ c.requires.has)

@@ -1,0 +1,11 @@
+use Rattle.std.proofs.Common.{rules, ap, ◌∙◌}
+use Rattle.ns_word.specs.Lists.{bits_of}
+use Rattle.ns_gate.specs.Steps.{lists_scanned}
+use Rattle.ns_gate.proofs.Tells.{has_slot, was_in_hand}
+use Rattle.ns_gate.proofs.gate.Gate.scan_in_hand.Goals as goal
+
+pub slot_mut-queues-requires : goal.slot_mut-queues-requires
+slot_mut-queues-requires g c = (search rules, has_slot _ _ c.requires.has)
+
+pub returns-clause-bits : goal.returns-clause-bits
+returns-clause-bits g c = c.bits.ensures ∙ ap (λ lists. bits_of lists.lock) (c.scan-scan.ensures.left ∙ ap (λ lists. lists_scanned g.C.Condition.means c.args.row.now lists) (was_in_hand _ _ c.args.seat.now.me.1 c.requires.has c.slot_mut-queues.ensures.value))

@@ -1,0 +1,241 @@
+//! The steps on the waiter queues, and what is done to the queues in a hand between them.
+
+ghost use Rattle.std.specs.Prelude.{◌≡◌, ◌<◌, nat_lt, IfErr};
+ghost use Rattle.ns_queue.specs.Queues.{IsList, times, waiters_of};
+ghost use Rattle.ns_queue.specs.Scans.{woken_of, tests_of};
+ghost use Rattle.ns_queue.specs.Waiters.{seats_of, times_in};
+ghost use Rattle.ns_word.specs.Codec.{IsPackable};
+ghost use Rattle.ns_word.specs.Finds.{row_in, scanned};
+ghost use Rattle.ns_word.specs.Lists.{bits_of, has_some};
+ghost use Rattle.ns_word.specs.Places.{IsInRange};
+ghost use Rattle.ns_word.specs.Steps.{change_found, changed, meets_at, moves, waited_in};
+ghost use Rattle.ns_gate.specs.Steps.{CanStep, Carries, HasTaken, Performed, lists_scanned, the, tried, tried_for};
+
+use crate::gate::{Gate, GateSeat, came_to};
+use crate::plays::Go;
+use crate::room::Gated;
+use ns_model::event::Mode;
+use ns_queue::scan::Scan;
+use ns_queue::waiter::Which;
+use ns_word::act::{Act, Change, Found};
+use ns_word::codec::encode;
+use ns_word::hand::{bits, leave_self, queue_self, scan_and_queue};
+use ns_word::wait::Wait;
+use ns_word::word::{Arrival, Bits, Releasing, Taking, Word};
+
+impl<C: Gated<N>, const N: usize> Gate<C, N> {
+    /// Sets the spinlock bit and takes the queues, where the lock word is still the one last seen; else
+    /// tells the word.
+    ///
+    /// Needs a seat of this gate, whose call wants that next, and a word that has a number.
+    pub fn exchange_to_take(
+        &self,
+        seat: &mut GateSeat<C, N>,
+        taking: Taking,
+        last: Word,
+    ) -> Result<(), Word>
+        requires of { seat.old.table_id ≡ self.now }
+        requires last { IsPackable last }
+        requires can { CanStep C.means None (Act.TakeQueues taking last) seat.old.me }
+        ensures seat { seat.new.table_id ≡ seat.old.table_id }
+        ensures word { IfErr result IsPackable }
+        ensures did { Performed C.means None (Act.TakeQueues taking last) (tried result) seat.old.me seat.new.me }
+    {
+        let old = encode(last);
+        let new = encode(last.taken(taking));
+        let found = self
+            .table
+            .shared
+            .compare_exchange::<Go<C, N>>(seat, 0, old, new);
+        came_to(found, last)
+    }
+
+    /// Puts the queues back, changed as they are in hand, and clears the spinlock bit, where the lock
+    /// word is still the one last seen; else tells the word.
+    ///
+    /// Needs a seat of this gate, whose call wants that next; a word that has a number; the queues in
+    /// hand, changed so; whether the change moves somebody to the lock list; and what that list holds.
+    pub fn exchange_to_return(
+        &self,
+        seat: &mut GateSeat<C, N>,
+        change: Change,
+        last: Word,
+        moved: bool,
+        bits: Bits,
+    ) -> Result<(), Word>
+        requires of { seat.old.table_id ≡ self.now }
+        requires last { IsPackable last }
+        requires can { CanStep C.means None (Act.ReturnQueues change last) seat.old.me }
+        requires carries { Carries (changed (the seat.old.me.0).at.seat change last (the seat.old.me.0).stood) seat.old.me }
+        requires moved { moved ≡ moves change last (the seat.old.me.0).stood }
+        requires bits { bits ≡ bits_of (changed (the seat.old.me.0).at.seat change last (the seat.old.me.0).stood).lock }
+        ensures seat { seat.new.table_id ≡ seat.old.table_id }
+        ensures word { IfErr result IsPackable }
+        ensures did { Performed C.means None (Act.ReturnQueues change last) (tried_for (change_found (the seat.old.me.0).at.seat change last (the seat.old.me.0).stood) result) seat.old.me seat.new.me }
+    {
+        let old = encode(last);
+        let new = encode(last.returned(moved, bits));
+        let found = self
+            .table
+            .shared
+            .compare_exchange::<Go<C, N>>(seat, 0, old, new);
+        came_to(found, last)
+    }
+
+    /// Releases the section in hand and puts back the queues as a scan has left them, where the lock
+    /// word is still the one last seen; else tells the word. Then the seat owes the wakes of those whom
+    /// the scan took.
+    ///
+    /// Needs a seat of this gate, whose call wants that next; a word that has a number; the queues in
+    /// hand, scanned at the section's row; whether the scan took somebody; and what the lock list holds.
+    pub fn exchange_to_release_scanned(
+        &self,
+        seat: &mut GateSeat<C, N>,
+        releasing: Releasing,
+        last: Word,
+        took: bool,
+        bits: Bits,
+    ) -> Result<(), Word>
+        requires of { seat.old.table_id ≡ self.now }
+        requires last { IsPackable last }
+        requires can { CanStep C.means None (Act.ReleaseReturning releasing last) seat.old.me }
+        requires carries { Carries (lists_scanned C.means (row_in (the seat.old.me.0).at.held) (the seat.old.me.0).stood) seat.old.me }
+        requires took { took ≡ has_some (woken_of (meets_at C.means (row_in (the seat.old.me.0).at.held)) (the seat.old.me.0).stood.lock) }
+        requires bits { bits ≡ bits_of (lists_scanned C.means (row_in (the seat.old.me.0).at.held) (the seat.old.me.0).stood).lock }
+        ensures seat { seat.new.table_id ≡ seat.old.table_id }
+        ensures word { IfErr result IsPackable }
+        ensures did { Performed C.means None (Act.ReleaseReturning releasing last) (tried_for (scanned C.means (row_in (the seat.old.me.0).at.held) (the seat.old.me.0).stood.lock) result) seat.old.me seat.new.me }
+    {
+        let old = encode(last);
+        let new = encode(last.released_returning(releasing, took, bits));
+        let found = self
+            .table
+            .shared
+            .compare_exchange::<Go<C, N>>(seat, 0, old, new);
+        came_to(found, last)
+    }
+
+    /// The same by a wait, which has also put itself into its list.
+    ///
+    /// Needs a seat of this gate, whose call wants that next; a word that has a number; the queues in
+    /// hand, scanned at the section's row, and the wait in its list; whether the scan took somebody; and
+    /// what the lock list holds.
+    pub fn exchange_to_wait(
+        &self,
+        seat: &mut GateSeat<C, N>,
+        wait: Wait<C>,
+        again: bool,
+        last: Word,
+        took: bool,
+        bits: Bits,
+    ) -> Result<(), Word>
+        requires of { seat.old.table_id ≡ self.now }
+        requires last { IsPackable last }
+        requires can { CanStep C.means None (Act.WaitReturning wait again last) seat.old.me }
+        requires carries { Carries (waited_in C.means (the seat.old.me.0).at.seat wait again (row_in (the seat.old.me.0).at.held) (the seat.old.me.0).stood) seat.old.me }
+        requires took { took ≡ has_some (woken_of (meets_at C.means (row_in (the seat.old.me.0).at.held)) (the seat.old.me.0).stood.lock) }
+        requires bits { bits ≡ bits_of (waited_in C.means (the seat.old.me.0).at.seat wait again (row_in (the seat.old.me.0).at.held) (the seat.old.me.0).stood).lock }
+        ensures seat { seat.new.table_id ≡ seat.old.table_id }
+        ensures word { IfErr result IsPackable }
+        ensures did { Performed C.means None (Act.WaitReturning wait again last) (tried_for (scanned C.means (row_in (the seat.old.me.0).at.held) (the seat.old.me.0).stood.lock) result) seat.old.me seat.new.me }
+    {
+        let old = encode(last);
+        let releasing = Releasing::of(wait.mode);
+        let released = last.released_returning(releasing, took, bits);
+        let new = encode(released);
+        let found = self
+            .table
+            .shared
+            .compare_exchange::<Go<C, N>>(seat, 0, old, new);
+        came_to(found, last)
+    }
+
+    /// Puts the seat of this number into the lock list in hand, without condition: at the back, or at
+    /// the front if it was woken. Tells what the lock list holds then.
+    ///
+    /// Needs a seat of this gate, which has the queues in hand as they stood, and a number below 64,
+    /// whose seat stands in no list.
+    pub fn queue_in_hand(
+        &self,
+        seat: &mut GateSeat<C, N>,
+        number: u8,
+        mode: Mode,
+        arrival: Arrival,
+    ) -> Bits
+        requires of { seat.old.table_id ≡ self.now }
+        requires has { HasTaken seat.old.me }
+        requires below { number < 64 }
+        requires free { times number (the seat.old.me.0).stood ≡ 0 }
+        ensures seat { (seat.new.table_id ≡ seat.old.table_id) × (seat.new.me.0 ≡ seat.old.me.0) }
+        ensures lists { (last : _) → Carries (changed number (Change.QueueSelf mode arrival) last (the seat.old.me.0).stood) seat.new.me }
+        ensures bits { (last : _) → result ≡ bits_of (changed number (Change.QueueSelf mode arrival) last (the seat.old.me.0).stood).lock }
+    {
+        let queues = seat.slot_mut(&self.table.shared, 0);
+        queue_self(queues, number, mode, arrival);
+        bits(queues)
+    }
+
+    /// Takes the seat of this number out of this list in hand. Tells whether it stood there, and what
+    /// the lock list holds then.
+    ///
+    /// Needs a seat of this gate, which has the queues in hand as they stood, and a list that there is.
+    pub fn leave_in_hand(&self, seat: &mut GateSeat<C, N>, number: u8, which: Which) -> (bool, Bits)
+        requires of { seat.old.table_id ≡ self.now }
+        requires has { HasTaken seat.old.me }
+        requires list { IsList which }
+        ensures seat { (seat.new.table_id ≡ seat.old.table_id) × (seat.new.me.0 ≡ seat.old.me.0) }
+        ensures stood { result.0 ≡ nat_lt 0 (times_in number (waiters_of (the seat.old.me.0).stood which)) }
+        ensures lists { (last : _) → Carries (changed number (Change.LeaveSelf which) last (the seat.old.me.0).stood) seat.new.me }
+        ensures bits { (last : _) → result.1 ≡ bits_of (changed number (Change.LeaveSelf which) last (the seat.old.me.0).stood).lock }
+    {
+        let queues = seat.slot_mut(&self.table.shared, 0);
+        let stood = leave_self(queues, number, which);
+        (stood, bits(queues))
+    }
+
+    /// Takes out of the lock list in hand those whom a scan at this row wakes. Tells whom it took, and
+    /// what the lock list holds then.
+    ///
+    /// Needs a seat of this gate, which has the queues in hand as they stood.
+    pub fn scan_in_hand(&self, seat: &mut GateSeat<C, N>, row: &[u64; N]) -> (Scan, Bits)
+        requires of { seat.old.table_id ≡ self.now }
+        requires has { HasTaken seat.old.me }
+        ensures seat { (seat.new.table_id ≡ seat.old.table_id) × (seat.new.me.0 ≡ seat.old.me.0) }
+        ensures woken { result.0.woken.items ≡ seats_of (woken_of (meets_at C.means row.now) (the seat.old.me.0).stood.lock) }
+        ensures tests { result.0.tests ≡ tests_of C.means.same (meets_at C.means row.now) (the seat.old.me.0).stood.lock }
+        ensures lists { Carries (lists_scanned C.means row.now (the seat.old.me.0).stood) seat.new.me }
+        ensures bits { result.1 ≡ bits_of (lists_scanned C.means row.now (the seat.old.me.0).stood).lock }
+    {
+        let queues = seat.slot_mut(&self.table.shared, 0);
+        let scan = queues.scan(row);
+        (scan, bits(queues))
+    }
+
+    /// The same, and then puts a wait of the seat of this number into its list.
+    ///
+    /// Needs a seat of this gate, which has the queues in hand as they stood; a wait for a variable
+    /// that there is, if it is for one; and a number below 64, whose seat stands in no list.
+    pub fn scan_and_queue_in_hand(
+        &self,
+        seat: &mut GateSeat<C, N>,
+        row: &[u64; N],
+        number: u8,
+        wait: Wait<C>,
+        again: bool,
+    ) -> (Scan, Bits)
+        requires of { seat.old.table_id ≡ self.now }
+        requires has { HasTaken seat.old.me }
+        requires list { IsInRange wait.on }
+        requires below { number < 64 }
+        requires free { times number (the seat.old.me.0).stood ≡ 0 }
+        ensures seat { (seat.new.table_id ≡ seat.old.table_id) × (seat.new.me.0 ≡ seat.old.me.0) }
+        ensures woken { result.0.woken.items ≡ seats_of (woken_of (meets_at C.means row.now) (the seat.old.me.0).stood.lock) }
+        ensures tests { result.0.tests ≡ tests_of C.means.same (meets_at C.means row.now) (the seat.old.me.0).stood.lock }
+        ensures lists { Carries (waited_in C.means number wait again row.now (the seat.old.me.0).stood) seat.new.me }
+        ensures bits { result.1 ≡ bits_of (waited_in C.means number wait again row.now (the seat.old.me.0).stood).lock }
+    {
+        let queues = seat.slot_mut(&self.table.shared, 0);
+        let scan = scan_and_queue(queues, row, number, wait, again);
+        (scan, bits(queues))
+    }
+}

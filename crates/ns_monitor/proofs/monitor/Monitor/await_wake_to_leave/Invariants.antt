@@ -1,0 +1,12 @@
+use Rattle.std.proofs.Common.{◌≡◌, None}
+use Rattle.ns_gate.specs.Calls.{IsAt}
+use Rattle.ns_gate.specs.Steps.{the}
+use Rattle.ns_word.specs.declared.wait.LeavePlace.TheVariants.{AwaitWakeToLeave}
+use Rattle.ns_word.specs.declared.wait.WaitPlace.TheVariants.{InLeaving}
+use Rattle.ns_word.specs.declared.walk.Walk.TheVariants.{InWait}
+use Rattle.ns_monitor.proofs.monitor.Monitor.await_wake_to_leave.Given as goal
+
+abbrev pub invariant-loop : goal.invariant-loop
+invariant-loop g l =
+    (goal.iterator-loop g).can_next l.iterator' × (goal.iterator-loop g).is_finite l.iterator' × (l.seat.table_id ≡ l.fn.seat.table_id)
+    × IsAt g.C.Condition.means None (InWait l.fn._wait (InLeaving l.fn._cause AwaitWakeToLeave)) (the l.fn.seat.me.0) l.seat.me

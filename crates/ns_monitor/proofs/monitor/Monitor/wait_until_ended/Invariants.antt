@@ -1,0 +1,17 @@
+use Rattle.std.proofs.Common.{◌≡◌, None}
+use Rattle.std.specs.Prelude.{IfSome}
+use Rattle.ns_gate.specs.Calls.{IsAt}
+use Rattle.ns_gate.specs.Steps.{the}
+use Rattle.ns_model.specs.Environments.{IsMade}
+use Rattle.ns_note.proofs.Rests.{IsSince}
+use Rattle.ns_word.specs.Finds.{row_in}
+use Rattle.ns_word.specs.declared.wait.QueuePlace.TheVariants.{Load}
+use Rattle.ns_word.specs.declared.wait.WaitPlace.TheVariants.{InQueuing}
+use Rattle.ns_word.specs.declared.walk.Walk.TheVariants.{InWait}
+use Rattle.ns_monitor.proofs.monitor.Monitor.wait_until_ended.Given as goal
+
+abbrev pub invariant-loop : goal.invariant-loop
+invariant-loop g l =
+    (goal.iterator-loop g).can_next l.iterator' × (goal.iterator-loop g).is_finite l.iterator' × (l.seat.table_id ≡ l.fn.seat.table_id)
+    × IsAt g.C.Condition.means None (InWait l.wait (InQueuing l.again Load)) (the l.fn.seat.me.0) l.seat.me × (l.row ≡ row_in (the l.seat.me.0).at.held)
+    × IsSince l.fn.env_seat l.env_seat × IfSome l.note (λ n. IsMade l.env_seat.seen n.index)
