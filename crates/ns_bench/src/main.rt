@@ -3,8 +3,9 @@
 //!     ns_bench WORKLOAD THREADS OPERATIONS
 //!
 //! `mu_try`: one thread makes so many sections by tries, each of which adds 1 to a cell. `pairs`: one
-//! thread makes so many pairs of an acquire and a release, and as many by hand on one word, and prints
-//! the medians of both in nanoseconds a pair, and how many times as long one takes as the other.
+//! thread makes so many pairs of an acquire by a try and a release, and as many by hand on one word, and
+//! prints the medians of both in nanoseconds a pair, and how many times as long one takes as the other.
+//! `mu`: the same, but each acquire is by a call that may wait.
 //!
 //! The last line is `done OPERATIONS`, with status 0; `wrong WORKLOAD`, with status 3, where the
 //! workload did not end as it must; or `lacks WORKLOAD`, with status 4, where there is no such
@@ -17,7 +18,7 @@ mod never;
 mod pairs;
 
 use crate::asked::{Asked, parsed};
-use crate::pairs::Medians;
+use crate::pairs::{ByLock, ByTry, Medians};
 use std::process::ExitCode;
 use std::sync::Wait;
 use std::thread::Threads;
@@ -63,13 +64,15 @@ fn run<R: AllocGlobal + Print + Clock + Threads + Wait + Sync>(
             Ended::Wrong
         });
     }
-    if asked.workload == "pairs" {
-        if let Some(medians) = pairs::run(rt, rt.alloc(), asked.operations)? {
-            print(rt, &medians)?;
-        }
-        return Ok(Ended::Done);
+    let medians = match asked.workload {
+        "pairs" => pairs::run::<ByTry, R>(rt, rt.alloc(), asked.operations)?,
+        "mu" => pairs::run::<ByLock, R>(rt, rt.alloc(), asked.operations)?,
+        _ => return Ok(Ended::Lacks),
+    };
+    if let Some(medians) = medians {
+        print(rt, &medians)?;
     }
-    Ok(Ended::Lacks)
+    Ok(Ended::Done)
 }
 
 fn main(rt: HostRuntime) -> io::Result<ExitCode> {

@@ -42,14 +42,33 @@ fn each_took(time: Duration, pairs: u64) -> u64 {
     per(u64::try_from(time.as_nanos()).unwrap_or(u64::MAX), pairs)
 }
 
-/// Acquires and releases by a try, and gives the seat back.
-fn pair<R: Wait>(rt: &R, monitor: &Monitor<Never, 1>, seat: Seat<Never, 1>) -> Seat<Never, 1>
-    requires { seat.monitor ≡ monitor.now }
-    ensures { result.monitor ≡ monitor.now }
-{
-    match monitor.try_lock(seat) {
-        Ok(held) => monitor.unlock(rt, held),
-        Err(seat) => seat,
+/// How a pair acquires.
+pub trait Way {
+    /// Acquires and releases, and gives the seat back.
+    fn pair<R: Wait>(rt: &R, monitor: &Monitor<Never, 1>, seat: Seat<Never, 1>) -> Seat<Never, 1>
+        requires { seat.monitor ≡ monitor.now }
+        ensures { result.monitor ≡ monitor.now };
+}
+
+/// By a try.
+pub struct ByTry;
+
+impl Way for ByTry {
+    fn pair<R: Wait>(rt: &R, monitor: &Monitor<Never, 1>, seat: Seat<Never, 1>) -> Seat<Never, 1> {
+        match monitor.try_lock(seat) {
+            Ok(held) => monitor.unlock(rt, held),
+            Err(seat) => seat,
+        }
+    }
+}
+
+/// By a call that waits where it has to.
+pub struct ByLock;
+
+impl Way for ByLock {
+    fn pair<R: Wait>(rt: &R, monitor: &Monitor<Never, 1>, seat: Seat<Never, 1>) -> Seat<Never, 1> {
+        let held = monitor.lock(rt, seat);
+        monitor.unlock(rt, held)
     }
 }
 
@@ -67,7 +86,7 @@ fn pair_by_hand(word: &AtomicU64) {
 }
 
 /// A batch of pairs of a monitor, and how long it took.
-fn batch<R: Wait + Clock>(
+fn batch<W: Way, R: Wait + Clock>(
     rt: &R,
     monitor: &Monitor<Never, 1>,
     seat: Seat<Never, 1>,
@@ -79,7 +98,7 @@ fn batch<R: Wait + Clock>(
     let mut seat = seat;
     let start = Instant::now(rt)?;
     for _ in 0..pairs {
-        seat = pair(rt, monitor, seat);
+        seat = W::pair(rt, monitor, seat);
     }
     let took = start.elapsed(rt)?;
     Ok((seat, took))
@@ -118,7 +137,7 @@ fn share(pairs: u64, batch: usize) -> u64 {
 /// Makes so many pairs of each kind, in batches that take turns, and gives the medians of these.
 ///
 /// Needs one pair.
-fn measured<R: Wait + Clock>(
+fn measured<W: Way, R: Wait + Clock>(
     rt: &R,
     monitor: &Monitor<Never, 1>,
     seat: Seat<Never, 1>,
@@ -132,7 +151,7 @@ fn measured<R: Wait + Clock>(
     let mut took_by_hand = [0; BATCHES];
     for i in 0..BATCHES {
         let pairs = share(pairs, i);
-        let (back, time) = batch(rt, monitor, seat, pairs)?;
+        let (back, time) = batch::<W, R>(rt, monitor, seat, pairs)?;
         seat = back;
         took[i] = each_took(time, pairs);
         took_by_hand[i] = each_took(batch_by_hand(rt, &word, pairs)?, pairs);
@@ -145,13 +164,17 @@ fn measured<R: Wait + Clock>(
 }
 
 /// The medians of so many pairs of each kind, none where there are no pairs.
-pub fn run<R: Wait + Clock>(rt: &R, alloc: Global, pairs: u64) -> io::Result<Option<Medians>> {
+pub fn run<W: Way, R: Wait + Clock>(
+    rt: &R,
+    alloc: Global,
+    pairs: u64,
+) -> io::Result<Option<Medians>> {
     if pairs == 0 {
         return Ok(None);
     }
     let Some((monitor, seat)) = alone(alloc) else {
         return Err(io::Error::from(io::ErrorKind::OutOfMemory));
     };
-    let medians = measured(rt, &monitor, seat, pairs)?;
+    let medians = measured::<W, R>(rt, &monitor, seat, pairs)?;
     Ok(Some(medians))
 }

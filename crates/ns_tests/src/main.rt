@@ -12,6 +12,8 @@
 
 mod compare;
 #[cfg(test)]
+mod crowd;
+#[cfg(test)]
 mod examples;
 #[cfg(test)]
 mod gate;
@@ -29,6 +31,8 @@ mod replay;
 mod row;
 #[cfg(test)]
 mod tests;
+#[cfg(test)]
+mod waits;
 #[cfg(test)]
 mod words;
 

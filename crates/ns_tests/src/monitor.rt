@@ -294,13 +294,14 @@ fn head_example(rt: HostRuntime) -> Result<(), Fail> {
         return Ok(())
     }; // a seat for each thread
 
-    seat = match monitor.try_lock(seat) {
-        Ok(mut held) => {
-            let value = monitor.get(&mut held, 0);
-            monitor.set(&mut held, 0, value.wrapping_add(1));
-            monitor.unlock(&rt, held)
-        }
-        Err(seat) => seat, // somebody else holds the lock, or has just changed its word
+    let mut held = monitor.lock(&rt, seat); // waits while somebody else holds the lock
+    let value = monitor.get(&mut held, 0);
+    monitor.set(&mut held, 0, value.wrapping_add(1));
+    seat = monitor.unlock(&rt, held);
+
+    seat = match monitor.try_rlock(seat) {
+        Ok(held) => monitor.runlock(&rt, held),
+        Err(seat) => seat, // somebody else writes or waits to, or has just changed the lock's word
     };
     let closed = monitor.close(seat);
     assert!(rt; closed.free);

@@ -1,0 +1,61 @@
+//! The program `ns_stress`: threads that meet in a monitor at random, and counts that have to come out.
+//!
+//!     ns_stress SEED ROUNDS
+//!
+//! In each round 3 to 6 threads share a monitor, a clock and notes. They hand a turn round, or give and
+//! take goods, by waits with and without limits, and between that make sections of all kinds. What they
+//! do is drawn from the seed; in which order it happens is left to the machine. Whatever that is, each
+//! wait comes to an end, and the counts of a round are known beforehand.
+//!
+//! The last line is `seed SEED ok`, with status 0, or `seed SEED round ROUND wrong: WHAT`, with status 3.
+//! Where memory is refused, the status is 4, and where the words are wrong, 2.
+#![tactic(auto)]
+
+mod asked;
+mod door;
+mod kit;
+mod market;
+mod ring;
+mod round;
+mod sections;
+mod waits;
+mod wish;
+
+use crate::asked::{Asked, parsed};
+use crate::round::Verdict;
+use std::process::ExitCode;
+use std::sync::Wait;
+use std::thread::Threads;
+use std::{env, io};
+
+/// Makes the rounds that are asked for, up to the first that is wrong, and prints what came of them.
+fn run<R: AllocGlobal + Print + Threads + Wait + Sync>(
+    rt: &R,
+    asked: Asked,
+) -> io::Result<ExitCode> {
+    let Asked { seed, rounds } = asked;
+    for round in 0..rounds {
+        match round::run(rt, rt.alloc(), seed, round) {
+            Verdict::Right => (),
+            Verdict::Wrong(what) => {
+                println!(rt; "seed {seed} round {round} wrong: {what}")?;
+                return Ok(ExitCode::from(3));
+            }
+            Verdict::NoMemory => {
+                println!(rt; "seed {seed} round {round} has no memory")?;
+                return Ok(ExitCode::from(4));
+            }
+        }
+    }
+    println!(rt; "seed {seed} ok")?;
+    Ok(ExitCode::SUCCESS)
+}
+
+fn main(rt: HostRuntime) -> io::Result<ExitCode> {
+    let words: Vec<String> = env::args(&rt)?.collect(rt.alloc())?;
+    let Some(asked) = parsed(words.as_slice()) else {
+        eprintln!(rt; "usage: ns_stress SEED ROUNDS")?;
+        return Ok(ExitCode::from(2));
+    };
+    run(&rt, asked)
+}
