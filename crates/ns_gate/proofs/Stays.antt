@@ -3,7 +3,7 @@ use Rattle.std.proofs.Common.{◌≡◌, ◌≤◌, ℕ, Bool, true, [], ◌∷�
 use Rattle.ns_gate.specs.Calls.{SeatOf}
 use Rattle.ns_gate.specs.Law.{GateView}
 use Rattle.ns_gate.specs.Steps.{the, Performed, Carries}
-use Rattle.ns_gate.proofs.Tells.{fits_now}
+use Rattle.ns_gate.proofs.Tells.{does, fits_now}
 use Rattle.ns_model.specs.Truths.{Truths}
 use Rattle.ns_queue.specs.Queues.{Lists}
 use Rattle.ns_word.specs.Places.{ActFits}
@@ -21,35 +21,34 @@ use Rattle.ns_word.specs.declared.word.Releasing.{Releasing}
 use Rattle.ns_word.specs.declared.word.Word.{Word}
 
 -- the seat has the same slots, the same section in hand, and knows the lists to stand as they did
-pub record HasStayed {C : Type 0} {N : ℕ} (me now : SeatOf C N) : Type 0 where
+pub record HasKeptItsQueues {C : Type 0} {N : ℕ} (me now : SeatOf C N) : Type 0 where
   pub slots : now.1 ≡ me.1
   pub stood : (the now.0).stood ≡ (the me.0).stood
   pub held : (the now.0).at.held ≡ (the me.0).at.held
   pub seat : (the now.0).at.seat ≡ (the me.0).at.seat
 
 module _ {C : Type 0} {N : ℕ} where
-  pub stays_itself : (me : SeatOf C N) → HasStayed me me
+  pub stays_itself : (me : SeatOf C N) → HasKeptItsQueues me me
   stays_itself me = record { slots = refl; stood = refl; held = refl; seat = refl }
 
-  pub stays_through : (me mid now : SeatOf C N) → HasStayed me mid → HasStayed mid now → HasStayed me now
+  pub stays_through : (me mid now : SeatOf C N) → HasKeptItsQueues me mid → HasKeptItsQueues mid now → HasKeptItsQueues me now
   stays_through me mid now s t = record { slots = t.slots ∙ s.slots; stood = t.stood ∙ s.stood; held = t.held ∙ s.held; seat = t.seat ∙ s.seat }
 
   -- lists in hand that are made of what the seat knows
-  pub still_carries : (made : GateView C N → Lists C) (me now : SeatOf C N) → made (the now.0) ≡ made (the me.0) → HasStayed me now → Carries (made (the me.0)) me → Carries (made (the now.0)) now
+  pub still_carries : (made : GateView C N → Lists C) (me now : SeatOf C N) → made (the now.0) ≡ made (the me.0) → HasKeptItsQueues me now → Carries (made (the me.0)) me → Carries (made (the now.0)) now
   still_carries made me now same s carries = s.slots ∙ (carries ∙ ap (λ lists. (0, lists) ∷ []) (sym same))
 
-  pub same_change : (change : Change) (last : Word) (me now : SeatOf C N) → HasStayed me now → changed (the now.0).at.seat change last (the now.0).stood ≡ changed (the me.0).at.seat change last (the me.0).stood
+  pub same_change : (change : Change) (last : Word) (me now : SeatOf C N) → HasKeptItsQueues me now → changed (the now.0).at.seat change last (the now.0).stood ≡ changed (the me.0).at.seat change last (the me.0).stood
   same_change change last me now s = λ i. changed (s.seat i) change last (s.stood i)
 
 module _ {C : Type 0} {N : ℕ} (truths : Truths C) where
-  -- what a step does, as its own part of the state
+  -- what a step of a call in progress does to the state that it found
   effect_of : (act : Act C) (found : Found) (me now : SeatOf C N) (p : Performed truths None act found me now) → Effect truths (the me.0).at.seat act (part_of p.did.old (the me.0).at.held (the me.0).at.owed) found (part_of p.did.new p.did.made.step.held p.did.made.step.owed) p.did.commits
   effect_of act found me now p =
       let d = p.did in
-      subst (λ s. Effect truths (the me.0).at.seat act (part_of s (the me.0).at.held (the me.0).at.owed) found (part_of d.new d.made.step.held d.made.step.owed) d.commits) d.made.begins
-      (subst (λ a. Effect truths (the me.0).at.seat a (part_of d.made.between (the me.0).at.held (the me.0).at.owed) found (part_of d.new d.made.step.held d.made.step.owed) d.commits) p.act_is d.made.step.effect)
+      subst (λ s. Effect truths (the me.0).at.seat act (part_of s (the me.0).at.held (the me.0).at.owed) found (part_of d.new d.made.step.held d.made.step.owed) d.commits) d.made.begins (does truths None act found me now p)
 
-  stays_by : (act : Act C) (found : Found) (me now : SeatOf C N) (p : Performed truths None act found me now) → has_queues (the me.0).at.walk ≡ true → now.1 ≡ me.1 → p.did.new.lists ≡ p.did.old.lists → p.did.made.step.held ≡ (the me.0).at.held → HasStayed me now
+  stays_by : (act : Act C) (found : Found) (me now : SeatOf C N) (p : Performed truths None act found me now) → has_queues (the me.0).at.walk ≡ true → now.1 ≡ me.1 → p.did.new.lists ≡ p.did.old.lists → p.did.made.step.held ≡ (the me.0).at.held → HasKeptItsQueues me now
   stays_by act found me now p has slots lists held = record {
     slots = slots;
     stood = p.did.stood_now ∙ (lists ∙ sym (p.did.stood_was has));
@@ -58,20 +57,20 @@ module _ {C : Type 0} {N : ℕ} (truths : Truths C) where
   }
 
   -- an exchange that found another word
-  pub missed_return : (change : Change) (last word : Word) (me now : SeatOf C N) → Performed truths None (ReturnQueues change last) (Saw word) me now → has_queues (the me.0).at.walk ≡ true → HasStayed me now
+  pub missed_return : (change : Change) (last word : Word) (me now : SeatOf C N) → Performed truths None (ReturnQueues change last) (Saw word) me now → has_queues (the me.0).at.walk ≡ true → HasKeptItsQueues me now
   missed_return change last word me now p has = let e = effect_of (ReturnQueues change last) (Saw word) me now p in
       stays_by (ReturnQueues change last) (Saw word) me now p has p.carried (ap (λ (q : Part C N). q.lists) e.2) (ap (λ (q : Part C N). q.held) e.2)
 
-  pub missed_release : (releasing : Releasing) (last word : Word) (me now : SeatOf C N) → Performed truths None (ReleaseReturning releasing last) (Saw word) me now → has_queues (the me.0).at.walk ≡ true → HasStayed me now
+  pub missed_release : (releasing : Releasing) (last word : Word) (me now : SeatOf C N) → Performed truths None (ReleaseReturning releasing last) (Saw word) me now → has_queues (the me.0).at.walk ≡ true → HasKeptItsQueues me now
   missed_release releasing last word me now p has = let e = effect_of (ReleaseReturning releasing last) (Saw word) me now p in
       stays_by (ReleaseReturning releasing last) (Saw word) me now p has p.carried (ap (λ (q : Part C N). q.lists) e.2) (ap (λ (q : Part C N). q.held) e.2)
 
-  pub missed_wait : (wait : Wait C) (again : Bool) (last word : Word) (me now : SeatOf C N) → Performed truths None (WaitReturning wait again last) (Saw word) me now → has_queues (the me.0).at.walk ≡ true → HasStayed me now
+  pub missed_wait : (wait : Wait C) (again : Bool) (last word : Word) (me now : SeatOf C N) → Performed truths None (WaitReturning wait again last) (Saw word) me now → has_queues (the me.0).at.walk ≡ true → HasKeptItsQueues me now
   missed_wait wait again last word me now p has = let e = effect_of (WaitReturning wait again last) (Saw word) me now p in
       stays_by (WaitReturning wait again last) (Saw word) me now p has p.carried (ap (λ (q : Part C N). q.lists) e.2) (ap (λ (q : Part C N). q.held) e.2)
 
   -- a flag that is set
-  pub stays_arming : (me now : SeatOf C N) → Performed truths None ArmFlag Made me now → has_queues (the me.0).at.walk ≡ true → HasStayed me now
+  pub stays_arming : (me now : SeatOf C N) → Performed truths None ArmFlag Made me now → has_queues (the me.0).at.walk ≡ true → HasKeptItsQueues me now
   stays_arming me now p has = let e = effect_of ArmFlag Made me now p in
       stays_by ArmFlag Made me now p has p.carried (ap (λ (q : Part C N). q.lists) e.0) (ap (λ (q : Part C N). q.held) e.0)
 

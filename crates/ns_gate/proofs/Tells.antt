@@ -86,13 +86,19 @@ module _ {C : Type 0} {N : ℕ} (truths : Truths C) where
       same_seat None view = refl
       same_seat (Some first) view = refl
 
+  -- a step does what its act does
+  pub does : (b : Option (Walk C)) (act : Act C) (found : Found) (me now : Me (Lists C) (List (GateView C N))) (p : Performed truths b act found me now)
+      → Effect truths (view_in (the me.0).at b).seat act (part_of p.did.made.between (view_in (the me.0).at b).held (view_in (the me.0).at b).owed) found (part_of p.did.new p.did.made.step.held p.did.made.step.owed) p.did.commits
+  does b act found me now p = let d = p.did in let view = view_in (the me.0).at b in
+      subst (λ a. Effect truths view.seat a (part_of d.made.between view.held view.owed) found (part_of d.new d.made.step.held d.made.step.owed) d.commits) p.act_is d.made.step.effect
+
   -- a flag is 0, 1 or 2
   pub small_flag : (meant : Act C) (k : ℕ) (me now : Me (Lists C) (List (GateView C N))) → meant ≡ LoadFlag → Stepped truths None meant k me now → k ≤ 2
   small_flag meant k me now is s =
       let p = performed None meant LoadFlag k (Flag k) me now is refl s in
       let d = p.did in
       let view = (the me.0).at in
-      let e = subst (λ a. Effect truths view.seat a (part_of d.made.between view.held view.owed) (Flag k) (part_of d.new d.made.step.held d.made.step.owed) d.commits) p.act_is d.made.step.effect in
+      let e = does None LoadFlag (Flag k) me now p in
       let same : k ≡ d.new.flags view.seat = e.0 ∙ sym (ap (λ (q : Part C N). q.flags view.seat) e.1) in
       subst (λ n. n ≤ 2) (sym same) (d.lawful_now.waiters_placed.flag view.seat)
 
@@ -109,7 +115,6 @@ module _ {C : Type 0} {N : ℕ} (truths : Truths C) where
   pub cell_in_hand : (b : Option (Walk C)) (i value : ℕ) (held : Held C N) (me now : Me (Lists C) (List (GateView C N))) → Performed truths b (LoadCell i) (Cell value) me now → (the now.0).at.held ≡ Some held → value ≡ slice_index held.row i
   cell_in_hand b i value held me now p has =
       let d = p.did in
-      let view = view_in (the me.0).at b in
-      let e = subst (λ a. Effect truths view.seat a (part_of d.made.between view.held view.owed) (Cell value) (part_of d.new d.made.step.held d.made.step.owed) d.commits) p.act_is d.made.step.effect in
+      let e = does b (LoadCell i) (Cell value) me now p in
       let fits = subst (λ o. SectionFits (standing_after (d.history ++ d.commits)) d.new.row (the now.0).at.seat (the now.0).at.walk o) has d.fits.section in
       e.0 ∙ ap (λ row. slice_index row i) (sym (fits.cells ∙ ap (λ (q : Part C N). q.row) e.1))

@@ -9,6 +9,7 @@ use Rattle.ns_model.specs.declared.environment.EnvEvent.{EnvEvent}
 use Rattle.ns_model.specs.declared.event.Answer.TheVariants.{Met, TimedOut, Canceled}
 use Rattle.ns_model.specs.declared.event.Answer.{Answer}
 use Rattle.ns_gate.proofs.Calls.{goes_on}
+use Rattle.ns_gate.proofs.Tells.{does}
 use Rattle.ns_gate.specs.Calls.{SeatOf, IsAt, Leads}
 use Rattle.ns_gate.specs.Law.{GateView}
 use Rattle.ns_gate.specs.Steps.{the, Performed}
@@ -93,16 +94,15 @@ module _ {C : Type 0} {N : ℕ} (truths : Truths C) where
 
   pub look_first : (limits : Limits) (again : Bool) (cause : Option Cause) (me now : SeatOf C N) → Performed truths None (Look limits again) (Looked cause) me now → again ≡ false → (the now.0).at.held ≡ (the me.0).at.held
   look_first limits again cause me now p first =
-      let d = p.did in let view = (the me.0).at in
-      let e = subst (λ a. Effect truths view.seat a (part_of d.made.between view.held view.owed) (Looked cause) (part_of d.new d.made.step.held d.made.step.owed) d.commits) p.act_is d.made.step.effect in
-      ap (λ (x : SeatView C N). x.held) d.becomes ∙ (ap (λ (q : Part C N). q.held) e.1 ∙ as_held again cause view.held first)
+      let e = does truths None (Look limits again) (Looked cause) me now p in
+      ap (λ (x : SeatView C N). x.held) p.did.becomes ∙ (ap (λ (q : Part C N). q.held) e.1 ∙ as_held again cause (the me.0).at.held first)
 
   -- and so does one that shows nothing
   pub look_keeps : (limits : Limits) (again : Bool) (cause : Option Cause) (me now : SeatOf C N) → Performed truths None (Look limits again) (Looked cause) me now → cause ≡ None → (the now.0).at.held ≡ (the me.0).at.held
   look_keeps limits again cause me now did none =
-      let p = subst (λ shown. Performed truths None (Look limits again) (Looked shown) me now) none did in let d = p.did in let view = (the me.0).at in
-      let e = subst (λ a. Effect truths view.seat a (part_of d.made.between view.held view.owed) (Looked None) (part_of d.new d.made.step.held d.made.step.owed) d.commits) p.act_is d.made.step.effect in
-      ap (λ (x : SeatView C N). x.held) d.becomes ∙ ap (λ (q : Part C N). q.held) e.1
+      let p = subst (λ shown. Performed truths None (Look limits again) (Looked shown) me now) none did in
+      let e = does truths None (Look limits again) (Looked None) me now p in
+      ap (λ (x : SeatView C N). x.held) p.did.becomes ∙ ap (λ (q : Part C N). q.held) e.1
 
   -- a flag that was cleared wakes a wait
   pub is_woken : (wait : Wait C) (value : ℕ) (arrival : Arrival) (v : GateView C N) (me now : SeatOf C N) → eqb value 1 ≡ false → arrival ≡ arrival_of 0 value → IsAt truths None (InWait wait AwaitWakeInWait) v me → Performed truths None LoadFlag (Flag value) me now → IsAt truths None (InAcquire (ForWait wait None) (AcquireLoad arrival)) v now

@@ -4,7 +4,7 @@ use Rattle.std.proofs.lemmas.Bool.{le-ltb, lt-ltb, ne_eqb}
 use Rattle.std.specs.List.{list_any}
 use Rattle.atomic_table.specs.Table.{rest}
 use Rattle.ns_gate.proofs.Calls.{begins, can_go, from_here, goes_on, since_of, then_answered}
-use Rattle.ns_gate.proofs.Tells.{cell_in_hand}
+use Rattle.ns_gate.proofs.Tells.{cell_in_hand, does}
 use Rattle.ns_gate.specs.Calls.{SeatOf, IsAtRest, IsAt, HasAnswered, Leads, OwesBelow}
 use Rattle.ns_gate.specs.Law.{GateView, rest_of}
 use Rattle.ns_gate.specs.Steps.{the, CanStep, Did, Performed, HasTaken, IsOwedNext, lists_scanned}
@@ -162,13 +162,7 @@ module _ {C : Type 0} {N : ℕ} where
   kept_then v u w first then = record { stood = then.stood ∙ first.stood; held = then.held ∙ first.held }
 
 module _ {C : Type 0} {N : ℕ} (truths : Truths C) where
-  -- a step of a call in progress does what its act does
-  pub does : (act : Act C) (found : Found) (me now : SeatOf C N) (p : Performed truths None act found me now)
-      → Effect truths (the me.0).at.seat act (part_of p.did.made.between (the me.0).at.held (the me.0).at.owed) found (part_of p.did.new p.did.made.step.held p.did.made.step.owed) p.did.commits
-  does act found me now p = let d = p.did in
-      subst (λ a. Effect truths (the me.0).at.seat a (part_of d.made.between (the me.0).at.held (the me.0).at.owed) found (part_of d.new d.made.step.held d.made.step.owed) d.commits) p.act_is d.made.step.effect
-
-  -- one that changes nothing leaves the section in hand and the lists
+  -- a step of a call in progress that changes nothing leaves the section in hand and the lists
   keeps : (act : Act C) (found : Found) (me now : SeatOf C N) (p : Performed truths None act found me now)
       → part_of p.did.new p.did.made.step.held p.did.made.step.owed ≡ part_of p.did.made.between (the me.0).at.held (the me.0).at.owed → has_queues (the me.0).at.walk ≡ true → HasKept (the me.0) (the now.0)
   keeps act found me now p same has = let d = p.did in record {
@@ -210,7 +204,7 @@ module _ {C : Type 0} {N : ℕ} (truths : Truths C) where
   -- then the word tells whether some waiter has a condition
   cond_tells : (last : Word) (me now : SeatOf C N) → Performed truths None (TheAct.TakeQueues ToChange last) Made me now → last.cond ≡ (bits_of (the now.0).stood.lock).conditional
   cond_tells last me now p =
-      let d = p.did in let e = does (TheAct.TakeQueues ToChange last) Made me now p in
+      let d = p.did in let e = does truths None (TheAct.TakeQueues ToChange last) Made me now p in
       let word : last ≡ d.old.word = e.0 ∙ ap (λ (s : State C N). s.word) d.made.begins in
       let lists : (the now.0).stood ≡ d.old.lists = d.stood_now ∙ (ap (λ (q : Part C N). q.lists) e.2 ∙ ap (λ (s : State C N). s.lists) d.made.begins) in
       ap (λ (w : Word). w.cond) word ∙ (ap (λ b. b.conditional) (d.lawful.bits_tell.at_home (ap (λ (w : Word). w.spin) (sym word) ∙ e.1)) ∙ ap (λ (l : Lists C). (bits_of l.lock).conditional) (sym lists))
@@ -235,7 +229,7 @@ module _ {C : Type 0} {N : ℕ} (truths : Truths C) where
   -- a load of a cell leaves the queues in hand, the lists as they stood, and the section
   pub scan_keeps : (releasing : Releasing) (word : Word) (i value : ℕ) (v : GateView C N) (me now : SeatOf C N) → IsAt truths None (InRelease releasing (scan_place N word i)) v me → HasTaken me → Performed truths None (TheAct.LoadCell i) (Cell value) me now → HasTaken now × HasKept (the me.0) (the now.0)
   scan_keeps releasing word i value v me now at taken p =
-      let e = does (TheAct.LoadCell i) (Cell value) me now p in
+      let e = does truths None (TheAct.LoadCell i) (Cell value) me now p in
       let kept = keeps (TheAct.LoadCell i) (Cell value) me now p e.1 (ap has_queues at.walks ∙ place_has N word i) in
       (p.carried ∙ (taken ∙ ap (λ lists. (0, lists) ∷ []) (sym kept.stood)), kept)
 
@@ -269,7 +263,7 @@ module _ {C : Type 0} {N : ℕ} (truths : Truths C) where
   is_paid releasing woken others v me now some at p =
       let paid = subst (λ ns. Performed truths None (TheAct.PayWake 0) (owes_more ns) me now) some p in
       let d = paid.did in
-      let e = does (TheAct.PayWake 0) (Paid (has_some others)) me now paid in
+      let e = does truths None (TheAct.PayWake 0) (Paid (has_some others)) me now paid in
       let left : (the now.0).at.owed ≡ others = ap (λ (x : SeatView C N). x.owed) d.becomes ∙ (ap (λ (q : Part C N). q.owed) e.3 ∙ ap rest_of (sym e.2 ∙ some)) in (
         left,
         subst (λ ns. Leads truths None (Release releasing) (pay_releasing releasing (has_some ns)) v now) (sym left)
@@ -286,7 +280,7 @@ module _ {C : Type 0} {N : ℕ} (truths : Truths C) where
       → IsAt truths None (InRelease releasing (ScanAndRelease word)) v now × HasKept (the me.0) (the now.0) × (now.1 ≡ me.1)
   returns_again releasing last word v me now at p = (
     goes_on truths None (InRelease releasing (ScanAndRelease last)) (TheAct.ReleaseReturning releasing last) (Saw word) (On (InRelease releasing (ScanAndRelease word))) v me now at refl (λ e. absurd (cc)) p,
-    keeps (TheAct.ReleaseReturning releasing last) (Saw word) me now p (does (TheAct.ReleaseReturning releasing last) (Saw word) me now p).2 (ap has_queues at.walks),
+    keeps (TheAct.ReleaseReturning releasing last) (Saw word) me now p (does truths None (TheAct.ReleaseReturning releasing last) (Saw word) me now p).2 (ap has_queues at.walks),
     p.carried,
   )
 
@@ -307,7 +301,7 @@ module _ {C : Type 0} {N : ℕ} (truths : Truths C) where
   is_returned releasing last lists slots v me now at kept same carries p =
       let d = p.did in
       let found = scanned truths (row_in (the me.0).at.held) (the me.0).stood.lock in
-      let e = does (TheAct.ReleaseReturning releasing last) found me now p in
+      let e = does truths None (TheAct.ReleaseReturning releasing last) found me now p in
       let woken = woken_of (meets_at truths (row_in (the me.0).at.held)) (the me.0).stood.lock in
       let row : d.made.between.row ≡ row_in (the me.0).at.held = sym (row_at found (the me.0) (the now.0) d e.0 e.1) in
       let stood : d.made.between.lists ≡ (the me.0).stood = ap (λ (s : State C N). s.lists) d.made.begins ∙ sym (d.stood_was (ap has_queues at.walks)) in

@@ -17,7 +17,7 @@ use Rattle.ns_monitor.proofs.Looks.{shown_since}
 use Rattle.ns_monitor.specs.Known.{known_of}
 use Rattle.ns_monitor.specs.Locks.{HasAcquired}
 use Rattle.ns_monitor.specs.Saved.{IsFresh, IsFreshIn}
-use Rattle.ns_monitor.specs.Waits.{tested_by, HasTested, ShownBy, HasStayed, HasComeBack, WaitTells, HasWaited, EndedBy}
+use Rattle.ns_monitor.specs.Waits.{tested_by, HasTested, ShownBy, HasStayed, HasComeBack, WaitTells, HasWaitedFor, EndedBy}
 use Rattle.ns_note.specs.declared.note.Note.{Note}
 use Rattle.ns_word.specs.Meanings.{Course, InHand, WaitMeans, ConditionWaitMeans}
 use Rattle.ns_word.specs.Meanings as TheMeanings
@@ -120,7 +120,7 @@ module _ {C : Type 0} {N : ℕ} (truths : Truths C) where
   mode_by mode (Some section) h = (section, refl, h)
 
   -- A wait for a condition that is over has told what its caller sees.
-  pub wait_tells : (first : Walk C) (wait : Wait C) (c : C) (answer : Answer) (old new : TableId) (v : GateView C N) (me : SeatOf C N) → wait.on ≡ OnCondition c → HasMode wait.mode v.at.held → HasAnswered truths (Some first) (Await wait) (Answered answer) v me → HasWaited truths c answer (known_of old v) (known_of new (the me.0))
+  pub wait_tells : (first : Walk C) (wait : Wait C) (c : C) (answer : Answer) (old new : TableId) (v : GateView C N) (me : SeatOf C N) → wait.on ≡ OnCondition c → HasMode wait.mode v.at.held → HasAnswered truths (Some first) (Await wait) (Answered answer) v me → HasWaitedFor truths c answer (known_of old v) (known_of new (the me.0))
   wait_tells first wait c answer old new v me is mode a =
       let w = the me.0 in
       let was = mode_by wait.mode v.at.held mode in

@@ -4,7 +4,7 @@ use Rattle.std.proofs.lemmas.Bool.{lt-ltb, le-ltb}
 use Rattle.ns_model.specs.Histories.{standing_after}
 use Rattle.ns_model.specs.Truths.{Truths}
 use Rattle.ns_gate.proofs.Calls.{can_begin, can_go, begins, goes_on}
-use Rattle.ns_gate.proofs.Tells.{cell_in_hand}
+use Rattle.ns_gate.proofs.Tells.{cell_in_hand, does}
 use Rattle.ns_gate.specs.Calls.{SeatOf, IsAtRest, IsAt, Leads}
 use Rattle.ns_gate.specs.Law.{GateView}
 use Rattle.ns_gate.specs.Steps.{the, CanStep, Performed}
@@ -73,15 +73,15 @@ module _ {C : Type 0} {N : ℕ} (truths : Truths C) where
   -- a cell that is loaded leaves the section in hand
   cell_keeps : (b : Option (Walk C)) (i value : ℕ) (me now : SeatOf C N) → Performed truths b (LoadCell i) (Cell value) me now → (the now.0).at.held ≡ (the me.0).at.held
   cell_keeps b i value me now p =
-      let d = p.did in let view = view_in (the me.0).at b in
-      let e = subst (λ a. Effect truths view.seat a (part_of d.made.between view.held view.owed) (Cell value) (part_of d.new d.made.step.held d.made.step.owed) d.commits) p.act_is d.made.step.effect in
+      let d = p.did in
+      let e = does truths b (LoadCell i) (Cell value) me now p in
       ap (λ (x : SeatView C N). x.held) d.becomes ∙ (ap (λ (q : Part C N). q.held) e.1 ∙ held_in b (the me.0).at)
 
   -- the last load too, and it finds a row of N cells
   judge_keeps : (b : Option (Walk C)) (i : ℕ) (c : C) (met : Bool) (me now : SeatOf C N) → Performed truths b (JudgeMet i c) (Tested met) me now → ((the now.0).at.held ≡ (the me.0).at.held) × (length (row_in (the me.0).at.held) ≡ N)
   judge_keeps b i c met me now p =
-      let d = p.did in let view = view_in (the me.0).at b in
-      let e = subst (λ a. Effect truths view.seat a (part_of d.made.between view.held view.owed) (Tested met) (part_of d.new d.made.step.held d.made.step.owed) d.commits) p.act_is d.made.step.effect in
+      let d = p.did in
+      let e = does truths b (JudgeMet i c) (Tested met) me now p in
       let same : (the now.0).at.held ≡ (the me.0).at.held = ap (λ (x : SeatView C N). x.held) d.becomes ∙ (ap (λ (q : Part C N). q.held) e.3 ∙ held_in b (the me.0).at) in
       let there : (the me.0).at.held ≡ Some e.0 = sym (held_in b (the me.0).at) ∙ e.1 in
       let fits = subst (λ o. SectionFits (standing_after (d.history ++ d.commits)) d.new.row (the now.0).at.seat (the now.0).at.walk o) (same ∙ there) d.fits.section in

@@ -2,14 +2,15 @@
 use Rattle.std.proofs.Common.{◌≡◌, ℕ, Bool, true, false, cond, not, eqb, ◌==◌, nat_lt, List, [], ◌∷◌, length, None, Some, refl, ap, sym, ◌∙◌, subst}
 use Rattle.atomic_table.specs.Table.{rest}
 use Rattle.ns_gate.proofs.Calls.{goes_on, from_here, since_of, then_at, works}
-use Rattle.ns_gate.proofs.Stays.{HasStayed, counts_on, missed_wait, stays_arming, still_carries}
+use Rattle.ns_gate.proofs.Stays.{HasKeptItsQueues, counts_on, missed_wait, stays_arming, still_carries}
 use Rattle.ns_gate.specs.Calls.{SeatOf, IsAt, Leads}
 use Rattle.ns_gate.specs.Law.{GateView, rest_of}
 use Rattle.ns_gate.specs.Steps.{the, Performed, Carries, HasTaken}
 use Rattle.ns_model.specs.Truths.{Truths}
 use Rattle.ns_monitor.proofs.Locks.{taken_packs}
-use Rattle.ns_monitor.proofs.Releases.{does, row_at, same_woken, took_some}
-use Rattle.ns_monitor.specs.Waits.{HasTakenToWait, StoodOrTaken, left_by, stood_in}
+use Rattle.ns_gate.proofs.Tells.{does}
+use Rattle.ns_monitor.proofs.Releases.{row_at, same_woken, took_some}
+use Rattle.ns_monitor.specs.Waits.{HasTakenToWait, StoodOrTaken, after_leaving, stood_in}
 use Rattle.ns_queue.specs.Queues.{Lists, IsList, times, waiters_of}
 use Rattle.ns_queue.specs.Scans.{woken_of}
 use Rattle.ns_queue.specs.Waiters.{seats_of, times_in}
@@ -152,23 +153,23 @@ module _ {C : Type 0} {N : ℕ} (truths : Truths C) where
   misses_back wait cause last word v me now at p = goes_on truths None (InWait wait (InLeaving cause (Leave last))) (ReturnQueues (LeaveSelf (home_of wait.on)) last) (Saw word) (On (InWait wait (InLeaving cause (Leave word)))) v me now at refl (λ e. absurd (let f : true ≡ false = e in cc)) p
 
   -- whether it still stood in its list is what the seat knows of the list
-  pub has_left : (wait : Wait C) (cause : Cause) (last : Word) (lists : Lists C) (start me now : SeatOf C N) → HasStayed start me → Carries lists me → IsAt truths None (InWait wait (InLeaving cause (Leave last))) (the start.0) me
+  pub has_left : (wait : Wait C) (cause : Cause) (last : Word) (lists : Lists C) (start me now : SeatOf C N) → HasKeptItsQueues start me → Carries lists me → IsAt truths None (InWait wait (InLeaving cause (Leave last))) (the start.0) me
       → Performed truths None (ReturnQueues (LeaveSelf (home_of wait.on)) last) (change_found (the me.0).at.seat (LeaveSelf (home_of wait.on)) last (the me.0).stood) me now → StoodOrTaken truths wait cause (the start.0) now
   has_left wait cause last lists start me now s carries at p =
       let stood = stood_in (the start.0) wait in
       let same : change_found (the me.0).at.seat (LeaveSelf (home_of wait.on)) last (the me.0).stood ≡ Left stood = λ i. change_found (s.seat i) (LeaveSelf (home_of wait.on)) last (s.stood i) in
       let q = subst (λ f. Performed truths None (ReturnQueues (LeaveSelf (home_of wait.on)) last) f me now) same p in
-      goes_on truths None (InWait wait (InLeaving cause (Leave last))) (ReturnQueues (LeaveSelf (home_of wait.on)) last) (Left stood) (left_by wait cause stood) (the start.0) me now at refl (λ _. q.carried ∙ ap rest carries) q
+      goes_on truths None (InWait wait (InLeaving cause (Leave last))) (ReturnQueues (LeaveSelf (home_of wait.on)) last) (Left stood) (after_leaving wait cause stood) (the start.0) me now at refl (λ _. q.carried ∙ ap rest carries) q
 
   -- and so is what it learned as it took itself out
   pub stood_there : (wait : Wait C) (number : ℕ) (stood : Bool) (me now : SeatOf C N) → number ≡ (the me.0).at.seat → now.0 ≡ me.0 → stood ≡ nat_lt 0 (times_in number (waiters_of (the me.0).stood (home_of wait.on))) → stood ≡ stood_in (the now.0) wait
   stood_there wait number stood me now is same e = e ∙ (ap (λ n. nat_lt 0 (times_in n (waiters_of (the me.0).stood (home_of wait.on)))) is ∙ ap (λ vs. stood_in (the vs) wait) (sym same))
 
   pub still_there : (wait : Wait C) (cause : Cause) (stood : Bool) (v : GateView C N) (me : SeatOf C N) → stood ≡ stood_in v wait → stood ≡ true → StoodOrTaken truths wait cause v me → IsAt truths None (InAcquire (ForWait wait (Some cause)) (AcquireLoad AsFresh)) v me
-  still_there wait cause stood v me is there left = subst (λ b. Leads truths None (Await wait) (left_by wait cause b) v me) (sym is ∙ there) left
+  still_there wait cause stood v me is there left = subst (λ b. Leads truths None (Await wait) (after_leaving wait cause b) v me) (sym is ∙ there) left
 
   pub taken_before : (wait : Wait C) (cause : Cause) (stood : Bool) (v : GateView C N) (me : SeatOf C N) → stood ≡ stood_in v wait → stood ≡ false → StoodOrTaken truths wait cause v me → IsAt truths None (InWait wait (InLeaving cause AwaitWakeToLeave)) v me
-  taken_before wait cause stood v me is gone left = subst (λ b. Leads truths None (Await wait) (left_by wait cause b) v me) (sym is ∙ gone) left
+  taken_before wait cause stood v me is gone left = subst (λ b. Leads truths None (Await wait) (after_leaving wait cause b) v me) (sym is ∙ gone) left
 
   -- ---- the queues are taken, to queue
 
@@ -183,19 +184,19 @@ module _ {C : Type 0} {N : ℕ} (truths : Truths C) where
   leaves_held act found me now p same = ap (λ (x : SeatView C N). x.held) p.did.becomes ∙ same
 
   pub loads_queuing : (wait : Wait C) (again : Bool) (word : Word) (v : GateView C N) (me now : SeatOf C N) → IsAt truths None (InWait wait (InQueuing again Load)) v me → (the me.0).at.held ≡ v.at.held → Performed truths None LoadWord (Saw word) me now → QueuesBy truths wait again word v now
-  loads_queuing wait again word v me now at held p = let e = does truths LoadWord (Saw word) me now p in record {
+  loads_queuing wait again word v me now at held p = let e = does truths None LoadWord (Saw word) me now p in record {
     leads = goes_on truths None (InWait wait (InQueuing again Load)) LoadWord (Saw word) (queue_by wait again word) v me now at refl (λ _. p.carried ∙ at.empty refl) p;
     held = leaves_held LoadWord (Saw word) me now p (ap (λ (q : Part C N). q.held) e.1) ∙ held;
   }
 
   pub misses_queuing : (wait : Wait C) (again : Bool) (last word : Word) (v : GateView C N) (me now : SeatOf C N) → IsAt truths None (InWait wait (InQueuing again (Take last))) v me → (the me.0).at.held ≡ v.at.held → Performed truths None (TakeQueues ToChange last) (Saw word) me now → QueuesBy truths wait again word v now
-  misses_queuing wait again last word v me now at held p = let e = does truths (TakeQueues ToChange last) (Saw word) me now p in record {
+  misses_queuing wait again last word v me now at held p = let e = does truths None (TakeQueues ToChange last) (Saw word) me now p in record {
     leads = goes_on truths None (InWait wait (InQueuing again (Take last))) (TakeQueues ToChange last) (Saw word) (queue_by wait again word) v me now at refl (λ _. p.carried ∙ at.empty refl) p;
     held = leaves_held (TakeQueues ToChange last) (Saw word) me now p (ap (λ (q : Part C N). q.held) e.2) ∙ held;
   }
 
   pub took_to_wait : (wait : Wait C) (again : Bool) (last : Word) (v : GateView C N) (me now : SeatOf C N) → IsPackable last → IsAt truths None (InWait wait (InQueuing again (Take last))) v me → (the me.0).at.held ≡ v.at.held → Performed truths None (TakeQueues ToChange last) Made me now → HasTakenToWait truths wait again (word_taken ToChange last) v now
-  took_to_wait wait again last v me now packs at held p = let e = does truths (TakeQueues ToChange last) Made me now p in record {
+  took_to_wait wait again last v me now packs at held p = let e = does truths None (TakeQueues ToChange last) Made me now p in record {
     at = goes_on truths None (InWait wait (InQueuing again (Take last))) (TakeQueues ToChange last) Made (On (InWait wait (InQueuing again (ArmToWait (word_taken ToChange last))))) v me now at refl (λ e. absurd (let f : true ≡ false = e in cc)) p;
     taken = p.carried ∙ ap (λ slots. (0, (the now.0).stood) ∷ slots) (at.empty refl);
     packs = taken_packs ToChange last packs;
@@ -230,7 +231,7 @@ module _ {C : Type 0} {N : ℕ} (truths : Truths C) where
         }),
       )
 
-  pub hand_stays : (wait : Wait C) (again took : Bool) (bits : Bits) (me now : SeatOf C N) → HasStayed me now → HasInHand truths wait again took bits (the me.0) me.1 → HasInHand truths wait again took bits (the now.0) now.1
+  pub hand_stays : (wait : Wait C) (again took : Bool) (bits : Bits) (me now : SeatOf C N) → HasKeptItsQueues me now → HasInHand truths wait again took bits (the me.0) me.1 → HasInHand truths wait again took bits (the now.0) now.1
   hand_stays wait again took bits me now s hand = record {
     carries = s.slots ∙ (hand.carries ∙ (λ i. (0, waited_in truths (sym s.seat i) wait again (row_in (sym s.held i)) (sym s.stood i)) ∷ []));
     some = hand.some ∙ (λ i. has_some (woken_of (meets_at truths (row_in (sym s.held i))) (sym s.stood i).lock));
@@ -239,20 +240,20 @@ module _ {C : Type 0} {N : ℕ} (truths : Truths C) where
 
   -- another step came between
   pub misses_waiting : (wait : Wait C) (again : Bool) (last word : Word) (v : GateView C N) (me now : SeatOf C N) → IsAt truths None (InWait wait (InQueuing again (QueueToWait last))) v me → Performed truths None (WaitReturning wait again last) (Saw word) me now
-      → IsAt truths None (InWait wait (InQueuing again (QueueToWait word))) v now × HasStayed me now
+      → IsAt truths None (InWait wait (InQueuing again (QueueToWait word))) v now × HasKeptItsQueues me now
   misses_waiting wait again last word v me now at p = (
     goes_on truths None (InWait wait (InQueuing again (QueueToWait last))) (WaitReturning wait again last) (Saw word) (On (InWait wait (InQueuing again (QueueToWait word)))) v me now at refl (λ e. absurd (let f : true ≡ false = e in cc)) p,
     missed_wait truths wait again last word me now p (ap has_queues at.walks),
   )
 
   -- the section is released, and wakes are owed to those whom the scan took
-  pub waits_now : (wait : Wait C) (again : Bool) (last : Word) (lists : Lists C) (start me now : SeatOf C N) → IsAt truths None (InWait wait (InQueuing again (QueueToWait last))) (the start.0) me → HasStayed start me → Carries lists me
+  pub waits_now : (wait : Wait C) (again : Bool) (last : Word) (lists : Lists C) (start me now : SeatOf C N) → IsAt truths None (InWait wait (InQueuing again (QueueToWait last))) (the start.0) me → HasKeptItsQueues start me → Carries lists me
       → Performed truths None (WaitReturning wait again last) (scanned truths (row_in (the me.0).at.held) (the me.0).stood.lock) me now
       → ((the now.0).at.owed ≡ seats_of (woken_of (meets_at truths (row_in (the start.0).at.held)) (the start.0).stood.lock)) × Leads truths None (Await wait) (pay_waiting wait (has_some (the now.0).at.owed)) (the start.0) now
   waits_now wait again last lists start me now at s carries p =
       let d = p.did in
       let found = scanned truths (row_in (the me.0).at.held) (the me.0).stood.lock in
-      let e = does truths (WaitReturning wait again last) found me now p in
+      let e = does truths None (WaitReturning wait again last) found me now p in
       let woken = woken_of (meets_at truths (row_in (the me.0).at.held)) (the me.0).stood.lock in
       let row : d.made.between.row ≡ row_in (the me.0).at.held = sym (row_at truths found (the me.0) (the now.0) d e.0 e.1) in
       let stood : d.made.between.lists ≡ (the me.0).stood = ap (λ (x : State C N). x.lists) d.made.begins ∙ sym (d.stood_was (ap has_queues at.walks)) in
@@ -272,7 +273,7 @@ module _ {C : Type 0} {N : ℕ} (truths : Truths C) where
       → ((the now.0).at.owed ≡ others) × Leads truths None (Await wait) (pay_waiting wait (has_some (the now.0).at.owed)) v now
   paid_one wait woken others v me now some at p =
       let paid = subst (λ ns. Performed truths None (PayWake 0) (owes_more ns) me now) some p in
-      let e = does truths (PayWake 0) (Paid (has_some others)) me now paid in
+      let e = does truths None (PayWake 0) (Paid (has_some others)) me now paid in
       let left : (the now.0).at.owed ≡ others = ap (λ (x : SeatView C N). x.owed) paid.did.becomes ∙ (ap (λ (q : Part C N). q.owed) e.3 ∙ ap rest_of (sym e.2 ∙ some)) in (
         left,
         subst (λ ns. Leads truths None (Await wait) (pay_waiting wait (has_some ns)) v now) (sym left)

@@ -48,8 +48,8 @@ abbrev pub tested_by : {C : Type 0} → Wait C → Visit → Bool → Next C
 tested_by wait visit met = if met then Done (Answered Met) else unmet_by wait visit
 
 -- where a wait goes that has left its list, in which it still stood or not
-abbrev pub left_by : {C : Type 0} → Wait C → Cause → Bool → Next C
-left_by wait cause stood = if stood then On (InAcquire (ForWait wait (Some cause)) (AcquireLoad AsFresh)) else On (InWait wait (InLeaving cause AwaitWakeToLeave))
+abbrev pub after_leaving : {C : Type 0} → Wait C → Cause → Bool → Next C
+after_leaving wait cause stood = if stood then On (InAcquire (ForWait wait (Some cause)) (AcquireLoad AsFresh)) else On (InWait wait (InLeaving cause AwaitWakeToLeave))
 
 -- whether a seat stands in its wait's list, as that stood at home
 abbrev pub stood_in : {C : Type 0} {N : ℕ} → GateView C N → Wait C → Bool
@@ -71,7 +71,7 @@ pub record HasTakenToWait {C : Type 0} {N : ℕ} (truths : Truths C) (wait : Wai
 
 -- a wait that leaves has put the queues back: it stands where it goes as it still stood in its list, or was taken from there
 abbrev pub StoodOrTaken : {C : Type 0} {N : ℕ} → Truths C → Wait C → Cause → GateView C N → SeatOf C N → Type 0
-StoodOrTaken truths wait cause v me = Leads truths None (Await wait) (left_by wait cause (stood_in v wait)) v me
+StoodOrTaken truths wait cause v me = Leads truths None (Await wait) (after_leaving wait cause (stood_in v wait)) v me
 
 -- a wait was woken, or its last look has shown a cause to leave
 abbrev pub WokenOrEnded : {C : Type 0} {N : ℕ} → Truths C → Wait C → Result Arrival Cause → GateView C N → SeatOf C N → Type 0
@@ -104,8 +104,8 @@ pub record WaitTells {C : Type 0} {N : ℕ} (truths : Truths C) (c : C) (answer 
   pub how : HasStayed old new ⊎ HasComeBack truths c answer was back old new
 
 -- the same of the sections in hand before and after
-abbrev pub HasWaited : {C : Type 0} {N : ℕ} → Truths C → C → Answer → Known C N → Known C N → Type 0
-HasWaited truths c answer old new = InHand old.held (λ was. InHand new.held (λ back. WaitTells truths c answer was back old new))
+abbrev pub HasWaitedFor : {C : Type 0} {N : ℕ} → Truths C → C → Answer → Known C N → Known C N → Type 0
+HasWaitedFor truths c answer old new = InHand old.held (λ was. InHand new.held (λ back. WaitTells truths c answer was back old new))
 
 -- What ended a wait early, of the history of clock and notes that its seat had seen and the one that it has: a note that was given is notified, or a deadline that was given has come, at a point between, where the note wasn't notified.
 abbrev pub EndedBy : Option Note → Option ℕ → List EnvEvent → List EnvEvent → Answer → Type 0

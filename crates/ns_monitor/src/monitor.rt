@@ -15,7 +15,7 @@ ghost use Rattle.ns_gate.specs.Law.{NewFault};
 ghost use Rattle.ns_gate.specs.Steps.{the};
 ghost use Rattle.ns_monitor.specs.Known.{AreNew, AreOfOneHistory, EndsAs, Grows, HasLearned, HasLocked, HasSeenMore, known_of};
 ghost use Rattle.ns_monitor.specs.Locks.{IsNumberOf};
-ghost use Rattle.ns_monitor.specs.Waits.{EndedBy, HasWaited};
+ghost use Rattle.ns_monitor.specs.Waits.{EndedBy, HasWaitedFor};
 ghost use Rattle.ns_monitor.specs.Walks.{getting, judging, locking, releasing_by, setting, trying, waiting};
 ghost use Rattle.ns_model.specs.Environments.{IsMade};
 ghost use Rattle.ns_note.specs.Known.{Grows as EnvGrows};
@@ -394,7 +394,7 @@ impl<C: Gated<N>, const N: usize> Monitor<C, N> {
     ) -> Caller<H, C, N>
         requires { held.monitor ≡ self.now }
         ensures grows { Grows C.means (waiting N H.mode condition None None) held result }
-        ensures waited { HasWaited C.means condition Answer.Met held result }
+        ensures waited { HasWaitedFor C.means condition Answer.Met held result }
     {
         let Caller {
             mut seat,
@@ -445,7 +445,7 @@ impl<C: Gated<N>, const N: usize> Monitor<C, N> {
         requires env { env_seat.old.env ≡ env.now }
         requires made { IfSome note (λ n. IsMade env_seat.old.seen n.index) }
         ensures grows { Grows C.means (waiting N H.mode condition deadline note) held result.0 }
-        ensures waited { HasWaited C.means condition result.1 held result.0 }
+        ensures waited { HasWaitedFor C.means condition result.1 held result.0 }
         ensures env_grows { EnvGrows env_seat.old env_seat.new }
         ensures env_mine { env_seat.new.mine ≡ env_seat.old.mine }
         ensures ended { EndedBy note deadline env_seat.old.seen env_seat.new.seen result.1 }

@@ -1,5 +1,5 @@
 use Rattle.std.proofs.Common.{◌≡◌, None}
-use Rattle.ns_gate.proofs.Stays.{HasStayed}
+use Rattle.ns_gate.proofs.Stays.{HasKeptItsQueues}
 use Rattle.ns_gate.specs.Calls.{IsAt}
 use Rattle.ns_word.specs.Codec.{IsPackable}
 use Rattle.ns_word.specs.declared.acquire_walk.AcquirePlace.TheVariants.{Queue}
@@ -10,4 +10,4 @@ use Rattle.ns_monitor.proofs.monitor.Monitor.put_back.Given as goal
 abbrev pub invariant-loop : goal.invariant-loop
 invariant-loop g l =
     (goal.iterator-loop g).can_next l.iterator' × (goal.iterator-loop g).is_finite l.iterator' × (l.seat.table_id ≡ l.fn.seat.table_id)
-    × IsPackable l.word × IsAt g.C.Condition.means None (InAcquire l.fn.aim (Queue l.fn.arrival l.word)) (the l.fn.seat.me.0) l.seat.me × HasStayed l.fn.seat.me l.seat.me
+    × IsPackable l.word × IsAt g.C.Condition.means None (InAcquire l.fn.aim (Queue l.fn.arrival l.word)) (the l.fn.seat.me.0) l.seat.me × HasKeptItsQueues l.fn.seat.me l.seat.me

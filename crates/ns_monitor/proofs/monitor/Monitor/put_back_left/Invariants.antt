@@ -1,5 +1,5 @@
 use Rattle.std.proofs.Common.{◌≡◌, None}
-use Rattle.ns_gate.proofs.Stays.{HasStayed}
+use Rattle.ns_gate.proofs.Stays.{HasKeptItsQueues}
 use Rattle.ns_gate.specs.Calls.{IsAt}
 use Rattle.ns_gate.specs.Steps.{the}
 use Rattle.ns_word.specs.Codec.{IsPackable}
@@ -11,4 +11,4 @@ use Rattle.ns_monitor.proofs.monitor.Monitor.put_back_left.Given as goal
 abbrev pub invariant-loop : goal.invariant-loop
 invariant-loop g l =
     (goal.iterator-loop g).can_next l.iterator' × (goal.iterator-loop g).is_finite l.iterator' × (l.seat.table_id ≡ l.fn.seat.table_id) × IsPackable l.word
-    × IsAt g.C.Condition.means None (InWait l.fn.wait (InLeaving l.fn._cause (Leave l.word))) (the l.fn.seat.me.0) l.seat.me × HasStayed l.fn.seat.me l.seat.me
+    × IsAt g.C.Condition.means None (InWait l.fn.wait (InLeaving l.fn._cause (Leave l.word))) (the l.fn.seat.me.0) l.seat.me × HasKeptItsQueues l.fn.seat.me l.seat.me

@@ -8,7 +8,7 @@ use Rattle.ns_monitor.proofs.Locks.{same_number}
 use Rattle.ns_monitor.proofs.Returns.{fits_fresh, met_now, queues_at_entry, wait_tells}
 use Rattle.ns_monitor.specs.Known.{Grows, Known, known_of}
 use Rattle.ns_monitor.specs.Saved.{IsFreshIn}
-use Rattle.ns_monitor.specs.Waits.{HasWaited}
+use Rattle.ns_monitor.specs.Waits.{HasWaitedFor}
 use Rattle.ns_monitor.specs.Walks.{waiting, waits_for}
 use Rattle.ns_word.specs.Finds.{row_in}
 use Rattle.ns_word.specs.Places.{HasMode}
@@ -30,7 +30,7 @@ returns-then-test_first-clause-grows g c = let n = g.row.N in let cond = c.args.
 pub returns-then-test_first-clause-waited : goal.returns-then-test_first-clause-waited
 returns-then-test_first-clause-waited g c = let n = g.row.N in let cond = c.args.condition in let wait = waits_for c.mode.result cond None None in let first = wait_first n wait in let s = c.held.inside.seat in let v = the s.me.0 in let me1 = c.test_first.new.seat.me in let t = c.test_first.ensures.tested in
     let in_mode = subst (λ m. HasMode m v.at.held) (sym c.mode.ensures) (g.met.H.Section.in_mode c.held.inside.hand v.at.held c.held.invariant.2) in
-    subst (λ (k : Known _ _). HasWaited g.C.Condition.means cond Met k (known_of c.test_first.new.seat.table_id (the me1.0))) c.held.view_is (wait_tells g.C.Condition.means first wait cond Met s.table_id c.test_first.new.seat.table_id v me1 refl in_mode (met_now g.C.Condition.means (Some first) wait OnEntry cond c.test_first.result c.test_first.new.row v me1 c.if-test_first.true t))
+    subst (λ (k : Known _ _). HasWaitedFor g.C.Condition.means cond Met k (known_of c.test_first.new.seat.table_id (the me1.0))) c.held.view_is (wait_tells g.C.Condition.means first wait cond Met s.table_id c.test_first.new.seat.table_id v me1 refl in_mode (met_now g.C.Condition.means (Some first) wait OnEntry cond c.test_first.result c.test_first.new.row v me1 c.if-test_first.true t))
 
 pub wait_until_met-requires : goal.wait_until_met-requires
 wait_until_met-requires g c = let n = g.row.N in let cond = c.args.condition in let wait = waits_for c.mode.result cond None None in let first = wait_first n wait in let s = c.held.inside.seat in let v = the s.me.0 in let me1 = c.test_first.new.seat.me in let t = c.test_first.ensures.tested in
@@ -57,4 +57,4 @@ pub returns-clause-waited : goal.returns-clause-waited
 returns-clause-waited g c = let n = g.row.N in let cond = c.args.condition in let wait = waits_for c.mode.result cond None None in let first = wait_first n wait in let s = c.held.inside.seat in let v = the s.me.0 in let me1 = c.test_first.new.seat.me in let t = c.test_first.ensures.tested in
     let in_mode = subst (λ m. HasMode m v.at.held) (sym c.mode.ensures) (g.met.H.Section.in_mode c.held.inside.hand v.at.held c.held.invariant.2) in let at1 = queues_at_entry g.C.Condition.means (Some first) wait cond c.test_first.result c.test_first.new.row v me1 c.if-test_first.false refl t in
     let me2 = c.wait_until_met.new.seat.me in let a = then_answered g.C.Condition.means (Some first) (Await wait) (Answered Met) v (the me1.0) me2 at1.since c.wait_until_met.ensures.met in
-    subst (λ (k : Known _ _). HasWaited g.C.Condition.means cond Met k (known_of c.wait_until_met.new.seat.table_id (the me2.0))) c.held.view_is (wait_tells g.C.Condition.means first wait cond Met s.table_id c.wait_until_met.new.seat.table_id v me2 refl in_mode a)
+    subst (λ (k : Known _ _). HasWaitedFor g.C.Condition.means cond Met k (known_of c.wait_until_met.new.seat.table_id (the me2.0))) c.held.view_is (wait_tells g.C.Condition.means first wait cond Met s.table_id c.wait_until_met.new.seat.table_id v me2 refl in_mode a)

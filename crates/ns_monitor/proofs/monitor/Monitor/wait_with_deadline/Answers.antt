@@ -10,7 +10,7 @@ use Rattle.ns_monitor.proofs.Looks.{still_made}
 use Rattle.ns_monitor.proofs.Returns.{ended_before, fits_fresh, looks_at_entry, met_now, none_given, wait_tells}
 use Rattle.ns_monitor.specs.Known.{Grows, Known, known_of}
 use Rattle.ns_monitor.specs.Saved.{IsFreshIn}
-use Rattle.ns_monitor.specs.Waits.{HasWaited}
+use Rattle.ns_monitor.specs.Waits.{HasWaitedFor}
 use Rattle.ns_monitor.specs.Walks.{waiting, waits_by}
 use Rattle.ns_note.specs.declared.note.Note.{Note}
 use Rattle.ns_word.specs.Finds.{row_in}
@@ -40,7 +40,7 @@ returns-then-test_first-clause-grows g c = let n = g.row.N in let cond = c.args.
 pub returns-then-test_first-clause-waited : goal.returns-then-test_first-clause-waited
 returns-then-test_first-clause-waited g c = let n = g.row.N in let cond = c.args.condition in let wait = waits_by c.mode.result cond c.args.deadline c.index_of.result in let first = wait_first n wait in let s = c.held.inside.seat in let v = the s.me.0 in let me1 = c.test_first.new.seat.me in let t = c.test_first.ensures.tested in
     let in_mode = subst (λ m. HasMode m v.at.held) (sym c.mode.ensures) (g.met.H.Section.in_mode c.held.inside.hand v.at.held c.held.invariant.2) in
-    subst (λ (k : Known _ _). HasWaited g.C.Condition.means cond Met k (known_of c.test_first.new.seat.table_id (the me1.0))) c.held.view_is (wait_tells g.C.Condition.means first wait cond Met s.table_id c.test_first.new.seat.table_id v me1 refl in_mode (met_now g.C.Condition.means (Some first) wait OnEntry cond c.test_first.result c.test_first.new.row v me1 c.if-test_first.true t))
+    subst (λ (k : Known _ _). HasWaitedFor g.C.Condition.means cond Met k (known_of c.test_first.new.seat.table_id (the me1.0))) c.held.view_is (wait_tells g.C.Condition.means first wait cond Met s.table_id c.test_first.new.seat.table_id v me1 refl in_mode (met_now g.C.Condition.means (Some first) wait OnEntry cond c.test_first.result c.test_first.new.row v me1 c.if-test_first.true t))
 
 pub look_in-requires : goal.look_in-requires
 look_in-requires g c = let n = g.row.N in let cond = c.args.condition in let wait = waits_by c.mode.result cond c.args.deadline c.index_of.result in let first = wait_first n wait in let s = c.held.inside.seat in let v = the s.me.0 in let me1 = c.test_first.new.seat.me in let t = c.test_first.ensures.tested in
@@ -67,8 +67,8 @@ pub returns-in-Some-clause-waited : goal.returns-in-Some-clause-waited
 returns-in-Some-clause-waited g c = let n = g.row.N in let cond = c.args.condition in let wait = waits_by c.mode.result cond c.args.deadline c.index_of.result in let first = wait_first n wait in let s = c.held.inside.seat in let v = the s.me.0 in let me1 = c.test_first.new.seat.me in let t = c.test_first.ensures.tested in
     let in_mode = subst (λ m. HasMode m v.at.held) (sym c.mode.ensures) (g.met.H.Section.in_mode c.held.inside.hand v.at.held c.held.invariant.2) in let limited = sym c.is_some.ensures ∙ c.if-not-is_some.false in let at1 = looks_at_entry g.C.Condition.means (Some first) wait cond c.test_first.result c.test_first.new.row v me1 c.if-test_first.false limited t in let of1 = ◌∙◌ {A = TableId} c.test_first.ensures.seat (◌∙◌ {A = TableId} (ap (λ (k : Known _ _). k.monitor) c.held.view_is) c.requires.of) in
     let me2 = c.look_in.new.seat.me in let a = then_answered g.C.Condition.means (Some first) (Await wait) (Answered (answer_of c.in-Some.cause)) v (the me1.0) me2 at1.since c.in-Some.ensures.leads in
-    subst (λ answer. HasWaited g.C.Condition.means cond answer c.args.held (known_of c.look_in.new.seat.table_id (the me2.0))) (sym c.answer_of.ensures)
-    (subst (λ (k : Known _ _). HasWaited g.C.Condition.means cond (answer_of c.in-Some.cause) k (known_of c.look_in.new.seat.table_id (the me2.0))) c.held.view_is (wait_tells g.C.Condition.means first wait cond (answer_of c.in-Some.cause) s.table_id c.look_in.new.seat.table_id v me2 refl in_mode a))
+    subst (λ answer. HasWaitedFor g.C.Condition.means cond answer c.args.held (known_of c.look_in.new.seat.table_id (the me2.0))) (sym c.answer_of.ensures)
+    (subst (λ (k : Known _ _). HasWaitedFor g.C.Condition.means cond (answer_of c.in-Some.cause) k (known_of c.look_in.new.seat.table_id (the me2.0))) c.held.view_is (wait_tells g.C.Condition.means first wait cond (answer_of c.in-Some.cause) s.table_id c.look_in.new.seat.table_id v me2 refl in_mode a))
 
 pub wait_until_ended-answer-requires : goal.wait_until_ended-answer-requires
 wait_until_ended-answer-requires g c = let n = g.row.N in let cond = c.args.condition in let wait = waits_by c.mode.result cond c.args.deadline c.index_of.result in let first = wait_first n wait in let s = c.held.inside.seat in let v = the s.me.0 in let me1 = c.test_first.new.seat.me in let t = c.test_first.ensures.tested in
@@ -99,7 +99,7 @@ returns-clause-waited g c = let n = g.row.N in let cond = c.args.condition in le
     let in_mode = subst (λ m. HasMode m v.at.held) (sym c.mode.ensures) (g.met.H.Section.in_mode c.held.inside.hand v.at.held c.held.invariant.2) in let limited = sym c.is_some.ensures ∙ c.if-not-is_some.false in let at1 = looks_at_entry g.C.Condition.means (Some first) wait cond c.test_first.result c.test_first.new.row v me1 c.if-test_first.false limited t in let of1 = ◌∙◌ {A = TableId} c.test_first.ensures.seat (◌∙◌ {A = TableId} (ap (λ (k : Known _ _). k.monitor) c.held.view_is) c.requires.of) in
     let me2 = c.look_in.new.seat.me in let l = c.look_in.ensures in let at2 = then_at g.C.Condition.means (Some first) (InWait wait (InQueuing false Load)) v (the me1.0) me2 at1.since (subst (λ k. Leads g.C.Condition.means None (Await wait) (got_queuing n wait false LookIn (Looked k)) (the me1.0) me2) c.in_default.is l.leads) in
     let me3 = c.wait_until_ended-answer.new.seat.me in let a = then_answered g.C.Condition.means (Some first) (Await wait) (Answered c.wait_until_ended-answer.result) v (the me2.0) me3 at2.since c.wait_until_ended-answer.ensures.answered in
-    subst (λ (k : Known _ _). HasWaited g.C.Condition.means cond c.wait_until_ended-answer.result k (known_of c.wait_until_ended-answer.new.seat.table_id (the me3.0))) c.held.view_is (wait_tells g.C.Condition.means first wait cond c.wait_until_ended-answer.result s.table_id c.wait_until_ended-answer.new.seat.table_id v me3 refl in_mode a)
+    subst (λ (k : Known _ _). HasWaitedFor g.C.Condition.means cond c.wait_until_ended-answer.result k (known_of c.wait_until_ended-answer.new.seat.table_id (the me3.0))) c.held.view_is (wait_tells g.C.Condition.means first wait cond c.wait_until_ended-answer.result s.table_id c.wait_until_ended-answer.new.seat.table_id v me3 refl in_mode a)
 
 pub returns-clause-ended : goal.returns-clause-ended
 returns-clause-ended g c = ended_before c.args.note c.args.deadline _ _ _ c.wait_until_ended-answer.result c.look_in.ensures.grows.begins c.wait_until_ended-answer.ensures.ended
