@@ -50,6 +50,7 @@ impl<C: Condition<N>, const N: usize> Model for Gate<C, N> {
 }
 
 /// What an exchange of the word last seen came to, where the word's number was this.
+#[inline(always)]
 pub(crate) fn came_to(found: u64, last: Word) -> Result<(), Word>
     requires { IsPackable (word_of found) }
     ensures word { IfErr result IsPackable }
@@ -159,6 +160,7 @@ impl<C: Gated<N>, const N: usize> Gate<C, N> {
     /// Begins a call by its first step, which loads the lock word.
     ///
     /// Needs a seat of this gate, whose last call is over, and a first place whose need is met.
+    #[inline(always)]
     pub fn begin_load(&self, seat: &mut GateSeat<C, N>, walk: Walk<C>) -> Word
         requires of { seat.old.table_id ≡ self.now }
         requires wants { want_of walk ≡ Act.LoadWord }
@@ -178,6 +180,7 @@ impl<C: Gated<N>, const N: usize> Gate<C, N> {
     ///
     /// Needs a seat of this gate, whose call wants that next, and a word that has a number, as each
     /// has that a load or an exchange has told.
+    #[inline(always)]
     pub fn exchange_to_acquire(
         &self,
         seat: &mut GateSeat<C, N>,
@@ -205,6 +208,7 @@ impl<C: Gated<N>, const N: usize> Gate<C, N> {
     ///
     /// Needs a seat of this gate, whose call wants that next, and a word that has a number, as each
     /// has that a load or an exchange has told.
+    #[inline(always)]
     pub fn exchange_to_release(
         &self,
         seat: &mut GateSeat<C, N>,

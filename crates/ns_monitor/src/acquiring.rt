@@ -31,6 +31,7 @@ use std::sync::Wait;
 impl<C: Gated<N>, const N: usize> Monitor<C, N> {
     /// Acquires the lock in this mode. One load and one exchange do where nobody is in the way; else it
     /// goes on by the word found, and waits in the lock list as often as it has to.
+    #[inline(always)]
     pub(crate) fn acquire_first<R: Wait>(
         &self,
         rt: &R,
@@ -49,34 +50,36 @@ impl<C: Gated<N>, const N: usize> Monitor<C, N> {
         let word = self.gate.begin_load(seat, Walk::lock(mode));
         let last = encode(word);
         if !word.may_acquire(mode, Arrival::AsFresh) {
-            return self.acquire_by(rt, seat, number, aim, last);
+            return self.acquire_by(rt, seat, number, mode, last);
         }
         match self
             .gate
             .exchange_to_acquire(seat, aim, Arrival::AsFresh, word)
         {
             Ok(()) => (),
-            Err(other) => self.acquire_by(rt, seat, number, aim, encode(other)),
+            Err(other) => self.acquire_by(rt, seat, number, mode, encode(other)),
         }
     }
 
-    /// Acquires the lock for this, by the word last seen, and waits in the lock list as often as it
+    /// Acquires the lock in this mode, by the word last seen, and waits in the lock list as often as it
     /// has to. It is told the word's number, as `release_by` is.
+    #[cold]
     fn acquire_by<R: Wait>(
         &self,
         rt: &R,
         seat: &mut GateSeat<C, N>,
         number: u8,
-        aim: Aim<C>,
+        mode: Mode,
         last: u64,
     )
         requires of { seat.old.table_id ≡ self.now }
         requires number { IsNumberOf number seat.old.me }
         requires last { IsPackable (word_of last) }
-        requires at { AcquiresBy C.means aim Arrival.AsFresh (word_of last) (the seat.old.me.0) seat.old.me }
+        requires at { AcquiresBy C.means (Aim.ForLock mode) Arrival.AsFresh (word_of last) (the seat.old.me.0) seat.old.me }
         ensures seat { seat.new.table_id ≡ seat.old.table_id }
-        ensures acquired { HasAcquired C.means aim (the seat.old.me.0) seat.new.me }
+        ensures acquired { HasAcquired C.means (Aim.ForLock mode) (the seat.old.me.0) seat.new.me }
     {
+        let aim = Aim::ForLock(mode);
         let word = unpacked(last);
         let Some(word) = self.acquire_or_take(rt, seat, aim, Arrival::AsFresh, word) else {
             return;

@@ -95,6 +95,7 @@ impl<C: Gated<N>, const N: usize> Monitor<C, N> {
     }
 
     /// Tries to acquire the lock in this mode: loads its word, and makes at most one exchange.
+    #[inline(always)]
     fn try_acquire(&self, seat: &mut GateSeat<C, N>, mode: Mode) -> bool
         requires of { seat.old.table_id ≡ self.now }
         requires rest { IsAtRest C.means seat.old.me }

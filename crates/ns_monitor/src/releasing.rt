@@ -30,6 +30,7 @@ use std::sync::Wait;
 
 impl<C: Gated<N>, const N: usize> Monitor<C, N> {
     /// Releases the section in hand, and wakes those waiters who can go on.
+    #[inline(always)]
     pub(crate) fn release<R: Wait>(&self, rt: &R, seat: &mut GateSeat<C, N>, releasing: Releasing)
         requires of { seat.old.table_id ≡ self.now }
         requires rest { IsAtRest C.means seat.old.me }
@@ -52,6 +53,7 @@ impl<C: Gated<N>, const N: usize> Monitor<C, N> {
     ///
     /// It is told the word's number: parts of a word that a call may be passed are kept in memory by
     /// its caller, which the fast path would pay for.
+    #[cold]
     fn release_by<R: Wait>(
         &self,
         rt: &R,

@@ -34,6 +34,7 @@ const MOST_READERS: u64 = 64;
 pub struct BadWord;
 
 /// The value, if the bit is set.
+#[inline(always)]
 fn valued(b: bool, value: u64) -> u64
     requires { value < 256 }
     ensures is { result ≡ value * bit b }
@@ -43,6 +44,7 @@ fn valued(b: bool, value: u64) -> u64
 }
 
 /// Whether the bit of this value is set.
+#[inline(always)]
 fn is_set(bits: u64, value: u64) -> bool
     requires { 0 < value }
     ensures { result ≡ is_set bits value }
@@ -52,6 +54,7 @@ fn is_set(bits: u64, value: u64) -> bool
 
 /// The number of a word. Each word has one, and [`decode`] gives it back unless the word has a
 /// writer beside readers, or more than 64 readers.
+#[inline(always)]
 pub fn encode(word: Word) -> u64
     ensures { result ≡ number_of word }
 {
@@ -73,6 +76,7 @@ pub fn a_free_word_is_zero()
 {}
 
 /// The word of a number, taken apart bit by bit.
+#[inline(always)]
 fn taken_apart(bits: u64) -> Word
     requires { bits / 256 < 256 }
     ensures { result ≡ word_of bits }
@@ -91,6 +95,7 @@ fn taken_apart(bits: u64) -> Word
 }
 
 /// The word of a number that is one's, as a lawful lock's always is: nothing is tested.
+#[inline(always)]
 pub fn unpacked(bits: u64) -> Word
     requires { IsPackable (word_of bits) }
     ensures { result ≡ word_of bits }

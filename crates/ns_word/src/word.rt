@@ -112,6 +112,7 @@ pub enum Arrival {
 
 impl Arrival {
     /// Whether the seat was woken.
+    #[inline(always)]
     pub fn is_woken(self) -> bool
         ensures { result ≡ is_woken self }
     {
@@ -167,6 +168,7 @@ impl Word {
 
     /// Whether a lock with this word may be acquired in the mode. A fresh caller stands back where
     /// one waits long, and a fresh reader where a writer waits; a woken one passes.
+    #[inline(always)]
     pub fn may_acquire(self, mode: Mode, arrival: Arrival) -> bool
         ensures { result ≡ may_acquire mode arrival self }
     {
@@ -181,6 +183,7 @@ impl Word {
     /// Whether a release of a lock with this word has to look for waiters to wake. It need not
     /// where nobody waits or one is on its way already; a reader also not where it isn't the last
     /// or all conditions are known to be false, and a quiet writer not where they are.
+    #[inline(always)]
     pub fn needs_scan(self, releasing: Releasing) -> bool
         ensures { result ≡ needs_scan releasing self }
     {
@@ -203,6 +206,7 @@ impl Word {
     /// The word after an acquire in the mode. One that was woken is on its way no more.
     ///
     /// Needs a count of readers below 255; the law keeps it at 64 or below.
+    #[inline(always)]
     pub fn acquired(self, mode: Mode, arrival: Arrival) -> Word
         requires { self.readers < 255 }
         ensures { result ≡ word_acquired mode arrival self }
@@ -263,6 +267,7 @@ impl Word {
     }
 
     /// The word after a release without a scan.
+    #[inline(always)]
     pub fn released(self, releasing: Releasing) -> Word
         ensures { result ≡ word_released releasing self }
     {
