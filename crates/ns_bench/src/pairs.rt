@@ -1,8 +1,7 @@
 //! Pairs of an acquire and a release that nobody contends for, of a monitor and by hand.
 
-ghost use Rattle.std.specs.Prelude.{◌≡◌, ◌<◌, ◌≤◌, IfOk, length};
+ghost use Rattle.std.specs.Prelude.{◌≡◌, ◌<◌, ◌≤◌, IfOk, IfSome, length};
 
-use crate::mu_try::alone;
 use crate::never::Never;
 use ns_monitor::caller::Seat;
 use ns_monitor::monitor::Monitor;
@@ -83,6 +82,15 @@ fn pair_by_hand(word: &AtomicU64) {
         let held = word.load(SeqCst);
         let _ = word.compare_exchange(held, held & !1, SeqCst, SeqCst);
     }
+}
+
+/// A monitor of one cell, and its only seat.
+pub fn alone(alloc: Global) -> Option<(Monitor<Never, 1>, Seat<Never, 1>)>
+    ensures { IfSome result (λ r. r.1.monitor ≡ r.0) }
+{
+    let (monitor, mut seats) = Monitor::new(alloc, 1).ok()?;
+    let seat = seats.pop()?;
+    Some((monitor, seat))
 }
 
 /// A batch of pairs of a monitor, and how long it took.

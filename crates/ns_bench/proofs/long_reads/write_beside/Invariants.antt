@@ -1,6 +1,6 @@
 -- The seat in hand is of this monitor.
 use Rattle.std.proofs.Common.{◌≡◌}
-use Rattle.ns_bench.proofs.mu_try.add.Given as goal
+use Rattle.ns_bench.proofs.long_reads.write_beside.Given as goal
 
 abbrev pub invariant-loop : goal.invariant-loop
 invariant-loop g l = l.seat.monitor ≡ l.monitor

@@ -1,0 +1,49 @@
+//! How much is done, and what came of it.
+
+/// How many operations there are in all, and how many threads share them.
+#[derive(Clone, Copy)]
+pub struct Amount {
+    /// How many threads there are.
+    pub threads: u64,
+    /// How many operations they make together.
+    pub operations: u64,
+}
+
+impl Amount {
+    /// How many operations the thread of this number makes: no more than one more than any other.
+    pub fn share(self, number: u64) -> u64 {
+        let least = self.operations.checked_div(self.threads).unwrap_or(0);
+        let rest = self.operations.checked_rem(self.threads).unwrap_or(0);
+        if number < rest {
+            least.saturating_add(1)
+        } else {
+            least
+        }
+    }
+}
+
+/// What a thread has counted.
+#[derive(Clone, Copy)]
+pub struct Count {
+    /// How many of its sections wrote.
+    pub writes: u64,
+    /// The sum of what it has read or worked out.
+    pub sum: u64,
+}
+
+impl Count {
+    /// Nothing.
+    pub fn new() -> Count {
+        Count { writes: 0, sum: 0 }
+    }
+}
+
+/// The sums of the counts.
+pub fn total(counts: &[Count]) -> Count {
+    let mut total = Count::new();
+    for count in counts {
+        total.writes = total.writes.wrapping_add(count.writes);
+        total.sum = total.sum.wrapping_add(count.sum);
+    }
+    total
+}

@@ -1,0 +1,176 @@
+//! Waits that end at once, since their deadline has come or their note is notified.
+
+ghost use Rattle.std.specs.Prelude.{◌≡◌};
+ghost use Rattle.std.specs.Thread.{IsSync};
+ghost use Rattle.ns_model.specs.Environments.{IsMade};
+
+use crate::never::Never;
+use crate::notes::{alone as alone_at_notes, notified};
+use crate::pairs::alone;
+use ns_model::event::Answer;
+use ns_monitor::caller::{Seat, WriteHeld};
+use ns_monitor::monitor::Monitor;
+use ns_note::env::Env;
+use ns_note::note::Note;
+use ns_note::seat::EnvSeat;
+use std::alloc::Global;
+use std::sync::Wait;
+use std::thread::{Threads, join};
+
+/// What ends each wait.
+#[derive(Clone, Copy)]
+pub enum Limit {
+    /// A deadline that has come.
+    Deadline,
+    /// A note that is notified.
+    Note,
+}
+
+/// Waits so many times in one section, with a deadline that has come, and counts how often it has timed
+/// out.
+fn time_out<R: Wait>(
+    rt: &R,
+    monitor: &Monitor<Never, 1>,
+    seat: Seat<Never, 1>,
+    env: &Env,
+    env_seat: &mut EnvSeat,
+    times: u64,
+) -> (Seat<Never, 1>, u64)
+    requires { (seat.monitor ≡ monitor.now) × (env_seat.old.env ≡ env.now) }
+    ensures { result.0.monitor ≡ monitor.now }
+{
+    let mut held = monitor.lock(rt, seat);
+    let mut count = 0u64;
+    for _ in 0..times {
+        let (back, answer) = monitor.wait_with_deadline(
+            rt,
+            held,
+            Never,
+            Some(0),
+            None,
+            env,
+            env_seat,
+        );
+        held = back;
+        if matches!(answer, Answer::TimedOut) {
+            count = count.wrapping_add(1);
+        }
+    }
+    (monitor.unlock(rt, held), count)
+}
+
+/// Waits with a note, and answers whether that has ended it.
+fn is_canceled<R: Wait>(
+    rt: &R,
+    monitor: &Monitor<Never, 1>,
+    held: WriteHeld<Never, 1>,
+    env: &Env,
+    env_seat: &mut EnvSeat,
+    note: Note,
+) -> (WriteHeld<Never, 1>, bool)
+    requires of { (held.monitor ≡ monitor.now) × (env_seat.old.env ≡ env.now) }
+    requires made { IsMade env_seat.old.seen note.index }
+    ensures of { (result.0.monitor ≡ monitor.now) × (env_seat.new.env ≡ env_seat.old.env) }
+    ensures made { IsMade env_seat.new.seen note.index }
+{
+    let (held, answer) = monitor.wait_with_deadline(
+        rt,
+        held,
+        Never,
+        None,
+        Some(note),
+        env,
+        env_seat,
+    );
+    (held, matches!(answer, Answer::Canceled))
+}
+
+/// Waits so many times in one section, with a note, and counts how often that has ended it.
+fn cancel<R: Wait>(
+    rt: &R,
+    monitor: &Monitor<Never, 1>,
+    seat: Seat<Never, 1>,
+    env: &Env,
+    env_seat: &mut EnvSeat,
+    note: Note,
+    times: u64,
+) -> (Seat<Never, 1>, u64)
+    requires of { (seat.monitor ≡ monitor.now) × (env_seat.old.env ≡ env.now) }
+    requires made { IsMade env_seat.old.seen note.index }
+    ensures { result.0.monitor ≡ monitor.now }
+{
+    let mut held = monitor.lock(rt, seat);
+    let mut count = 0u64;
+    for _ in 0..times {
+        let (back, canceled) = is_canceled(rt, monitor, held, env, env_seat, note);
+        held = back;
+        if canceled {
+            count = count.wrapping_add(1);
+        }
+    }
+    (monitor.unlock(rt, held), count)
+}
+
+/// Waits so many times, and counts how often the limit has ended it.
+fn count_waits<R: Wait>(
+    rt: &R,
+    monitor: &Monitor<Never, 1>,
+    seat: Seat<Never, 1>,
+    env: &Env,
+    env_seat: &mut EnvSeat,
+    limit: Limit,
+    times: u64,
+) -> (Seat<Never, 1>, u64)
+    requires { (seat.monitor ≡ monitor.now) × (env_seat.old.env ≡ env.now) }
+    ensures { result.0.monitor ≡ monitor.now }
+{
+    if matches!(limit, Limit::Deadline) {
+        return time_out(rt, monitor, seat, env, env_seat, times);
+    }
+    let Some(note) = notified(env, env_seat) else {
+        return (seat, 0);
+    };
+    if !env.knows(env_seat, note) {
+        return (seat, 0);
+    }
+    cancel(rt, monitor, seat, env, env_seat, note, times)
+}
+
+/// Waits so many times in a thread of its own.
+fn count_in_thread<R: Threads + Wait + Sync>(
+    rt: &R,
+    monitor: &Monitor<Never, 1>,
+    seat: Seat<Never, 1>,
+    env: &Env,
+    mut env_seat: EnvSeat,
+    limit: Limit,
+    times: u64,
+) -> (Seat<Never, 1>, u64)
+    requires { (seat.monitor ≡ monitor.now) × (env_seat.env ≡ env.now) }
+    ensures { result.0.monitor ≡ monitor.now }
+{
+    let (counted, ()) = join(
+        rt,
+        move || -> (Seat<Never, 1>, u64)
+            requires { IsSync R.row × (seat.monitor ≡ monitor.now) × (env_seat.env ≡ env.now) }
+            ensures { result.0.monitor ≡ monitor.entry.now }
+        { count_waits(rt, monitor, seat, env, &mut env_seat, limit, times) },
+        || (),
+    );
+    counted
+}
+
+/// Whether the limit ends each of so many waits, and the lock is free in the end; nothing where it could
+/// not be begun.
+pub fn run<R: Threads + Wait + Sync>(
+    rt: &R,
+    alloc: Global,
+    limit: Limit,
+    times: u64,
+) -> Option<bool> {
+    let (monitor, seat) = alone(alloc)?;
+    let (env, env_seat) = alone_at_notes(alloc)?;
+    let (seat, count) = count_in_thread(rt, &monitor, seat, &env, env_seat, limit, times);
+    let closed = monitor.close(seat);
+    Some(closed.free && count == times)
+}
