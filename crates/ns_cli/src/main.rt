@@ -1,10 +1,17 @@
-//! The program `ns_cli`: replays scripts from standard input to standard output.
+//! The program `ns_cli`: replays scripts from standard input to standard output, and has live threads
+//! use the lock.
 //!
-//! It only reads its words, and passes them and the process's streams on to the command.
+//! It only reads its words, passes them and the process's streams on to the command, and makes the
+//! threads where those are asked for.
 #![tactic(auto)]
 
-use ns_command::{Console, Ending, run, without_words};
-use ns_replay::{OverRead, OverWrite};
+ghost use Rattle.std.specs.Prelude.{◌≡◌, false};
+
+use ns_command::{Console, Ending, Prints, finish_live, run, without_words};
+use ns_live::live;
+use ns_replay::{OverRead, OverWrite, Sink};
+use std::sync::Wait;
+use std::thread::Threads;
 use std::{env, io};
 
 /// The words of the program, the first of which is its name.
@@ -12,9 +19,22 @@ fn words(rt: &HostRuntime) -> io::Result<Vec<String>> {
     Ok(env::args(rt)?.collect(rt.alloc())?)
 }
 
+/// Has live threads put so many items through a ring, and ends the run by their sum.
+fn run_live<R: AllocGlobal + Threads + Wait + Sync, W: Sink, P: Prints>(
+    rt: &R,
+    items: u32,
+    sink: &mut W,
+    printer: &mut P,
+) -> Ending
+    requires { W.has_failed sink.old ≡ false }
+{
+    let outcome = live(rt, rt.alloc(), u64::from(items));
+    finish_live(rt.alloc(), items, outcome, sink, printer)
+}
+
 fn main(rt: HostRuntime) -> Ending {
     let mut console = Console::new(&rt);
-    match words(&rt) {
+    let ending = match words(&rt) {
         Ok(words) => {
             let mut source = OverRead::new(rt.stdin());
             let mut sink = OverWrite::new(rt.stdout());
@@ -27,5 +47,12 @@ fn main(rt: HostRuntime) -> Ending {
             )
         }
         Err(error) => without_words(&mut console, &error),
+    };
+    match ending {
+        Ending::LiveAsked(items) => {
+            let mut sink = OverWrite::new(rt.stdout());
+            run_live(&rt, items, &mut sink, &mut console)
+        }
+        ending => ending,
     }
 }

@@ -10,7 +10,7 @@ use Rattle.std.proofs.lemmas.Slice.Eq.{bytes_eq-Decides}
 use Rattle.clap.specs.Words.{ReadsOne, Text, one_of, one_text, rows_of}
 use Rattle.clap.specs.declared.parser.matches.Found.{Found}
 use Rattle.clap.proofs.WalkLemmas.{both, one_text-rows}
-use Rattle.ns_command.specs.Asked.{limit_in, number_in}
+use Rattle.ns_command.specs.Asked.{items_in, limit_in, number_in}
 
 unequal : (text : Text) (b : Bool) → Decides b (text ≡ true_text) → text ≢ true_text → false ≡ b
 unequal text true d h = absurd (h (d.0 refl))
@@ -48,13 +48,13 @@ digits_from (d ∷ ds) e =
 abbrev is_number : List ℕ → Bool
 is_number ds = nat_lt 0 (length ds) && list_all (λ digit. nat_lt (digit_value digit) 10) ds && nat_lt (digits_value 10 ds) (2 ^ 32)
 
-number_found : (E : Type 0) (text : Text) (r : Option ℕ) → ReadsOne {E = E} (λ bs o. ParsesUnsigned 32 10 bs o) text r → unwrap_or r 1000000 ≡ number_in text
-number_found E text (Some n) h =
+number_found : (E : Type 0) (other : ℕ) (text : Text) (r : Option ℕ) → ReadsOne {E = E} (λ bs o. ParsesUnsigned 32 10 bs o) text r → unwrap_or r other ≡ number_in other text
+number_found E other text (Some n) h =
     let ds = without_leading_plus text in
     rw (lt-ltb 0 (length ds) h.0.0.0, digits_pass ds h.0.0.1, lt-ltb (digits_value 10 ds) (2 ^ 32) h.0.1) h.1
-number_found E text None h = go (is_number (without_leading_plus text)) refl
+number_found E other text None h = go (is_number (without_leading_plus text)) refl
   where
-    go : (b : Bool) → is_number (without_leading_plus text) ≡ b → 1000000 ≡ number_in text
+    go : (b : Bool) → is_number (without_leading_plus text) ≡ b → other ≡ number_in other text
     go false t = rw t refl
     go true t =
         let outer = both _ _ t in
@@ -65,8 +65,18 @@ weaker : (E : Type 0) (P Q : Text → Result ℕ E → Type 0) → ((t : Text) (
 weaker E P Q step text (Some n) h = step text (Ok n) h
 weaker E P Q step text None h = (h.0, step text (Err h.0) h.1)
 
+number_is : (E : Type 0) (gives : Text → Result ℕ E → Type 0) (f : Found) (name : Text) (other : ℕ) (r : Option ℕ) → ((t : Text) (o : Result ℕ E) → gives t o → ParsesUnsigned 32 10 t o)
+    → (one_text f name ≡ None → r ≡ None) → ((t : Text) → one_text f name ≡ Some t → ReadsOne gives t r)
+    → unwrap_or r other ≡ option_map_or (number_in other) (one_of name (rows_of f)) other
+number_is E gives f name other r parses none value =
+    read_of_rows f name r other (number_in other) none (λ t is. number_found E other t r (weaker E gives (λ bs o. ParsesUnsigned 32 10 bs o) parses t r (value t is)))
+
 pub limit_is : (E : Type 0) (gives : Text → Result ℕ E → Type 0) (f : Found) (r : Option ℕ) → ((t : Text) (o : Result ℕ E) → gives t o → ParsesUnsigned 32 10 t o)
     → (one_text f (codes "limit") ≡ None → r ≡ None) → ((t : Text) → one_text f (codes "limit") ≡ Some t → ReadsOne gives t r)
     → unwrap_or r 1000000 ≡ limit_in (rows_of f)
-limit_is E gives f r parses none value =
-    read_of_rows f (codes "limit") r 1000000 number_in none (λ t is. number_found E t r (weaker E gives (λ bs o. ParsesUnsigned 32 10 bs o) parses t r (value t is)))
+limit_is E gives f r = number_is E gives f (codes "limit") 1000000 r
+
+pub items_is : (E : Type 0) (gives : Text → Result ℕ E → Type 0) (f : Found) (r : Option ℕ) → ((t : Text) (o : Result ℕ E) → gives t o → ParsesUnsigned 32 10 t o)
+    → (one_text f (codes "items") ≡ None → r ≡ None) → ((t : Text) → one_text f (codes "items") ≡ Some t → ReadsOne gives t r)
+    → unwrap_or r 0 ≡ items_in (rows_of f)
+items_is E gives f r = number_is E gives f (codes "items") 0 r

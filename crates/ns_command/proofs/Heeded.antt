@@ -2,6 +2,12 @@
 use Rattle.std.proofs.Common.{◌≡◌, ◌∙◌, Bool, true, false, List, [], ◌∷◌, Option, Some, None, refl, sym, ap, subst, option_map, ◌⊎◌, inl, inr, ◌||◌, true≢false}
 use Rattle.std.specs.List.{list_any}
 use Rattle.std.specs.Option.{option_map_or, unwrap_or}
+use Rattle.std.specs.Prelude.{Box}
+use Rattle.std.specs.Box.{box_value}
+use Rattle.clap.specs.declared.parser.matches.SubCommand.{SubCommand}
+use Rattle.clap.specs.Simple.{subcommand_rows}
+use Rattle.clap.specs.Matches.{subcommand_name_of}
+use Rattle.clap.specs.declared.parser.matches.ArgMatches.TheViews.{out-ArgMatches, out-SubCommand}
 use Rattle.clap.specs.Words.{App, HasKind, HasMatchesOf, IsAmong, Kinds, Row, Text, fault_of, is_simple, is_simple_and_free, subcommand_of, subcommand_rows_of}
 use Rattle.clap.specs.declared.error.Error.{Error}
 use Rattle.clap.specs.declared.parser.matches.ArgMatches.{ArgMatches}
@@ -9,17 +15,29 @@ use Rattle.clap.specs.declared.error.kind.ErrorKind.{ErrorKind}
 use Rattle.clap.specs.declared.error.kind.ErrorKind.TheVariants as kind
 use Rattle.ns_replay.specs.declared.fault.Fault.TheVariants.{OutOfMemory, NotJson, BadScript, TooMany, StepLimit, Read, Write}
 use Rattle.ns_command.specs.declared.ending.Ending.{Ending}
-use Rattle.ns_command.specs.declared.ending.Ending.TheVariants.{Replayed, Failed, Shown, Misused}
+use Rattle.ns_command.specs.declared.ending.Ending.TheVariants.{Replayed, LiveAsked, Lived, NoThread, Failed, Shown, Misused}
 use Rattle.ns_command.specs.Printing.{is_mistake, is_request}
 use Rattle.ns_command.specs.Endings.{Heeds, Tells}
 use Rattle.ns_command.specs.Words.{application, kinds_of}
-use Rattle.ns_command.specs.Asked.{options_by, options_in}
+use Rattle.ns_command.specs.Asked.{asked_by, asked_in, options_in}
+use Rattle.ns_command.specs.declared.wanted.Wanted.TheVariants.{Replay}
 
 application_is_simple : is_simple application ≡ true
 application_is_simple = refl
 
 application_is_free : is_simple_and_free application ≡ true
 application_is_free = refl
+
+-- the name of a subcommand that was entered
+name_of_entered : {Z : Type 0} (o : Option (Box SubCommand Z)) → option_map (λ b. (out-SubCommand (box_value b)).name.now) o ≡ option_map (λ p. p.0) (subcommand_rows o)
+name_of_entered None = refl
+name_of_entered (Some b) = refl
+
+name_of_rows : (m : ArgMatches) → subcommand_name_of m ≡ option_map (λ p. p.0) (subcommand_rows_of m)
+name_of_rows m = name_of_entered (out-ArgMatches m).subcommand
+
+some_is : {A : Type 0} {x y : A} → Some x ≡ Some y → x ≡ y
+some_is {x = x} e = ap (λ o. unwrap_or o x) e
 
 module _ (app : App) (words : List Text) (is : app ≡ application) where
   pub kind_of_refusal : (e : Error) → (is_simple_and_free app ≡ true → HasKind (fault_of app words) e) → HasKind (kinds_of words) e
@@ -30,15 +48,15 @@ module _ (app : App) (words : List Text) (is : app ≡ application) where
   unfolding kinds_of
   no_kinds h = subst (λ a. fault_of a words ≡ []) is (h (ap is_simple_and_free is ∙ application_is_free))
 
-  pub options_entered : (m : ArgMatches) (rows : List Row) → HasMatchesOf app words m → Some rows ≡ option_map (λ p. p.1) (subcommand_rows_of m) → options_in rows ≡ options_by words
-  unfolding options_by
-  options_entered m rows matches entered =
+  pub asked_entered : (m : ArgMatches) (name : Text) (rows : List Row) → HasMatchesOf app words m → Some name ≡ subcommand_name_of m → Some rows ≡ option_map (λ p. p.1) (subcommand_rows_of m) → asked_in (name, rows) ≡ asked_by words
+  unfolding asked_by
+  asked_entered m name rows matches named entered =
       let same : subcommand_rows_of m ≡ subcommand_of application words = subst (λ a. subcommand_rows_of m ≡ subcommand_of a words) is ((matches (ap is_simple is ∙ application_is_simple)).1) in
-      go (subcommand_of application words) (entered ∙ ap (option_map (λ p. p.1)) same)
+      go (subcommand_of application words) (subst (λ o. Some name ≡ option_map (λ p. p.0) o) same (named ∙ name_of_rows m)) (subst (λ o. Some rows ≡ option_map (λ p. p.1) o) same entered)
     where
-      go : (o : Option (Text × List Row)) → Some rows ≡ option_map (λ p. p.1) o → options_in rows ≡ option_map_or (λ p. options_in p.1) o (options_in [])
-      go None e = absurd cc
-      go (Some p) e = ap (λ o. options_in (unwrap_or o [])) e
+      go : (o : Option (Text × List Row)) → Some name ≡ option_map (λ p. p.0) o → Some rows ≡ option_map (λ p. p.1) o → asked_in (name, rows) ≡ option_map_or asked_in o (Replay (options_in []))
+      go None n e = absurd cc
+      go (Some p) n e = rw (some_is n, some_is e) refl
 
 -- ---- what is said of words that ask for no replay
 
@@ -58,6 +76,9 @@ may_say test kinds what rules_out (inr h) passes = any_among test kinds what h p
 
 pub heeds : (kinds : Kinds) (what : ErrorKind) (ending : Ending) → (what ≡ kind.OutOfMemory) ⊎ IsAmong what kinds → Tells what ending → Heeds kinds ending
 heeds kinds what Replayed h told = absurd told
+heeds kinds what (LiveAsked items) h told = absurd told
+heeds kinds what Lived h told = absurd told
+heeds kinds what NoThread h told = absurd told
 heeds kinds what (Failed OutOfMemory) h told = tt
 heeds kinds what (Failed NotJson) h told = absurd told
 heeds kinds what (Failed (BadScript place)) h told = absurd told

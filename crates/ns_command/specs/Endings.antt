@@ -9,7 +9,7 @@ use Rattle.ns_replay.specs.declared.fault.Fault.{Fault}
 use Rattle.ns_replay.specs.declared.fault.Fault.TheVariants.{OutOfMemory, NotJson, BadScript, TooMany, StepLimit, Read, Write}
 use Rattle.ns_replay.specs.Faults.{fault_text}
 use Rattle.ns_command.specs.declared.ending.Ending.{Ending}
-use Rattle.ns_command.specs.declared.ending.Ending.TheVariants.{Replayed, Failed, Shown, Misused}
+use Rattle.ns_command.specs.declared.ending.Ending.TheVariants.{Replayed, LiveAsked, Lived, NoThread, Failed, Shown, Misused}
 use Rattle.ns_command.specs.Printing.{PrintsSome, is_mistake, is_request}
 
 -- 4 where a stream is at fault, and else 3
@@ -25,6 +25,9 @@ fault_status Write = 4
 -- the exit status
 abbrev pub status_of : Ending → ℕ
 status_of Replayed = 0
+status_of (LiveAsked items) = 0
+status_of Lived = 0
+status_of NoThread = 3
 status_of (Failed fault) = fault_status fault
 status_of Shown = 0
 status_of Misused = 2
@@ -38,11 +41,18 @@ ending_of (Err fault) = Failed fault
 abbrev pub fault_line : Fault → List ℕ
 fault_line fault = fault_text fault ++ codes "\n"
 
+-- the line on the error side where a live thread could not be made
+abbrev pub no_thread_line : List ℕ
+no_thread_line = codes "refused 12: no thread\n"
+
 -- What was printed on the error side: the line of a fault, a text on wrong words, and else
 -- nothing. Where printing failed, nothing is said.
 abbrev pub Says : Bool → Option (List ℕ) → Option (List ℕ) → Ending → Type 0
 Says true old new ending = Unit {0}
 Says false old new Replayed = Keeps old new
+Says false old new (LiveAsked items) = Keeps old new
+Says false old new Lived = Keeps old new
+Says false old new NoThread = Appends old new no_thread_line
 Says false old new (Failed fault) = Appends old new (fault_line fault)
 Says false old new Shown = Keeps old new
 Says false old new Misused = PrintsSome old new
@@ -51,6 +61,9 @@ Says false old new Misused = PrintsSome old new
 -- it before a failure.
 abbrev pub Shows : Option (List ℕ) → Option (List ℕ) → Ending → Type 0
 Shows old new Replayed = Keeps old new
+Shows old new (LiveAsked items) = Keeps old new
+Shows old new Lived = Keeps old new
+Shows old new NoThread = Keeps old new
 Shows old new (Failed Write) = PrintsSome old new
 Shows old new (Failed fault) = Keeps old new
 Shows old new Shown = PrintsSome old new
@@ -59,15 +72,22 @@ Shows old new Misused = Keeps old new
 -- the ending where clap says this of the words
 abbrev pub Tells : ErrorKind → Ending → Type 0
 Tells what Replayed = ⊥
+Tells what (LiveAsked items) = ⊥
+Tells what Lived = ⊥
+Tells what NoThread = ⊥
 Tells what (Failed OutOfMemory) = what ≡ kind.OutOfMemory
 Tells what (Failed Write) = is_request what ≡ true
 Tells what (Failed fault) = ⊥
 Tells what Shown = is_request what ≡ true
 Tells what Misused = is_mistake what ≡ true
 
--- The ending where clap has one of these to say of the words, or none, if they ask for a replay.
+-- The ending where clap has one of these to say of the words, or none, if they are right. No run by
+-- the words alone has made threads.
 abbrev pub Heeds : Kinds → Ending → Type 0
 Heeds kinds Replayed = kinds ≡ []
+Heeds kinds (LiveAsked items) = kinds ≡ []
+Heeds kinds Lived = ⊥
+Heeds kinds NoThread = ⊥
 Heeds kinds (Failed OutOfMemory) = Unit {0}
 Heeds kinds (Failed Write) = (kinds ≡ []) ⊎ (list_any is_request kinds ≡ true)
 Heeds kinds (Failed fault) = kinds ≡ []

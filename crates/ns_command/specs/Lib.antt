@@ -1,4 +1,5 @@
 pub mod Asked
 pub mod Endings
+pub mod Lives
 pub mod Printing
 pub mod Words

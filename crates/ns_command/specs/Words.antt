@@ -22,6 +22,19 @@ abbrev pub replay_app : App
 replay_app = with_rule (with_rule (with_rule (with_rule (new_app (codes "replay"))
     (flag_rule (codes "history"))) (flag_rule (codes "tests"))) (flag_rule (codes "state"))) limit_rule
 
+-- `--items N`, with N from 1 to 100,000, which has to be given
+abbrev pub items_rule : Rule
+items_rule = record (new_rule (codes "items")) {
+  long = Some (codes "items");
+  value_names = 1;
+  parser = Some (Signed (pos 1) (pos 100000));
+  required = true;
+}
+
+-- `live --items N`
+abbrev pub live_app : App
+live_app = with_rule (new_app (codes "live")) items_rule
+
 -- the program, which has a version, and wants a subcommand
 abbrev pub bare_app : App
 bare_app = record (new_app (codes "ns_cli")) {
@@ -30,8 +43,8 @@ bare_app = record (new_app (codes "ns_cli")) {
 
 -- the command that the program reads its words by
 abbrev pub application : App
-application = with_subcommand bare_app replay_app.top
+application = with_subcommand (with_subcommand bare_app replay_app.top) live_app.top
 
--- the kinds of what clap has to say of the words: none, where they ask for a replay
+-- the kinds of what clap has to say of the words: none, where they ask for a replay or for live threads
 unfoldable pub kinds_of : List Text → Kinds
 kinds_of words = fault_of application words

@@ -3,9 +3,10 @@
 ghost use Rattle.std.specs.Prelude.{◌≡◌, [], map, false, IfOk, IfErr, string_bytes};
 ghost use Rattle.clap.specs.Words.{HasKind, app_of, found_of, rows_of, rule_of};
 ghost use Rattle.clap.specs.declared.builder.command.Command.TheViews.{out-Command};
-ghost use Rattle.ns_command.specs.Words.{application, flag_rule, kinds_of, limit_rule, replay_app};
-ghost use Rattle.ns_command.specs.Asked.{is_set as is_given, options_by, options_in};
+ghost use Rattle.ns_command.specs.Words.{application, flag_rule, items_rule, kinds_of, limit_rule, live_app, replay_app};
+ghost use Rattle.ns_command.specs.Asked.{asked_by, asked_in, is_set as is_given, items_in, options_in};
 
+use crate::wanted::Wanted;
 use clap::builder::Command;
 use clap::{Arg, ArgAction, ArgMatches, Error, value_parser};
 use ns_replay::Options;
@@ -66,16 +67,43 @@ fn replay_command<'a>(alloc: Global) -> Result<Command<'a>, AllocError>
         .arg(limit(alloc))
 }
 
+/// How many items go through the ring.
+fn items<'a>(alloc: Global) -> Arg<'a>
+    ensures rule { rule_of result ≡ items_rule }
+    ensures local { result.global ≡ false }
+{
+    Arg::new(alloc, "items")
+        .long("items")
+        .value_name("N")
+        .help("Add the numbers from 1 to N, from 1 to 100000, as: --items 10")
+        .value_parser(value_parser!(u32).range(1..=100_000))
+        .required(true)
+}
+
+/// `live --items N`
+fn live_command<'a>(alloc: Global) -> Result<Command<'a>, AllocError>
+    ensures { IfOk result (λ command. (app_of command ≡ live_app)
+        × ((out-Command command).has_globals ≡ false)) }
+{
+    Command::new(alloc, "live")
+        .about(
+            "Pass numbers from two threads to two others, and add them there: ns_cli live --items 10",
+        )
+        .arg(items(alloc))
+}
+
 /// The words that the program takes.
 fn command<'a>(alloc: Global) -> Result<Command<'a>, AllocError>
     ensures { IfOk result (λ command. app_of command ≡ application) }
 {
     let replay = replay_command(alloc)?;
+    let live = live_command(alloc)?;
     Command::new(alloc, "ns_cli")
         .version("0.1.0")
-        .about("Replay scripts of calls on a lock, turn by turn")
+        .about("Replay scripts of calls on a lock, turn by turn, or run live threads on it")
         .subcommand_required(true)
-        .subcommand(replay)
+        .subcommand(replay)?
+        .subcommand(live)
 }
 
 /// Whether a flag was given. (`get_flag` says the same, but its contract says less.)
@@ -97,15 +125,33 @@ fn options(matches: &ArgMatches) -> Options
     }
 }
 
-/// How to replay, if the words ask for it; else what clap has to say of them.
-pub fn asked(alloc: Global, words: &[String]) -> Result<Options, Error>
-    ensures ok { IfOk result (λ options. (kinds_of (map string_bytes words.now) ≡ [])
-        × (options ≡ options_by (map string_bytes words.now))) }
+/// How many items there are, by the words that were given.
+fn items_of(matches: &ArgMatches) -> u32
+    ensures { result ≡ items_in (rows_of (found_of matches.now)) }
+{
+    matches.get_one::<u32>("items").unwrap_or(0)
+}
+
+/// What the subcommand of this name asks for.
+fn wanted(name: &str, matches: &ArgMatches) -> Wanted
+    ensures { result ≡ asked_in (name.now, rows_of (found_of matches.now)) }
+{
+    if name == "live" {
+        Wanted::Live(items_of(matches))
+    } else {
+        Wanted::Replay(options(matches))
+    }
+}
+
+/// What the words ask for, if they are right; else what clap has to say of them.
+pub fn asked(alloc: Global, words: &[String]) -> Result<Wanted, Error>
+    ensures ok { IfOk result (λ wanted. (kinds_of (map string_bytes words.now) ≡ [])
+        × (wanted ≡ asked_by (map string_bytes words.now))) }
     ensures err { IfErr result (HasKind (kinds_of (map string_bytes words.now))) }
 {
     let matches = command(alloc)?.try_get_matches_from(words)?;
     match matches.subcommand() {
-        Some((_, inner)) => Ok(options(inner)),
+        Some((name, inner)) => Ok(wanted(name, inner)),
         // Never: the command wants a subcommand.
         None => Err(Error::from(AllocError)),
     }

@@ -8,6 +8,12 @@ use std::process::{ExitCode, Termination};
 pub enum Ending {
     /// The script was replayed.
     Replayed,
+    /// The words ask for live threads, and so many items. Nothing was done yet.
+    LiveAsked(u32),
+    /// Live threads have ended, and how many items they had and their sum were printed.
+    Lived,
+    /// A live thread could not be made, and a line on the error side says so.
+    NoThread,
     /// There was a fault, and its line stands on the error side.
     Failed(Fault),
     /// Help or the version was asked for, and stands on the output side.
@@ -20,16 +26,16 @@ impl Ending {
     ghost use Rattle.std.specs.Prelude.{◌≡◌};
     ghost use Rattle.ns_command.specs.Endings.{status_of};
 
-    /// The exit status: 0 for a replay that is done, and for help and the version, 2 where the
-    /// words are wrong, 4 where a stream was at fault, and 3 for every refusal.
+    /// The exit status: 0 for what is done, and for help and the version, 2 where the words are
+    /// wrong, 4 where a stream was at fault, and 3 for every refusal.
     pub fn status(self) -> u8
         ensures { result ≡ status_of self }
     {
         match self {
-            Ending::Replayed | Ending::Shown => 0,
+            Ending::Replayed | Ending::LiveAsked(_) | Ending::Lived | Ending::Shown => 0,
             Ending::Misused => 2,
             Ending::Failed(Fault::Read | Fault::Write) => 4,
-            Ending::Failed(_) => 3,
+            Ending::NoThread | Ending::Failed(_) => 3,
         }
     }
 }

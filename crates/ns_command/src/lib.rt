@@ -9,12 +9,15 @@ mod command;
 mod console;
 mod ending;
 mod finishing;
+mod living;
 mod prints;
 mod running;
 mod unread;
+mod wanted;
 
 pub use console::Console;
 pub use ending::Ending;
+pub use living::finish_live;
 pub use prints::Prints;
 pub use running::run;
 pub use unread::without_words;

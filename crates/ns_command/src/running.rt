@@ -1,23 +1,26 @@
 //! A run of the program, from its words to its ending.
 
-ghost use Rattle.std.specs.Prelude.{◌≡◌, ◌≢◌, ◌⊎◌, [], map, true, false, string_bytes, IfErr};
+ghost use Rattle.std.specs.Prelude.{◌≡◌, ◌≢◌, ◌⊎◌, [], ℕ, map, true, false, string_bytes, IfErr};
 ghost use Rattle.clap.specs.Words.{kind_of};
 ghost use Rattle.ns_replay.specs.Transfer.{Gave, IsReadFault, IsWriteFault};
 ghost use Rattle.ns_replay.specs.Replaying.{Answers, WasRead};
 ghost use Rattle.ns_command.specs.Words.{kinds_of};
-ghost use Rattle.ns_command.specs.Asked.{options_by};
+ghost use Rattle.ns_command.specs.Asked.{asked_by};
+ghost use Rattle.ns_replay.specs.declared.options.Options.{Options};
+ghost use Rattle.ns_command.specs.declared.wanted.Wanted.TheVariants as TheWanted;
 ghost use Rattle.ns_command.specs.Endings.{Says, Shows, Tells, Heeds, outcome_of};
 
 use crate::command::asked;
 use crate::ending::Ending;
 use crate::finishing::finish;
 use crate::prints::Prints;
+use crate::wanted::Wanted;
 use clap::Error;
 use clap::error::ErrorKind;
 use ns_replay::{Fault, Sink, Source, replay};
 use std::alloc::Global;
 
-/// Ends a run whose words ask for no replay, by what clap says of them.
+/// Ends a run whose words ask for nothing else, by what clap says of them.
 fn answered<P: Prints>(printer: &mut P, answer: Error) -> Ending
     ensures told { Tells (kind_of answer) result }
     ensures said { let failed = P.has_failed printer.new in
@@ -42,8 +45,9 @@ fn answered<P: Prints>(printer: &mut P, answer: Error) -> Ending
 /// Runs the program: replays the script that the source gives by the words, the first of which is
 /// the program's name, and writes the text of its run to the sink.
 ///
-/// Where the words ask for no replay, clap answers them, and the source and the sink stay as they
-/// are. The line of a fault goes to the error side; where printing fails there, the ending is the
+/// Where the words ask for live threads, it answers with the number of items, for the caller to make
+/// them. Where they are wrong, or ask for help, clap answers them. In both cases the source and the sink
+/// stay as they are. The line of a fault goes to the error side; where printing fails there, the ending is the
 /// same. Help that can't be printed is a failed write.
 ///
 /// Needs a source and a sink that have not failed.
@@ -61,11 +65,16 @@ pub fn run<S: Source, W: Sink, P: Prints>(
     ensures unread { kinds_of (map string_bytes words.now) ≢ [] → source.new ≡ source.old }
     ensures unwritten { kinds_of (map string_bytes words.now) ≢ [] → sink.new ≡ sink.old }
     // A replay is made by the options that the words give.
-    ensures replayed { let options = options_by (map string_bytes words.now) in
-        kinds_of (map string_bytes words.now) ≡ []
+    ensures replayed { (options : Options) → kinds_of (map string_bytes words.now) ≡ []
+        → asked_by (map string_bytes words.now) ≡ TheWanted.Replay options
         → Gave (S.to_come source.old) (S.to_come source.new) (λ bytes.
         WasRead bytes (S.to_come source.new) (outcome_of result)
         × Answers (W.taken sink.old) (W.taken sink.new) options bytes (outcome_of result)) }
+    // Live threads are left to the caller, by the number of items that the words give.
+    ensures live { (items : ℕ) → kinds_of (map string_bytes words.now) ≡ []
+        → asked_by (map string_bytes words.now) ≡ TheWanted.Live items
+        → ((result ≡ Ending.LiveAsked items) ⊎ (result ≡ Ending.Failed Fault.OutOfMemory))
+        × (source.new ≡ source.old) × (sink.new ≡ sink.old) }
     ensures untouched { IfErr (outcome_of result) (λ fault. fault ≢ Fault.Write
         → sink.new ≡ sink.old) }
     // A read or a write that failed is told, and not tried again.
@@ -83,7 +92,8 @@ pub fn run<S: Source, W: Sink, P: Prints>(
     ensures shown { Shows (P.output printer.old) (P.output printer.new) result }
 {
     match asked(alloc, words) {
-        Ok(options) => {
+        Ok(Wanted::Live(items)) => Ending::LiveAsked(items),
+        Ok(Wanted::Replay(options)) => {
             let outcome = replay(alloc, source, sink, options);
             finish(printer, outcome)
         }

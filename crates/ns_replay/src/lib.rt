@@ -46,3 +46,4 @@ pub use options::Options;
 pub use place::Place;
 pub use replaying::replay;
 pub use streams::{Got, Sink, Source};
+pub use transfer::write_all;

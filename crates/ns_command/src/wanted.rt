@@ -1,0 +1,12 @@
+//! What the words of the program ask for.
+
+use ns_replay::Options;
+
+/// What right words ask for.
+#[derive(Clone, Copy, Debug, PartialEq, Eq)]
+pub enum Wanted {
+    /// A replay by these options.
+    Replay(Options),
+    /// Live threads, and so many items.
+    Live(u32),
+}

@@ -1,0 +1,22 @@
+//! Four threads and a ring: numbers that two threads put into it and two others take out.
+//!
+//! [`live`] makes the threads, and answers the sum of what was taken. They share a ring of four cells
+//! behind an `ns_monitor` lock, and wait in it until there is room or an item. Who takes the last item
+//! notifies a note, by which whoever still waits is told to end.
+//!
+//! ```rust
+//! let sum = live(&rt, rt.alloc(), 10)?; // 55
+//! ```
+#![tactic(auto)]
+
+mod consuming;
+mod crew;
+mod fault;
+mod place;
+mod producing;
+mod ring;
+mod running;
+mod wish;
+
+pub use fault::LiveFault;
+pub use running::live;

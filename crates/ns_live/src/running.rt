@@ -1,0 +1,145 @@
+//! The whole: what the threads share is made, they are started and joined, and their sums added.
+
+ghost use Rattle.std.specs.Prelude.{◌≡◌, All, IfSome};
+ghost use Rattle.std.specs.Thread.{IsSync};
+ghost use Rattle.ns_model.specs.Environments.{IsMade};
+ghost use Rattle.ns_live.specs.Places.{AreSeated, IsSeated};
+
+use crate::crew::{Crew, Job, crew_of, work};
+use crate::fault::LiveFault;
+use crate::place::Place;
+use crate::ring::{RingMonitor, RingSeat};
+use ns_monitor::monitor::Monitor;
+use ns_note::env::Env;
+use ns_note::note::Note;
+use ns_note::seat::EnvSeat;
+use std::alloc::Global;
+use std::sync::Wait;
+use std::thread;
+use std::thread::{JoinHandle, Scope, Threads};
+
+/// A lock round an empty ring, and a seat for each thread; nothing where memory is refused.
+fn new_monitor(alloc: Global) -> Option<(RingMonitor, Vec<RingSeat>)>
+    ensures { IfSome result (λ r. All (λ seat. seat.monitor ≡ r.0) r.1.items) }
+{
+    let Ok((monitor, seats)) = Monitor::new(alloc, 4) else {
+        return None;
+    };
+    Some((monitor, seats))
+}
+
+/// An environment, and a seat for each thread and one for the caller; nothing where memory is refused.
+fn new_env(alloc: Global) -> Option<(Env, Vec<EnvSeat>)>
+    ensures { IfSome result (λ r. All (λ seat. seat.env ≡ r.0) r.1.items) }
+{
+    let Ok((env, seats)) = Env::new(alloc, 5) else {
+        return None;
+    };
+    Some((env, seats))
+}
+
+/// The caller's own seat, and a note that it has made.
+fn new_note(env: &Env, env_seats: &mut Vec<EnvSeat>) -> Option<(EnvSeat, Note)>
+    requires { All (λ seat. seat.env ≡ env.now) env_seats.old.items }
+    ensures rest { All (λ seat. seat.env ≡ env.now) env_seats.new.items }
+    ensures made { IfSome result (λ r. (r.0.env ≡ env.now) × IsMade r.0.seen r.1.index) }
+{
+    let mut env_seat = env_seats.pop()?;
+    let Ok(note) = env.note_new(&mut env_seat, None, None) else {
+        return None;
+    };
+    Some((env_seat, note))
+}
+
+/// Waits for a thread's end, if it was started, and answers its sum.
+fn joined<R: Threads>(rt: &R, started: Option<JoinHandle<u64>>) -> Option<u64> {
+    Some(started?.join(rt))
+}
+
+/// Starts a thread for this work, if one can be made.
+fn started<'s, E, R: Wait + Sync>(
+    scope: &Scope<'s, E>,
+    rt: &'s R,
+    place: Place<'s>,
+    job: Job,
+) -> Option<JoinHandle<u64>>
+    requires { IsSync R.row × IsSeated place.monitor.now place.env.now job }
+{
+    let handle = scope.spawn(
+        move || -> u64
+            requires { IsSync R.row × IsSeated place.monitor.now place.env.now job }
+        { work(rt, place, job) },
+    );
+    handle.ok()
+}
+
+/// Has the four threads do their work, and answers what they have taken. Where one can't be made, the
+/// others are told to end by the note.
+fn played<R: Threads + Wait + Sync>(
+    rt: &R,
+    place: Place<'_>,
+    crew: Crew,
+    env_seat: EnvSeat,
+) -> Option<u64>
+    requires crew { AreSeated place.monitor.now place.env.now crew }
+    requires made { (env_seat.env ≡ place.env.now) × IsMade env_seat.seen place.note.index }
+{
+    let mut env_seat = env_seat;
+    thread::scope(
+        thread::scope_env(),
+        rt,
+        move |scope| -> Option<u64>
+            requires sync { IsSync R.row }
+            requires producers { IsSeated place.monitor.now place.env.now crew.odd × IsSeated place.monitor.now place.env.now crew.even }
+            requires consumers { IsSeated place.monitor.now place.env.now crew.first × IsSeated place.monitor.now place.env.now crew.second }
+            requires made { (env_seat.env ≡ place.env.now) × IsMade env_seat.seen place.note.index }
+        {
+            let Crew {
+                odd,
+                even,
+                first,
+                second,
+            } = crew;
+            let odd = started(scope, rt, place, odd);
+            let even = started(scope, rt, place, even);
+            let first = started(scope, rt, place, first);
+            let second = started(scope, rt, place, second);
+            if odd.is_none() || even.is_none() || first.is_none() || second.is_none() {
+                place.env.notify(&mut env_seat, place.note);
+            }
+            let ended = (joined(rt, odd), joined(rt, even));
+            match (ended, joined(rt, first), joined(rt, second)) {
+                ((Some(_), Some(_)), Some(one), Some(other)) => Some(one.wrapping_add(other)),
+                _ => None,
+            }
+        },
+    )
+}
+
+/// Has two threads put the numbers from 1 to `items` through a ring, which two others take out and add,
+/// and answers the sum.
+///
+/// Refuses where memory is refused (`OutOfMemory`) or a thread can't be made (`NoThread`); the threads
+/// that were made have ended then.
+pub fn live<R: Threads + Wait + Sync>(rt: &R, alloc: Global, items: u64) -> Result<u64, LiveFault> {
+    let Some((monitor, seats)) = new_monitor(alloc) else {
+        return Err(LiveFault::OutOfMemory);
+    };
+    let Some((env, mut env_seats)) = new_env(alloc) else {
+        return Err(LiveFault::OutOfMemory);
+    };
+    // Never refused from here on: the environment is new, and there are as many seats as are asked for.
+    let Some((env_seat, note)) = new_note(&env, &mut env_seats) else {
+        return Err(LiveFault::OutOfMemory);
+    };
+    let place = Place {
+        monitor: &monitor,
+        env: &env,
+        note,
+        items,
+    };
+    let Some(crew) = crew_of(place, seats, env_seats) else {
+        return Err(LiveFault::OutOfMemory);
+    };
+    played(rt, place, crew, env_seat).ok_or(LiveFault::NoThread)
+}
