@@ -22,6 +22,10 @@ abbrev pub replay_app : App
 replay_app = with_rule (with_rule (with_rule (with_rule (new_app (codes "replay"))
     (flag_rule (codes "history"))) (flag_rule (codes "tests"))) (flag_rule (codes "state"))) limit_rule
 
+-- `timeline [--limit N]`
+abbrev pub timeline_app : App
+timeline_app = with_rule (new_app (codes "timeline")) limit_rule
+
 -- `--items N`, with N from 1 to 100,000, which has to be given
 abbrev pub items_rule : Rule
 items_rule = record (new_rule (codes "items")) {
@@ -41,10 +45,14 @@ bare_app = record (new_app (codes "ns_cli")) {
   top = record (new_app (codes "ns_cli")).top { has_version = true; subcommand_required = true };
 }
 
+-- the program, with what it makes of a script
+abbrev pub script_app : App
+script_app = with_subcommand (with_subcommand bare_app replay_app.top) timeline_app.top
+
 -- the command that the program reads its words by
 abbrev pub application : App
-application = with_subcommand (with_subcommand bare_app replay_app.top) live_app.top
+application = with_subcommand script_app live_app.top
 
--- the kinds of what clap has to say of the words: none, where they ask for a replay or for live threads
+-- the kinds of what clap has to say of the words: none, where they ask for a replay, a picture or live threads
 unfoldable pub kinds_of : List Text → Kinds
 kinds_of words = fault_of application words

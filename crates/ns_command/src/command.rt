@@ -3,8 +3,8 @@
 ghost use Rattle.std.specs.Prelude.{◌≡◌, [], map, false, IfOk, IfErr, string_bytes};
 ghost use Rattle.clap.specs.Words.{HasKind, app_of, found_of, rows_of, rule_of};
 ghost use Rattle.clap.specs.declared.builder.command.Command.TheViews.{out-Command};
-ghost use Rattle.ns_command.specs.Words.{application, flag_rule, items_rule, kinds_of, limit_rule, live_app, replay_app};
-ghost use Rattle.ns_command.specs.Asked.{asked_by, asked_in, is_set as is_given, items_in, options_in};
+ghost use Rattle.ns_command.specs.Words.{application, flag_rule, items_rule, kinds_of, limit_rule, live_app, replay_app, script_app, timeline_app};
+ghost use Rattle.ns_command.specs.Asked.{asked_by, asked_in, is_set as is_given, items_in, limit_in, options_in};
 
 use crate::wanted::Wanted;
 use clap::builder::Command;
@@ -67,6 +67,18 @@ fn replay_command<'a>(alloc: Global) -> Result<Command<'a>, AllocError>
         .arg(limit(alloc))
 }
 
+/// `timeline [--limit N]`
+fn timeline_command<'a>(alloc: Global) -> Result<Command<'a>, AllocError>
+    ensures { IfOk result (λ command. (app_of command ≡ timeline_app)
+        × ((out-Command command).has_globals ≡ false)) }
+{
+    Command::new(alloc, "timeline")
+        .about(
+            "Draw a run of a script from standard input: ns_cli timeline < examples/first_path.json",
+        )
+        .arg(limit(alloc))
+}
+
 /// How many items go through the ring.
 fn items<'a>(alloc: Global) -> Arg<'a>
     ensures rule { rule_of result ≡ items_rule }
@@ -92,18 +104,26 @@ fn live_command<'a>(alloc: Global) -> Result<Command<'a>, AllocError>
         .arg(items(alloc))
 }
 
-/// The words that the program takes.
-fn command<'a>(alloc: Global) -> Result<Command<'a>, AllocError>
-    ensures { IfOk result (λ command. app_of command ≡ application) }
+/// The program, with what it makes of a script.
+fn script_commands<'a>(alloc: Global) -> Result<Command<'a>, AllocError>
+    ensures { IfOk result (λ command. app_of command ≡ script_app) }
 {
     let replay = replay_command(alloc)?;
-    let live = live_command(alloc)?;
+    let timeline = timeline_command(alloc)?;
     Command::new(alloc, "ns_cli")
         .version("0.1.0")
         .about("Replay scripts of calls on a lock, turn by turn, or run live threads on it")
         .subcommand_required(true)
         .subcommand(replay)?
-        .subcommand(live)
+        .subcommand(timeline)
+}
+
+/// The words that the program takes.
+fn command<'a>(alloc: Global) -> Result<Command<'a>, AllocError>
+    ensures { IfOk result (λ command. app_of command ≡ application) }
+{
+    let live = live_command(alloc)?;
+    script_commands(alloc)?.subcommand(live)
 }
 
 /// Whether a flag was given. (`get_flag` says the same, but its contract says less.)
@@ -111,6 +131,13 @@ fn is_set(matches: &ArgMatches, name: &str) -> bool
     ensures { result ≡ is_given name.now (rows_of (found_of matches.now)) }
 {
     matches.get_one::<bool>(name).unwrap_or(false)
+}
+
+/// How many turns a schedule may need, by the words that were given.
+fn limit_of(matches: &ArgMatches) -> u32
+    ensures { result ≡ limit_in (rows_of (found_of matches.now)) }
+{
+    matches.get_one::<u32>("limit").unwrap_or(LIMIT)
 }
 
 /// How to replay, by the words that were given.
@@ -121,7 +148,7 @@ fn options(matches: &ArgMatches) -> Options
         history: is_set(matches, "history"),
         tests: is_set(matches, "tests"),
         state: is_set(matches, "state"),
-        limit: matches.get_one::<u32>("limit").unwrap_or(LIMIT),
+        limit: limit_of(matches),
     }
 }
 
@@ -138,6 +165,8 @@ fn wanted(name: &str, matches: &ArgMatches) -> Wanted
 {
     if name == "live" {
         Wanted::Live(items_of(matches))
+    } else if name == "timeline" {
+        Wanted::Timeline(limit_of(matches))
     } else {
         Wanted::Replay(options(matches))
     }

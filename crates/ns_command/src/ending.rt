@@ -6,7 +6,7 @@ use std::process::{ExitCode, Termination};
 /// How a run of the program ended.
 #[derive(Clone, Copy, Debug, Drop, PartialEq, Eq)]
 pub enum Ending {
-    /// The script was replayed.
+    /// The script was replayed, and its text or its picture was written.
     Replayed,
     /// The words ask for live threads, and so many items. Nothing was done yet.
     LiveAsked(u32),

@@ -3,7 +3,8 @@
 ghost use Rattle.std.specs.Prelude.{◌≡◌, ◌≢◌, ◌⊎◌, [], ℕ, map, true, false, string_bytes, IfErr};
 ghost use Rattle.clap.specs.Words.{kind_of};
 ghost use Rattle.ns_replay.specs.Transfer.{Gave, IsReadFault, IsWriteFault};
-ghost use Rattle.ns_replay.specs.Replaying.{Answers, WasRead};
+ghost use Rattle.ns_replay.specs.Replaying.{Answers, IsText, WasRead};
+ghost use Rattle.ns_timeline.specs.Pictures.{IsPicture};
 ghost use Rattle.ns_command.specs.Words.{kinds_of};
 ghost use Rattle.ns_command.specs.Asked.{asked_by};
 ghost use Rattle.ns_replay.specs.declared.options.Options.{Options};
@@ -18,6 +19,7 @@ use crate::wanted::Wanted;
 use clap::Error;
 use clap::error::ErrorKind;
 use ns_replay::{Fault, Sink, Source, replay};
+use ns_timeline::timeline;
 use std::alloc::Global;
 
 /// Ends a run whose words ask for nothing else, by what clap says of them.
@@ -43,7 +45,8 @@ fn answered<P: Prints>(printer: &mut P, answer: Error) -> Ending
 }
 
 /// Runs the program: replays the script that the source gives by the words, the first of which is
-/// the program's name, and writes the text of its run to the sink.
+/// the program's name, and writes the text of its run to the sink, or a picture of it where the words ask
+/// for that.
 ///
 /// Where the words ask for live threads, it answers with the number of items, for the caller to make
 /// them. Where they are wrong, or ask for help, clap answers them. In both cases the source and the sink
@@ -69,7 +72,13 @@ pub fn run<S: Source, W: Sink, P: Prints>(
         → asked_by (map string_bytes words.now) ≡ TheWanted.Replay options
         → Gave (S.to_come source.old) (S.to_come source.new) (λ bytes.
         WasRead bytes (S.to_come source.new) (outcome_of result)
-        × Answers (W.taken sink.old) (W.taken sink.new) options bytes (outcome_of result)) }
+        × Answers (W.taken sink.old) (W.taken sink.new) (IsText options) options.limit bytes (outcome_of result)) }
+    // A picture is drawn within the limit that the words give.
+    ensures drawn { (limit : ℕ) → kinds_of (map string_bytes words.now) ≡ []
+        → asked_by (map string_bytes words.now) ≡ TheWanted.Timeline limit
+        → Gave (S.to_come source.old) (S.to_come source.new) (λ bytes.
+        WasRead bytes (S.to_come source.new) (outcome_of result)
+        × Answers (W.taken sink.old) (W.taken sink.new) (IsPicture limit) limit bytes (outcome_of result)) }
     // Live threads are left to the caller, by the number of items that the words give.
     ensures live { (items : ℕ) → kinds_of (map string_bytes words.now) ≡ []
         → asked_by (map string_bytes words.now) ≡ TheWanted.Live items
@@ -95,6 +104,10 @@ pub fn run<S: Source, W: Sink, P: Prints>(
         Ok(Wanted::Live(items)) => Ending::LiveAsked(items),
         Ok(Wanted::Replay(options)) => {
             let outcome = replay(alloc, source, sink, options);
+            finish(printer, outcome)
+        }
+        Ok(Wanted::Timeline(limit)) => {
+            let outcome = timeline(alloc, source, sink, limit);
             finish(printer, outcome)
         }
         Err(answer) => answered(printer, answer),

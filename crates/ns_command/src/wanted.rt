@@ -7,6 +7,8 @@ use ns_replay::Options;
 pub enum Wanted {
     /// A replay by these options.
     Replay(Options),
+    /// A picture of a run of at most so many turns.
+    Timeline(u32),
     /// Live threads, and so many items.
     Live(u32),
 }

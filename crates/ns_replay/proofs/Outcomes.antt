@@ -3,7 +3,6 @@ use Rattle.std.proofs.Common.{◌≡◌, ℕ, ◌<◌, ◌≤◌, true, false, L
 use Rattle.std.specs.Prelude.{nat_lt}
 use Rattle.std.proofs.KnownBytes.{Keeps-refl}
 use Rattle.std.proofs.lemmas.Bool.Decides.{nat_tests}
-use Rattle.ns_replay.specs.declared.options.Options.{Options}
 use Rattle.ns_replay.specs.declared.place.Place.TheVariants as at
 use Rattle.ns_replay.specs.declared.fault.Fault.{Fault}
 use Rattle.ns_replay.specs.declared.fault.Fault.TheVariants.{OutOfMemory, NotJson, BadScript, TooMany, StepLimit, Read, Write}
@@ -50,21 +49,21 @@ too_many bytes lt =
     let many : nat_lt max_bytes (length bytes) ≡ true = grind (arith, nat_tests) in
     rw many refl
 
-not_collected : (taken left : Option (List ℕ)) (options : Options) (bytes : List ℕ) (fault : Fault) → Collects bytes left (Err fault) → Answers taken taken options bytes (Err fault)
-not_collected taken left options bytes OutOfMemory h = (tt, Keeps-refl taken)
-not_collected taken left options bytes Read h = Keeps-refl taken
-not_collected taken left options bytes (TooMany at.Root) h = (too_many bytes h, Keeps-refl taken)
-not_collected taken left options bytes (TooMany at.Version) h = absurd h
-not_collected taken left options bytes (TooMany at.Variables) h = absurd h
-not_collected taken left options bytes (TooMany at.Threads) h = absurd h
-not_collected taken left options bytes (TooMany (at.Thread t)) h = absurd h
-not_collected taken left options bytes (TooMany (at.Call t c)) h = absurd h
-not_collected taken left options bytes (TooMany at.Schedule) h = absurd h
-not_collected taken left options bytes (TooMany (at.Word i)) h = absurd h
-not_collected taken left options bytes NotJson h = absurd h
-not_collected taken left options bytes (BadScript place) h = absurd h
-not_collected taken left options bytes StepLimit h = absurd h
-not_collected taken left options bytes Write h = absurd h
+not_collected : (taken left : Option (List ℕ)) (IsSuch : List ℕ → List ℕ → Type 0) (limit : ℕ) (bytes : List ℕ) (fault : Fault) → Collects bytes left (Err fault) → Answers taken taken IsSuch limit bytes (Err fault)
+not_collected taken left IsSuch limit bytes OutOfMemory h = (tt, Keeps-refl taken)
+not_collected taken left IsSuch limit bytes Read h = Keeps-refl taken
+not_collected taken left IsSuch limit bytes (TooMany at.Root) h = (too_many bytes h, Keeps-refl taken)
+not_collected taken left IsSuch limit bytes (TooMany at.Version) h = absurd h
+not_collected taken left IsSuch limit bytes (TooMany at.Variables) h = absurd h
+not_collected taken left IsSuch limit bytes (TooMany at.Threads) h = absurd h
+not_collected taken left IsSuch limit bytes (TooMany (at.Thread t)) h = absurd h
+not_collected taken left IsSuch limit bytes (TooMany (at.Call t c)) h = absurd h
+not_collected taken left IsSuch limit bytes (TooMany at.Schedule) h = absurd h
+not_collected taken left IsSuch limit bytes (TooMany (at.Word i)) h = absurd h
+not_collected taken left IsSuch limit bytes NotJson h = absurd h
+not_collected taken left IsSuch limit bytes (BadScript place) h = absurd h
+not_collected taken left IsSuch limit bytes StepLimit h = absurd h
+not_collected taken left IsSuch limit bytes Write h = absurd h
 
 -- ---- what was read
 
@@ -85,9 +84,9 @@ read_part bytes left (BadScript place) h = absurd h
 read_part bytes left StepLimit h = absurd h
 read_part bytes left Write h = absurd h
 
-pub unread : (old new taken : Option (List ℕ)) (last : ℕ) (options : Options) (fault : Fault) → Gave old new (λ bytes. IsEnough bytes last × Collects bytes new (Err fault))
-    → Gave old new (λ bytes. IsEnough bytes last × WasRead bytes new (Err fault) × Answers taken taken options bytes (Err fault))
-unread old new taken last options fault (bytes, consumed, (enough, h)) = (bytes, consumed, (enough, read_part bytes new fault h, not_collected taken new options bytes fault h))
+pub unread : (old new taken : Option (List ℕ)) (last : ℕ) (IsSuch : List ℕ → List ℕ → Type 0) (limit : ℕ) (fault : Fault) → Gave old new (λ bytes. IsEnough bytes last × Collects bytes new (Err fault))
+    → Gave old new (λ bytes. IsEnough bytes last × WasRead bytes new (Err fault) × Answers taken taken IsSuch limit bytes (Err fault))
+unread old new taken last IsSuch limit fault (bytes, consumed, (enough, h)) = (bytes, consumed, (enough, read_part bytes new fault h, not_collected taken new IsSuch limit bytes fault h))
 
 -- ---- whether the end came
 

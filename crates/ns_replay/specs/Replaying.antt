@@ -11,6 +11,7 @@ use Rattle.ns_replay.specs.declared.options.Options.{Options}
 use Rattle.ns_replay.specs.declared.place.Place.TheVariants as at
 use Rattle.ns_replay.specs.declared.fault.Fault.{Fault}
 use Rattle.ns_replay.specs.declared.fault.Fault.TheVariants.{OutOfMemory, TooMany, StepLimit, Read, Write}
+use Rattle.ns_replay.specs.Runnable.{IsRunnable}
 use Rattle.ns_replay.specs.Script.{Plan, script_of}
 use Rattle.ns_replay.specs.Streams.{Counts}
 use Rattle.ns_replay.specs.Text.{text_of}
@@ -42,13 +43,18 @@ IsRunFault limit plan fault = ⊥
 unfoldable pub plan_from : List ℕ → Result Plan Fault
 plan_from bytes = if nat_lt max_bytes (length bytes) then Err (TooMany at.Root) else script_of bytes
 
+-- The bytes give this script, and it runs to this world and gives these lines, in at most so many turns.
+pub record HasRun (limit : ℕ) (bytes : List ℕ) (plan : Plan) (world : Now ScriptCondition 8) (lines : List Line) : Type 0 where
+  pub read : plan_from bytes ≡ Ok plan
+  pub runs : RunsTo limit plan world lines
+  pub runnable : IsRunnable plan
+
 -- The text is that of a run of the script that the bytes give.
 pub record IsText (options : Options) (bytes text : List ℕ) : Type 0 where
   pub plan : Plan
-  pub read : plan_from bytes ≡ Ok plan
   pub world : Now ScriptCondition 8
   pub lines : List Line
-  pub runs : RunsTo options.limit plan world lines
+  pub has_run : HasRun options.limit bytes plan world lines
   pub is : text ≡ text_of options plan.cvs plan.threads lines world
 
 -- the bytes give a script, and its schedule needs more turns than the limit
@@ -81,9 +87,10 @@ Ended before after (Err Read) = Counts before after 0
 Ended before after (Err (TooMany at.Root)) = Counts before after 0 ⊎ Counts before after 1
 Ended before after (Err fault) = Counts before after 1
 
--- What was written: the whole text after Ok, a front of it after a failed write, and else nothing.
-abbrev pub Answers : Option (List ℕ) → Option (List ℕ) → Options → List ℕ → Result ⊤ Fault → Type 0
-Answers old new options bytes (Ok _) = (text : List ℕ) × IsText options bytes text × Appends old new text
-Answers old new options bytes (Err Write) = (front : List ℕ) × (rest : List ℕ) × IsText options bytes (front ++ rest) × (0 < length rest) × Appends old new front
-Answers old new options bytes (Err Read) = Keeps old new
-Answers old new options bytes (Err fault) = IsRefused options.limit bytes fault × Keeps old new
+-- What was written, where these bytes may give such texts: a whole text after Ok, a front of one after a failed
+-- write, and else nothing.
+abbrev pub Answers : Option (List ℕ) → Option (List ℕ) → (List ℕ → List ℕ → Type 0) → ℕ → List ℕ → Result ⊤ Fault → Type 0
+Answers old new IsSuch limit bytes (Ok _) = (text : List ℕ) × IsSuch bytes text × Appends old new text
+Answers old new IsSuch limit bytes (Err Write) = (front : List ℕ) × (rest : List ℕ) × IsSuch bytes (front ++ rest) × (0 < length rest) × Appends old new front
+Answers old new IsSuch limit bytes (Err Read) = Keeps old new
+Answers old new IsSuch limit bytes (Err fault) = IsRefused limit bytes fault × Keeps old new

@@ -41,9 +41,13 @@ mod waits;
 mod words;
 
 pub use adapters::{OverRead, OverWrite};
+pub use condition::{AtLeast, ScriptCondition};
 pub use fault::Fault;
 pub use options::Options;
 pub use place::Place;
-pub use replaying::replay;
+pub use replaying::{replay, run_bytes};
+pub use running::Run;
+pub use script::Script;
 pub use streams::{Got, Sink, Source};
-pub use transfer::write_all;
+pub use text::push_reply;
+pub use transfer::{collect_bytes, write_all};

@@ -5,15 +5,36 @@
 
 ghost use Rattle.std.specs.Prelude.{◌≡◌, ◌≢◌, ◌≤◌, length, IfOk, IfErr, IsErrOf, OnOk, true, false, string_bytes};
 ghost use Rattle.ns_replay.specs.Transfer.{Gave, IsAskedEnough, IsEnough, IsFine, IsReadFault, IsWriteFault};
-ghost use Rattle.ns_replay.specs.Replaying.{Answers, Ended, IsText, IsRefused, WasRead};
+ghost use Rattle.ns_replay.specs.Replaying.{Answers, Ended, HasRun, IsText, IsRefused, WasRead};
+ghost use Rattle.ns_replay.specs.Condition.{script_truths};
+ghost use Rattle.ns_replay.specs.Script.{plan_of};
+ghost use Rattle.ns_world.specs.World.{now_of};
 
 use crate::fault::Fault;
 use crate::options::Options;
-use crate::running::{run_script, run_text};
-use crate::script::read_script;
+use crate::running::{Run, run_script, run_text};
+use crate::script::{Script, read_script};
 use crate::streams::{Sink, Source};
 use crate::transfer::{collect_bytes, write_all};
 use std::alloc::Global;
+
+/// Reads the script that the bytes give, and runs it in a new world.
+///
+/// Refuses bytes that are no JSON (`NotJson`); the first place of the script that is missing or of the
+/// wrong kind (`BadScript`) or that holds too much (`TooMany`), member by member; and a schedule that
+/// needs more turns than `limit` (`StepLimit`). An allocation that is refused is answered at once
+/// (`OutOfMemory`).
+///
+/// Needs at most 1 MiB.
+pub fn run_bytes(alloc: Global, bytes: &[u8], limit: u32) -> Result<(Script, Run), Fault>
+    requires { length bytes.now ≤ 1048576 }
+    ensures ok { IfOk result (λ ran. HasRun limit bytes.now (plan_of ran.0) (now_of script_truths ran.1.world) ran.1.lines.items) }
+    ensures err { IfErr result (λ fault. IsRefused limit bytes.now fault) }
+{
+    let script = read_script(alloc, bytes)?;
+    let run = run_script(alloc, &script, limit)?;
+    Ok((script, run))
+}
 
 /// The text of a run of the script that the bytes give.
 fn text_for(alloc: Global, bytes: &[u8], options: Options) -> Result<String, Fault>
@@ -21,8 +42,7 @@ fn text_for(alloc: Global, bytes: &[u8], options: Options) -> Result<String, Fau
     ensures ok { IfOk result (λ text. IsText options bytes.now (string_bytes text)) }
     ensures err { IfErr result (λ fault. IsRefused options.limit bytes.now fault) }
 {
-    let script = read_script(alloc, bytes)?;
-    let run = run_script(alloc, &script, options.limit)?;
+    let (script, run) = run_bytes(alloc, bytes, options.limit)?;
     Ok(run_text(alloc, &script, &run, options)?)
 }
 
@@ -48,7 +68,7 @@ pub fn replay<S: Source, W: Sink>(
     requires sink { W.has_failed sink.old ≡ false }
     // What was read gives what was answered and written, and nothing else was.
     ensures answers { Gave (S.to_come source.old) (S.to_come source.new) (λ bytes.
-        IsEnough bytes (S.last source.new) × WasRead bytes (S.to_come source.new) result × Answers (W.taken sink.old) (W.taken sink.new) options bytes result) }
+        IsEnough bytes (S.last source.new) × WasRead bytes (S.to_come source.new) result × Answers (W.taken sink.old) (W.taken sink.new) (IsText options) options.limit bytes result) }
     // Nothing is written before the whole run is made.
     ensures untouched { IfErr result (λ fault. fault ≢ Fault.Write → sink.new ≡ sink.old) }
     // The source is asked no more often than it may be, and never after its end.

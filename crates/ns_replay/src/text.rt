@@ -52,7 +52,7 @@ fn push_expiry(out: &mut String, expiry: Option<u64>) -> Result<(), AllocError>
 }
 
 /// What a call answered.
-fn push_reply(out: &mut String, reply: Reply) -> Result<(), AllocError>
+pub fn push_reply(out: &mut String, reply: Reply) -> Result<(), AllocError>
     ensures { OnOk result (string_bytes out.new ≡ string_bytes out.old ++ reply_text reply) }
 {
     match reply {

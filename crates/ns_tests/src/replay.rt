@@ -4,6 +4,7 @@
 mod errors;
 mod example;
 mod memory;
+mod timelines;
 mod worlds;
 
 use self::memory::{Expects, Interrupted, Pieces};

@@ -24,7 +24,7 @@ struct Tally {
 }
 
 /// The seat's call after so many. A seat without a list has none.
-fn next_call<C: Copy>(lists: &[Vec<Call<C>>], seat: u8, over: u16) -> Option<Call<C>>
+pub fn next_call<C: Copy>(lists: &[Vec<Call<C>>], seat: u8, over: u16) -> Option<Call<C>>
     ensures { result ≡ slice_get (calls_of (map (λ calls. calls.items) lists.now) seat) over }
 {
     match lists.get(seat as usize) {
@@ -33,8 +33,12 @@ fn next_call<C: Copy>(lists: &[Vec<Call<C>>], seat: u8, over: u16) -> Option<Cal
     }
 }
 
-/// A turn of the seat: starts its next call where it is idle, and makes one step.
-fn turn<C: Seated<N>, const N: usize>(
+/// A turn of the seat: starts its next call, where one is given and the seat is idle, and makes one step.
+///
+/// Needs a call whose cell is below `N`, whose condition variable is below 4, whose notes are below 64, and
+/// whose moments are below 2^54. Refuses a number that is no seat's (`NoSuchSeat`), and want of memory
+/// (`OutOfMemory`); then nothing has changed.
+pub fn turn<C: Seated<N>, const N: usize>(
     world: &mut World<C, N>,
     next: Option<Call<C>>,
     seat: u8,
@@ -53,8 +57,9 @@ fn turn<C: Seated<N>, const N: usize>(
     }
 }
 
-/// Whether an item ends with this turn of its seat.
-fn is_end(whole: bool, step: Step) -> bool
+/// Whether an item ends with this turn of its seat: after one turn, or, for a `whole` item, once its call has
+/// returned or has to wait.
+pub fn is_end(whole: bool, step: Step) -> bool
     ensures { result ≡ is_end whole step }
 {
     match step {

@@ -1,0 +1,91 @@
+//! A call, in the words in which a script has it.
+
+use ns_replay::ScriptCondition;
+use ns_word::limits::Limits;
+use ns_world::call::Call;
+use std::alloc::AllocError;
+
+/// The name of a call.
+pub fn name(call: Call<ScriptCondition>) -> &'static str {
+    match call {
+        Call::Lock => "lock",
+        Call::RLock => "rlock",
+        Call::TryLock => "trylock",
+        Call::TryRLock => "rtrylock",
+        Call::Unlock => "unlock",
+        Call::RUnlock => "runlock",
+        Call::UnlockQuiet => "unlockquiet",
+        Call::Get(_) => "get",
+        Call::Set(_, _) => "set",
+        Call::Wait(_, _) => "wait",
+        Call::CvWait(_, _) => "cvwait",
+        Call::Signal(_) => "signal",
+        Call::Broadcast(_) => "broadcast",
+        Call::NewNote(_, _) => "newnote",
+        Call::Notify(_) => "notify",
+        Call::Advance(_) => "advance",
+        Call::IsNotified(_) => "isnotified",
+        Call::Expiry(_) => "expiry",
+        Call::NoteWait(_, _) => "notewait",
+    }
+}
+
+/// What may end a wait early.
+fn push_limits(out: &mut String, limits: Limits) -> Result<(), AllocError> {
+    if let Some(deadline) = limits.deadline {
+        write!(out, " deadline {deadline}")?;
+    }
+    if let Some(note) = limits.note {
+        write!(out, " note {note}")?;
+    }
+    Ok(())
+}
+
+/// A number, or a dash for none.
+fn push_number_or_dash(out: &mut String, number: Option<u64>) -> Result<(), AllocError> {
+    match number {
+        Some(number) => write!(out, " {number}"),
+        None => out.push_str(" -"),
+    }
+}
+
+/// The words behind the name of a call on the clock or the notes.
+fn push_note_words(out: &mut String, call: Call<ScriptCondition>) -> Result<(), AllocError> {
+    match call {
+        Call::Notify(note) | Call::IsNotified(note) | Call::Expiry(note) => write!(out, " {note}"),
+        Call::Advance(moment) => write!(out, " {moment}"),
+        Call::NewNote(parent, deadline) => {
+            push_number_or_dash(out, parent.map(u64::from))?;
+            push_number_or_dash(out, deadline)
+        }
+        Call::NoteWait(note, deadline) => {
+            write!(out, " {note}")?;
+            push_number_or_dash(out, deadline)
+        }
+        _ => Ok(()),
+    }
+}
+
+/// The words behind the name of a call.
+fn push_words(out: &mut String, call: Call<ScriptCondition>) -> Result<(), AllocError> {
+    match call {
+        Call::Get(cell) => write!(out, " {cell}"),
+        Call::Set(cell, value) => write!(out, " {cell} {value}"),
+        Call::Wait(condition, limits) => {
+            write!(out, " {condition}")?;
+            push_limits(out, limits)
+        }
+        Call::CvWait(variable, limits) => {
+            write!(out, " {variable}")?;
+            push_limits(out, limits)
+        }
+        Call::Signal(variable) | Call::Broadcast(variable) => write!(out, " {variable}"),
+        _ => push_note_words(out, call),
+    }
+}
+
+/// A call, in the words in which a script has it.
+pub fn push_call(out: &mut String, call: Call<ScriptCondition>) -> Result<(), AllocError> {
+    out.push_str(name(call))?;
+    push_words(out, call)
+}

@@ -1,0 +1,110 @@
+//! The columns: which threads have one, and what stands in it.
+
+ghost use Rattle.std.specs.Prelude.{◌<◌, ◌≤◌};
+
+use crate::sight::Sight;
+use ns_model::seats::Seats;
+use std::alloc::AllocError;
+
+/// How many threads may have a column.
+const COLUMNS: u8 = 16;
+
+/// How many threads come before this one, which have more calls, or as many and a lower number.
+fn rank(calls: &[usize; 64], thread: u8) -> u8
+    requires { thread < 64 }
+{
+    let mine = calls[thread as usize];
+    let mut ahead = 0u8;
+    for (other, count) in calls.iter().enumerate() {
+        if mine < *count || (mine == *count && other < thread as usize) {
+            ahead = ahead.saturating_add(1);
+        }
+    }
+    ahead
+}
+
+/// Of so many threads those that have a column: the busiest, by how many calls each has begun.
+pub fn busiest(calls: &[usize; 64], threads: u8) -> Seats
+    requires { threads ≤ 64 }
+{
+    let mut shown = Seats::none();
+    for thread in 0..threads {
+        if rank(calls, thread) < COLUMNS {
+            shown = shown.with(thread);
+        }
+    }
+    shown
+}
+
+/// The bar of a section: `#` for one that writes, `:` for one that reads.
+fn bar(sight: &Sight, thread: u8) -> char
+    requires { thread < 64 }
+{
+    if sight.writer == Some(thread) {
+        '#'
+    } else if sight.readers.contains(thread) {
+        ':'
+    } else {
+        ' '
+    }
+}
+
+/// The number of the condition variable that a thread waits for, or `z` if it waits in the lock's list.
+fn list(sight: &Sight, thread: u8) -> Option<char>
+    requires { thread < 64 }
+{
+    if sight.lock.contains(thread) {
+        return Some('z');
+    }
+    let [first, second, third, fourth] = sight.variables;
+    if first.contains(thread) {
+        Some('0')
+    } else if second.contains(thread) {
+        Some('1')
+    } else if third.contains(thread) {
+        Some('2')
+    } else if fourth.contains(thread) {
+        Some('3')
+    } else {
+        None
+    }
+}
+
+/// Where a thread stands in its call, if it is in one.
+fn place(sight: &Sight, thread: u8) -> char
+    requires { thread < 64 }
+{
+    if sight.queues == Some(thread) {
+        '@'
+    } else if sight.called().contains(thread) {
+        '!'
+    } else if let Some(list) = list(sight, thread) {
+        list
+    } else if sight.busy.contains(thread) {
+        '.'
+    } else {
+        ' '
+    }
+}
+
+/// The columns of those who have one.
+pub fn push_columns(out: &mut String, shown: Seats, sight: &Sight) -> Result<(), AllocError> {
+    for thread in 0..64u8 {
+        if shown.contains(thread) {
+            out.push(bar(sight, thread))?;
+            out.push(place(sight, thread))?;
+            out.push(' ')?;
+        }
+    }
+    Ok(())
+}
+
+/// The numbers of those who have a column.
+pub fn push_numbers(out: &mut String, shown: Seats) -> Result<(), AllocError> {
+    for thread in 0..64u8 {
+        if shown.contains(thread) {
+            write!(out, "{thread:<3}")?;
+        }
+    }
+    Ok(())
+}

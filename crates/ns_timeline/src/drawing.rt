@@ -1,0 +1,112 @@
+//! A picture, from the bytes of a script to the bytes of its lines.
+
+ghost use Rattle.std.specs.Prelude.{◌≡◌, ◌≢◌, ◌≤◌, length, IfOk, IfErr, IsErrOf, OnOk, true, false};
+ghost use Rattle.ns_replay.specs.Transfer.{Gave, IsAskedEnough, IsEnough, IsFine, IsReadFault, IsWriteFault};
+ghost use Rattle.ns_replay.specs.Replaying.{Answers, Ended, IsRefused, WasRead};
+ghost use Rattle.ns_replay.specs.Runnable.{IsRunnable};
+ghost use Rattle.ns_replay.specs.Script.{plan_of};
+ghost use Rattle.ns_timeline.specs.Pictures.{IsPicture, RunsIn};
+
+use crate::columns::busiest;
+use crate::line::push_head;
+use crate::sight::Sight;
+use crate::stepping::{Drawing, draw_schedule};
+use ns_model::seats::Seats;
+use ns_replay::{Fault, Run, Script, Sink, Source, collect_bytes, run_bytes, write_all};
+use ns_world::schedule::Line;
+use ns_world::world::World;
+use std::alloc::{AllocError, Global};
+
+/// How many calls of a thread are over.
+fn finished(lines: &[Line], thread: u8) -> usize {
+    lines.iter().filter(|line| line.thread == thread).count()
+}
+
+/// How many calls each thread has begun.
+fn begun(run: &Run) -> [usize; 64] {
+    let busy = run.world.state().busy;
+    let mut calls = [0usize; 64];
+    for thread in 0..64u8 {
+        let left = usize::from(busy.contains(thread));
+        calls[thread as usize] = finished(&run.lines, thread).saturating_add(left);
+    }
+    calls
+}
+
+/// The head of a picture in which these threads have a column, and no turn yet.
+fn headed(alloc: Global, shown: Seats, is_all: bool) -> Result<Drawing, AllocError> {
+    let mut picture = Vec::new(alloc);
+    let mut line = String::new(alloc);
+    push_head(&mut picture, &mut line, shown, is_all)?;
+    Ok(Drawing {
+        picture,
+        line,
+        shown,
+        sight: Sight::new(),
+        over: [0; 64],
+        turns: 0,
+    })
+}
+
+/// The picture of a script that has had this run.
+fn picture_of(alloc: Global, script: &Script, run: &Run, limit: u32) -> Result<Vec<u8>, AllocError>
+    requires { IsRunnable (plan_of script.now) }
+{
+    let threads = script.threads.as_slice();
+    let shown = busiest(&begun(run), threads.len() as u8);
+    let mut drawing = headed(alloc, shown, threads.len() <= 16)?;
+    // There are no more threads than seats, so that only memory can be refused.
+    let Ok(mut world) = World::new(alloc, threads.len(), &[], 0) else {
+        return Err(AllocError);
+    };
+    draw_schedule(&mut drawing, &mut world, threads, &script.schedule, limit)?;
+    Ok(drawing.picture)
+}
+
+/// The picture of a run of the script that the bytes give.
+fn picture_for(alloc: Global, bytes: &[u8], limit: u32) -> Result<Vec<u8>, Fault>
+    requires { length bytes.now ≤ 1048576 }
+    ensures ok { IfOk result (λ picture. RunsIn limit bytes.now) }
+    ensures err { IfErr result (λ fault. IsRefused limit bytes.now fault) }
+{
+    let (script, run) = run_bytes(alloc, bytes, limit)?;
+    Ok(picture_of(alloc, &script, &run, limit)?)
+}
+
+/// Reads a script to its end, runs it in a new world, and then writes a picture of the run.
+///
+/// The picture has a column for each thread, or for the sixteen with the most calls, and a line for each
+/// turn that changed something; docs/SCRIPTS.md says what stands in it. Returns `Ok` when all of it was
+/// taken. It refuses what a replay with this limit refuses, in the same order and at the same places: see
+/// `ns_replay::replay`. After `Write` the sink has a front of the picture, and after any other fault nothing
+/// was written.
+///
+/// Needs a source and a sink that have not failed. What it says of bytes it says of streams
+/// that know theirs.
+pub fn timeline<S: Source, W: Sink>(
+    alloc: Global,
+    source: &mut S,
+    sink: &mut W,
+    limit: u32,
+) -> Result<(), Fault>
+    requires source { S.has_failed source.old ≡ false }
+    requires sink { W.has_failed sink.old ≡ false }
+    // Where a picture is written, the script that was read has a run; each refusal is a replay's.
+    ensures answers { Gave (S.to_come source.old) (S.to_come source.new) (λ bytes.
+        IsEnough bytes (S.last source.new) × WasRead bytes (S.to_come source.new) result × Answers (W.taken sink.old) (W.taken sink.new) (IsPicture limit) limit bytes result) }
+    // Nothing is written before the whole picture is drawn.
+    ensures untouched { IfErr result (λ fault. fault ≢ Fault.Write → sink.new ≡ sink.old) }
+    // The source is asked no more often than it may be, and never after its end.
+    ensures asked { IsAskedEnough (S.asked source.old) (S.asked source.new) }
+    ensures ended { Ended (S.ends source.old) (S.ends source.new) result }
+    ensures read_fault { IsErrOf result Fault.Read → IsReadFault (S.has_failed source.new) (S.asked source.old) (S.asked source.new) }
+    // A read or a write that failed is answered, and not tried again.
+    ensures failed_read { S.has_failed source.new ≡ true → IsErrOf result Fault.Read }
+    ensures failed_write { W.has_failed sink.new ≡ true → IsErrOf result Fault.Write }
+    ensures fine { OnOk result (IsFine (W.has_failed sink.new) (W.stuck sink.old) (W.stuck sink.new)) }
+    ensures write_fault { IsErrOf result Fault.Write → IsWriteFault (W.has_failed sink.new) (W.stuck sink.old) (W.stuck sink.new) }
+{
+    let bytes = collect_bytes(alloc, source)?;
+    let picture = picture_for(alloc, &bytes, limit)?;
+    write_all(sink, &picture)
+}

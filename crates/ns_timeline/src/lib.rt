@@ -1,0 +1,27 @@
+//! A picture of a run, as text: a column for each thread, and a row for each turn that changed something.
+//!
+//! [`timeline`] reads the same scripts as `ns_replay::replay`, refuses what that refuses, and draws who holds
+//! the lock, who waits, who has the waiter queues and who is to be woken, turn by turn, with what the turn did
+//! beside it. No line is longer than 100 characters.
+//!
+//! ```rust
+//! let script = b"{\"version\":1,\"threads\":[[\"trylock\",\"unlock\"]],\"schedule\":\"0!*2\"}";
+//! let mut picture = Vec::new(rt.alloc()); // or `rt.stdout()`, over `rt.stdin()`
+//! let mut source = OverRead::new(script.as_slice());
+//! let mut sink = OverWrite::new(&mut picture);
+//! match timeline(rt.alloc(), &mut source, &mut sink, 1_000) {
+//!     Ok(()) => assert!(rt; picture.ends_with(b"     4      0 unlock, releases -> ok\n")),
+//!     Err(fault) => assert_eq!(rt; fault, Fault::OutOfMemory),
+//! }
+//! ```
+#![tactic(auto)]
+
+mod call;
+mod changes;
+mod columns;
+mod drawing;
+mod line;
+mod sight;
+mod stepping;
+
+pub use drawing::timeline;

@@ -1,0 +1,115 @@
+//! A line of the picture.
+
+use crate::call::{name, push_call};
+use crate::changes::push_changes;
+use crate::columns::{push_columns, push_numbers};
+use crate::sight::{Sight, both, only};
+use ns_model::seats::Seats;
+use ns_replay::{ScriptCondition, push_reply};
+use ns_word::walk::Reply;
+use ns_world::call::Call;
+use std::alloc::AllocError;
+
+/// How many characters a line may have.
+const WIDTH: usize = 100;
+
+/// How many of them are left of a line that is cut.
+const KEPT: usize = 98;
+
+/// What the marks in a column mean.
+const LEGEND: [&str; 2] = [
+    "#  writes   :  reads   @  has the queues   .  is on its way   !  is to be woken",
+    "z  waits for the lock or a condition   0-3  waits for the condition variable",
+];
+
+/// A turn, as it is drawn.
+#[derive(Clone, Copy)]
+pub struct Drawn<'a> {
+    /// Which turn it is, from 1.
+    pub turn: u32,
+    /// Whose it is.
+    pub thread: u8,
+    /// The call that the thread is in.
+    pub call: Call<ScriptCondition>,
+    /// What was seen before it.
+    pub before: &'a Sight,
+    /// What is seen after it.
+    pub after: &'a Sight,
+    /// What the call has answered, if it is over.
+    pub reply: Option<Reply>,
+}
+
+/// Adds a line, and cuts what doesn't fit.
+fn push_cut(picture: &mut Vec<u8>, line: &str) -> Result<(), AllocError> {
+    let bytes = line.as_bytes();
+    match bytes.get(..KEPT) {
+        Some(front) if WIDTH < bytes.len() => {
+            picture.extend_from_slice(front)?;
+            picture.extend_from_slice(b"..")?;
+        }
+        _ => picture.extend_from_slice(bytes)?,
+    }
+    picture.extend_from_slice(b"\n")
+}
+
+/// The lines above the turns: what the marks mean, and the numbers of those who have a column.
+pub fn push_head(
+    picture: &mut Vec<u8>,
+    line: &mut String,
+    shown: Seats,
+    is_all: bool,
+) -> Result<(), AllocError> {
+    for words in LEGEND {
+        push_cut(picture, words)?;
+    }
+    if !is_all {
+        push_cut(
+            picture,
+            "only the threads with the most calls have a column",
+        )?;
+    }
+    line.clear();
+    line.push_str("  turn  ")?;
+    push_numbers(line, shown)?;
+    push_cut(picture, line.trim_end())
+}
+
+/// Puts the line of a turn together, with the whole call, or its name alone.
+fn set_turn(
+    line: &mut String,
+    shown: Seats,
+    drawn: &Drawn<'_>,
+    is_whole: bool,
+) -> Result<(), AllocError> {
+    let Drawn { turn, thread, .. } = *drawn;
+    line.clear();
+    write!(line, "{turn:>6}  ")?;
+    push_columns(line, shown, drawn.after)?;
+    write!(line, " {thread} ")?;
+    if is_whole {
+        push_call(line, drawn.call)?;
+    } else {
+        line.push_str(name(drawn.call))?;
+    }
+    push_changes(line, thread, drawn.before, drawn.after)?;
+    if let Some(reply) = drawn.reply {
+        line.push_str(" -> ")?;
+        push_reply(line, reply)?;
+    }
+    Ok(())
+}
+
+/// The line of a turn. Where it is too long, a call that has begun before stands by its name alone, so that
+/// what it has done is not cut.
+pub fn push_turn(
+    picture: &mut Vec<u8>,
+    line: &mut String,
+    shown: Seats,
+    drawn: &Drawn<'_>,
+) -> Result<(), AllocError> {
+    set_turn(line, shown, drawn, true)?;
+    if WIDTH < line.len() && both(drawn.before.busy, only(drawn.thread)) != Seats::none() {
+        set_turn(line, shown, drawn, false)?;
+    }
+    push_cut(picture, line)
+}

@@ -1,0 +1,170 @@
+//! What can be seen of a world between two turns.
+
+use ns_model::seats::Seats;
+use ns_queue::waiter::Shown;
+use ns_word::word::Word;
+use ns_world::world::State;
+
+/// What can be seen of a world between two turns. The threads are its seats.
+#[derive(Clone, Copy, PartialEq, Eq)]
+pub struct Sight {
+    /// Who has a write section in hand.
+    pub writer: Option<u8>,
+    /// Who has a read section in hand.
+    pub readers: Seats,
+    /// How many these are.
+    pub reading: u8,
+    /// Who has the waiter queues in hand.
+    pub queues: Option<u8>,
+    /// Who waits in the list of the lock.
+    pub lock: Seats,
+    /// Who waits for each condition variable.
+    pub variables: [Seats; 4],
+    /// Whom the one with the queues in hand has taken from its list, to be woken.
+    pub taken: Seats,
+    /// Who is owed a wake.
+    pub owed: Seats,
+    /// Who has a call in progress.
+    pub busy: Seats,
+}
+
+/// The set of this thread alone.
+pub fn only(thread: u8) -> Seats {
+    Seats(1u64.wrapping_shl(u32::from(thread)))
+}
+
+/// Those of the first set who aren't in the second.
+pub fn without(some: Seats, others: Seats) -> Seats {
+    Seats(some.0 & !others.0)
+}
+
+/// Those who are in both sets.
+pub fn both(some: Seats, others: Seats) -> Seats {
+    Seats(some.0 & others.0)
+}
+
+/// Those who are in at least one of the sets.
+pub fn either(some: Seats, others: Seats) -> Seats {
+    Seats(some.0 | others.0)
+}
+
+/// Who stands in a list.
+fn standing(list: &[Shown]) -> Seats {
+    let mut seats = Seats::none();
+    for waiter in list {
+        seats = either(seats, only(waiter.seat));
+    }
+    seats
+}
+
+/// Who is owed one of these wakes.
+fn owed(wakes: &[(u8, u8)]) -> Seats {
+    let mut seats = Seats::none();
+    for (_, to) in wakes {
+        seats = either(seats, only(*to));
+    }
+    seats
+}
+
+/// Who holds what only one can hold, after a turn of the thread: who has held it before, else who has made
+/// the turn.
+fn holder(before: Option<u8>, is_held: bool, thread: u8) -> Option<u8> {
+    if is_held {
+        before.or(Some(thread))
+    } else {
+        None
+    }
+}
+
+/// Who has a read section in hand, after a turn of the thread that left so many.
+fn readers(before: &Sight, reading: u8, thread: u8) -> Seats {
+    if before.reading < reading {
+        either(before.readers, only(thread))
+    } else if reading < before.reading {
+        without(before.readers, only(thread))
+    } else {
+        before.readers
+    }
+}
+
+impl Sight {
+    /// What is seen before the first turn.
+    pub fn new() -> Sight {
+        Sight {
+            writer: None,
+            readers: Seats::none(),
+            reading: 0,
+            queues: None,
+            lock: Seats::none(),
+            variables: [Seats::none(); 4],
+            taken: Seats::none(),
+            owed: Seats::none(),
+            busy: Seats::none(),
+        }
+    }
+
+    /// What is seen of the world's state after a turn of the thread, where this was seen before it.
+    pub fn after(&self, state: &State<8>, thread: u8) -> Sight {
+        let Word {
+            write,
+            spin,
+            readers: reading,
+            ..
+        } = state.word;
+        let [first, second, third, fourth] = &state.cvs;
+        Sight {
+            writer: holder(self.writer, write, thread),
+            readers: readers(self, reading, thread),
+            reading,
+            queues: holder(self.queues, spin, thread),
+            lock: standing(state.lock.as_slice()),
+            variables: [
+                standing(first.as_slice()),
+                standing(second.as_slice()),
+                standing(third.as_slice()),
+                standing(fourth.as_slice()),
+            ],
+            taken: Seats::none(),
+            owed: owed(state.owed.as_slice()),
+            busy: state.busy,
+        }
+        .with_taken(self, thread)
+    }
+
+    /// The same, with those who have left their lists by this turn of the thread, or before it, while the
+    /// queues are in a hand.
+    fn with_taken(self, before: &Sight, thread: u8) -> Sight {
+        if self.queues.is_none() {
+            return self;
+        }
+        let listed = either(before.queued(), before.taken);
+        Sight {
+            taken: without(listed, either(self.queued(), only(thread))),
+            ..self
+        }
+    }
+
+    /// Who waits for a condition variable.
+    pub fn waiting(&self) -> Seats {
+        let [first, second, third, fourth] = self.variables;
+        either(either(first, second), either(third, fourth))
+    }
+
+    /// Who waits in some list.
+    pub fn queued(&self) -> Seats {
+        either(self.lock, self.waiting())
+    }
+
+    /// Who is to be woken.
+    pub fn called(&self) -> Seats {
+        either(self.taken, self.owed)
+    }
+
+    /// Who has a section in hand.
+    pub fn holding(&self) -> Seats {
+        match self.writer {
+            Some(writer) => either(self.readers, only(writer)),
+            None => self.readers,
+        }
+    }
+}

@@ -1,0 +1,149 @@
+//! The run once more, turn by turn, with a line for each turn that changed something.
+
+ghost use Rattle.std.specs.Prelude.{◌≡◌, ◌≤◌, ◌<◌, All, length};
+ghost use Rattle.ns_world.specs.Runs.{ListFits};
+
+use crate::line::{Drawn, push_turn};
+use crate::sight::Sight;
+use ns_model::seats::Seats;
+use ns_replay::ScriptCondition;
+use ns_world::call::Call;
+use ns_world::run::{is_end, next_call, turn};
+use ns_world::schedule::Turn;
+use ns_world::step::Step;
+use ns_world::world::World;
+use std::alloc::AllocError;
+
+/// How far the drawing has come.
+#[derive(Drop)]
+pub struct Drawing {
+    /// What is drawn.
+    pub picture: Vec<u8>,
+    /// Where a line is put together.
+    pub line: String,
+    /// Who has a column.
+    pub shown: Seats,
+    /// What is seen.
+    pub sight: Sight,
+    /// How many calls of each thread are over.
+    pub over: [u16; 64],
+    /// How many turns were made.
+    pub turns: u32,
+}
+
+/// Draws a step of the thread's call, if it changed something, or the call is over.
+fn draw(
+    drawing: &mut Drawing,
+    world: &World<ScriptCondition, 8>,
+    thread: u8,
+    call: Call<ScriptCondition>,
+    step: Step,
+) -> Result<(), AllocError> {
+    let after = drawing.sight.after(&world.state(), thread);
+    let reply = match step {
+        Step::Finished(reply) => Some(reply),
+        Step::Went | Step::Idle | Step::Nothing => None,
+    };
+    if after != drawing.sight || reply.is_some() {
+        let before = drawing.sight;
+        let drawn = Drawn {
+            turn: drawing.turns,
+            thread,
+            call,
+            before: &before,
+            after: &after,
+            reply,
+        };
+        push_turn(
+            &mut drawing.picture,
+            &mut drawing.line,
+            drawing.shown,
+            &drawn,
+        )?;
+    }
+    drawing.sight = after;
+    Ok(())
+}
+
+/// Makes a turn of the thread, and draws it.
+fn drawn_turn(
+    drawing: &mut Drawing,
+    world: &mut World<ScriptCondition, 8>,
+    threads: &[Vec<Call<ScriptCondition>>],
+    thread: u8,
+) -> Result<Step, AllocError>
+    requires lists { All (λ calls. ListFits 8 calls.items) threads.now }
+    requires thread { thread < 64 }
+{
+    let over = drawing.over[thread as usize];
+    let next = next_call(threads, thread, over);
+    // Every thread has a seat, so that only memory can be refused.
+    let Ok(step) = turn(world, next, thread) else {
+        return Err(AllocError);
+    };
+    drawing.turns = drawing.turns.saturating_add(1);
+    if let Some(call) = next {
+        draw(drawing, world, thread, call, step)?;
+    }
+    if let Step::Finished(_) = step {
+        drawing.over[thread as usize] = over.saturating_add(1);
+    }
+    Ok(step)
+}
+
+/// Draws an item of the thread. No run has more turns than the limit.
+fn draw_item(
+    drawing: &mut Drawing,
+    world: &mut World<ScriptCondition, 8>,
+    threads: &[Vec<Call<ScriptCondition>>],
+    thread: u8,
+    whole: bool,
+    limit: u32,
+) -> Result<(), AllocError>
+    requires lists { All (λ calls. ListFits 8 calls.items) threads.now }
+    requires thread { thread < 64 }
+{
+    for _ in drawing.turns..limit {
+        let step = drawn_turn(drawing, world, threads, thread)?;
+        if is_end(whole, step) {
+            break;
+        }
+    }
+    Ok(())
+}
+
+/// Draws the items of a word of the schedule.
+fn draw_word(
+    drawing: &mut Drawing,
+    world: &mut World<ScriptCondition, 8>,
+    threads: &[Vec<Call<ScriptCondition>>],
+    turn: &Turn,
+    limit: u32,
+) -> Result<(), AllocError>
+    requires { All (λ calls. ListFits 8 calls.items) threads.now }
+{
+    // No script has more than 64 threads.
+    if 64 <= turn.thread {
+        return Ok(());
+    }
+    for _ in 0..turn.times {
+        draw_item(drawing, world, threads, turn.thread, turn.whole, limit)?;
+    }
+    Ok(())
+}
+
+/// Draws the run of the schedule in a new world.
+pub fn draw_schedule(
+    drawing: &mut Drawing,
+    world: &mut World<ScriptCondition, 8>,
+    threads: &[Vec<Call<ScriptCondition>>],
+    schedule: &[Turn],
+    limit: u32,
+) -> Result<(), AllocError>
+    requires { All (λ calls. ListFits 8 calls.items) threads.now }
+{
+    for turn in schedule {
+        draw_word(drawing, world, threads, turn, limit)?;
+    }
+    Ok(())
+}
