@@ -4,7 +4,7 @@
 //! A row is what a user sees of one run of the program, as files: `NAME.args` has its words, one a
 //! line, `NAME.json` its standard input, `NAME.stdout` and `NAME.stderr` what it must print, and
 //! `NAME.status` its exit status. Input and errors are empty where their file is missing, and the
-//! status is 0. The file `rows` lists the names.
+//! status is 0. The file `rows` lists the names; a row `NAME of OTHER` has the input of the row `OTHER`.
 //!
 //! The folder of the rows may be named by a word, as `rt run -- data`; else it is the one that the
 //! program runs in.
@@ -41,9 +41,10 @@ use crate::row::Row;
 use std::rt::Files;
 use std::{env, fs, io};
 
-/// Runs the row of this name, and prints what came of it.
-fn try_row<R: Files + AllocGlobal + Print>(rt: &R, folder: &str, name: &str) -> io::Result<()> {
-    match Row::read(rt, folder, name) {
+/// Runs the row that a line of the list names, and prints what came of it.
+fn try_row<R: Files + AllocGlobal + Print>(rt: &R, folder: &str, line: &str) -> io::Result<()> {
+    let (name, given) = line.split_once(" of ").unwrap_or((line, line));
+    match Row::read(rt, folder, name, given) {
         Ok(row) => {
             let got = row.run(rt.alloc())?;
             report(rt, name, &row.wanted, &got)
@@ -60,9 +61,9 @@ fn main(rt: HostRuntime) -> io::Result<()> {
     };
     let list = format!(in rt.alloc(); "{folder}/rows")?;
     let names = fs::read_to_string(&rt, list.as_str())?;
-    for name in names.lines() {
-        if !name.is_empty() && !name.starts_with('#') {
-            try_row(&rt, folder, name)?;
+    for line in names.lines() {
+        if !line.is_empty() && !line.starts_with('#') {
+            try_row(&rt, folder, line)?;
         }
     }
     Ok(())

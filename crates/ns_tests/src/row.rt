@@ -80,17 +80,23 @@ pub fn run_seen(
 }
 
 impl Row {
-    /// Reads the files of the row of this name.
-    pub fn read<R: Files + AllocGlobal>(rt: &R, folder: &str, name: &str) -> io::Result<Row> {
+    /// Reads the files of the row of this name, which has the input of the row `given`.
+    pub fn read<R: Files + AllocGlobal>(
+        rt: &R,
+        folder: &str,
+        name: &str,
+        given: &str,
+    ) -> io::Result<Row> {
         let row = format!(in rt.alloc(); "{folder}/{name}")?;
         let row = row.as_str();
+        let given = format!(in rt.alloc(); "{folder}/{given}")?;
         let args = format!(in rt.alloc(); "{row}.args")?;
         let text = fs::read_to_string(rt, args.as_str())?;
         let status = file(rt, row, "status")?;
         let stdout = format!(in rt.alloc(); "{row}.stdout")?;
         Ok(Row {
             words: words_in(rt.alloc(), text.as_str())?,
-            input: file(rt, row, "json")?,
+            input: file(rt, given.as_str(), "json")?,
             wanted: Seen {
                 output: fs::read(rt, stdout.as_str())?,
                 errors: file(rt, row, "stderr")?,
