@@ -1,6 +1,8 @@
 -- What the threads wait for.
-use Rattle.std.specs.Prelude.{ℕ, ◌==◌, Bool, true, false, List, nat_lt, slice_index}
+use Rattle.std.specs.Prelude.{◌≡◌, ℕ, ◌==◌, Bool, true, false, List, Option, nat_lt, slice_index}
 use Rattle.ns_model.specs.Truths.{Truths, truths}
+use Rattle.ns_word.specs.Meanings.{InHand}
+use Rattle.ns_word.specs.declared.view.Held.{Held}
 use Rattle.ns_live.specs.declared.wish.Wish.{Wish}
 use Rattle.ns_live.specs.declared.wish.Wish.TheVariants.{Room, Item}
 
@@ -27,3 +29,7 @@ is_quiet before after = items_in before == items_in after
 -- what the wishes mean
 abbrev pub wishes : Truths Wish
 wishes = truths is_met is_same is_quiet
+
+-- the wish is met by the row of the section in hand
+abbrev pub IsMetIn : Wish → Option (Held Wish 7) → Type 0
+IsMetIn wish held = InHand held (λ section. is_met wish section.row ≡ true)

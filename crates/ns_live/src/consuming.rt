@@ -4,7 +4,7 @@ ghost use Rattle.std.specs.Prelude.{◌≡◌};
 ghost use Rattle.ns_model.specs.Environments.{IsMade};
 
 use crate::place::{Place, wait_for};
-use crate::ring::{RingSeat, take};
+use crate::ring::{RingSeat, count_taken, take};
 use crate::wish::Wish;
 use ns_note::seat::EnvSeat;
 use std::sync::Wait;
@@ -27,7 +27,8 @@ fn take_one<R: Wait>(
     if !has_item {
         return (place.monitor.unlock(rt, held), None);
     }
-    let (item, taken) = take(place.monitor, &mut held);
+    let item = take(place.monitor, &mut held);
+    let taken = count_taken(place.monitor, &mut held);
     let seat = place.monitor.unlock(rt, held);
     if taken == place.items {
         place.env.notify(env_seat, place.note);

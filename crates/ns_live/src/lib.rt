@@ -7,6 +7,17 @@
 //! ```rust
 //! let sum = live(&rt, rt.alloc(), 10)?; // 55
 //! ```
+//!
+//! The ring is there for other threads too: a [`RingMonitor`] is the lock round one, [`Wish`] says what a
+//! wait is for, and [`put`] and [`take`] are made in a section. They ask for room, or an item, so who
+//! forgets to wait isn't proved.
+//!
+//! ```rust
+//! let held = ring.lock(&rt, seat);
+//! let mut held = ring.wait(&rt, held, Wish::Room); // comes back once there is room
+//! put(&ring, &mut held, 7);
+//! let seat = ring.unlock(&rt, held);
+//! ```
 #![tactic(auto)]
 
 mod consuming;
@@ -19,4 +30,6 @@ mod running;
 mod wish;
 
 pub use fault::LiveFault;
+pub use ring::{RingHeld, RingMonitor, RingSeat, put, take};
 pub use running::live;
+pub use wish::Wish;

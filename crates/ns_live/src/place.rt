@@ -1,7 +1,8 @@
 //! What the threads share, and how each waits there.
 
-ghost use Rattle.std.specs.Prelude.{◌≡◌};
+ghost use Rattle.std.specs.Prelude.{◌≡◌, true};
 ghost use Rattle.ns_model.specs.Environments.{IsMade};
+ghost use Rattle.ns_live.specs.Wishes.{IsMetIn};
 
 use crate::ring::{RingHeld, RingMonitor};
 use crate::wish::Wish;
@@ -53,6 +54,7 @@ pub fn wait_for<R: Wait>(
     requires made { IsMade env_seat.old.seen place.note.index }
     ensures of { (result.0.monitor ≡ place.entry.monitor.now) × (env_seat.new.env ≡ env_seat.old.env) }
     ensures made { IsMade env_seat.new.seen place.entry.note.index }
+    ensures met { result.1 ≡ true → IsMetIn wish result.0.held }
 {
     let (held, answer) = place.monitor.wait_with_deadline(
         rt,

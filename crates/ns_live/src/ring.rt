@@ -1,6 +1,10 @@
 //! The ring: what stands in which cell of the row, and a section's calls on it.
 
-ghost use Rattle.std.specs.Prelude.{◌≡◌};
+ghost use Rattle.std.specs.Prelude.{◌≡◌, ◌++◌, [], ◌∷◌, Some, slice_index};
+ghost use Rattle.ns_word.specs.Meanings.{InHand};
+ghost use Rattle.ns_live.specs.declared.wish.Wish.TheVariants.{Item, Room};
+ghost use Rattle.ns_live.specs.Rings.{queue_in, with_item, without_first};
+ghost use Rattle.ns_live.specs.Wishes.{IsMetIn};
 
 use crate::wish::Wish;
 use ns_monitor::caller::{Seat, WriteHeld};
@@ -21,39 +25,57 @@ const TAKEN: usize = 6;
 /// How many cells a row has.
 pub const ROW: usize = 7;
 
-/// The lock round the ring.
+/// A lock round a ring of four cells. As each monitor it is made with its seats.
 pub type RingMonitor = Monitor<Wish, ROW>;
 
-/// A seat of it.
+/// A seat of it, for one thread.
 pub type RingSeat = Seat<Wish, ROW>;
 
-/// A section of it that writes.
+/// A section of it, in which its thread alone has the ring.
 pub type RingHeld = WriteHeld<Wish, ROW>;
 
-/// Puts an item behind the others, in a section that has begun with room for it.
+/// Puts an item behind the others.
+///
+/// Needs a section whose ring has room, as one has that waited for [`Wish::Room`].
 pub fn put(monitor: &RingMonitor, held: &mut RingHeld, item: u64)
-    requires { held.old.monitor ≡ monitor.now }
-    ensures { held.new.monitor ≡ held.old.monitor }
+    requires of { held.old.monitor ≡ monitor.now }
+    requires room { IsMetIn Room held.old.held }
+    ensures of { held.new.monitor ≡ held.old.monitor }
+    ensures section { InHand held.old.held (λ section. held.new.held ≡ Some (record section { row = with_item item section.row })) }
+    ensures last { InHand held.old.held (λ section. queue_in (with_item item section.row) ≡ queue_in section.row ++ item ∷ []) }
 {
-    let head = monitor.get(held, HEAD);
+    let head = monitor.get(held, HEAD) % RING;
     let length = monitor.get(held, LENGTH);
     let free = head.wrapping_add(length) % RING;
     monitor.set(held, free as usize, item);
     monitor.set(held, LENGTH, length.wrapping_add(1));
 }
 
-/// Takes the first item, in a section that has begun with one. Answers it, and how many were taken by
-/// then.
-pub fn take(monitor: &RingMonitor, held: &mut RingHeld) -> (u64, u64)
-    requires { held.old.monitor ≡ monitor.now }
-    ensures { held.new.monitor ≡ held.old.monitor }
+/// Takes the first item, and answers it.
+///
+/// Needs a section whose ring has an item, as one has that waited for [`Wish::Item`].
+pub fn take(monitor: &RingMonitor, held: &mut RingHeld) -> u64
+    requires of { held.old.monitor ≡ monitor.now }
+    requires some { IsMetIn Item held.old.held }
+    ensures of { held.new.monitor ≡ held.old.monitor }
+    ensures section { InHand held.old.held (λ section. held.new.held ≡ Some (record section { row = without_first section.row })) }
+    ensures first { InHand held.old.held (λ section. queue_in section.row ≡ result ∷ queue_in (without_first section.row)) }
 {
     let head = monitor.get(held, HEAD) % RING;
     let item = monitor.get(held, head as usize);
     monitor.set(held, HEAD, (head + 1) % RING);
     let length = monitor.get(held, LENGTH);
     monitor.set(held, LENGTH, length.wrapping_sub(1));
-    let taken = monitor.get(held, TAKEN).wrapping_add(1);
-    monitor.set(held, TAKEN, taken);
-    (item, taken)
+    let taken = monitor.get(held, TAKEN);
+    monitor.set(held, TAKEN, taken.wrapping_add(1));
+    item
+}
+
+/// How many items were taken by now.
+pub fn count_taken(monitor: &RingMonitor, held: &mut RingHeld) -> u64
+    requires { held.old.monitor ≡ monitor.now }
+    ensures of { held.new.monitor ≡ held.old.monitor }
+    ensures count { InHand held.old.held (λ section. result ≡ slice_index section.row 6) }
+{
+    monitor.get(held, TAKEN)
 }

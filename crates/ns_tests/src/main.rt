@@ -17,6 +17,8 @@ mod crowd;
 mod examples;
 #[cfg(test)]
 mod gate;
+#[cfg(test)]
+mod live;
 mod memory;
 #[cfg(test)]
 mod model;

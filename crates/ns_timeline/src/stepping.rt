@@ -4,7 +4,7 @@ ghost use Rattle.std.specs.Prelude.{◌≡◌, ◌≤◌, ◌<◌, All, length};
 ghost use Rattle.ns_world.specs.Runs.{ListFits};
 
 use crate::line::{Drawn, push_turn};
-use crate::sight::Sight;
+use crate::sight::{Sight, both, only};
 use ns_model::seats::Seats;
 use ns_replay::ScriptCondition;
 use ns_world::call::Call;
@@ -31,6 +31,12 @@ pub struct Drawing {
     pub turns: u32,
 }
 
+/// Whether the thread's call was in progress before this step, and has to wait: such a step repeats a place,
+/// and changes nothing that is seen.
+fn is_waiting(seen: &Sight, thread: u8, step: Step) -> bool {
+    matches!(step, Step::Idle) && both(seen.busy, only(thread)) != Seats::none()
+}
+
 /// Draws a step of the thread's call, if it changed something, or the call is over.
 fn draw(
     drawing: &mut Drawing,
@@ -39,6 +45,9 @@ fn draw(
     call: Call<ScriptCondition>,
     step: Step,
 ) -> Result<(), AllocError> {
+    if is_waiting(&drawing.sight, thread, step) {
+        return Ok(());
+    }
     let after = drawing.sight.after(&world.state(), thread);
     let reply = match step {
         Step::Finished(reply) => Some(reply),
