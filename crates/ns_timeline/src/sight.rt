@@ -128,18 +128,18 @@ impl Sight {
             owed: owed(state.owed.as_slice()),
             busy: state.busy,
         }
-        .with_taken(self, thread)
+        .with_taken(self)
     }
 
-    /// The same, with those who have left their lists by this turn of the thread, or before it, while the
-    /// queues are in a hand.
-    fn with_taken(self, before: &Sight, thread: u8) -> Sight {
-        if self.queues.is_none() {
+    /// The same, with those whom the one with the queues in hand has taken, by this turn or before it: who
+    /// has stood in a list before, and stands in none now. The one with the queues may have left its own.
+    fn with_taken(self, before: &Sight) -> Sight {
+        let Some(hand) = self.queues else {
             return self;
-        }
+        };
         let listed = either(before.queued(), before.taken);
         Sight {
-            taken: without(listed, either(self.queued(), only(thread))),
+            taken: without(listed, either(self.queued(), only(hand))),
             ..self
         }
     }
