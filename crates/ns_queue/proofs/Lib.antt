@@ -7,6 +7,7 @@ pub mod RunCounts
 pub mod Orders
 pub mod Parts
 pub mod Seats
+pub mod Seeking
 pub mod Taken
 pub mod Wakes
 pub mod Woken

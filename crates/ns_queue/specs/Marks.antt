@@ -1,5 +1,5 @@
 -- Lists taken apart by marks, one for each waiter, and the stages in which a scan and a signal set them.
-use Rattle.std.specs.Prelude.{ℕ, ◌+◌, Bool, true, false, not, ◌&&◌, ◌||◌, List, [], ◌∷◌, if◌then◌else◌, Option, Some, is_none, is_some}
+use Rattle.std.specs.Prelude.{ℕ, suc, take, ◌+◌, Bool, true, false, not, ◌&&◌, ◌||◌, List, [], ◌∷◌, if◌then◌else◌, Option, Some, is_none, is_some}
 use Rattle.ns_queue.specs.declared.waiter.Waiter.{Waiter}
 use Rattle.ns_queue.specs.declared.stage.Stage.{Stage}
 use Rattle.ns_queue.specs.declared.stage.Stage.TheVariants.{Seeking, Reading, Ended}
@@ -61,6 +61,15 @@ tests_from same meets stage first known (w ∷ ws) =
     (if needs stage w && not known then 1 else 0) + tests_from same meets (stage_after meets stage w) first (needs stage w || known) ws
     else
     (if needs stage w && is_some w.cond then 1 else 0) + tests_from same meets (stage_after meets stage w) w.cond (needs stage w) ws
+
+-- how many stand in front of the first whom a scan takes
+abbrev pub in_front : {C : Type 0} → (C → Bool) → List (Waiter C) → ℕ
+in_front meets [] = 0
+in_front meets (w ∷ ws) = if is_eligible meets w then 0 else suc (in_front meets ws)
+
+-- the tests of a scan until it takes somebody, in a run with this first condition, which was tested
+abbrev pub tests_seeking : {C : Type 0} → (C → C → Bool) → (C → Bool) → Option C → List (Waiter C) → ℕ
+tests_seeking same meets first ws = tests_from same meets Seeking first (is_some first) (take (suc (in_front meets ws)) ws)
 
 -- whom a signal still wants after a waiter, and its marks from there on
 abbrev pub wanted_after : {C : Type 0} → Wanted → Waiter C → Wanted

@@ -1,14 +1,14 @@
 //! Whom a release of the lock wakes.
 
-ghost use Rattle.std.specs.Prelude.{◌≡◌, ◌≤◌, false, length};
+ghost use Rattle.std.specs.Prelude.{◌≡◌, ◌<◌, ◌≤◌, false, length};
 ghost use Rattle.std.specs.Option.{option_copied};
-ghost use Rattle.ns_queue.specs.Marks.{asked_for, asking, scan_marks, tests_from};
+ghost use Rattle.ns_queue.specs.Marks.{asked_for, asking, in_front, scan_marks, tests_from, tests_seeking};
 ghost use Rattle.ns_queue.specs.Scans.{is_alike, is_satisfied, left_of, runs_of, tests_of, woken_of};
 ghost use Rattle.ns_queue.specs.Queues.{with_waiters};
 ghost use Rattle.ns_queue.specs.Waiters.{seats_of};
 ghost use Rattle.ns_queue.specs.declared.stage.Stage.TheVariants.{Seeking};
 
-use crate::marks::{drop_marked, marked_seats};
+use crate::marks::{drop_marked, front_marks, marked_seats};
 use crate::queues::Queues;
 use crate::room::Queueable;
 use crate::stage::Stage;
@@ -70,18 +70,57 @@ fn ask<C: Queueable<N>, const N: usize>(
     (Some(is_met(first, row)), tests)
 }
 
-/// Decides who is taken.
-fn choose<C: Queueable<N>, const N: usize>(waiters: &[Waiter<C>], row: &[u64; N]) -> Choice
+/// How many stand in front of the first that is taken, which is all of them where nobody is, and how
+/// many conditions were tested to find that out.
+#[derive(Clone, Copy)]
+struct Sought {
+    passed: usize,
+    tests: u32,
+}
+
+/// Looks for the first that is taken. Up to there every condition is false, so one that is the same
+/// as the last one tested is passed without a test, and nobody needs a mark.
+fn seek<C: Queueable<N>, const N: usize>(waiters: &[Waiter<C>], row: &[u64; N]) -> Sought
     requires { length waiters.now ≤ 64 }
+    ensures passed { result.passed ≡ in_front (λ c. C.means.holds c row.now) waiters.now }
+    ensures tests { result.tests ≡ tests_seeking C.means.same (λ c. C.means.holds c row.now) None waiters.now }
+{
+    let mut first = None;
+    let mut passed = 0;
+    let mut tests = 0;
+    for waiter in waiters {
+        if !is_alike(waiter, first) {
+            first = waiter.cond.as_ref();
+            tests += if first.is_some() { 1 } else { 0 };
+            if is_met(first, row) {
+                break;
+            }
+        }
+        passed += 1;
+    }
+    Sought { passed, tests }
+}
+
+/// Decides who is taken, where a search has found the first.
+fn choose<C: Queueable<N>, const N: usize>(
+    waiters: &[Waiter<C>],
+    sought: Sought,
+    row: &[u64; N],
+) -> Choice
+    requires most { length waiters.now ≤ 64 }
+    requires found { sought.passed < length waiters.now }
+    requires passed { sought.passed ≡ in_front (λ c. C.means.holds c row.now) waiters.now }
+    requires tests { sought.tests ≡ tests_seeking C.means.same (λ c. C.means.holds c row.now) None waiters.now }
     ensures marks { result.marks.items ≡ scan_marks (λ c. C.means.holds c row.now) Seeking waiters.now }
     ensures tests { result.tests ≡ tests_from C.means.same (λ c. C.means.holds c row.now) Seeking None false waiters.now }
 {
-    let mut stage = Stage::Seeking;
-    let mut first = None;
-    let mut truth: Option<bool> = None;
-    let mut marks = ArrayVec::new();
-    let mut tests = 0;
-    for waiter in waiters {
+    let found = &waiters[sought.passed];
+    let mut stage = Stage::Seeking.after(true, found);
+    let mut first = found.cond.as_ref();
+    let mut truth = Some(true);
+    let mut marks = front_marks(sought.passed);
+    let mut tests = sought.tests;
+    for waiter in &waiters[sought.passed + 1..] {
         // Behind a writer that was taken nothing is needed, so no condition is looked at.
         if matches!(stage, Stage::Ended) {
             marks.push(false);
@@ -111,7 +150,15 @@ fn scan_list<C: Queueable<N>, const N: usize>(
     ensures left { waiters.new.items ≡ left_of (λ c. C.means.holds c row.now) waiters.old.items }
     ensures tests { result.tests ≡ tests_of C.means.same (λ c. C.means.holds c row.now) waiters.old.items }
 {
-    let choice = choose(waiters.as_slice(), row);
+    let sought = seek(waiters.as_slice(), row);
+    if sought.passed == waiters.len() {
+        // Nobody is taken, as at most releases: the list stays as it is, and isn't walked again.
+        return Scan {
+            woken: ArrayVec::new(),
+            tests: sought.tests,
+        };
+    }
+    let choice = choose(waiters.as_slice(), sought, row);
     let woken = marked_seats(waiters.as_slice(), choice.marks.as_slice());
     drop_marked(waiters, choice.marks.as_slice());
     Scan {

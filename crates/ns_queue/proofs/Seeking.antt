@@ -1,0 +1,216 @@
+-- Whom a scan takes first, and how many conditions it tests to find that one, or nobody.
+use Rattle.std.proofs.Common.{◌≡◌, ℕ, zero, suc, ◌+◌, ◌≤◌, ◌<◌, inl, inr, Bool, true, false, cond, List, [], ◌∷◌, ◌++◌, length, get_or, take, drop, replicate, Option, None, Some, is_some, IfSome, refl, ap, sym, ◌∙◌, arith, append_assoc, add-one, not, ◌&&◌, ◌||◌}
+use Rattle.std.proofs.lemmas.Bool.{cases_Bool}
+use Rattle.std.proofs.lemmas.List.{drop_all, length-append, length-replicate}
+use Rattle.ns_queue.specs.declared.waiter.Waiter.{Waiter}
+use Rattle.ns_queue.specs.declared.stage.Stage.{Stage}
+use Rattle.ns_queue.specs.declared.stage.Stage.TheVariants.{Seeking}
+use Rattle.ns_queue.specs.Scans.{is_eligible, is_satisfied, is_alike, woken_of, left_of}
+use Rattle.ns_queue.specs.Marks.{needs, stage_after, stage_next, scan_marks, tests_from, in_front, tests_seeking}
+use Rattle.ns_queue.proofs.Marking.{drop_step}
+
+pub at_most_one : (b : Bool) → cond b 1 0 ≤ 1
+at_most_one true = omega arith
+at_most_one false = omega arith
+
+few_taken : {A : Type 0} (n : ℕ) (xs : List A) → length (take n xs) ≤ n
+few_taken zero xs = omega arith
+few_taken (suc n) [] = omega arith
+few_taken (suc n) (x ∷ xs) = omega (arith, few_taken n xs)
+
+-- a condition that is tested is counted
+pub one_more : (answer is : Bool) (n : ℕ) → answer ≡ is → answer ≡ true → n ≡ 1 → n ≡ cond is 1 0
+one_more answer is n same holds one = rw (sym same ∙ holds) one
+
+pub none_more : (answer is : Bool) (n : ℕ) → answer ≡ is → answer ≡ false → n ≡ 0 → n ≡ cond is 1 0
+none_more answer is n same fails none = rw (sym same ∙ fails) none
+
+pub length_front : (n : ℕ) → length (replicate n false ++ true ∷ []) ≡ (n + 1) + 0
+length_front n = omega (arith, length-append (replicate n false) (true ∷ []), length-replicate n false)
+
+module _ {C : Type 0} (same : C → C → Bool) (meets : C → Bool) where
+  -- the condition, if there is one, is false
+  abbrev pub Unmet : Option C → Type 0
+  Unmet first = IfSome first (λ c. meets c ≡ false)
+
+  pub alike_unmet : ((c d : C) → same c d ≡ true → meets c ≡ meets d) → (o first : Option C) → Unmet first → is_alike same o first ≡ true → is_satisfied meets o ≡ false
+  alike_unmet agree (Some c) (Some d) unmet alike = agree c d alike ∙ unmet
+  alike_unmet agree (Some c) None unmet alike = absurd (cc)
+  alike_unmet agree None first unmet alike = absurd (cc)
+
+  -- what a test of a waiter's condition tells
+  pub answered : (o tested : Option C) (answer value : Bool) → tested ≡ o → answer ≡ is_satisfied meets tested → answer ≡ value → is_satisfied meets o ≡ value
+  answered o tested answer value new told is = ap (is_satisfied meets) (sym new) ∙ sym told ∙ is
+
+  pub unmet_of : (o : Option C) → is_satisfied meets o ≡ false → Unmet o
+  unmet_of None stays = tt
+  unmet_of (Some c) stays = stays
+
+  some_unmet : (o : Option C) → is_satisfied meets o ≡ false → is_some o ≡ true
+  some_unmet None stays = absurd (cc)
+  some_unmet (Some c) stays = refl
+
+  some_alike : (o first : Option C) → is_alike same o first ≡ true → is_some first ≡ true
+  some_alike (Some c) (Some d) alike = refl
+  some_alike (Some c) None alike = absurd (cc)
+  some_alike None first alike = absurd (cc)
+
+  -- ---- one waiter
+
+  front_no : (w : Waiter C) (ws : List (Waiter C)) → is_eligible meets w ≡ false → in_front meets (w ∷ ws) ≡ suc (in_front meets ws)
+  front_no w ws stays = rw stays refl
+
+  front_yes : (w : Waiter C) (ws : List (Waiter C)) → is_eligible meets w ≡ true → in_front meets (w ∷ ws) ≡ 0
+  front_yes w ws goes = rw goes refl
+
+  seeking_alike : (w : Waiter C) (ws : List (Waiter C)) (first : Option C) → is_eligible meets w ≡ false → is_alike same w.cond first ≡ true →
+      tests_seeking same meets first (w ∷ ws) ≡ tests_seeking same meets first ws
+  seeking_alike w ws first stays alike = rw (stays, alike, some_alike w.cond first alike) (omega arith)
+
+  seeking_other : (w : Waiter C) (ws : List (Waiter C)) (first : Option C) → is_eligible meets w ≡ false → is_alike same w.cond first ≡ false →
+      tests_seeking same meets first (w ∷ ws) ≡ cond (is_some w.cond) 1 0 + tests_seeking same meets w.cond ws
+  seeking_other w ws first stays other = rw (stays, other, some_unmet w.cond stays) refl
+
+  seeking_found : (w : Waiter C) (ws : List (Waiter C)) (first : Option C) → is_eligible meets w ≡ true → is_alike same w.cond first ≡ false →
+      tests_seeking same meets first (w ∷ ws) ≡ cond (is_some w.cond) 1 0
+  seeking_found w ws first goes other = rw (goes, other) (omega arith)
+
+  -- ---- one waiter further
+
+  pub front_on : (ws : List (Waiter C)) (i : ℕ) (w : Waiter C) (passed whole : ℕ) → i < length ws → w ≡ get_or ws i w → is_eligible meets w ≡ false →
+      passed + in_front meets (drop i ws) ≡ whole → (passed + 1) + in_front meets (drop (i + 1) ws) ≡ whole
+  front_on ws i w passed whole within is stays before =
+      let cut = ap (in_front meets) (drop_step ws i w w within (sym is)) in
+      omega (arith, cut, front_no w (drop (i + 1) ws) stays, before)
+
+  pub front_here : (ws : List (Waiter C)) (i : ℕ) (w : Waiter C) (passed whole : ℕ) → i < length ws → w ≡ get_or ws i w → is_eligible meets w ≡ true →
+      passed + in_front meets (drop i ws) ≡ whole → passed ≡ whole
+  front_here ws i w passed whole within is goes before =
+      let cut = ap (in_front meets) (drop_step ws i w w within (sym is)) in
+      omega (arith, cut, front_yes w (drop (i + 1) ws) goes, before)
+
+  pub sought_alike : (ws : List (Waiter C)) (i : ℕ) (w : Waiter C) (first : Option C) (tests whole : ℕ) → i < length ws → w ≡ get_or ws i w → is_eligible meets w ≡ false → is_alike same w.cond first ≡ true →
+      tests + tests_seeking same meets first (drop i ws) ≡ whole → tests + tests_seeking same meets first (drop (i + 1) ws) ≡ whole
+  sought_alike ws i w first tests whole within is stays alike before =
+      let cut = ap (tests_seeking same meets first) (drop_step ws i w w within (sym is)) in
+      omega (arith, cut, seeking_alike w (drop (i + 1) ws) first stays alike, before)
+
+  pub sought_other : (ws : List (Waiter C)) (i : ℕ) (w : Waiter C) (first : Option C) (tests more whole : ℕ) → i < length ws → w ≡ get_or ws i w → is_eligible meets w ≡ false → is_alike same w.cond first ≡ false →
+      more ≡ cond (is_some w.cond) 1 0 → tests + tests_seeking same meets first (drop i ws) ≡ whole → (tests + more) + tests_seeking same meets w.cond (drop (i + 1) ws) ≡ whole
+  sought_other ws i w first tests more whole within is stays other counts before =
+      let cut = ap (tests_seeking same meets first) (drop_step ws i w w within (sym is)) in
+      omega (arith, cut, seeking_other w (drop (i + 1) ws) first stays other, counts, before)
+
+  pub sought_found : (ws : List (Waiter C)) (i : ℕ) (w : Waiter C) (first : Option C) (tests more whole : ℕ) → i < length ws → w ≡ get_or ws i w → is_eligible meets w ≡ true → is_alike same w.cond first ≡ false →
+      more ≡ cond (is_some w.cond) 1 0 → tests + tests_seeking same meets first (drop i ws) ≡ whole → tests + more ≡ whole
+  sought_found ws i w first tests more whole within is goes other counts before =
+      let cut = ap (tests_seeking same meets first) (drop_step ws i w w within (sym is)) in
+      omega (arith, cut, seeking_found w (drop (i + 1) ws) first goes other, counts, before)
+
+  -- ---- at the end of the list
+
+  pub front_end : (ws : List (Waiter C)) (i passed whole : ℕ) → length ws ≤ i → passed + in_front meets (drop i ws) ≡ whole → passed ≡ whole
+  front_end ws i passed whole over before = let cut = ap (in_front meets) (drop_all i ws over) in omega (arith, cut, before)
+
+  pub sought_end : (ws : List (Waiter C)) (i : ℕ) (first : Option C) (tests whole : ℕ) → length ws ≤ i → tests + tests_seeking same meets first (drop i ws) ≡ whole → tests ≡ whole
+  sought_end ws i first tests whole over before = let cut = ap (tests_seeking same meets first) (drop_all i ws over) in omega (arith, cut, before)
+
+  -- ---- where nobody is taken
+
+  pub front_most : (ws : List (Waiter C)) → in_front meets ws ≤ length ws
+  front_most [] = omega arith
+  front_most (w ∷ ws) = elim (cases_Bool (is_eligible meets w)) [
+    | inl goes ↦ omega (arith, front_yes w ws goes)
+    | inr stays ↦ omega (arith, front_no w ws stays, front_most ws)
+  ]
+
+  pub nobody_taken : (ws : List (Waiter C)) → in_front meets ws ≡ length ws → woken_of meets ws ≡ []
+  nobody_taken [] all = refl
+  nobody_taken (w ∷ ws) all = elim (cases_Bool (is_eligible meets w)) [
+    | inl goes ↦ absurd (omega (arith, all, front_yes w ws goes))
+    | inr stays ↦ rw stays (nobody_taken ws (omega (arith, all, front_no w ws stays)))
+  ]
+
+  pub all_left : (ws : List (Waiter C)) → in_front meets ws ≡ length ws → left_of meets ws ≡ ws
+  all_left [] all = refl
+  all_left (w ∷ ws) all = elim (cases_Bool (is_eligible meets w)) [
+    | inl goes ↦ absurd (omega (arith, all, front_yes w ws goes))
+    | inr stays ↦ rw stays (ap (λ vs. w ∷ vs) (all_left ws (omega (arith, all, front_no w ws stays))))
+  ]
+
+  pub all_passed : (ws items : List (Waiter C)) (passed n : ℕ) → ws ≡ items → passed ≡ in_front meets ws → n ≡ length items → passed ≡ n → in_front meets items ≡ length items
+  all_passed ws items passed n is front size all = let here : passed ≡ in_front meets items = front ∙ ap (in_front meets) is in omega (arith, here, size, all)
+
+  pub some_ahead : (ws vs items : List (Waiter C)) (passed n : ℕ) → ws ≡ items → vs ≡ items → passed ≡ in_front meets ws → n ≡ length items → (passed ≡ n → ⊥) → passed < length vs
+  some_ahead ws vs items passed n is same_list front size some =
+      let here : passed ≡ in_front meets items = front ∙ ap (in_front meets) is in rw same_list (omega (arith, here, size, some, front_most items))
+
+  whole_list : (ws : List (Waiter C)) → take (suc (length ws)) ws ≡ ws
+  whole_list [] = refl
+  whole_list (w ∷ ws) = ap (λ vs. w ∷ vs) (whole_list ws)
+
+  pub all_sought : (ws : List (Waiter C)) → in_front meets ws ≡ length ws → tests_seeking same meets None ws ≡ tests_from same meets Seeking None false ws
+  all_sought ws all = rw (all, whole_list ws) refl
+
+  -- ---- where somebody is taken
+
+  pub found_at : (ws : List (Waiter C)) (w : Waiter C) → in_front meets ws < length ws → w ≡ get_or ws (in_front meets ws) w → is_eligible meets w ≡ true
+  found_at [] w within is = absurd (omega (arith, within))
+  found_at (v ∷ ws) w within is = elim (cases_Bool (is_eligible meets v)) [
+    | inl goes ↦ let here : w ≡ v = rw goes at is in ap (is_eligible meets) here ∙ goes
+    | inr stays ↦ found_at ws w (omega (arith, within, front_no v ws stays)) (rw stays at is)
+  ]
+
+  pub marks_found : (ws : List (Waiter C)) (w : Waiter C) → in_front meets ws < length ws → w ≡ get_or ws (in_front meets ws) w →
+      replicate (in_front meets ws) false ++ true ∷ scan_marks meets (stage_next Seeking true w) (drop (suc (in_front meets ws)) ws) ≡ scan_marks meets Seeking ws
+  marks_found [] w within is = absurd (omega (arith, within))
+  marks_found (v ∷ ws) w within is = elim (cases_Bool (is_eligible meets v)) [
+    | inl goes ↦ let here : w ≡ v = rw goes at is in rw (goes, here) refl
+    | inr stays ↦ rw stays (ap (λ ms. false ∷ ms) (marks_found ws w (omega (arith, within, front_no v ws stays)) (rw stays at is)))
+  ]
+
+  tests_split : ((c d : C) → same c d ≡ true → meets c ≡ meets d) → (first : Option C) (ws : List (Waiter C)) (w : Waiter C) → Unmet first → in_front meets ws < length ws → w ≡ get_or ws (in_front meets ws) w →
+      tests_seeking same meets first ws + tests_from same meets (stage_next Seeking true w) w.cond true (drop (suc (in_front meets ws)) ws) ≡ tests_from same meets Seeking first (is_some first) ws
+  tests_split agree first [] w unmet within is = absurd (omega (arith, within))
+  tests_split agree first (v ∷ ws) w unmet within is = elim (cases_Bool (is_eligible meets v)) [
+    | inl goes ↦ elim (cases_Bool (is_alike same v.cond first)) [
+      | inl alike ↦ let stays = alike_unmet agree v.cond first unmet alike in absurd (cc)
+      | inr other ↦ let here : w ≡ v = rw goes at is in rw (goes, here, other) (omega arith)
+    ]
+    | inr stays ↦ elim (cases_Bool (is_alike same v.cond first)) [
+      | inl alike ↦ let rest = rw (some_alike v.cond first alike) at (tests_split agree first ws w unmet (omega (arith, within, front_no v ws stays)) (rw stays at is)) in
+          rw (stays, alike, some_alike v.cond first alike) (omega (arith, rest))
+      | inr other ↦ let rest = rw (some_unmet v.cond stays) at (tests_split agree v.cond ws w (unmet_of v.cond stays) (omega (arith, within, front_no v ws stays)) (rw stays at is)) in
+          rw (stays, other, some_unmet v.cond stays) (omega (arith, rest))
+    ]
+  ]
+
+  pub tests_found : ((c d : C) → same c d ≡ true → meets c ≡ meets d) → (ws : List (Waiter C)) (w : Waiter C) → in_front meets ws < length ws → w ≡ get_or ws (in_front meets ws) w →
+      tests_seeking same meets None ws + tests_from same meets (stage_next Seeking true w) w.cond true (drop (suc (in_front meets ws)) ws) ≡ tests_from same meets Seeking None false ws
+  tests_found agree ws w within is = tests_split agree None ws w tt within is
+
+  tests_most : (first : Option C) (known : Bool) (ws : List (Waiter C)) (stage : Stage) → tests_from same meets stage first known ws ≤ length ws
+  tests_most first known [] stage = omega arith
+  tests_most first known (w ∷ ws) stage = elim (cases_Bool (is_alike same w.cond first)) [
+    | inl alike ↦ rw alike (omega (arith, at_most_one (needs stage w && not known), tests_most first (needs stage w || known) ws (stage_after meets stage w)))
+    | inr other ↦ rw other (omega (arith, at_most_one (needs stage w && is_some w.cond), tests_most w.cond (needs stage w) ws (stage_after meets stage w)))
+  ]
+
+  -- no more tests than those passed and the one found
+  pub few_sought : (ws : List (Waiter C)) (passed tests : ℕ) → passed ≡ in_front meets ws → tests ≡ tests_seeking same meets None ws → tests ≤ passed + 1
+  few_sought ws passed tests front count =
+      omega (arith, front, count, tests_most None false (take (suc (in_front meets ws)) ws) Seeking, few_taken (suc (in_front meets ws)) ws)
+
+  pub marks_start : (ws rest : List (Waiter C)) (w : Waiter C) (passed : ℕ) (stage : Stage) (got : List Bool) → passed ≡ in_front meets ws → passed < length ws → w ≡ get_or ws passed w →
+      stage ≡ stage_next Seeking true w → got ≡ replicate passed false ++ true ∷ [] → rest ≡ drop (passed + 1) ws → got ++ scan_marks meets stage rest ≡ scan_marks meets Seeking ws
+  marks_start ws rest w passed stage got front within is after mark behind =
+      rw (mark, append_assoc, after, behind, add-one, front) (marks_found ws w (rw front at within) (rw front at is))
+
+  pub tests_start : ((c d : C) → same c d ≡ true → meets c ≡ meets d) → (ws rest : List (Waiter C)) (w : Waiter C) (passed tests : ℕ) (stage : Stage) (first : Option C) → passed ≡ in_front meets ws → passed < length ws →
+      w ≡ get_or ws passed w → stage ≡ stage_next Seeking true w → first ≡ w.cond → tests ≡ tests_seeking same meets None ws → rest ≡ drop (passed + 1) ws →
+      tests + tests_from same meets stage first true rest ≡ tests_from same meets Seeking None false ws
+  tests_start agree ws rest w passed tests stage first front within is after begins count behind =
+      rw (count, after, behind, begins, add-one, front) (tests_found agree ws w (rw front at within) (rw front at is))
+
+  pub known_start : (ws : List (Waiter C)) (w : Waiter C) (passed : ℕ) (first : Option C) → passed ≡ in_front meets ws → passed < length ws → w ≡ get_or ws passed w → first ≡ w.cond → true ≡ is_satisfied meets first
+  known_start ws w passed first front within is begins = rw begins (sym (found_at ws w (rw front at within) (rw front at is)))
