@@ -41,14 +41,20 @@ mod words;
 use crate::compare::report;
 use crate::row::Row;
 use std::rt::Files;
+use std::sync::Wait;
+use std::thread::Threads;
 use std::{env, fs, io};
 
 /// Runs the row that a line of the list names, and prints what came of it.
-fn try_row<R: Files + AllocGlobal + Print>(rt: &R, folder: &str, line: &str) -> io::Result<()> {
+fn try_row<R: Files + AllocGlobal + Print + Threads + Wait + Sync>(
+    rt: &R,
+    folder: &str,
+    line: &str,
+) -> io::Result<()> {
     let (name, given) = line.split_once(" of ").unwrap_or((line, line));
     match Row::read(rt, folder, name, given) {
         Ok(row) => {
-            let got = row.run(rt.alloc())?;
+            let got = row.run(rt)?;
             report(rt, name, &row.wanted, &got)
         }
         Err(error) => println!(rt; "{name}: FAILED\n  it can't be read: {error}"),

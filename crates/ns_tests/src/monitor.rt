@@ -6,14 +6,19 @@ ghost use Rattle.ns_model.specs.Truths.{truths};
 ghost use Rattle.std.specs.Thread.{IsSync};
 
 use crate::examples::Plain;
+use crate::note::{is_notified, notify};
+use crate::waits::two_env_seats;
 use ns_model::condition::Condition;
 use ns_monitor::Fault;
 use ns_monitor::caller::{ReadHeld, Seat};
 use ns_monitor::monitor::Monitor;
+use ns_note::env::Env;
+use ns_note::note::Note;
+use ns_note::seat::EnvSeat;
 use std::alloc::Global;
 use std::sync::Wait;
 use std::test::Fail;
-use std::thread::{Threads, join};
+use std::thread::{Threads, join, yield_now};
 
 /// A condition that is never true. A change is quiet where the first cell has not risen.
 #[derive(Clone, Copy)]
@@ -261,6 +266,79 @@ fn two_readers_meet(rt: HostRuntime) -> Result<(), Fail> {
     let second = monitor.runlock(&rt, second);
     let (first, _) = monitor.meet(first, second);
     assert!(rt; monitor.close(first).free);
+    Ok(())
+}
+
+/// Looks until the note is seen to be notified, and answers whether it was.
+fn looks_for(env: &Env, env_seat: &mut EnvSeat, note: Note) -> bool
+    requires { env_seat.old.env ≡ env.now }
+{
+    for _ in 0..MANY_TRIES {
+        if is_notified(env, env_seat, note) == Some(true) {
+            return true;
+        }
+        yield_now();
+    }
+    false
+}
+
+/// In a read section, notifies the one note and looks for the other. Answers whether it saw that.
+fn read_and_look<R: Wait>(
+    rt: &R,
+    monitor: &Monitor<Plain, 2>,
+    seat: Seat<Plain, 2>,
+    env: &Env,
+    env_seat: &mut EnvSeat,
+    mine: Note,
+    other: Note,
+) -> bool
+    requires { (seat.monitor ≡ monitor.now) × (env_seat.old.env ≡ env.now) }
+{
+    let held = monitor.rlock(rt, seat);
+    let _ = notify(env, env_seat, mine);
+    let seen = looks_for(env, env_seat, other);
+    monitor.runlock(rt, held);
+    seen
+}
+
+/// Two threads look for each other's note, each in a read section.
+fn look_for_each_other<R: Threads + Wait + Sync>(
+    rt: &R,
+    monitor: &Monitor<Plain, 2>,
+    first: Seat<Plain, 2>,
+    second: Seat<Plain, 2>,
+    env: &Env,
+    mut one: EnvSeat,
+    mut two: EnvSeat,
+    notes: (Note, Note),
+) -> (bool, bool)
+    requires monitor { (first.monitor ≡ monitor.now) × (second.monitor ≡ monitor.now) }
+    requires env { (one.env ≡ env.now) × (two.env ≡ env.now) }
+{
+    join(
+        rt,
+        move || -> bool
+            requires { IsSync R.row × (first.monitor ≡ monitor.now) × (one.env ≡ env.now) }
+        { read_and_look(rt, monitor, first, env, &mut one, notes.0, notes.1) },
+        move || -> bool
+            requires { IsSync R.row × (second.monitor ≡ monitor.now) × (two.env ≡ env.now) }
+        { read_and_look(rt, monitor, second, env, &mut two, notes.1, notes.0) },
+    )
+}
+
+/// Two threads are in read sections at once: each sees there that the other is in its own.
+#[test]
+fn two_readers_see_each_other(rt: HostRuntime) -> Result<(), Fail> {
+    let Some((monitor, first, second)) = two_seats(rt.alloc()) else {
+        panic!(rt; "no monitor")
+    };
+    let Some((env, mut one, mut two)) = two_env_seats(rt.alloc()) else {
+        panic!(rt; "no environment")
+    };
+    let mine = env.note_new(&mut one, None, None)?;
+    let other = env.note_new(&mut two, None, None)?;
+    let seen = look_for_each_other(&rt, &monitor, first, second, &env, one, two, (mine, other));
+    assert_eq!(rt; seen, (true, true));
     Ok(())
 }
 

@@ -38,7 +38,7 @@ fn make(env: &Env, seat: &mut EnvSeat, parent: Option<Note>, deadline: Option<u6
 }
 
 /// Whether the note is notified, where the seat knows it.
-fn is_notified(env: &Env, seat: &mut EnvSeat, note: Note) -> Option<bool>
+pub fn is_notified(env: &Env, seat: &mut EnvSeat, note: Note) -> Option<bool>
     requires { seat.old.env ≡ env.now }
     ensures { seat.new.env ≡ seat.old.env }
 {
@@ -74,7 +74,7 @@ fn expiry(env: &Env, seat: &mut EnvSeat, note: Note) -> Option<Option<u64>>
 }
 
 /// Notifies the note, where the seat knows it, and answers whether it does.
-fn notify(env: &Env, seat: &mut EnvSeat, note: Note) -> bool
+pub fn notify(env: &Env, seat: &mut EnvSeat, note: Note) -> bool
     requires { seat.old.env ≡ env.now }
     ensures { seat.new.env ≡ seat.old.env }
 {

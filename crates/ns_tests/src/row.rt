@@ -3,9 +3,12 @@
 ghost use Rattle.std.specs.Prelude.{◌≡◌, false};
 
 use crate::memory::{Collected, Given, Printed};
-use ns_command::run;
+use ns_command::{Ending, finish_live, run};
+use ns_live::live;
 use std::alloc::{AllocError, Global};
 use std::rt::Files;
+use std::sync::Wait;
+use std::thread::Threads;
 use std::{fs, io};
 
 /// What a user sees of a run.
@@ -55,9 +58,21 @@ fn status_in(bytes: &[u8]) -> io::Result<u8> {
     }
 }
 
-/// What is seen of a run by these words over these streams.
-pub fn run_seen(
-    alloc: Global,
+/// Makes the live threads that a run has asked for. Answers how that ended, and what was written.
+fn run_live<R: AllocGlobal + Threads + Wait + Sync>(
+    rt: &R,
+    items: u32,
+    printer: &mut Printed,
+) -> (Ending, Vec<u8>) {
+    let mut sink = Collected::new(rt.alloc());
+    let outcome = live(rt, rt.alloc(), u64::from(items));
+    let ending = finish_live(rt.alloc(), items, outcome, &mut sink, printer);
+    (ending, sink.into_bytes())
+}
+
+/// What is seen of a run by these words over these streams. Live threads write to a sink of their own.
+pub fn run_seen<R: AllocGlobal + Threads + Wait + Sync>(
+    rt: &R,
     words: &[String],
     source: Given,
     sink: Collected,
@@ -69,8 +84,16 @@ pub fn run_seen(
     let mut source = source;
     let mut sink = sink;
     let mut printer = printer;
-    let ending = run(alloc, words, &mut source, &mut sink, &mut printer);
+    let ending = run(rt.alloc(), words, &mut source, &mut sink, &mut printer);
     let mut output = sink.into_bytes();
+    let ending = match ending {
+        Ending::LiveAsked(items) => {
+            let (ending, written) = run_live(rt, items, &mut printer);
+            output.extend_from_slice(&written)?;
+            ending
+        }
+        ending => ending,
+    };
     output.extend_from_slice(printer.output.as_bytes())?;
     Ok(Seen {
         output,
@@ -106,13 +129,13 @@ impl Row {
     }
 
     /// What is seen of a run of the program in memory.
-    pub fn run(&self, alloc: Global) -> Result<Seen, AllocError> {
+    pub fn run<R: AllocGlobal + Threads + Wait + Sync>(&self, rt: &R) -> Result<Seen, AllocError> {
         run_seen(
-            alloc,
+            rt,
             self.words.as_slice(),
             Given::new(&self.input),
-            Collected::new(alloc),
-            Printed::new(alloc),
+            Collected::new(rt.alloc()),
+            Printed::new(rt.alloc()),
         )
     }
 }

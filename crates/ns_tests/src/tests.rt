@@ -3,9 +3,10 @@
 use crate::memory::{Collected, Given, Printed};
 use crate::row::{Seen, run_seen, words_in};
 use ns_command::without_words;
-use std::alloc::Global;
 use std::io;
+use std::sync::Wait;
 use std::test::Fail;
+use std::thread::Threads;
 
 /// The first path.
 const FIRST: &str =
@@ -25,7 +26,7 @@ fn failing_reads(rt: HostRuntime) -> Result<(), Fail> {
     let words = words_in(rt.alloc(), "replay")?;
     for reads in 0..FIRST.len() + 1 {
         let got = run_seen(
-            rt.alloc(),
+            &rt,
             words.as_slice(),
             Given::in_pieces(FIRST.as_bytes(), 1, reads),
             Collected::new(rt.alloc()),
@@ -41,7 +42,7 @@ fn failing_writes(rt: HostRuntime) -> Result<(), Fail> {
     let words = words_in(rt.alloc(), "replay")?;
     for writes in 0..FIRST_TEXT.len() {
         let got = run_seen(
-            rt.alloc(),
+            &rt,
             words.as_slice(),
             Given::new(FIRST.as_bytes()),
             Collected::with_room(rt.alloc(), 1, writes),
@@ -64,7 +65,7 @@ fn failing_writes(rt: HostRuntime) -> Result<(), Fail> {
 fn sink_that_takes_nothing(rt: HostRuntime) -> Result<(), Fail> {
     let words = words_in(rt.alloc(), "replay")?;
     let got = run_seen(
-        rt.alloc(),
+        &rt,
         words.as_slice(),
         Given::new(FIRST.as_bytes()),
         Collected::with_room(rt.alloc(), 0, usize::MAX),
@@ -75,14 +76,18 @@ fn sink_that_takes_nothing(rt: HostRuntime) -> Result<(), Fail> {
 }
 
 /// What is seen of a run by the words, whose streams serve, but whose printer may not.
-fn seen_by(alloc: Global, words: &str, printer: Printed) -> Result<Seen, Fail> {
-    let words = words_in(alloc, words)?;
+fn seen_by<R: AllocGlobal + Threads + Wait + Sync>(
+    rt: &R,
+    words: &str,
+    printer: Printed,
+) -> Result<Seen, Fail> {
+    let words = words_in(rt.alloc(), words)?;
     let source = Given::new(FIRST.as_bytes());
     Ok(run_seen(
-        alloc,
+        rt,
         words.as_slice(),
         source,
-        Collected::new(alloc),
+        Collected::new(rt.alloc()),
         printer,
     )?)
 }
@@ -102,7 +107,7 @@ fn failing_printers(rt: HostRuntime) -> Result<(), Fail> {
         let mut printer = Printed::new(rt.alloc());
         printer.takes_output = takes_output;
         printer.takes_errors = takes_errors;
-        let got = seen_by(rt.alloc(), words, printer)?;
+        let got = seen_by(&rt, words, printer)?;
         assert!(rt;
             is_seen(&got, output.as_bytes(), errors, status),
             "at {words}"

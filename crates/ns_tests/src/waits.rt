@@ -69,7 +69,7 @@ fn two_seats(alloc: Global) -> Option<(Monitor<AtLeast, 2>, Seat<AtLeast, 2>, Se
 }
 
 /// An environment and its two seats.
-fn two_env_seats(alloc: Global) -> Option<(Env, EnvSeat, EnvSeat)>
+pub fn two_env_seats(alloc: Global) -> Option<(Env, EnvSeat, EnvSeat)>
     ensures { IfSome result (λ r. (r.1.env ≡ r.0) × (r.2.env ≡ r.0)) }
 {
     let (env, mut seats) = Env::new(alloc, 2).ok()?;

@@ -10,7 +10,7 @@
 //! let mut source = OverRead::new(script.as_slice());
 //! let mut sink = OverWrite::new(&mut picture);
 //! match timeline(rt.alloc(), &mut source, &mut sink, 1_000) {
-//!     Ok(()) => assert!(rt; picture.ends_with(b"     4      0 unlock, releases -> ok\n")),
+//!     Ok(()) => assert!(rt; picture.ends_with(b"       4      0 unlock, releases -> ok\n")),
 //!     Err(fault) => assert_eq!(rt; fault, Fault::OutOfMemory),
 //! }
 //! ```

@@ -18,8 +18,8 @@ const KEPT: usize = 98;
 
 /// What the marks in a column mean.
 const LEGEND: [&str; 2] = [
-    "#  writes   :  reads   @  has the queues   .  is on its way   !  is to be woken",
-    "z  waits for the lock or a condition   0-3  waits for the condition variable",
+    "#  writes   :  reads   @  has the queues   .  is in a call   !  is to be woken",
+    "z  waits for the lock or a condition   0-3  waits for that condition variable",
 ];
 
 /// A turn, as it is drawn.
@@ -69,7 +69,7 @@ pub fn push_head(
         )?;
     }
     line.clear();
-    line.push_str("  turn  ")?;
+    line.push_str("    turn  ")?;
     push_numbers(line, shown)?;
     push_cut(picture, line.trim_end())
 }
@@ -83,7 +83,7 @@ fn set_turn(
 ) -> Result<(), AllocError> {
     let Drawn { turn, thread, .. } = *drawn;
     line.clear();
-    write!(line, "{turn:>6}  ")?;
+    write!(line, "{turn:>8}  ")?;
     push_columns(line, shown, drawn.after)?;
     write!(line, " {thread} ")?;
     if is_whole {

@@ -132,14 +132,14 @@ impl Sight {
     }
 
     /// The same, with those whom the one with the queues in hand has taken, by this turn or before it: who
-    /// has stood in a list before, and stands in none now. The one with the queues may have left its own.
+    /// has stood in a list before, and stands in none now.
     fn with_taken(self, before: &Sight) -> Sight {
-        let Some(hand) = self.queues else {
+        if self.queues.is_none() {
             return self;
-        };
+        }
         let listed = either(before.queued(), before.taken);
         Sight {
-            taken: without(listed, either(self.queued(), only(hand))),
+            taken: without(listed, self.queued()),
             ..self
         }
     }

@@ -31,8 +31,8 @@ pub struct Drawing {
     pub turns: u32,
 }
 
-/// Whether the thread's call was in progress before this step, and has to wait: such a step repeats a place,
-/// and changes nothing that is seen.
+/// Whether the thread's call was in progress before this step, and has to wait: such a step has only loaded,
+/// or failed to exchange, and changed nothing that is seen.
 fn is_waiting(seen: &Sight, thread: u8, step: Step) -> bool {
     matches!(step, Step::Idle) && both(seen.busy, only(thread)) != Seats::none()
 }

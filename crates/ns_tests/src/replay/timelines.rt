@@ -6,16 +6,16 @@ use ns_replay::{Fault, OverRead, OverWrite, Place, Sink};
 use ns_timeline::timeline;
 
 const PICTURE: &str = "\
-#  writes   :  reads   @  has the queues   .  is on its way   !  is to be woken
-z  waits for the lock or a condition   0-3  waits for the condition variable
-  turn  0
-     1   .  0 trylock
-     2  #   0 trylock, acquires -> ok
-     3  #.  0 set 0 5
-     4  #   0 set 0 5 -> ok
-     5  #   0 get 0 -> 5
-     6  #.  0 unlock
-     7      0 unlock, releases -> ok
+#  writes   :  reads   @  has the queues   .  is in a call   !  is to be woken
+z  waits for the lock or a condition   0-3  waits for that condition variable
+    turn  0
+       1   .  0 trylock
+       2  #   0 trylock, acquires -> ok
+       3  #.  0 set 0 5
+       4  #   0 set 0 5 -> ok
+       5  #   0 get 0 -> 5
+       6  #.  0 unlock
+       7      0 unlock, releases -> ok
 ";
 
 /// Where the sink fails, a front of the picture was written, and nothing after that.
@@ -74,7 +74,7 @@ fn head_example(rt: HostRuntime) {
     let mut source = OverRead::new(script.as_slice());
     let mut sink = OverWrite::new(&mut picture);
     match timeline(rt.alloc(), &mut source, &mut sink, 1_000) {
-        Ok(()) => assert!(rt; picture.ends_with(b"     4      0 unlock, releases -> ok\n")),
+        Ok(()) => assert!(rt; picture.ends_with(b"       4      0 unlock, releases -> ok\n")),
         Err(fault) => assert_eq!(rt; fault, Fault::OutOfMemory),
     }
 }
