@@ -1,10 +1,10 @@
 -- A step takes its call on, as its caller follows it.
 use Rattle.std.proofs.Common.{◌≡◌, ℕ, ◌≤◌, true, false, arith, List, [], ◌∷◌, ◌++◌, length, Option, None, Some, refl, ap, sym, ◌∙◌, subst}
 use Rattle.std.proofs.lemmas.List.{append_assoc, append-nil}
-use Rattle.ns_gate.specs.Calls.{SeatOf, IsTrueToHistory, IsWide, IsAtRest, OwesBelow, HasSince, IsAt, HasAnswered, Leads}
+use Rattle.ns_gate.specs.Calls.{SeatOf, IsTrueToHistory, IsWide, IsAtRest, OwesBelow, HasSince, IsAt, Leads}
 use Rattle.ns_gate.proofs.Tells.{fits_now}
 use Rattle.ns_gate.specs.Law.{GateView}
-use Rattle.ns_gate.specs.Steps.{the, IsOne, walk_by, course_by, CanStep, Did, Performed}
+use Rattle.ns_gate.specs.Steps.{the, IsOne, walk_by, course_by, carried_by, CanStep, Did, Performed}
 use Rattle.ns_model.proofs.Beginnings.{begins_itself, begins_through}
 use Rattle.ns_model.specs.Histories.{Standing, row_after, standing_after}
 use Rattle.ns_model.specs.Truths.{Truths}
@@ -28,8 +28,6 @@ use Rattle.ns_word.specs.Begins.{IsFirst}
 use Rattle.ns_word.specs.declared.view.Held.{Held}
 use Rattle.ns_word.specs.declared.view.SeatView.{SeatView}
 use Rattle.ns_word.specs.declared.walk.Next.TheVariants.{On, Idle, Done}
-use Rattle.ns_word.specs.declared.request.Request.{Request}
-use Rattle.ns_word.specs.declared.walk.Reply.{Reply}
 use Rattle.ns_word.specs.declared.walk.Next.{Next}
 use Rattle.ns_word.specs.declared.walk.Walk.{Walk}
 
@@ -72,9 +70,9 @@ module _ {C : Type 0} {N : ℕ} (truths : Truths C) where
       let told = subst (λ n. IsTold truths.holds n (d.history ++ d.commits) w.at.seat w.at.walk w.told) (sym d.limit) d.told_now in
       record { legal = told.legal; by_seats = told.by_seats; own = sym told.own_seen }
 
-  -- behind a step that begins the call, or goes on in it
-  since_step : (b : Option (Walk C)) (found : Found) (v w : GateView C N) → Did truths b found v w → HasSince truths b v w
-  since_step b found v w d = record {
+  -- A step begins the call, or goes on in it.
+  pub since : (b : Option (Walk C)) (act : Act C) (found : Found) (me now : SeatOf C N) → Performed truths b act found me now → HasSince b (the me.0) (the now.0)
+  since b act found me now p = let d = p.did in record {
     limit = d.limit;
     seat = ap (λ (x : SeatView C N). x.seat) d.becomes;
     begins = d.grows;
@@ -83,27 +81,12 @@ module _ {C : Type 0} {N : ℕ} (truths : Truths C) where
     committed = ap (λ (c : Course C N). c.committed) d.course;
     began = ap (λ (c : Course C N). c.began) d.course;
     calls = ap (λ (t : Told C N). t.begun) d.tells;
-    true_to = true_after found b v w d;
-  }
-
-  -- the steps of one call, and further steps of it
-  pub since_then : (b : Option (Walk C)) (v u w : GateView C N) → HasSince truths b v u → HasSince truths None u w → HasSince truths b v w
-  since_then b v u w s t = record {
-    limit = t.limit ∙ s.limit;
-    seat = t.seat ∙ s.seat;
-    begins = begins_through w.told.seen u.told.seen v.told.seen t.begins s.begins;
-    commits = s.commits ++ t.commits;
-    mine = t.mine ∙ (ap (λ es. es ++ t.commits) s.mine ∙ append_assoc v.told.mine s.commits t.commits);
-    committed = t.committed ∙ (ap (λ es. es ++ t.commits) s.committed ∙ append_assoc (course_by b v).committed s.commits t.commits);
-    began = t.began ∙ s.began;
-    calls = t.calls ∙ (append-nil u.told.begun ∙ s.calls);
-    true_to = t.true_to;
   }
 
   -- where the step leads
-  leads : (calls b : Option (Walk C)) (walk : Walk C) (found : Found) (next : Next C) (v u : GateView C N) (now : SeatOf C N) → IsOne now.0 → (has_queues (walk_after next) ≡ false → now.1 ≡ []) → walk_by b u.at.walk ≡ Some walk → got_of N walk found ≡ next
-      → (d : Did truths b found u (the now.0)) → HasSince truths calls v (the now.0) → Leads truths calls (asked_of walk) next v now
-  leads calls b walk found next v u now one empty walks is d since = goes next is empty (subst (λ w. CallGoes truths u.at.seat (row_after (d.history ++ d.commits)) (asked_of w) (the now.0).course (got_of N w found) (the now.0).at.held) same d.goes) where
+  leads : (b : Option (Walk C)) (walk : Walk C) (found : Found) (next : Next C) (u : GateView C N) (now : SeatOf C N) → IsOne now.0 → (has_queues (walk_after next) ≡ false → now.1 ≡ []) → walk_by b u.at.walk ≡ Some walk → got_of N walk found ≡ next
+      → (d : Did truths b found u (the now.0)) → Leads truths (asked_of walk) next now
+  leads b walk found next u now one empty walks is d = goes next is empty (subst (λ w. CallGoes truths u.at.seat (row_after (d.history ++ d.commits)) (asked_of w) (the now.0).course (got_of N w found) (the now.0).at.held) same d.goes) where
     same : d.made.step.walk ≡ walk
     same = stepped b d walks where
       stepped : (b : Option (Walk C)) (d : Did truths b found u (the now.0)) → walk_by b u.at.walk ≡ Some walk → d.made.step.walk ≡ walk
@@ -133,69 +116,55 @@ module _ {C : Type 0} {N : ℕ} (truths : Truths C) where
       owes = none_of w.at.owed (d.fits.owes ∙ ap pays over);
       settled = subst (λ x. PlaceFits truths x w.at.held) over d.fits.place;
       wide = is_wide;
-      true_to = since.true_to;
+      true_to = true_after found b u w d;
     }
 
-    goes : (next : Next C) → got_of N walk found ≡ next → (has_queues (walk_after next) ≡ false → now.1 ≡ []) → CallGoes truths u.at.seat (row_after (d.history ++ d.commits)) (asked_of walk) w.course (got_of N walk found) w.at.held → Leads truths calls (asked_of walk) next v now
+    goes : (next : Next C) → got_of N walk found ≡ next → (has_queues (walk_after next) ≡ false → now.1 ≡ []) → CallGoes truths u.at.seat (row_after (d.history ++ d.commits)) (asked_of walk) w.course (got_of N walk found) w.at.held → Leads truths (asked_of walk) next now
     goes next is empty g = by_next next empty (walks_now ∙ ap walk_after is) (as_now next (subst (λ x. CallGoes truths u.at.seat (row_after (d.history ++ d.commits)) (asked_of walk) w.course x w.at.held) is g)) where
-      by_next : (next : Next C) → (has_queues (walk_after next) ≡ false → now.1 ≡ []) → w.at.walk ≡ walk_after next → CallGoes truths w.at.seat (row_after w.told.seen) (asked_of walk) w.course next w.at.held → Leads truths calls (asked_of walk) next v now
-      by_next (On at) empty e g = record { one = one; empty = empty; walks = e; so_far = g.so_far; owes = owes_below b found u w d; fits = subst (λ x. PlaceFits truths x w.at.held) e d.fits.place; wide = is_wide; since = since }
-      by_next (Idle at) empty e g = record { one = one; empty = empty; walks = e; so_far = g.so_far; owes = owes_below b found u w d; fits = subst (λ x. PlaceFits truths x w.at.held) e d.fits.place; wide = is_wide; since = since }
-      by_next (Done reply) empty e g = record { rest = at_rest (empty refl) e; since = since; means = g }
+      by_next : (next : Next C) → (has_queues (walk_after next) ≡ false → now.1 ≡ []) → w.at.walk ≡ walk_after next → CallGoes truths w.at.seat (row_after w.told.seen) (asked_of walk) w.course next w.at.held → Leads truths (asked_of walk) next now
+      by_next (On at) empty e g = record { one = one; empty = empty; walks = e; so_far = g.so_far; owes = owes_below b found u w d; fits = subst (λ x. PlaceFits truths x w.at.held) e d.fits.place; wide = is_wide }
+      by_next (Idle at) empty e g = record { one = one; empty = empty; walks = e; so_far = g.so_far; owes = owes_below b found u w d; fits = subst (λ x. PlaceFits truths x w.at.held) e d.fits.place; wide = is_wide }
+      by_next (Done reply) empty e g = record { rest = at_rest (empty refl) e; means = g }
 
   -- A seat at rest may begin a call whose first place fits what it has in hand.
   pub can_begin : (first : Walk C) (me : SeatOf C N) → IsAtRest truths me → IsFirst N first → PlaceFits truths (Some first) (the me.0).at.held → CanStep truths (Some first) (want_of first) me
   can_begin first me rest is fits = record { one = rest.one; may = (rest.over, is, fits); walk = first; walks = refl; wants = refl }
 
   -- A call may go on from its place.
-  pub can_go : (calls : Option (Walk C)) (walk : Walk C) (v : GateView C N) (me : SeatOf C N) → IsAt truths calls walk v me → CanStep truths None (want_of walk) me
-  can_go calls walk v me at = record { one = at.one; may = tt; walk = walk; walks = at.walks; wants = refl }
+  pub can_go : (walk : Walk C) (act : Act C) (me : SeatOf C N) → want_of walk ≡ act → IsAt truths walk me → CanStep truths None act me
+  can_go walk act me wants at = record { one = at.one; may = tt; walk = walk; walks = at.walks; wants = wants }
 
   -- The first step of a call leads it on.
-  pub begins : (first : Walk C) (act : Act C) (found : Found) (next : Next C) (me now : SeatOf C N) → IsAtRest truths me → got_of N first found ≡ next → (IsAtRest truths me → has_queues (walk_after next) ≡ false → now.1 ≡ []) → Performed truths (Some first) act found me now → Leads truths (Some first) (asked_of first) next (the me.0) now
-  begins first act found next me now rest is empty p = leads (Some first) (Some first) first found next (the me.0) (the me.0) now p.one (empty rest) refl is p.did (since_step (Some first) found (the me.0) (the now.0) p.did)
+  pub begins : (first : Walk C) (act : Act C) (found : Found) (next : Next C) (me now : SeatOf C N) → got_of N first found ≡ next → (has_queues (walk_after next) ≡ false → now.1 ≡ []) → Performed truths (Some first) act found me now → Leads truths (asked_of first) next now
+  begins first act found next me now is empty p = leads (Some first) first found next (the me.0) now p.one empty refl is p.did
 
   -- Each further step does.
-  pub goes_on : (calls : Option (Walk C)) (walk : Walk C) (act : Act C) (found : Found) (next : Next C) (v : GateView C N) (me now : SeatOf C N) → IsAt truths calls walk v me → got_of N walk found ≡ next → (has_queues (walk_after next) ≡ false → now.1 ≡ []) → Performed truths None act found me now → Leads truths calls (asked_of walk) next v now
-  goes_on calls walk act found next v me now at is empty p = leads calls None walk found next v (the me.0) now p.one empty at.walks is p.did (since_then calls v (the me.0) (the now.0) at.since (since_step None found (the me.0) (the now.0) p.did))
+  pub goes_on : (walk : Walk C) (act : Act C) (found : Found) (next : Next C) (me now : SeatOf C N) → IsAt truths walk me → got_of N walk found ≡ next → (has_queues (walk_after next) ≡ false → now.1 ≡ []) → Performed truths None act found me now → Leads truths (asked_of walk) next now
+  goes_on walk act found next me now at is empty p = leads None walk found next (the me.0) now p.one empty at.walks is p.did
 
+  -- one that takes and puts back nothing does without the queues
+  pub goes : (walk : Walk C) (act : Act C) (found : Found) (next : Next C) (me now : SeatOf C N) → IsAt truths walk me → has_queues (Some walk) ≡ false → got_of N walk found ≡ next → carried_by act found (the now.0).stood me.1 ≡ me.1 → Performed truths None act found me now → Leads truths (asked_of walk) next now
+  goes walk act found next me now at free is keeps p = goes_on walk act found next me now at is (λ _. p.carried ∙ (keeps ∙ at.empty free)) p
+
+module _ {C : Type 0} {N : ℕ} where
   -- ---- the steps of one call, part by part
 
-  since_itself : (v : GateView C N) → IsTrueToHistory truths v.limit v.at.seat v.told.seen v.told.mine → HasSince truths None v v
-  since_itself v true_to = record { limit = refl; seat = refl; begins = begins_itself v.told.seen; commits = []; mine = sym (append-nil v.told.mine); committed = sym (append-nil v.course.committed); began = refl; calls = sym (append-nil v.told.begun); true_to = true_to }
+  pub since_itself : (v : GateView C N) → HasSince None v v
+  since_itself v = record { limit = refl; seat = refl; begins = begins_itself v.told.seen; commits = []; mine = sym (append-nil v.told.mine); committed = sym (append-nil v.course.committed); began = refl; calls = sym (append-nil v.told.begun) }
 
-  -- a part begins where the call stands
-  pub from_here : (calls : Option (Walk C)) (walk : Walk C) (v : GateView C N) (me : SeatOf C N) → IsAt truths calls walk v me → IsAt truths None walk (the me.0) me
-  from_here calls walk v me at = record { one = at.one; empty = at.empty; walks = at.walks; so_far = at.so_far; owes = at.owes; fits = at.fits; wide = at.wide; since = since_itself (the me.0) at.since.true_to }
-
-  -- and takes it on to a place
-  pub then_at : (calls : Option (Walk C)) (walk : Walk C) (v u : GateView C N) (now : SeatOf C N) → HasSince truths calls v u → IsAt truths None walk u now → IsAt truths calls walk v now
-  then_at calls walk v u now s at = record { one = at.one; empty = at.empty; walks = at.walks; so_far = at.so_far; owes = at.owes; fits = at.fits; wide = at.wide; since = since_then calls v u (the now.0) s at.since }
-
-  -- or to its answer
-  pub then_answered : (calls : Option (Walk C)) (request : Request C) (reply : Reply) (v u : GateView C N) (now : SeatOf C N) → HasSince truths calls v u → HasAnswered truths None request reply u now → HasAnswered truths calls request reply v now
-  then_answered calls request reply v u now s a = record { rest = a.rest; since = since_then calls v u (the now.0) s a.since; means = a.means }
-
-  -- ---- where a step leads, part by part
-
-  -- how the call came where it was led
-  pub since_of : (calls : Option (Walk C)) (request : Request C) (next : Next C) (v : GateView C N) (me : SeatOf C N) → Leads truths calls request next v me → HasSince truths calls v (the me.0)
-  since_of calls request (On walk) v me led = led.since
-  since_of calls request (Idle walk) v me led = led.since
-  since_of calls request (Done reply) v me led = led.since
-
-  -- a part begins there
-  pub leads_here : (calls : Option (Walk C)) (request : Request C) (next : Next C) (v : GateView C N) (me : SeatOf C N) → Leads truths calls request next v me → Leads truths None request next (the me.0) me
-  leads_here calls request (On walk) v me led = from_here calls walk v me led
-  leads_here calls request (Idle walk) v me led = from_here calls walk v me led
-  leads_here calls request (Done reply) v me led = record { rest = led.rest; since = since_itself (the me.0) led.since.true_to; means = led.means }
-
-  -- and leads on
-  pub onward : (calls : Option (Walk C)) (request : Request C) (next : Next C) (v u : GateView C N) (now : SeatOf C N) → HasSince truths calls v u → Leads truths None request next u now → Leads truths calls request next v now
-  onward calls request (On walk) v u now s led = then_at calls walk v u now s led
-  onward calls request (Idle walk) v u now s led = then_at calls walk v u now s led
-  onward calls request (Done reply) v u now s led = then_answered calls request reply v u now s led
+  -- the steps of one call, and further steps of it
+  pub since_then : (b : Option (Walk C)) (v u w : GateView C N) → HasSince b v u → HasSince None u w → HasSince b v w
+  since_then b v u w s t = record {
+    limit = t.limit ∙ s.limit;
+    seat = t.seat ∙ s.seat;
+    begins = begins_through w.told.seen u.told.seen v.told.seen t.begins s.begins;
+    commits = s.commits ++ t.commits;
+    mine = t.mine ∙ (ap (λ es. es ++ t.commits) s.mine ∙ append_assoc v.told.mine s.commits t.commits);
+    committed = t.committed ∙ (ap (λ es. es ++ t.commits) s.committed ∙ append_assoc (course_by b v).committed s.commits t.commits);
+    began = t.began ∙ s.began;
+    calls = t.calls ∙ (append-nil u.told.begun ∙ s.calls);
+  }
 
   -- a call stands where it is whatever its seat makes of the queues in hand
-  pub works : (calls : Option (Walk C)) (walk : Walk C) (v : GateView C N) (me now : SeatOf C N) → IsAt truths calls walk v me → has_queues (Some walk) ≡ true → now.0 ≡ me.0 → IsAt truths calls walk v now
-  works calls walk v me now at has same = subst (λ (vs : List (GateView C N)). IsAt truths calls walk v (vs, now.1)) (sym same) (record { one = at.one; empty = λ e. absurd (let f : true ≡ false = sym has ∙ e in cc); walks = at.walks; so_far = at.so_far; owes = at.owes; fits = at.fits; wide = at.wide; since = at.since })
+  pub works : (truths : Truths C) (walk : Walk C) (me now : SeatOf C N) → IsAt truths walk me → has_queues (Some walk) ≡ true → now.0 ≡ me.0 → IsAt truths walk now
+  works truths walk me now at has same = subst (λ (vs : List (GateView C N)). IsAt truths walk (vs, now.1)) (sym same) (record { one = at.one; empty = λ e. absurd (let f : true ≡ false = sym has ∙ e in cc); walks = at.walks; so_far = at.so_far; owes = at.owes; fits = at.fits; wide = at.wide })

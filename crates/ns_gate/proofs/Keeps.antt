@@ -1,6 +1,6 @@
 -- A step of the machine keeps the rule.
-use Rattle.std.specs.Prelude.{slice_get}
-use Rattle.std.proofs.Common.{◌≡◌, ◌≢◌, ◌⊎◌, inl, inr, ℕ, zero, suc, ◌<◌, ◌≤◌, true, false, cond, eqb, List, [], ◌∷◌, ◌++◌, Option, None, Some, IfSome, set, slice_set, take, drop, refl, ap, sym, ◌∙◌, subst, arith, eq-eqb}
+use Rattle.std.specs.Prelude.{nat_lt, slice_get}
+use Rattle.std.proofs.Common.{◌≡◌, ◌≢◌, ◌⊎◌, inl, inr, ℕ, zero, suc, ◌<◌, ◌≤◌, Bool, true, false, cond, eqb, List, [], ◌∷◌, ◌++◌, Option, None, Some, IfSome, set, slice_set, take, drop, refl, ap, sym, ◌∙◌, subst, arith, eq-eqb}
 use Rattle.std.proofs.lemmas.Option.{slice_get_within}
 use Rattle.ns_gate.specs.Law.{GateView, Views, Homes, is_seat, HasCome, Fits, Shows, AtHome, Shown, IsRuled}
 use Rattle.ns_gate.specs.Steps.{walk_by, course_by, MayBegin, Did}
@@ -42,6 +42,14 @@ none_takes (x ∷ xs) zero view none e q =
     let one : one_if (has_queues x.walk) ≡ 1 = ap one_if (ap (λ (y : SeatView _ _). has_queues y.walk) is ∙ q) in omega (arith, one, none)
 none_takes (x ∷ xs) (suc n) view none e q = none_takes xs n view (omega (arith, none)) e q
 
+-- a seat stands in one view at most
+one_at_most : (b : Bool) → one_if b ≤ 1
+one_at_most true = omega arith
+one_at_most false = omega arith
+
+pub once : {C : Type 0} {N : ℕ} (truths : Truths C) (limit : ℕ) (words : List ℕ) (homes : Homes C) (views : Views C N) (shown : Shown C N) → IsRuled truths limit words homes views shown → (seat : ℕ) → total (total (is_seat seat)) views ≤ 1
+once truths limit words homes views shown r seat = subst (λ n. n ≤ 1) (sym (r.seats seat)) (one_at_most (nat_lt seat limit))
+
 module _ {C : Type 0} {N : ℕ} where
   -- the view in the call that it begins stands at the place where the step is made
   pub walk_in : (begun : Option (Walk C)) (view : SeatView C N) → (view_in view begun).walk ≡ walk_by begun view.walk
@@ -80,7 +88,7 @@ module _ {C : Type 0} {N : ℕ} (truths : Truths C) (cells : 0 < N) (quiet : Qui
 
   -- no other seat has its number
   others_apart : Others (Every (λ (x : GateView C N). is_seat v.at.seat x ≡ 0)) id views
-  others_apart = let one : one_if (eqb v.at.seat v.at.seat) ≡ 1 = ap one_if (eq-eqb v.at.seat v.at.seat refl) in let most = r.once v.at.seat in
+  others_apart = let one : one_if (eqb v.at.seat v.at.seat) ≡ 1 = ap one_if (eq-eqb v.at.seat v.at.seat refl) in let most = once truths limit words homes views shown r v.at.seat in
       others_map (λ xs. total (is_seat v.at.seat) xs ≡ 0) (Every (λ x. is_seat v.at.seat x ≡ 0)) (λ xs e. total_none (is_seat v.at.seat) xs e) views id (others_none (total (is_seat v.at.seat)) views id (v ∷ []) at (omega (arith, one, most)))
 
   apart : (x : GateView C N) → is_seat v.at.seat x ≡ 0 → v.at.seat ≢ x.at.seat
@@ -184,6 +192,11 @@ module _ {C : Type 0} {N : ℕ} (truths : Truths C) (cells : 0 < N) (quiet : Qui
           stood_now = refl;
         }
 
+    -- the state that it is made from
+    pub did_from : did.old ≡ shown.state
+    unfolding did
+    did_from = refl
+
     -- another seat's view
     others_fit : (part.lists ≡ shown.state.lists) ⊎ (part.word.spin ≡ false) → (x : GateView C N) → is_seat v.at.seat x ≡ 0 → Fits truths limit shown.history shown.state x → Fits truths limit (shown.history ++ commits) after x
     unfolding made_all made
@@ -209,7 +222,7 @@ module _ {C : Type 0} {N : ℕ} (truths : Truths C) (cells : 0 < N) (quiet : Qui
       lawful = lawful_after;
       shows = shows;
       home = home;
-      once = λ x. let s = total_set (total (is_seat x)) views id (v ∷ []) (now ∷ []) at in let was = r.once x in omega (arith, s, was);
+      seats = λ x. let s = total_set (total (is_seat x)) views id (v ∷ []) (now ∷ []) at in let was = r.seats x in omega (arith, s, was);
       each = every_put (Every (Fits truths limit (shown.history ++ commits) after)) views id (now ∷ [])
           (others_both (Every (λ (x : GateView C N). is_seat v.at.seat x ≡ 0)) (Every (Fits truths limit shown.history shown.state)) (Every (Fits truths limit (shown.history ++ commits) after))
           (λ xs p q. every_both (λ (x : GateView C N). is_seat v.at.seat x ≡ 0) (Fits truths limit shown.history shown.state) (Fits truths limit (shown.history ++ commits) after) (λ x a c. others_fit kept x a c) xs p q) views id

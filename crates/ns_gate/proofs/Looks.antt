@@ -3,7 +3,7 @@ use Rattle.std.proofs.Common.{◌≡◌, ◌<◌, ℕ, Bool, inl, List, [], ◌�
 use Rattle.std.proofs.lemmas.List.{set-get_or}
 use Rattle.atomic_table.specs.Table.{Me, keeps as keeps_slots, carried_after, Allows}
 use Rattle.ns_gate.proofs.Keeps.{now, later, did, ruled}
-use Rattle.ns_gate.proofs.Tells.{meant_in, walk_is}
+use Rattle.ns_gate.proofs.Tells.{meant_by, walk_is}
 use Rattle.ns_gate.specs.Law.{GateView, Views, Homes, Shown, IsRuled, Holds}
 use Rattle.ns_gate.specs.Steps.{the, IsOne, CanStep, Did, Performed, HasLooked}
 use Rattle.ns_model.specs.Truths.{Truths, QuietKeeps}
@@ -40,11 +40,11 @@ module _ {C : Type 0} {N : ℕ} (truths : Truths C) (cells : 0 < N) (quiet : Qui
   looks_at i [] cs one walk walks wants s h _ at _ = absurd one
   looks_at i (v ∷ x ∷ xs) cs one walk walks wants s h _ at _ = absurd one
   looks_at i (v ∷ []) cs one walk walks wants s h _ at _ = let t = silent v walk walks wants s.words s.homes s.views h.0 h.1 at in
-      (t.0 ∷ [], keeps_slots, tt, (t.1.0, subst (λ ws. IsRuled truths limit ws s.homes (set s.views id (t.0 ∷ [])) t.1.0) (sym (set-get_or s.words i 0)) t.1.1), record { one = tt; carried = refl; did = t.2.0; act_is = t.2.1 })
+      (t.0 ∷ [], keeps_slots, tt, (t.1.0, subst (λ ws. IsRuled truths limit ws s.homes (set s.views id (t.0 ∷ [])) t.1.0) (sym (set-get_or s.words i 0)) t.1.1), record { one = tt; carried = refl; did = t.2.0; act_is = t.2.1; finds = λ other. absurd (other tt) })
 
   pub may_look : (i : ℕ) (me : Me (Lists C) (List (GateView C N))) → CanStep truths None (Look limits again) me → Allows (Holds truths limit) slots id me i (λ n. n) (λ k now. HasLooked truths cause me now)
   may_look i me can s h e at l = let t = looks_at i me.0 me.1 can.one can.walk can.walks can.wants s h e at l in
-      (t.0, t.1, t.2, t.3, record { made = subst (λ (a : Act C). Performed truths None a (Looked cause) me (t.0, carried_after me.1 t.1)) (sym (meant_in truths (Look limits again) me can)) t.4 })
+      (t.0, t.1, t.2, t.3, record { made = subst (λ (a : Act C). Performed truths None a (Looked cause) me (t.0, carried_after me.1 t.1)) (sym (meant_by truths None (Look limits again) me can)) t.4 })
 
   pub has_looked : (me now : Me (Lists C) (List (GateView C N))) → CanStep truths None (Look limits again) me → HasLooked truths cause me now → Performed truths None (Look limits again) (Looked cause) me now
-  has_looked me now can p = subst (λ (a : Act C). Performed truths None a (Looked cause) me now) (meant_in truths (Look limits again) me can) p.made
+  has_looked me now can p = subst (λ (a : Act C). Performed truths None a (Looked cause) me now) (meant_by truths None (Look limits again) me can) p.made

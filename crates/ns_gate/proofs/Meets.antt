@@ -8,6 +8,7 @@ use Rattle.ns_gate.specs.Calls.{SeatOf, IsWide, IsAtRest}
 use Rattle.ns_gate.specs.Law.{GateView, Views, Homes, is_seat, Fits, Shows, Shown, IsRuled, Holds, first_of, rest_of}
 use Rattle.ns_gate.specs.Meetings.{the_second, ArePair, HasLearned, SawAllOf, AreOfOneHistory, ShareTheLock, HaveMet, HaveLearned}
 use Rattle.ns_gate.specs.Steps.{the, IsOne}
+use Rattle.ns_gate.proofs.Keeps.{once}
 use Rattle.ns_model.proofs.Beginnings.{begins_itself, begins_either, begins_both}
 use Rattle.ns_model.proofs.Tallies.{total_set, total-append, total_at, every_at, others_of, every_put, every-append}
 use Rattle.ns_model.specs.Beginnings.{BeginsWith}
@@ -113,12 +114,12 @@ module _ {C : Type 0} {N : ℕ} (truths : Truths C) (limit : ℕ) where
           lawful = l.lawful;
           shows = l.shows;
           home = l.home;
-          once = λ seat.
+          seats = λ seat.
               let f : GateView C N → ℕ = is_seat seat in
               let a = total-append f vs us in
               let b = total_set (total f) s.views id vs (vs ++ us) at in
               let d = total_set (total f) one other us [] there in
-              let was = l.once seat in omega (arith, a, b, d, was);
+              let was = l.seats seat in omega (arith, a, b, d, was);
           each = every_put (Every P) one other [] (others_of (Every P) one other (every_put (Every P) s.views id (vs ++ us) (others_of (Every P) s.views id l.each) (every-append P vs us mine theirs))) tt;
         },
       )
@@ -165,7 +166,7 @@ module _ {C : Type 0} {N : ℕ} (truths : Truths C) (limit : ℕ) where
 
     two_seats : v.at.seat ≢ u.at.seat
     two_seats e =
-        let most = r.once v.at.seat in
+        let most = once truths limit words homes views g r v.at.seat in
         let some_of = total_at (total (is_seat v.at.seat)) views id (v ∷ u ∷ []) at in
         let one : one_if (eqb v.at.seat v.at.seat) ≡ 1 = ap one_if (eq-eqb v.at.seat v.at.seat refl) in
         let other : one_if (eqb u.at.seat v.at.seat) ≡ 1 = ap one_if (eq-eqb u.at.seat v.at.seat (sym e)) in omega (arith, most, some_of, one, other)
@@ -186,7 +187,7 @@ module _ {C : Type 0} {N : ℕ} (truths : Truths C) (limit : ℕ) where
       lawful = r.lawful;
       shows = subst (λ ws. Shows N ws g.state.word g.state.row g.state.flags) (sym same) r.shows;
       home = r.home;
-      once = λ seat. let t = total_set (total (is_seat seat)) views id (v ∷ u ∷ []) both at in let was = r.once seat in omega (arith, t, was);
+      seats = λ seat. let t = total_set (total (is_seat seat)) views id (v ∷ u ∷ []) both at in let was = r.seats seat in omega (arith, t, was);
       each = every_put (Every (Fits truths limit g.history g.state)) views id both (others_of (Every (Fits truths limit g.history g.state)) views id r.each) (fits_now words homes views g r v own_fits.0, (fits_now words homes views g r u own_fits.1.0, tt));
     }
 

@@ -1,7 +1,7 @@
 -- A new gate, and a seat that is cut in two.
-use Rattle.std.specs.Prelude.{slice_get}
-use Rattle.std.proofs.Common.{◌≡◌, ℕ, zero, suc, ◌+◌, ◌-◌, ◌<◌, ◌≤◌, eqb, List, [], ◌∷◌, length, set, get_or, replicate, map, Some, sym, refl, ap, ◌∙◌, arith, eq-eqb, inl, inr}
-use Rattle.std.proofs.lemmas.Bool.{ne_eqb, cases_eq}
+use Rattle.std.specs.Prelude.{nat_lt, slice_get}
+use Rattle.std.proofs.Common.{◌≡◌, ◌≢◌, ℕ, zero, suc, ◌+◌, ◌-◌, ◌<◌, ◌≤◌, eqb, List, [], ◌∷◌, length, set, get_or, replicate, map, Some, sym, refl, ap, ◌∙◌, arith, eq-eqb, inl, inr}
+use Rattle.std.proofs.lemmas.Bool.{ne_eqb, cases_eq, le-ltb, lt-ltb}
 use Rattle.std.proofs.lemmas.List.{length-replicate, get_or-replicate}
 use Rattle.atomic_table.specs.Table.{Splits, opening}
 use Rattle.ns_gate.specs.Law.{GateView, is_seat, Fits, Holds, no_lists, fresh_seat, fresh, first_of, rest_of}
@@ -36,12 +36,12 @@ module _ (C : Type 0) (N : ℕ) where
           lawful = l.lawful;
           shows = l.shows;
           home = l.home;
-          once = λ who.
+          seats = λ who.
               let f : GateView C N → ℕ = is_seat who in
               let a = total-append (total f) (set s.views id (rest_of vs)) (first_of vs ∷ []) in
               let b = total_set (total f) s.views id vs (rest_of vs) at in
               let d = cut_total f vs in
-              let was = l.once who in omega (arith, a, b, d, was);
+              let was = l.seats who in omega (arith, a, b, d, was);
           each = every-append (Every P) (set s.views id (rest_of vs)) (first_of vs ∷ []) (every_put (Every P) s.views id (rest_of vs) (others_of (Every P) s.views id l.each) own.0) (own.1, tt);
         },
       )
@@ -52,12 +52,14 @@ module _ (C : Type 0) (N : ℕ) where
   none_before limit from zero who low = refl
   none_before limit from (suc n) who low = let r = none_before limit (suc from) n who (omega (arith, low)) in let z : one_if (eqb from who) ≡ 0 = ap one_if (ne_eqb from who (λ e. omega (arith, e, low))) in omega (arith, r, z)
 
-  one_of_each : (limit from n who : ℕ) → total (is_seat who) (fresh {C = C} {N = N} limit from n) ≤ 1
-  one_of_each limit from zero who = omega arith
-  one_of_each limit from (suc n) who = elim (cases_eq from who) [
-    | inl e ↦ (let r = none_before limit (suc from) n who (omega (arith, e)) in let o : one_if (eqb from who) ≡ 1 = ap one_if (eq-eqb from who e) in omega (arith, r, o))
-    | inr ne ↦ (let r = one_of_each limit (suc from) n who in let z : one_if (eqb from who) ≡ 0 = ap one_if (ne_eqb from who ne) in omega (arith, r, z))
-  ]
+  one_of_each : (limit from n who : ℕ) → from ≤ who → total (is_seat who) (fresh {C = C} {N = N} limit from n) ≡ one_if (nat_lt who (from + n))
+  one_of_each limit from zero who low = sym (ap one_if (le-ltb who (from + zero) (omega (arith, low))))
+  one_of_each limit from (suc n) who low = elim (cases_eq from who) [
+    | inl e ↦ (let r = none_before limit (suc from) n who (omega (arith, e)) in let o : one_if (eqb from who) ≡ 1 = ap one_if (eq-eqb from who e) in let is : one_if (nat_lt who (from + suc n)) ≡ 1 = ap one_if (lt-ltb who (from + suc n) (omega (arith, e))) in omega (arith, r, o, is))
+    | inr ne ↦ (let r = one_of_each limit (suc from) n who (above from who low ne) in let z : one_if (eqb from who) ≡ 0 = ap one_if (ne_eqb from who ne) in let same : one_if (nat_lt who (suc from + n)) ≡ one_if (nat_lt who (from + suc n)) = ap (λ k. one_if (nat_lt who k)) (omega arith) in omega (arith, r, z, same))
+  ] where
+    above : (a b : ℕ) → a ≤ b → a ≢ b → suc a ≤ b
+    above a b low ne = omega (arith, low, ne)
 
   stands_there : (first n i : ℕ) → i < n → slice_get (fresh_views {C = C} {N = N} first n) i ≡ Some (fresh_seat {C = C} {N = N} 0 (first + i)).at
   stands_there first zero i low = absurd (omega (arith, low))
@@ -84,7 +86,7 @@ module _ (C : Type 0) (N : ℕ) where
         flags_are = λ seat low. ap (λ (ws : List ℕ). get_or ws (seat + (N + 1)) 0) is ∙ get_or-replicate (N + 65) (seat + (N + 1)) 0 0 (omega (arith, low));
       };
       home = ap (λ (xs : List (Lists C)). map some xs) home;
-      once = λ who. let o = one_of_each limit 0 limit who in omega (arith, o);
+      seats = λ who. let o = one_of_each limit 0 limit who (omega arith) in let same : one_if (nat_lt who (0 + limit)) ≡ one_if (nat_lt who limit) = ap (λ k. one_if (nat_lt who k)) (omega arith) in omega (arith, o, same);
       each = (fits_fresh truths limit 0 limit (omega arith), tt);
     },
   )

@@ -48,7 +48,7 @@ module _ {C : Type 0} {N : ℕ} (truths : Truths C) where
       let d = p.did in
       subst (λ s. Effect truths (the me.0).at.seat act (part_of s (the me.0).at.held (the me.0).at.owed) found (part_of d.new d.made.step.held d.made.step.owed) d.commits) d.made.begins (does truths None act found me now p)
 
-  stays_by : (act : Act C) (found : Found) (me now : SeatOf C N) (p : Performed truths None act found me now) → has_queues (the me.0).at.walk ≡ true → now.1 ≡ me.1 → p.did.new.lists ≡ p.did.old.lists → p.did.made.step.held ≡ (the me.0).at.held → HasKeptItsQueues me now
+  pub stays_by : (act : Act C) (found : Found) (me now : SeatOf C N) (p : Performed truths None act found me now) → has_queues (the me.0).at.walk ≡ true → now.1 ≡ me.1 → p.did.new.lists ≡ p.did.old.lists → p.did.made.step.held ≡ (the me.0).at.held → HasKeptItsQueues me now
   stays_by act found me now p has slots lists held = record {
     slots = slots;
     stood = p.did.stood_now ∙ (lists ∙ sym (p.did.stood_was has));

@@ -1,10 +1,12 @@
 -- What a step tells its caller.
 use Rattle.std.specs.Prelude.{slice_index}
-use Rattle.std.proofs.Common.{◌≡◌, ℕ, Bool, cond, inl, inr, ◌≤◌, List, [], ◌++◌, ◌∷◌, Option, None, Some, refl, ap, sym, ◌∙◌, subst}
+use Rattle.std.proofs.Common.{◌≡◌, ℕ, Bool, cond, inl, inr, ◌≤◌, List, [], ◌++◌, ◌∷◌, Option, None, Some, Result, refl, ap, sym, ◌∙◌, subst}
 use Rattle.std.proofs.lemmas.Bool.{ne_eqb, cases_eq}
 use Rattle.atomic_table.specs.Table.{Me, rest}
 use Rattle.ns_gate.specs.Law.{GateView}
-use Rattle.ns_gate.specs.Steps.{the, walk_by, CanStep, Did, Performed, Stepped, Judged, cell_of, act_in, act_of}
+use Rattle.ns_gate.specs.declared.queues.Returning.{Returning}
+use Rattle.ns_gate.specs.declared.queues.Returning.TheVariants.{Changed, Released, Waited}
+use Rattle.ns_gate.specs.Steps.{the, walk_by, CanStep, Did, Performed, Stepped, IsExchange, IsOwedNext, MayExchange, PutsBack, act_by, act_of, act_returning, found_returned, made_by, next_owed, tried_for}
 use Rattle.ns_model.specs.Histories.{standing_after}
 use Rattle.ns_model.specs.Truths.{Truths}
 use Rattle.ns_queue.specs.Queues.{Lists}
@@ -12,20 +14,25 @@ use Rattle.ns_word.proofs.Codes.{decoded}
 use Rattle.ns_word.proofs.Seen.{packable, found_fits}
 use Rattle.ns_word.specs.Begins.{BeginsIf, view_in}
 use Rattle.ns_word.specs.Codec.{number_of, word_of, IsPackable}
-use Rattle.ns_word.specs.Finds.{found_of, exchanged, row_in}
+use Rattle.ns_word.specs.Finds.{found_of, exchanged, row_in, scanned}
 use Rattle.ns_word.specs.Lawful.{SectionFits}
-use Rattle.ns_word.proofs.Acts.{act_fits}
+use Rattle.ns_word.proofs.Acts.{act_fits, view_fits}
 use Rattle.ns_word.specs.Places.{ActFits}
-use Rattle.ns_word.specs.Steps.{State, Part, part_of, Effect}
+use Rattle.ns_word.specs.Steps.{State, Part, part_of, Effect, change_found}
 use Rattle.ns_word.specs.Walks.{want_of, got_of, walk_after}
-use Rattle.ns_word.specs.declared.act.Act.TheVariants.{LoadWord, LoadCell, LoadFlag}
+use Rattle.ns_word.specs.declared.act.Act.TheVariants.{LoadWord, LoadCell, JudgeQuiet, JudgeMet, LoadFlag, Acquire, TakeQueues, ReturnQueues, Release, ReleaseReturning, WaitReturning}
 use Rattle.ns_word.specs.declared.act.Act.{Act}
-use Rattle.ns_word.specs.declared.act.Found.TheVariants.{Saw, Cell, Flag}
+use Rattle.ns_word.specs.declared.act.Found.TheVariants.{Saw, Made, Cell, Flag}
 use Rattle.ns_word.specs.declared.act.Found.{Found}
 use Rattle.ns_word.specs.declared.view.Held.{Held}
 use Rattle.ns_word.specs.declared.view.SeatView.{SeatView}
 use Rattle.ns_word.specs.declared.walk.Walk.{Walk}
 use Rattle.ns_word.specs.declared.word.Word.{Word}
+
+-- who is owed a wake next
+pub owed_next : (woken : ℕ) (owed : List ℕ) → IsOwedNext woken owed → woken ≡ next_owed owed
+owed_next woken [] is = absurd is
+owed_next woken (next ∷ others) is = sym is
 
 -- a seat that has the queues in hand may be lent them
 pub has_slot : {C : Type 0} (lists : Lists C) (slots : List (ℕ × Lists C)) → slots ≡ (0, lists) ∷ [] → (was : Lists C) × (slots ≡ (0, was) ∷ rest slots)
@@ -61,18 +68,56 @@ module _ {C : Type 0} {N : ℕ} (truths : Truths C) where
     | inr ne ↦ packs b (word_of k) v w (subst (λ (x : Found). Did truths b x v w) (ap (λ (c : Bool). cond c made (Saw (word_of k))) (ne_eqb (number_of last) k ne)) d)
   ]
 
+  -- queues that are put back so are put back by an exchange
+  pub returns_so : (returning : Returning C) (last new : Word) (me : Me (Lists C) (List (GateView C N))) → CanStep truths None (act_returning returning last) me → PutsBack truths returning last new (the me.0) me.1 → MayExchange truths last new me
+  returns_so (Changed change) last new me can back = record { act = ReturnQueues change last; can = can; exchanges = (refl, back) }
+  returns_so (Released releasing) last new me can back = record { act = ReleaseReturning releasing last; can = can; exchanges = (refl, back) }
+  returns_so (Waited wait again) last new me can back = record { act = WaitReturning wait again last; can = can; exchanges = (refl, back) }
+
+  pub returned_so : (returning : Returning C) (last : Word) (result : Result Unit Word) (me now : Me (Lists C) (List (GateView C N))) → Performed truths None (act_returning returning last) (tried_for (made_by truths (act_returning returning last) (the me.0)) result) me now
+      → Performed truths None (act_returning returning last) (tried_for (found_returned truths (the me.0).at.seat returning last (row_in (the me.0).at.held) (the me.0).stood) result) me now
+  returned_so (Changed change) last result me now p = p
+  returned_so (Released releasing) last result me now p = p
+  returned_so (Waited wait again) last result me now p = p
+
+  -- the act that a seat's call wants next, or begins with
+  pub meant_by : (b : Option (Walk C)) (act : Act C) (me : Me (Lists C) (List (GateView C N))) → CanStep truths b act me → act_by b (the me.0) ≡ act
+  meant_by b act me can = ap act_of can.walks ∙ can.wants
+
   -- a step as it is meant
-  pub performed : (b : Option (Walk C)) (meant act : Act C) (k : ℕ) (result : Found) (me now : Me (Lists C) (List (GateView C N))) → meant ≡ act → result ≡ found_of truths act (the me.0).at (the me.0).stood k → Stepped truths b meant k me now → Performed truths b act result me now
-  performed b meant act k result me now e is s = subst (λ f. Performed truths b act f me now) (sym is) (subst (λ a. Stepped truths b a k me now) e s).made
+  pub stepped : (b : Option (Walk C)) (k : ℕ) (me now : Me (Lists C) (List (GateView C N))) → Stepped truths b (act_by b (the me.0)) k me now → (act : Act C) → CanStep truths b act me → Stepped truths b act k me now
+  stepped b k me now s act can = subst (λ a. Stepped truths b a k me now) (meant_by b act me can) s
 
-  pub word_packs : (b : Option (Walk C)) (meant : Act C) (k : ℕ) (me now : Me (Lists C) (List (GateView C N))) → meant ≡ LoadWord → Stepped truths b meant k me now → IsPackable (word_of k)
-  word_packs b meant k me now e s = packs b (word_of k) (the me.0) (the now.0) (performed b meant LoadWord k (Saw (word_of k)) me now e refl s).did
+  -- an exchange finds the word last seen, and is made, or another word
+  finds_exchanged : (act : Act C) (last new : Word) (view : GateView C N) (slots : List (ℕ × Lists C)) → IsExchange truths act last new view slots → (k : ℕ) → found_of truths act view.at view.stood k ≡ exchanged k last (made_by truths act view)
+  finds_exchanged (Acquire aim arrival seen) last new view slots e k = ap (λ w. exchanged k w Made) e.0
+  finds_exchanged (TakeQueues taking seen) last new view slots e k = ap (λ w. exchanged k w Made) e.0
+  finds_exchanged (ReturnQueues change seen) last new view slots e k = ap (λ w. exchanged k w (change_found view.at.seat change seen view.stood)) e.0
+  finds_exchanged (Release releasing seen) last new view slots e k = ap (λ w. exchanged k w Made) e.0
+  finds_exchanged (ReleaseReturning releasing seen) last new view slots e k = ap (λ w. exchanged k w (scanned truths (row_in view.at.held) view.stood.lock)) e.0
+  finds_exchanged (WaitReturning wait again seen) last new view slots e k = ap (λ w. exchanged k w (scanned truths (row_in view.at.held) view.stood.lock)) e.0
+  finds_exchanged act last new view slots e k = absurd e
 
-  pub found_packs : (b : Option (Walk C)) (meant act : Act C) (k : ℕ) (last : Word) (made : Found) (me now : Me (Lists C) (List (GateView C N))) → meant ≡ act → exchanged k last made ≡ found_of truths act (the me.0).at (the me.0).stood k → IsPackable last → Stepped truths b meant k me now → IsPackable (word_of k)
-  found_packs b meant act k last made me now e is p s = packs_exchanged b k last made (the me.0) (the now.0) p (performed b meant act k (exchanged k last made) me now e is s).did
+  -- so it is told
+  exchanged_by : (last new : Word) (k : ℕ) (me now : Me (Lists C) (List (GateView C N))) (m : MayExchange truths last new me) → Stepped truths None (act_by None (the me.0)) k me now → Performed truths None m.act (exchanged k last (made_by truths m.act (the me.0))) me now
+  exchanged_by last new k me now m s = subst (λ f. Performed truths None m.act f me now) (finds_exchanged m.act last new (the me.0) me.1 m.exchanges k) (stepped None k me now s m.act m.can).made
 
-  pub meant_in : (act : Act C) (me : Me (Lists C) (List (GateView C N))) → CanStep truths None act me → act_in (the me.0) ≡ act
-  meant_in act me can = ap act_of can.walks ∙ can.wants
+  pub found_packs : (last new : Word) (k : ℕ) (me now : Me (Lists C) (List (GateView C N))) → IsPackable last → MayExchange truths last new me → Stepped truths None (act_by None (the me.0)) k me now → IsPackable (word_of k)
+  found_packs last new k me now p m s = packs_exchanged None k last (made_by truths m.act (the me.0)) (the me.0) (the now.0) p (exchanged_by last new k me now m s).did
+
+  pub exchange_told : (last new : Word) (k : ℕ) (result : Result Unit Word) (me now : Me (Lists C) (List (GateView C N))) → MayExchange truths last new me → ((made : Found) → tried_for made result ≡ exchanged k last made) → Stepped truths None (act_by None (the me.0)) k me now
+      → (act : Act C) → CanStep truths None act me → Performed truths None act (tried_for (made_by truths act (the me.0)) result) me now
+  exchange_told last new k result me now m tries s act can =
+      let same : m.act ≡ act = sym (meant_by None m.act me m.can) ∙ meant_by None act me can in
+      subst (λ a. Performed truths None a (tried_for (made_by truths a (the me.0)) result) me now) same
+      (subst (λ f. Performed truths None m.act f me now) (sym (tries (made_by truths m.act (the me.0)))) (exchanged_by last new k me now m s))
+
+  -- the word that was loaded
+  pub saw_word : (b : Option (Walk C)) (k : ℕ) (word : Word) (me now : Me (Lists C) (List (GateView C N))) → word ≡ word_of k → Stepped truths b LoadWord k me now → Performed truths b LoadWord (Saw word) me now
+  saw_word b k word me now is s = subst (λ w. Performed truths b LoadWord (Saw w) me now) (sym is) s.made
+
+  pub word_packs : (b : Option (Walk C)) (k : ℕ) (me now : Me (Lists C) (List (GateView C N))) → Stepped truths b LoadWord k me now → IsPackable (word_of k)
+  word_packs b k me now s = packs b (word_of k) (the me.0) (the now.0) s.made.did
 
   -- what the act of the place may count on where the seat's call goes on
   pub fits_now : (b : Option (Walk C)) (found : Found) (v w : GateView C N) (walk : Walk C) → (d : Did truths b found v w) → w.at.walk ≡ Some walk → ActFits truths v.limit w.at.seat (want_of walk) (part_of d.new w.at.held w.at.owed)
@@ -93,18 +138,33 @@ module _ {C : Type 0} {N : ℕ} (truths : Truths C) where
       subst (λ a. Effect truths view.seat a (part_of d.made.between view.held view.owed) found (part_of d.new d.made.step.held d.made.step.owed) d.commits) p.act_is d.made.step.effect
 
   -- a flag is 0, 1 or 2
-  pub small_flag : (meant : Act C) (k : ℕ) (me now : Me (Lists C) (List (GateView C N))) → meant ≡ LoadFlag → Stepped truths None meant k me now → k ≤ 2
-  small_flag meant k me now is s =
-      let p = performed None meant LoadFlag k (Flag k) me now is refl s in
+  pub small_flag : (k : ℕ) (me now : Me (Lists C) (List (GateView C N))) → Performed truths None LoadFlag (Flag k) me now → k ≤ 2
+  small_flag k me now p =
       let d = p.did in
       let view = (the me.0).at in
       let e = does None LoadFlag (Flag k) me now p in
       let same : k ≡ d.new.flags view.seat = e.0 ∙ sym (ap (λ (q : Part C N). q.flags view.seat) e.1) in
       subst (λ n. n ≤ 2) (sym same) (d.lawful_now.waiters_placed.flag view.seat)
 
-  -- the number that a seat loads as it judges is its section's own
-  pub judged_cell : (b : Option (Walk C)) (meant act : Act C) (k : ℕ) (me now : Me (Lists C) (List (GateView C N))) → meant ≡ act → Judged truths b meant k me now → k ≡ slice_index (row_in (the me.0).at.held) (cell_of act)
-  judged_cell b meant act k me now e j = j.cell ∙ ap (λ a. slice_index (row_in (the me.0).at.held) (cell_of a)) e
+  -- the section in hand has the row's cells
+  held_cells : (v w : GateView C N) (found : Found) (b : Option (Walk C)) (d : Did truths b found v w) (front back : List (SeatView C N)) (held : Held C N) → d.old.views ≡ front ++ v.at ∷ back → v.at.held ≡ Some held → d.old.row ≡ row_in v.at.held
+  held_cells v w found b d front back held stands is =
+      let f = view_fits truths v.limit d.few d.history d.old front v.at back stands d.lawful in
+      sym (ap row_in is ∙ (subst (λ o. SectionFits (standing_after d.history) d.old.row v.at.seat v.at.walk o) is f.section).cells)
+
+  own_row : (v w : GateView C N) (found : Found) (b : Option (Walk C)) (d : Did truths b found v w) (held : Held C N) → (view_in v.at b).held ≡ Some held → d.old.row ≡ row_in v.at.held
+  own_row v w found None d held is = held_cells v w found None d d.made.step.front d.made.step.back held (ap (λ (x : State C N). x.views) (sym d.made.begins) ∙ d.made.step.was) is
+  own_row v w found (Some first) d held is = held_cells v w found (Some first) d d.made.begins.front d.made.begins.back held d.made.begins.was is
+
+  own_cell : (b : Option (Walk C)) (found : Found) (i k : ℕ) (v w : GateView C N) (d : Did truths b found v w) (held : Held C N) → (view_in v.at b).held ≡ Some held → k ≡ slice_index d.old.row i → k ≡ slice_index (row_in v.at.held) i
+  own_cell b found i k v w d held is at = at ∙ ap (λ row. slice_index row i) (own_row v w found b d held is)
+
+  -- the cell that a seat loads as it judges is its section's own
+  pub quiet_cell : (b : Option (Walk C)) (i k : ℕ) (me now : Me (Lists C) (List (GateView C N))) → Stepped truths b (JudgeQuiet i) k me now → k ≡ slice_index (row_in (the me.0).at.held) i
+  quiet_cell b i k me now s = let h = does b (JudgeQuiet i) _ me now s.made in own_cell b _ i k (the me.0) (the now.0) s.made.did h.0 h.1 s.tells
+
+  pub met_cell : (b : Option (Walk C)) (i k : ℕ) (c : C) (me now : Me (Lists C) (List (GateView C N))) → Stepped truths b (JudgeMet i c) k me now → k ≡ slice_index (row_in (the me.0).at.held) i
+  met_cell b i k c me now s = let h = does b (JudgeMet i c) _ me now s.made in own_cell b _ i k (the me.0) (the now.0) s.made.did h.0 h.1 s.tells
 
   -- the walk that a step goes on with
   pub walk_is : (b : Option (Walk C)) (found : Found) (walk : Walk C) (v w : GateView C N) (d : Did truths b found v w) → walk_by b v.at.walk ≡ Some walk → d.made.step.walk ≡ walk

@@ -46,7 +46,7 @@ pub record IsAtRest {C : Type 0} {N : ℕ} (truths : Truths C) (me : SeatOf C N)
   pub true_to : IsTrueToHistory truths (the me.0).limit (the me.0).at.seat (the me.0).told.seen (the me.0).told.mine
 
 -- The same seat behind some steps of one call, the first of which began it, if the call is named, and else in the midst of it: it has seen more; what the call has committed since stands behind its own events, and behind what the call had committed; and it has begun that call and no other.
-pub record HasSince {C : Type 0} {N : ℕ} (truths : Truths C) (begun : Option (Walk C)) (v w : GateView C N) : Type 0 where
+pub record HasSince {C : Type 0} {N : ℕ} (begun : Option (Walk C)) (v w : GateView C N) : Type 0 where
   pub limit : w.limit ≡ v.limit
   pub seat : w.at.seat ≡ v.at.seat
   pub begins : BeginsWith w.told.seen v.told.seen
@@ -55,15 +55,14 @@ pub record HasSince {C : Type 0} {N : ℕ} (truths : Truths C) (begun : Option (
   pub committed : w.course.committed ≡ (course_by begun v).committed ++ commits
   pub began : w.course.began ≡ (course_by begun v).began
   pub calls : w.told.begun ≡ v.told.begun ++ calls_of begun
-  pub true_to : IsTrueToHistory truths w.limit w.at.seat w.told.seen w.told.mine
 
 -- the number of the seat that is owed the next wake is below 64
 abbrev pub OwesBelow : List ℕ → Type 0
 OwesBelow [] = Unit {0}
 OwesBelow (woken ∷ others) = woken < 64
 
--- A seat stands at this place of its call, which has come as far as the place tells, with what the place needs; the rows of its section, if it has one in hand, are as wide as the lock's; it carries nothing, but where the place has the queues. It came there by some steps of that call, which began it, if it is named.
-pub record IsAt {C : Type 0} {N : ℕ} (truths : Truths C) (begun : Option (Walk C)) (walk : Walk C) (v : GateView C N) (me : SeatOf C N) : Type 0 where
+-- A seat stands at this place of its call, which has come as far as the place tells, with what the place needs; the rows of its section, if it has one in hand, are as wide as the lock's; it carries nothing, but where the place has the queues.
+pub record IsAt {C : Type 0} {N : ℕ} (truths : Truths C) (walk : Walk C) (me : SeatOf C N) : Type 0 where
   pub one : IsOne me.0
   pub empty : has_queues (Some walk) ≡ false → me.1 ≡ []
   pub walks : (the me.0).at.walk ≡ Some walk
@@ -71,16 +70,14 @@ pub record IsAt {C : Type 0} {N : ℕ} (truths : Truths C) (begun : Option (Walk
   pub owes : OwesBelow (the me.0).at.owed
   pub fits : PlaceFits truths (Some walk) (the me.0).at.held
   pub wide : IsWide (the me.0).at.held
-  pub since : HasSince truths begun v (the me.0)
 
--- A call that was asked to do this is over, and its answer means what it says. It came there by some steps, which began it, if it is named.
-pub record HasAnswered {C : Type 0} {N : ℕ} (truths : Truths C) (begun : Option (Walk C)) (request : Request C) (reply : Reply) (v : GateView C N) (me : SeatOf C N) : Type 0 where
+-- A call that was asked to do this is over, and its answer means what it says.
+pub record HasAnswered {C : Type 0} {N : ℕ} (truths : Truths C) (request : Request C) (reply : Reply) (me : SeatOf C N) : Type 0 where
   pub rest : IsAtRest truths me
-  pub since : HasSince truths begun v (the me.0)
   pub means : Means truths (the me.0).at.seat (row_after (the me.0).told.seen) request (the me.0).course reply (the me.0).at.held
 
 -- where a step leads a call that was asked to do this: to a place, at once or after it has waited, or to its answer
-abbrev pub Leads : {C : Type 0} {N : ℕ} → Truths C → Option (Walk C) → Request C → Next C → GateView C N → SeatOf C N → Type 0
-Leads truths begun request (On walk) v me = IsAt truths begun walk v me
-Leads truths begun request (Idle walk) v me = IsAt truths begun walk v me
-Leads truths begun request (Done reply) v me = HasAnswered truths begun request reply v me
+abbrev pub Leads : {C : Type 0} {N : ℕ} → Truths C → Request C → Next C → SeatOf C N → Type 0
+Leads truths request (On walk) me = IsAt truths walk me
+Leads truths request (Idle walk) me = IsAt truths walk me
+Leads truths request (Done reply) me = HasAnswered truths request reply me

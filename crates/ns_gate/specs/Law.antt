@@ -1,5 +1,5 @@
 -- The rule of a gate's table: word 0 is the lock word, the cells follow, and then each seat's flag. The slot has the queues.
-use Rattle.std.specs.Prelude.{◌≡◌, ℕ, suc, zero, ◌+◌, ◌<◌, ◌≤◌, ◌==◌, Bool, true, false, List, [], ◌∷◌, length, replicate, None, Some, IfSome, slice_get, slice_index}
+use Rattle.std.specs.Prelude.{◌≡◌, ℕ, suc, zero, ◌+◌, ◌<◌, ◌≤◌, ◌==◌, nat_lt, Bool, true, false, List, [], ◌∷◌, length, replicate, None, Some, IfSome, slice_get, slice_index}
 use mathlib.Core.Option.{some, none}
 use mathlib.Core.Option as TheOption
 use Rattle.atomic_table.specs.Table.{State as TableState}
@@ -72,13 +72,13 @@ pub record Shown (C : Type 0) (N : ℕ) : Type 0 where
   pub state : State C N
   pub history : List (Event C N)
 
--- The rule: the words, the slot and the views make up a state that is lawful with this history, and each seat was told what a seat is told.
+-- The rule: the words, the slot and the views make up a state that is lawful with this history; each of the seats stands in just one view, and no other; and each was told what a seat is told.
 pub record IsRuled {C : Type 0} {N : ℕ} (truths : Truths C) (limit : ℕ) (words : List ℕ) (homes : Homes C) (views : Views C N) (shown : Shown C N) : Type 0 where
   pub few : limit ≤ 64
   pub lawful : IsLawful truths limit shown.history shown.state
   pub shows : Shows N words shown.state.word shown.state.row shown.state.flags
   pub home : AtHome shown.state.word.spin shown.state.lists homes
-  pub once : (seat : ℕ) → tally (is_seat seat) views ≤ 1
+  pub seats : (seat : ℕ) → tally (is_seat seat) views ≡ one_if (nat_lt seat limit)
   pub each : Every (Every (Fits truths limit shown.history shown.state)) views
 
 -- The rule of a table with so many seats: there is such a state, and a history.

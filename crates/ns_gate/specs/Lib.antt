@@ -2,5 +2,6 @@ pub mod Calls
 pub mod Endings
 pub mod Law
 pub mod Meetings
+pub mod Performing
 pub mod Room
 pub mod Steps

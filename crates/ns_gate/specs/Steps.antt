@@ -1,5 +1,5 @@
 -- What one step of a seat is: a step of the machine between two lawful states.
-use Rattle.std.specs.Prelude.{◌≡◌, ℕ, ◌<◌, ◌≤◌, ◌++◌, true, List, [], ◌∷◌, Option, None, Some, Result, Ok, Err, slice_index}
+use Rattle.std.specs.Prelude.{◌≡◌, ◌⊎◌, ℕ, ◌+◌, ◌≤◌, ◌++◌, Bool, true, List, [], ◌∷◌, Option, None, Some, Result, Ok, Err, slice_index}
 use Rattle.atomic_table.specs.Table.{Me, rest}
 use Rattle.ns_model.specs.declared.event.Event.{Event}
 use Rattle.ns_model.specs.Beginnings.{BeginsWith}
@@ -7,27 +7,28 @@ use Rattle.ns_model.specs.Histories.{row_after, standing_after}
 use Rattle.ns_model.specs.Truths.{Truths}
 use Rattle.ns_queue.specs.Queues.{Lists}
 use Rattle.ns_queue.specs.Scans.{woken_of, left_of}
-use Rattle.ns_queue.specs.declared.waiter.Waiter.{Waiter}
 use Rattle.ns_word.specs.declared.word.Word.{Word}
 use Rattle.ns_word.specs.declared.view.SeatView.{SeatView}
 use Rattle.ns_word.specs.declared.limits.Cause.{Cause}
 use Rattle.ns_word.specs.declared.walk.Walk.{Walk}
 use Rattle.ns_word.specs.declared.act.Act.{Act}
-use Rattle.ns_word.specs.declared.act.Act.TheVariants.{LoadWord, Acquire, TakeQueues, ReturnQueues, Release, ReleaseReturning, WaitReturning, LoadCell, JudgeQuiet, JudgeMet, StoreCell}
+use Rattle.ns_word.specs.declared.act.Act.TheVariants.{LoadWord, Acquire, TakeQueues, ReturnQueues, Release, ReleaseReturning, WaitReturning, LoadCell, JudgeQuiet, JudgeMet, StoreCell, ArmFlag, PayWake, LoadFlag}
 use Rattle.ns_word.specs.declared.act.Found.{Found}
 use Rattle.ns_word.specs.declared.act.Found.TheVariants.{Made, Saw, Scanned, Left, Woke, Looked}
 use Rattle.ns_word.specs.Asked.{asked_of}
 use Rattle.ns_word.specs.Begins.{IsFirst, SeatStep}
-use Rattle.ns_word.specs.Codec.{IsPackable}
 use Rattle.ns_word.specs.Courses.{CallGoes, course_after}
-use Rattle.ns_word.specs.Finds.{found_of, row_in}
+use Rattle.ns_word.specs.Finds.{found_of, number_at, row_in, scanned, IsLook}
 use Rattle.ns_word.specs.Lawful.{IsLawful, ViewFits}
 use Rattle.ns_word.specs.Meanings.{Course, course_from}
 use Rattle.ns_word.specs.Places.{PlaceFits}
 use Rattle.ns_word.specs.Lists.{has_some, bits_of}
-use Rattle.ns_word.specs.Steps.{State, meets_at, with_lock}
-use Rattle.ns_word.specs.Words.{word_released_returning}
-use Rattle.ns_word.specs.declared.word.Releasing.{Releasing}
+use Rattle.ns_word.specs.Steps.{State, change_found, changed, meets_at, moves, waited_in, with_lock}
+use Rattle.ns_word.specs.Waits.{mode_for}
+use Rattle.ns_word.specs.Words.{releasing_of, word_acquired, word_released, word_released_returning, word_returned, word_taken}
+use Rattle.ns_gate.specs.declared.queues.Returning.{Returning}
+use Rattle.ns_gate.specs.declared.queues.Returning.TheVariants.{Changed, Released, Waited}
+use Rattle.ns_word.specs.declared.word.Bits.{Bits}
 use Rattle.ns_word.specs.Told.{IsTold, told_after, calls_of}
 use Rattle.ns_word.specs.Walks.{want_of, got_of, walk_after, has_queues}
 use Rattle.ns_gate.specs.Law.{GateView, fresh_seat}
@@ -106,42 +107,87 @@ Carries lists me = me.1 ≡ (0, lists) ∷ []
 abbrev pub HasTaken : {C : Type 0} {N : ℕ} → Me (Lists C) (List (GateView C N)) → Type 0
 HasTaken me = Carries (the me.0).stood me
 
--- the seat has made the act, and found this
+-- the number that an act loads, compares or stores in a state; one that judges loads the row's last cell
+abbrev pub number_by : {C : Type 0} {N : ℕ} → ℕ → Act C → State C N → ℕ
+number_by seat (JudgeQuiet i) s = slice_index s.row i
+number_by seat (JudgeMet i c) s = slice_index s.row i
+number_by seat (StoreCell i v) s = v
+number_by seat ArmFlag s = 1
+number_by seat (PayWake value) s = value
+number_by seat act s = number_at seat act s
+
+-- The seat has made the act, and found this: what the number that the state has there tells, but for a look.
 pub record Performed {C : Type 0} {N : ℕ} (truths : Truths C) (begun : Option (Walk C)) (act : Act C) (found : Found) (me now : Me (Lists C) (List (GateView C N))) : Type 0 where
   pub one : IsOne now.0
   pub carried : now.1 ≡ carried_by act found (the now.0).stood me.1
   pub did : Did truths begun found (the me.0) (the now.0)
   pub act_is : want_of did.made.step.walk ≡ act
+  pub finds : (IsLook act → ⊥) → found ≡ found_of truths act (the me.0).at (the me.0).stood (number_by (the me.0).at.seat act did.old)
 
--- the same, where the word that the act loads or compares had this number
+-- the same, where this is the number that the act loads, compares or stores
 pub record Stepped {C : Type 0} {N : ℕ} (truths : Truths C) (begun : Option (Walk C)) (act : Act C) (number : ℕ) (me now : Me (Lists C) (List (GateView C N))) : Type 0 where
   pub made : Performed truths begun act (found_of truths act (the me.0).at (the me.0).stood number) me now
-
--- the cell that an act loads
-abbrev pub cell_of : {C : Type 0} → Act C → ℕ
-cell_of (LoadCell i) = i
-cell_of (JudgeQuiet i) = i
-cell_of (JudgeMet i c) = i
-cell_of act = 0
-
--- The same for a seat that judges the section in hand: the number that it loads is the section's own cell.
-pub record Judged {C : Type 0} {N : ℕ} (truths : Truths C) (begun : Option (Walk C)) (act : Act C) (number : ℕ) (me now : Me (Lists C) (List (GateView C N))) : Type 0 where
-  pub stepped : Stepped truths begun act number me now
-  pub cell : number ≡ slice_index (row_in (the me.0).at.held) (cell_of act)
+  pub tells : number ≡ number_by (the me.0).at.seat act made.did.old
 
 -- the act that a call wants
 abbrev pub act_of : {C : Type 0} → Option (Walk C) → Act C
 act_of None = LoadWord
 act_of (Some walk) = want_of walk
 
--- the act that a seat's call wants
-abbrev pub act_in : {C : Type 0} {N : ℕ} → GateView C N → Act C
-act_in view = act_of view.at.walk
+-- the act that a seat's call wants next, or begins with
+abbrev pub act_by : {C : Type 0} {N : ℕ} → Option (Walk C) → GateView C N → Act C
+act_by begun view = act_of (walk_by begun view.at.walk)
 
--- the first of the walks that a step was told of, if it was told of one
-abbrev pub first_said : {C : Type 0} → List (Walk C) → Option (Walk C)
+-- the first of the things that a step was told, if it was told any
+abbrev pub first_said : {A : Type 0} → List (Option A) → Option A
 first_said [] = None
-first_said (walk ∷ walks) = Some walk
+first_said (said ∷ others) = said
+
+-- the seat that is owed the next wake
+abbrev pub next_owed : List ℕ → ℕ
+next_owed [] = 0
+next_owed (woken ∷ others) = woken
+
+-- the table's word that an act is on: the lock word, a cell, or a flag
+abbrev pub word_at : {C : Type 0} {N : ℕ} → Act C → GateView C N → ℕ
+word_at (LoadCell i) view = i + 1
+word_at (JudgeQuiet i) view = i + 1
+word_at (JudgeMet i c) view = i + 1
+word_at (StoreCell i v) view = i + 1
+word_at {C} {N} ArmFlag view = view.at.seat + (N + 1)
+word_at {C} {N} LoadFlag view = view.at.seat + (N + 1)
+word_at {C} {N} (PayWake value) view = next_owed view.at.owed + (N + 1)
+word_at act view = 0
+
+-- the act loads a word, and does nothing else
+abbrev pub IsLoad : {C : Type 0} → Act C → Type 0
+IsLoad LoadWord = Unit {0}
+IsLoad (LoadCell i) = Unit {0}
+IsLoad (JudgeQuiet i) = Unit {0}
+IsLoad (JudgeMet i c) = Unit {0}
+IsLoad LoadFlag = Unit {0}
+IsLoad act = ⊥
+
+-- the act stores this number
+abbrev pub IsStoreOf : {C : Type 0} → ℕ → Act C → Type 0
+IsStoreOf number (StoreCell i v) = number ≡ v
+IsStoreOf number ArmFlag = number ≡ 1
+IsStoreOf number (PayWake value) = number ≡ value
+IsStoreOf number act = ⊥
+
+-- the seat may load this word, for the act that its call wants next or begins with
+pub record MayLoad {C : Type 0} {N : ℕ} (truths : Truths C) (begun : Option (Walk C)) (word : ℕ) (me : Me (Lists C) (List (GateView C N))) : Type 0 where
+  pub act : Act C
+  pub can : CanStep truths begun act me
+  pub loads : IsLoad act
+  pub there : word ≡ word_at act (the me.0)
+
+-- the seat may store this number into this word, for the act that its call wants next
+pub record MayStore {C : Type 0} {N : ℕ} (truths : Truths C) (word number : ℕ) (me : Me (Lists C) (List (GateView C N))) : Type 0 where
+  pub act : Act C
+  pub can : CanStep truths None act me
+  pub stores : IsStoreOf number act
+  pub there : word ≡ word_at act (the me.0)
 
 -- what an exchange came to, as the machine says it, where this is found if it is made
 abbrev pub tried_for : {A : Type 0} → Found → Result A Word → Found
@@ -152,34 +198,75 @@ tried_for found (Err word) = Saw word
 abbrev pub tried : {A : Type 0} → Result A Word → Found
 tried r = tried_for Made r
 
--- the first of the causes that a step was told of, if it was told of one
-abbrev pub first_cause : List (Option Cause) → Option Cause
-first_cause [] = None
-first_cause (cause ∷ causes) = cause
-
 -- the look that the seat's call wants was made, and has shown this
 pub record HasLooked {C : Type 0} {N : ℕ} (truths : Truths C) (cause : Option Cause) (me now : Me (Lists C) (List (GateView C N))) : Type 0 where
-  pub made : Performed truths None (act_in (the me.0)) (Looked cause) me now
+  pub made : Performed truths None (act_by None (the me.0)) (Looked cause) me now
 
 -- the lists that a scan at this row leaves
 abbrev pub lists_scanned : {C : Type 0} → Truths C → List ℕ → Lists C → Lists C
 lists_scanned truths row lists = with_lock lists (left_of (meets_at truths row) lists.lock)
 
--- the word of a release with a scan of the first list at this row, which puts back the second
-abbrev pub word_scanned : {C : Type 0} → Truths C → Releasing → Word → List ℕ → List (Waiter C) → List (Waiter C) → Word
-word_scanned truths releasing last row lock stay = word_released_returning releasing (has_some (woken_of (meets_at truths row) lock)) (bits_of stay) last
+-- the act with which the queues are put back for this, where this is the word last seen
+abbrev pub act_returning : {C : Type 0} → Returning C → Word → Act C
+act_returning (Changed change) last = ReturnQueues change last
+act_returning (Released releasing) last = ReleaseReturning releasing last
+act_returning (Waited wait again) last = WaitReturning wait again last
+
+-- the lists that a seat puts back then, which stood so, and whose section in hand has this row
+abbrev pub lists_returned : {C : Type 0} → Truths C → ℕ → Returning C → Word → List ℕ → Lists C → Lists C
+lists_returned truths seat (Changed change) last row stood = changed seat change last stood
+lists_returned truths seat (Released releasing) last row stood = lists_scanned truths row stood
+lists_returned truths seat (Waited wait again) last row stood = waited_in truths seat wait again row stood
+
+-- whether somebody was moved to the lock list, or taken from it by the scan
+abbrev pub some_returned : {C : Type 0} → Truths C → Returning C → Word → List ℕ → Lists C → Bool
+some_returned truths (Changed change) last row stood = moves change last stood
+some_returned truths returning last row stood = has_some (woken_of (meets_at truths row) stood.lock)
+
+-- what is found where they were put back
+abbrev pub found_returned : {C : Type 0} → Truths C → ℕ → Returning C → Word → List ℕ → Lists C → Found
+found_returned truths seat (Changed change) last row stood = change_found seat change last stood
+found_returned truths seat returning last row stood = scanned truths row stood.lock
+
+-- the word that is then left, where the lock list holds what these bits tell of
+abbrev pub word_returning : {C : Type 0} → Returning C → Bool → Bits → Word → Word
+word_returning (Changed change) some bits last = word_returned some bits last
+word_returning (Released releasing) some bits last = word_released_returning releasing some bits last
+word_returning (Waited wait again) some bits last = word_released_returning (releasing_of wait.mode) some bits last
+
+-- The queues are put back with this word by a seat that has them in hand as they are then.
+pub record PutsBack {C : Type 0} {N : ℕ} (truths : Truths C) (returning : Returning C) (last new : Word) (view : GateView C N) (slots : List (ℕ × Lists C)) : Type 0 where
+  pub carries : slots ≡ (0, lists_returned truths view.at.seat returning last (row_in view.at.held) view.stood) ∷ []
+  pub word : new ≡ word_returning returning (some_returned truths returning last (row_in view.at.held) view.stood) (bits_of (lists_returned truths view.at.seat returning last (row_in view.at.held) view.stood).lock) last
+
+-- the act exchanges the word last seen for the new one
+abbrev pub IsExchange : {C : Type 0} {N : ℕ} → Truths C → Act C → Word → Word → GateView C N → List (ℕ × Lists C) → Type 0
+IsExchange truths (Acquire aim arrival seen) last new view slots = (seen ≡ last) × (new ≡ word_acquired (mode_for aim) arrival seen)
+IsExchange truths (TakeQueues taking seen) last new view slots = (seen ≡ last) × (new ≡ word_taken taking seen)
+IsExchange truths (ReturnQueues change seen) last new view slots = (seen ≡ last) × PutsBack truths (Changed change) seen new view slots
+IsExchange truths (Release releasing seen) last new view slots = (seen ≡ last) × (new ≡ word_released releasing seen)
+IsExchange truths (ReleaseReturning releasing seen) last new view slots = (seen ≡ last) × PutsBack truths (Released releasing) seen new view slots
+IsExchange truths (WaitReturning wait again seen) last new view slots = (seen ≡ last) × PutsBack truths (Waited wait again) seen new view slots
+IsExchange truths act last new view slots = ⊥
+
+-- the seat may exchange the one word for the other, for the act that its call wants next
+pub record MayExchange {C : Type 0} {N : ℕ} (truths : Truths C) (last new : Word) (me : Me (Lists C) (List (GateView C N))) : Type 0 where
+  pub act : Act C
+  pub can : CanStep truths None act me
+  pub exchanges : IsExchange truths act last new (the me.0) me.1
+
+-- what the seat's act finds if its exchange is made
+abbrev pub made_by : {C : Type 0} {N : ℕ} → Truths C → Act C → GateView C N → Found
+made_by truths (ReturnQueues change last) view = change_found view.at.seat change last view.stood
+made_by truths (ReleaseReturning releasing last) view = scanned truths (row_in view.at.held) view.stood.lock
+made_by truths (WaitReturning wait again last) view = scanned truths (row_in view.at.held) view.stood.lock
+made_by truths act view = Made
 
 -- a wake is owed to this seat next
 abbrev pub IsOwedNext : ℕ → List ℕ → Type 0
 IsOwedNext woken [] = ⊥
 IsOwedNext woken (next ∷ others) = next ≡ woken
 
--- the gate makes acts of this kind at once: a load of the word, an acquire, a release or the taking of the queues by a word that has a number, and a load or a store of a cell of the row
-abbrev pub IsMadeHere : {C : Type 0} → ℕ → Act C → Type 0
-IsMadeHere N LoadWord = Unit {0}
-IsMadeHere N (Acquire aim arrival last) = IsPackable last
-IsMadeHere N (TakeQueues taking last) = IsPackable last
-IsMadeHere N (Release releasing last) = IsPackable last
-IsMadeHere N (LoadCell i) = i < N
-IsMadeHere N (StoreCell i v) = i < N
-IsMadeHere N act = ⊥
+-- the number is the seat's own, or that of the seat that it owes the next wake
+abbrev pub HasUseFor : {C : Type 0} {N : ℕ} → ℕ → GateView C N → Type 0
+HasUseFor number view = (number ≡ view.at.seat) ⊎ IsOwedNext number view.at.owed

@@ -2,21 +2,24 @@
 
 ghost use Rattle.std.specs.Prelude.{◌≡◌, ◌+◌, ◌<◌};
 ghost use Rattle.ns_word.specs.Finds.{owes_more};
-ghost use Rattle.ns_gate.specs.Steps.{CanStep, IsOwedNext, Performed, the};
+ghost use Rattle.ns_gate.specs.Steps.{CanStep, HasUseFor, IsOwedNext, Performed, the};
 
 use crate::gate::{Gate, GateSeat};
-use crate::plays::Go;
 use crate::room::Gated;
 use ns_word::act::{Act, Found};
 use std::sync::Wait;
 
+/// The number of a flag that is set.
+const SET: u32 = 1;
+
 impl<C: Gated<N>, const N: usize> Gate<C, N> {
-    /// The word that has the flag of the seat of this number.
+    /// The word that has a seat's own flag, or the flag of the seat that it owes the next wake.
     ///
-    /// Needs a number below 64.
-    pub(crate) fn flag_at(number: u8) -> usize
-        requires { number < 64 }
-        ensures { result ≡ number + (N + 1) }
+    /// Needs the number, below 64, of one of these two.
+    #[inline(always)]
+    pub(crate) fn flag_at(_seat: &GateSeat<C, N>, number: u8) -> usize
+        requires { HasUseFor number (the _seat.now.me.0) × (number < 64) }
+        ensures { (result ≡ number + (N + 1)) × (result < N + 65) }
     {
         usize::from(number) + (N + 1)
     }
@@ -31,9 +34,8 @@ impl<C: Gated<N>, const N: usize> Gate<C, N> {
         ensures seat { seat.new.table_id ≡ seat.old.table_id }
         ensures did { Performed C.means None Act.ArmFlag Found.Made seat.old.me seat.new.me }
     {
-        self.table
-            .shared
-            .store::<Go<C, N>>(seat, Self::flag_at(number), 1);
+        let flag = Self::flag_at(seat, number);
+        self.store_at(seat, flag, u64::from(SET));
     }
 
     /// Loads the seat's own flag: 1 while it is set.
@@ -46,9 +48,8 @@ impl<C: Gated<N>, const N: usize> Gate<C, N> {
         ensures seat { seat.new.table_id ≡ seat.old.table_id }
         ensures did { Performed C.means None Act.LoadFlag (Found.Flag result) seat.old.me seat.new.me }
     {
-        self.table
-            .shared
-            .load::<Go<C, N>>(seat, Self::flag_at(number)) as u8
+        let flag = Self::flag_at(seat, number);
+        self.load_at(seat, None, flag) as u8
     }
 
     /// Pays the wake that is owed to the seat of this number: stores the value into its flag, and wakes
@@ -63,19 +64,18 @@ impl<C: Gated<N>, const N: usize> Gate<C, N> {
         ensures seat { seat.new.table_id ≡ seat.old.table_id }
         ensures did { Performed C.means None (Act.PayWake value) (owes_more (the seat.old.me.0).at.owed) seat.old.me seat.new.me }
     {
-        let flag = Self::flag_at(woken);
-        let shared = &self.table.shared;
-        shared.store::<Go<C, N>>(seat, flag, value);
-        shared.wake_one(flag);
+        let flag = Self::flag_at(seat, woken);
+        self.store_at(seat, flag, value);
+        self.table.shared.wake_one(flag);
     }
 
-    /// Sleeps while the flag of the seat of this number is set, or for less. Whoever clears it
-    /// wakes the sleeper.
+    /// Sleeps while the seat's own flag is set, or for less. Whoever clears it wakes the sleeper.
     ///
-    /// Needs a number below 64.
-    pub fn park<R: Wait>(&self, rt: &R, number: u8)
-        requires { number < 64 }
+    /// Needs a seat of this gate, and its number, below 64.
+    pub fn park<R: Wait>(&self, rt: &R, seat: &GateSeat<C, N>, number: u8)
+        requires of { seat.now.table_id ≡ self.now }
+        requires number { (number ≡ (the seat.now.me.0).at.seat) × (number < 64) }
     {
-        self.table.shared.park(rt, Self::flag_at(number), 1);
+        self.table.shared.park(rt, Self::flag_at(seat, number), SET);
     }
 }

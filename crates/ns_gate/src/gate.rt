@@ -4,16 +4,15 @@ ghost use Rattle.std.specs.Prelude.{◌≡◌, ◌+◌, ◌<◌, ◌≤◌, [], 
 ghost use Rattle.ns_word.specs.Codec.{word_of, IsPackable};
 ghost use Rattle.ns_word.specs.Finds.{before_in, exchanged, row_in};
 ghost use Rattle.ns_word.specs.Steps.{MayShow};
-ghost use Rattle.ns_word.specs.Walks.{want_of};
 ghost use Rattle.ns_gate.specs.Calls.{IsAtRest};
 ghost use Rattle.ns_gate.specs.Endings.{EndsAs};
 ghost use Rattle.ns_gate.specs.Law.{first_of, fresh, no_lists, rest_of, NewFault};
 ghost use Rattle.ns_gate.specs.Meetings.{HaveMet};
-ghost use Rattle.ns_gate.specs.Steps.{CanStep, IsMadeHere, IsOne, Performed, the, tried, tried_for};
+ghost use Rattle.ns_gate.specs.Steps.{CanStep, IsOne, MayExchange, MayLoad, MayStore, Performed, Stepped, made_by, the, tried, tried_for};
 
 use crate::closed::{Closed, cells};
 use crate::fault::Fault;
-use crate::plays::{Begin, BeginJudging, FirstOut, Go, Judge, Law, Learn, Look, Together};
+use crate::plays::{FirstOut, Go, Law, Learn, Load, Look, Together};
 use crate::room::Gated;
 use crate::saying::load_saying;
 use crate::view::View;
@@ -60,16 +59,6 @@ pub(crate) fn came_to(found: u64, last: Word) -> Result<(), Word>
         Ok(())
     } else {
         Err(unpacked(found))
-    }
-}
-
-/// The same, as the machine says it.
-fn found_by(tries: Result<(), Word>) -> Found
-    ensures { result ≡ tried tries }
-{
-    match tries {
-        Ok(()) => Found::Made,
-        Err(word) => Found::Saw(word),
     }
 }
 
@@ -144,36 +133,74 @@ impl<C: Gated<N>, const N: usize> Gate<C, N> {
         (first, both)
     }
 
-    /// Loads the lock word.
-    ///
-    /// Needs a seat of this gate, whose call wants that next.
-    pub fn load(&self, seat: &mut GateSeat<C, N>) -> Word
-        requires of { seat.old.table_id ≡ self.now }
-        requires can { CanStep C.means None Act.LoadWord seat.old.me }
-        ensures seat { seat.new.table_id ≡ seat.old.table_id }
-        ensures word { IsPackable result }
-        ensures did { Performed C.means None Act.LoadWord (Found.Saw result) seat.old.me seat.new.me }
-    {
-        unpacked(self.table.shared.load::<Go<C, N>>(seat, 0))
-    }
-
-    /// Begins a call by its first step, which loads the lock word.
-    ///
-    /// Needs a seat of this gate, whose last call is over, and a first place whose need is met.
+    /// Loads a word of the table, for the act that the seat's call wants next or begins with.
     #[inline(always)]
-    pub fn begin_load(&self, seat: &mut GateSeat<C, N>, walk: Walk<C>) -> Word
+    pub(crate) fn load_at(
+        &self,
+        seat: &mut GateSeat<C, N>,
+        begins: Option<Walk<C>>,
+        word: usize,
+    ) -> u64
         requires of { seat.old.table_id ≡ self.now }
-        requires wants { want_of walk ≡ Act.LoadWord }
-        requires can { CanStep C.means (Some walk) Act.LoadWord seat.old.me }
+        requires below { word < N + 65 }
+        requires may { MayLoad C.means begins word seat.old.me }
         ensures seat { seat.new.table_id ≡ seat.old.table_id }
-        ensures word { IsPackable result }
-        ensures did { Performed C.means (Some walk) Act.LoadWord (Found.Saw result) seat.old.me seat.new.me }
+        ensures did { (act : Act C) → CanStep C.means begins act seat.old.me → Stepped C.means begins act result seat.old.me seat.new.me }
     {
         let shared = &self.table.shared;
-        let found = load_saying::<Queues<C, N>, View<C, N>, u8, Law<C, N>, Walk<C>, Begin<C, N>>(
-            shared, seat, 0, &walk,
-        );
-        unpacked(found)
+        load_saying::<Queues<C, N>, View<C, N>, u8, Law<C, N>, Option<Walk<C>>, Load<C, N>>(
+            shared, seat, word, &begins,
+        )
+    }
+
+    /// Stores a number into a word of the table, for the act that the seat's call wants next.
+    #[inline(always)]
+    pub(crate) fn store_at(&self, seat: &mut GateSeat<C, N>, word: usize, number: u64)
+        requires of { seat.old.table_id ≡ self.now }
+        requires below { word < N + 65 }
+        requires may { MayStore C.means word number seat.old.me }
+        ensures seat { seat.new.table_id ≡ seat.old.table_id }
+        ensures did { (act : Act C) → CanStep C.means None act seat.old.me → Stepped C.means None act number seat.old.me seat.new.me }
+    {
+        self.table.shared.store::<Go<C, N>>(seat, word, number);
+    }
+
+    /// Changes the lock word from the one last seen to another, for the act that the seat's call wants
+    /// next; where it is not the one last seen, tells it.
+    #[inline(always)]
+    pub(crate) fn exchange(
+        &self,
+        seat: &mut GateSeat<C, N>,
+        last: Word,
+        new: Word,
+    ) -> Result<(), Word>
+        requires of { seat.old.table_id ≡ self.now }
+        requires last { IsPackable last }
+        requires may { MayExchange C.means last new seat.old.me }
+        ensures seat { seat.new.table_id ≡ seat.old.table_id }
+        ensures word { IfErr result IsPackable }
+        ensures did { (act : Act C) → CanStep C.means None act seat.old.me → Performed C.means None act (tried_for (made_by C.means act (the seat.old.me.0)) result) seat.old.me seat.new.me }
+    {
+        let shared = &self.table.shared;
+        let number = encode(last);
+        let found = shared.compare_exchange::<Go<C, N>>(seat, 0, number, encode(new));
+        came_to(found, last)
+    }
+
+    /// Loads the lock word, as the next step of the seat's call, or as the first one of the call that
+    /// it begins.
+    ///
+    /// Needs a seat of this gate, whose call wants that next, or whose last call is over and which may
+    /// begin this one. As in each function, what begins is for the proof alone.
+    #[inline(always)]
+    pub fn load(&self, seat: &mut GateSeat<C, N>, begins: Option<Walk<C>>) -> Word
+        requires of { seat.old.table_id ≡ self.now }
+        requires can { CanStep C.means begins Act.LoadWord seat.old.me }
+        ensures seat { seat.new.table_id ≡ seat.old.table_id }
+        ensures word { IsPackable result }
+        ensures did { Performed C.means begins Act.LoadWord (Found.Saw result) seat.old.me seat.new.me }
+    {
+        unpacked(self.load_at(seat, begins, 0))
     }
 
     /// Acquires the lock for this, where its word is still the one last seen; else tells the word.
@@ -195,13 +222,7 @@ impl<C: Gated<N>, const N: usize> Gate<C, N> {
         ensures word { IfErr result IsPackable }
         ensures did { Performed C.means None (Act.Acquire aim arrival last) (tried result) seat.old.me seat.new.me }
     {
-        let old = encode(last);
-        let new = encode(last.acquired(aim.mode(), arrival));
-        let found = self
-            .table
-            .shared
-            .compare_exchange::<Go<C, N>>(seat, 0, old, new);
-        came_to(found, last)
+        self.exchange(seat, last, last.acquired(aim.mode(), arrival))
     }
 
     /// Releases the section in hand, where the lock word is still the one last seen; else tells the word.
@@ -222,129 +243,59 @@ impl<C: Gated<N>, const N: usize> Gate<C, N> {
         ensures word { IfErr result IsPackable }
         ensures did { Performed C.means None (Act.Release releasing last) (tried result) seat.old.me seat.new.me }
     {
-        let old = encode(last);
-        let new = encode(last.released(releasing));
-        let found = self
-            .table
-            .shared
-            .compare_exchange::<Go<C, N>>(seat, 0, old, new);
-        came_to(found, last)
+        self.exchange(seat, last, last.released(releasing))
     }
 
-    /// Loads a cell of the row.
+    /// Loads a cell of the row, as the next step of the seat's call, or as the first one of the call
+    /// that it begins.
     ///
-    /// Needs a seat of this gate, whose call wants that next, and a cell below `N`.
-    pub fn load_cell(&self, seat: &mut GateSeat<C, N>, i: u8) -> u64
+    /// Needs a seat of this gate, whose call wants that next or begins with it, and a cell below `N`.
+    pub fn load_cell(&self, seat: &mut GateSeat<C, N>, begins: Option<Walk<C>>, i: u8) -> u64
         requires of { seat.old.table_id ≡ self.now }
         requires cell { i < N }
-        requires can { CanStep C.means None (Act.LoadCell i) seat.old.me }
+        requires can { CanStep C.means begins (Act.LoadCell i) seat.old.me }
         ensures seat { seat.new.table_id ≡ seat.old.table_id }
-        ensures did { Performed C.means None (Act.LoadCell i) (Found.Cell result) seat.old.me seat.new.me }
+        ensures did { Performed C.means begins (Act.LoadCell i) (Found.Cell result) seat.old.me seat.new.me }
     {
-        self.table.shared.load::<Go<C, N>>(seat, usize::from(i) + 1)
-    }
-
-    /// Begins a call by its first step, which loads a cell of the row.
-    ///
-    /// Needs a seat of this gate, whose last call is over, a first place whose need is met, and a cell
-    /// below `N`.
-    pub fn begin_load_cell(&self, seat: &mut GateSeat<C, N>, walk: Walk<C>, i: u8) -> u64
-        requires of { seat.old.table_id ≡ self.now }
-        requires wants { want_of walk ≡ Act.LoadCell i }
-        requires cell { i < N }
-        requires can { CanStep C.means (Some walk) (Act.LoadCell i) seat.old.me }
-        ensures seat { seat.new.table_id ≡ seat.old.table_id }
-        ensures did { Performed C.means (Some walk) (Act.LoadCell i) (Found.Cell result) seat.old.me seat.new.me }
-    {
-        let shared = &self.table.shared;
-        let word = usize::from(i) + 1;
-        load_saying::<Queues<C, N>, View<C, N>, u8, Law<C, N>, Walk<C>, Begin<C, N>>(
-            shared, seat, word, &walk,
-        )
+        self.load_at(seat, begins, usize::from(i) + 1)
     }
 
     /// Loads the last cell of the row for a call that judges whether its section is quiet; the number
     /// is the cell of the section in hand.
     ///
-    /// Needs a seat of this gate, whose call wants that next, and a cell below `N`.
-    pub fn judge_quiet(&self, seat: &mut GateSeat<C, N>, i: u8) -> u64
+    /// Needs a seat of this gate, whose call wants that next or begins with it, and a cell below `N`.
+    pub fn judge_quiet(&self, seat: &mut GateSeat<C, N>, begins: Option<Walk<C>>, i: u8) -> u64
         requires of { seat.old.table_id ≡ self.now }
         requires cell { i < N }
-        requires can { CanStep C.means None (Act.JudgeQuiet i) seat.old.me }
+        requires can { CanStep C.means begins (Act.JudgeQuiet i) seat.old.me }
         ensures seat { seat.new.table_id ≡ seat.old.table_id }
-        ensures did { Performed C.means None (Act.JudgeQuiet i) (Found.Quiet (C.means.quiet (before_in (the seat.old.me.0).at.held) (row_in (the seat.old.me.0).at.held))) seat.old.me seat.new.me }
+        ensures did { Performed C.means begins (Act.JudgeQuiet i) (Found.Quiet (C.means.quiet (before_in (the seat.old.me.0).at.held) (row_in (the seat.old.me.0).at.held))) seat.old.me seat.new.me }
         ensures cell { result ≡ slice_index (row_in (the seat.old.me.0).at.held) i }
     {
-        self.table
-            .shared
-            .load::<Judge<C, N>>(seat, usize::from(i) + 1)
-    }
-
-    /// Begins a call that judges whether its section is quiet by its first step, which loads the last
-    /// cell of the row; the number is the cell of the section in hand.
-    ///
-    /// Needs a seat of this gate, whose last call is over, a first place whose need is met, and a cell
-    /// below `N`.
-    pub fn begin_judge_quiet(&self, seat: &mut GateSeat<C, N>, walk: Walk<C>, i: u8) -> u64
-        requires of { seat.old.table_id ≡ self.now }
-        requires wants { want_of walk ≡ Act.JudgeQuiet i }
-        requires cell { i < N }
-        requires can { CanStep C.means (Some walk) (Act.JudgeQuiet i) seat.old.me }
-        ensures seat { seat.new.table_id ≡ seat.old.table_id }
-        ensures did { Performed C.means (Some walk) (Act.JudgeQuiet i) (Found.Quiet (C.means.quiet (before_in (the seat.old.me.0).at.held) (row_in (the seat.old.me.0).at.held))) seat.old.me seat.new.me }
-        ensures cell { result ≡ slice_index (row_in (the seat.old.me.0).at.held) i }
-    {
-        let shared = &self.table.shared;
-        let last_cell = usize::from(i) + 1;
-        load_saying::<Queues<C, N>, View<C, N>, u8, Law<C, N>, Walk<C>, BeginJudging<C, N>>(
-            shared, seat, last_cell, &walk,
-        )
+        let quiet_cell = usize::from(i) + 1;
+        self.load_at(seat, begins, quiet_cell)
     }
 
     /// Loads the last cell of the row for a call that tests its condition; the number is the cell of the
     /// section in hand.
     ///
-    /// Needs a seat of this gate, whose call wants that next, and a cell below `N`.
-    pub fn judge_met(&self, seat: &mut GateSeat<C, N>, i: u8, _condition: C) -> u64
-        requires of { seat.old.table_id ≡ self.now }
-        requires cell { i < N }
-        requires can { CanStep C.means None (Act.JudgeMet i _condition) seat.old.me }
-        ensures seat { seat.new.table_id ≡ seat.old.table_id }
-        ensures did { Performed C.means None (Act.JudgeMet i _condition) (Found.Tested (C.means.holds _condition (row_in (the seat.old.me.0).at.held))) seat.old.me seat.new.me }
-        ensures cell { result ≡ slice_index (row_in (the seat.old.me.0).at.held) i }
-    {
-        let tested = usize::from(i) + 1;
-        self.table.shared.load::<Judge<C, N>>(seat, tested)
-    }
-
-    /// Begins a call that tests its condition by its first step, which loads the last cell of the row;
-    /// the number is the cell of the section in hand.
-    ///
-    /// Needs a seat of this gate, whose last call is over, a first place whose need is met, and a cell
-    /// below `N`.
-    pub fn begin_judge_met(
+    /// Needs a seat of this gate, whose call wants that next or begins with it, and a cell below `N`.
+    pub fn judge_met(
         &self,
         seat: &mut GateSeat<C, N>,
-        walk: Walk<C>,
+        begins: Option<Walk<C>>,
         i: u8,
         _condition: C,
     ) -> u64
         requires of { seat.old.table_id ≡ self.now }
-        requires wants { want_of walk ≡ Act.JudgeMet i _condition }
         requires cell { i < N }
-        requires can { CanStep C.means (Some walk) (Act.JudgeMet i _condition) seat.old.me }
+        requires can { CanStep C.means begins (Act.JudgeMet i _condition) seat.old.me }
         ensures seat { seat.new.table_id ≡ seat.old.table_id }
-        ensures did { Performed C.means (Some walk) (Act.JudgeMet i _condition) (Found.Tested (C.means.holds _condition (row_in (the seat.old.me.0).at.held))) seat.old.me seat.new.me }
+        ensures did { Performed C.means begins (Act.JudgeMet i _condition) (Found.Tested (C.means.holds _condition (row_in (the seat.old.me.0).at.held))) seat.old.me seat.new.me }
         ensures cell { result ≡ slice_index (row_in (the seat.old.me.0).at.held) i }
     {
-        let shared = &self.table.shared;
         let tested_cell = usize::from(i) + 1;
-        load_saying::<Queues<C, N>, View<C, N>, u8, Law<C, N>, Walk<C>, BeginJudging<C, N>>(
-            shared,
-            seat,
-            tested_cell,
-            &walk,
-        )
+        self.load_at(seat, begins, tested_cell)
     }
 
     /// Tells a seat's call what the look that it wants next has shown. A look changes no word of the
@@ -368,7 +319,7 @@ impl<C: Gated<N>, const N: usize> Gate<C, N> {
         ensures did { Performed C.means None (Act.Look _limits _again) (Found.Looked cause) seat.old.me seat.new.me }
     {
         let shared = &self.table.shared;
-        let flag = Self::flag_at(number);
+        let flag = Self::flag_at(seat, number);
         load_saying::<Queues<C, N>, View<C, N>, u8, Law<C, N>, Option<Cause>, Look<C, N>>(
             shared, seat, flag, &cause,
         );
@@ -384,40 +335,7 @@ impl<C: Gated<N>, const N: usize> Gate<C, N> {
         ensures seat { seat.new.table_id ≡ seat.old.table_id }
         ensures did { Performed C.means None (Act.StoreCell i value) Found.Made seat.old.me seat.new.me }
     {
-        self.table
-            .shared
-            .store::<Go<C, N>>(seat, usize::from(i) + 1, value);
-    }
-
-    /// Makes the act that the seat's call wants next: a load of the lock word, an acquire, a release, the
-    /// taking of the queues, or a load or a store of a cell.
-    ///
-    /// Needs a seat of this gate, whose call wants that next; for an exchange a word that has a number, as
-    /// each has that a load or an exchange has told; for a cell one below `N`. The other acts need what
-    /// their own functions ask for: the seat's number, the lists in hand, or the row.
-    pub fn perform(&self, seat: &mut GateSeat<C, N>, act: Act<C>) -> Found
-        requires of { seat.old.table_id ≡ self.now }
-        requires kind { IsMadeHere N act }
-        requires can { CanStep C.means None act seat.old.me }
-        ensures seat { seat.new.table_id ≡ seat.old.table_id }
-        ensures did { Performed C.means None act result seat.old.me seat.new.me }
-    {
-        match act {
-            Act::LoadWord => Found::Saw(self.load(seat)),
-            Act::Acquire(aim, arrival, last) => {
-                found_by(self.exchange_to_acquire(seat, aim, arrival, last))
-            }
-            Act::TakeQueues(taking, last) => found_by(self.exchange_to_take(seat, taking, last)),
-            Act::Release(releasing, last) => {
-                found_by(self.exchange_to_release(seat, releasing, last))
-            }
-            Act::LoadCell(i) => Found::Cell(self.load_cell(seat, i)),
-            Act::StoreCell(i, value) => {
-                self.store_cell(seat, i, value);
-                Found::Made
-            }
-            _ => unreachable!(),
-        }
+        self.store_at(seat, usize::from(i) + 1, value);
     }
 
     /// Ends the gate, and tells the cells as they stand, and whether the lock is free. Where it is, they

@@ -11,6 +11,7 @@ pub mod closed;
 pub mod fault;
 pub mod flags;
 pub mod gate;
+pub mod perform;
 pub mod plays;
 pub mod queues;
 pub mod room;

@@ -3,7 +3,7 @@
 ghost use Rattle.std.specs.Prelude.{◌++◌, [], None};
 ghost use Rattle.ns_gate.specs.Law.{Holds, first_of, fresh, rest_of};
 ghost use Rattle.ns_gate.specs.Meetings.{HaveLearned};
-ghost use Rattle.ns_gate.specs.Steps.{HasLooked, Judged, Stepped, act_in, act_of, first_cause, first_said, the};
+ghost use Rattle.ns_gate.specs.Steps.{HasLooked, Stepped, act_by, first_said, the};
 
 use crate::saying::Telling;
 use crate::view::View;
@@ -31,35 +31,17 @@ pub struct Go<C, const N: usize> {
 }
 
 impl<C: Condition<N>, const N: usize> Play<Queues<C, N>, View<C, N>> for Go<C, N> {
-    ghost then = { λ st me found now. Stepped C.means None (act_in (the me.0)) found me now };
+    ghost then = { λ st me found now. Stepped C.means None (act_by None (the me.0)) found me now };
 }
 
-/// The first step of the call that it is told.
-pub struct Begin<C, const N: usize> {
+/// The load that the seat's call wants next, or begins with where it is told a call.
+pub struct Load<C, const N: usize> {
     of: PhantomData<C>,
 }
 
-impl<C: Condition<N>, const N: usize> Telling<Queues<C, N>, View<C, N>, Walk<C>> for Begin<C, N> {
-    ghost after = { λ walks st me found now. Stepped C.means (first_said walks) (act_of (first_said walks)) found me now };
-}
-
-/// The load that the seat's call wants next, which judges the section in hand.
-pub struct Judge<C, const N: usize> {
-    of: PhantomData<C>,
-}
-
-impl<C: Condition<N>, const N: usize> Play<Queues<C, N>, View<C, N>> for Judge<C, N> {
-    ghost then = { λ st me found now. Judged C.means None (act_in (the me.0)) found me now };
-}
-
-/// The first step of the call that it is told, which judges the section in hand.
-pub struct BeginJudging<C, const N: usize> {
-    of: PhantomData<C>,
-}
-
-impl<C: Condition<N>, const N: usize> Telling<Queues<C, N>, View<C, N>, Walk<C>>
-    for BeginJudging<C, N> {
-    ghost after = { λ walks st me found now. Judged C.means (first_said walks) (act_of (first_said walks)) found me now };
+impl<C: Condition<N>, const N: usize> Telling<Queues<C, N>, View<C, N>, Option<Walk<C>>>
+    for Load<C, N> {
+    ghost after = { λ begins st me found now. Stepped C.means (first_said begins) (act_by (first_said begins) (the me.0)) found me now };
 }
 
 /// The look that the seat's call wants next, which has shown what it is told.
@@ -69,7 +51,7 @@ pub struct Look<C, const N: usize> {
 
 impl<C: Condition<N>, const N: usize> Telling<Queues<C, N>, View<C, N>, Option<Cause>>
     for Look<C, N> {
-    ghost after = { λ causes st me found now. HasLooked C.means (first_cause causes) me now };
+    ghost after = { λ causes st me found now. HasLooked C.means (first_said causes) me now };
 }
 
 /// The first seat of a view goes to a seat of its own.

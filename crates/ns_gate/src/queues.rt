@@ -1,27 +1,75 @@
 //! The steps on the waiter queues, and what is done to the queues in a hand between them.
 
-ghost use Rattle.std.specs.Prelude.{◌≡◌, ◌<◌, nat_lt, IfErr};
+ghost use Rattle.std.specs.Prelude.{◌≡◌, ◌<◌, ⊤, nat_lt, IfErr};
 ghost use Rattle.ns_queue.specs.Queues.{IsList, times, waiters_of};
 ghost use Rattle.ns_queue.specs.Scans.{woken_of, tests_of};
 ghost use Rattle.ns_queue.specs.Waiters.{seats_of, times_in};
 ghost use Rattle.ns_word.specs.Codec.{IsPackable};
-ghost use Rattle.ns_word.specs.Finds.{row_in, scanned};
-ghost use Rattle.ns_word.specs.Lists.{bits_of, has_some};
+ghost use Rattle.ns_word.specs.Finds.{row_in};
+ghost use Rattle.ns_word.specs.Lists.{bits_of};
 ghost use Rattle.ns_word.specs.Places.{IsInRange};
-ghost use Rattle.ns_word.specs.Steps.{change_found, changed, meets_at, moves, waited_in};
-ghost use Rattle.ns_gate.specs.Steps.{CanStep, Carries, HasTaken, Performed, lists_scanned, the, tried, tried_for};
+ghost use Rattle.ns_word.specs.Steps.{changed, meets_at, waited_in};
+ghost use Rattle.ns_gate.specs.Steps.{CanStep, Carries, HasTaken, Performed, act_returning, found_returned, lists_returned, lists_scanned, some_returned, the, tried, tried_for, word_returning};
 
-use crate::gate::{Gate, GateSeat, came_to};
-use crate::plays::Go;
+use crate::gate::{Gate, GateSeat};
 use crate::room::Gated;
 use ns_model::event::Mode;
 use ns_queue::scan::Scan;
 use ns_queue::waiter::Which;
-use ns_word::act::{Act, Change, Found};
-use ns_word::codec::encode;
+use ns_word::act::{Act, Change};
 use ns_word::hand::{bits, leave_self, queue_self, scan_and_queue};
 use ns_word::wait::Wait;
 use ns_word::word::{Arrival, Bits, Releasing, Taking, Word};
+use std::alloc::AllocError;
+
+/// What the queues are put back for.
+#[derive(Copy)]
+pub enum Returning<C> {
+    /// The lists are changed so, and nothing is released.
+    Changed(Change),
+    /// The section in hand is released, after a scan.
+    Released(Releasing),
+    /// A wait has put itself into its list after a scan, and leaves its section. The flag tells whether
+    /// it queues again.
+    Waited(Wait<C>, bool),
+}
+
+impl<C: Copy> Clone for Returning<C> {
+    ghost is_clone = { λ one other. other ≡ one };
+
+    ghost is_infallible = { λ _. ⊤ };
+
+    fn clone(&self) -> Result<Self, AllocError> {
+        Ok(*self)
+    }
+}
+
+/// What the hand has made of the queues.
+#[derive(Clone, Copy, Debug, PartialEq, Eq)]
+pub struct Turned {
+    /// Whether it moved somebody to the lock list, or the scan took somebody from it.
+    pub some: bool,
+    /// What the lock list holds.
+    pub bits: Bits,
+}
+
+impl<C> Returning<C> {
+    /// The word after the queues were put back for this.
+    #[inline(always)]
+    fn word(&self, last: Word, turned: Turned) -> Word
+        ensures { result ≡ word_returning self.now turned.some turned.bits last }
+    {
+        match self {
+            Returning::Changed(_) => last.returned(turned.some, turned.bits),
+            Returning::Released(releasing) => {
+                last.released_returning(*releasing, turned.some, turned.bits)
+            }
+            Returning::Waited(wait, _) => {
+                last.released_returning(Releasing::of(wait.mode), turned.some, turned.bits)
+            }
+        }
+    }
+}
 
 impl<C: Gated<N>, const N: usize> Gate<C, N> {
     /// Sets the spinlock bit and takes the queues, where the lock word is still the one last seen; else
@@ -41,113 +89,34 @@ impl<C: Gated<N>, const N: usize> Gate<C, N> {
         ensures word { IfErr result IsPackable }
         ensures did { Performed C.means None (Act.TakeQueues taking last) (tried result) seat.old.me seat.new.me }
     {
-        let old = encode(last);
-        let new = encode(last.taken(taking));
-        let found = self
-            .table
-            .shared
-            .compare_exchange::<Go<C, N>>(seat, 0, old, new);
-        came_to(found, last)
+        self.exchange(seat, last, last.taken(taking))
     }
 
-    /// Puts the queues back, changed as they are in hand, and clears the spinlock bit, where the lock
-    /// word is still the one last seen; else tells the word.
+    /// Puts the queues back as they are in hand, and clears the spinlock bit, where the lock word is
+    /// still the one last seen; else tells the word. Where a section is released with that, the seat
+    /// then owes the wakes of those whom the scan took.
     ///
     /// Needs a seat of this gate, whose call wants that next; a word that has a number; the queues in
-    /// hand, changed so; whether the change moves somebody to the lock list; and what that list holds.
+    /// hand, changed so, or scanned at the section's row; and what the hand has made of them.
+    #[inline(always)]
     pub fn exchange_to_return(
         &self,
         seat: &mut GateSeat<C, N>,
-        change: Change,
+        returning: Returning<C>,
         last: Word,
-        moved: bool,
-        bits: Bits,
+        turned: Turned,
     ) -> Result<(), Word>
         requires of { seat.old.table_id ≡ self.now }
         requires last { IsPackable last }
-        requires can { CanStep C.means None (Act.ReturnQueues change last) seat.old.me }
-        requires carries { Carries (changed (the seat.old.me.0).at.seat change last (the seat.old.me.0).stood) seat.old.me }
-        requires moved { moved ≡ moves change last (the seat.old.me.0).stood }
-        requires bits { bits ≡ bits_of (changed (the seat.old.me.0).at.seat change last (the seat.old.me.0).stood).lock }
+        requires can { CanStep C.means None (act_returning returning last) seat.old.me }
+        requires carries { Carries (lists_returned C.means (the seat.old.me.0).at.seat returning last (row_in (the seat.old.me.0).at.held) (the seat.old.me.0).stood) seat.old.me }
+        requires some { turned.some ≡ some_returned C.means returning last (row_in (the seat.old.me.0).at.held) (the seat.old.me.0).stood }
+        requires bits { turned.bits ≡ bits_of (lists_returned C.means (the seat.old.me.0).at.seat returning last (row_in (the seat.old.me.0).at.held) (the seat.old.me.0).stood).lock }
         ensures seat { seat.new.table_id ≡ seat.old.table_id }
         ensures word { IfErr result IsPackable }
-        ensures did { Performed C.means None (Act.ReturnQueues change last) (tried_for (change_found (the seat.old.me.0).at.seat change last (the seat.old.me.0).stood) result) seat.old.me seat.new.me }
+        ensures did { Performed C.means None (act_returning returning last) (tried_for (found_returned C.means (the seat.old.me.0).at.seat returning last (row_in (the seat.old.me.0).at.held) (the seat.old.me.0).stood) result) seat.old.me seat.new.me }
     {
-        let old = encode(last);
-        let new = encode(last.returned(moved, bits));
-        let found = self
-            .table
-            .shared
-            .compare_exchange::<Go<C, N>>(seat, 0, old, new);
-        came_to(found, last)
-    }
-
-    /// Releases the section in hand and puts back the queues as a scan has left them, where the lock
-    /// word is still the one last seen; else tells the word. Then the seat owes the wakes of those whom
-    /// the scan took.
-    ///
-    /// Needs a seat of this gate, whose call wants that next; a word that has a number; the queues in
-    /// hand, scanned at the section's row; whether the scan took somebody; and what the lock list holds.
-    pub fn exchange_to_release_scanned(
-        &self,
-        seat: &mut GateSeat<C, N>,
-        releasing: Releasing,
-        last: Word,
-        took: bool,
-        bits: Bits,
-    ) -> Result<(), Word>
-        requires of { seat.old.table_id ≡ self.now }
-        requires last { IsPackable last }
-        requires can { CanStep C.means None (Act.ReleaseReturning releasing last) seat.old.me }
-        requires carries { Carries (lists_scanned C.means (row_in (the seat.old.me.0).at.held) (the seat.old.me.0).stood) seat.old.me }
-        requires took { took ≡ has_some (woken_of (meets_at C.means (row_in (the seat.old.me.0).at.held)) (the seat.old.me.0).stood.lock) }
-        requires bits { bits ≡ bits_of (lists_scanned C.means (row_in (the seat.old.me.0).at.held) (the seat.old.me.0).stood).lock }
-        ensures seat { seat.new.table_id ≡ seat.old.table_id }
-        ensures word { IfErr result IsPackable }
-        ensures did { Performed C.means None (Act.ReleaseReturning releasing last) (tried_for (scanned C.means (row_in (the seat.old.me.0).at.held) (the seat.old.me.0).stood.lock) result) seat.old.me seat.new.me }
-    {
-        let old = encode(last);
-        let new = encode(last.released_returning(releasing, took, bits));
-        let found = self
-            .table
-            .shared
-            .compare_exchange::<Go<C, N>>(seat, 0, old, new);
-        came_to(found, last)
-    }
-
-    /// The same by a wait, which has also put itself into its list.
-    ///
-    /// Needs a seat of this gate, whose call wants that next; a word that has a number; the queues in
-    /// hand, scanned at the section's row, and the wait in its list; whether the scan took somebody; and
-    /// what the lock list holds.
-    pub fn exchange_to_wait(
-        &self,
-        seat: &mut GateSeat<C, N>,
-        wait: Wait<C>,
-        again: bool,
-        last: Word,
-        took: bool,
-        bits: Bits,
-    ) -> Result<(), Word>
-        requires of { seat.old.table_id ≡ self.now }
-        requires last { IsPackable last }
-        requires can { CanStep C.means None (Act.WaitReturning wait again last) seat.old.me }
-        requires carries { Carries (waited_in C.means (the seat.old.me.0).at.seat wait again (row_in (the seat.old.me.0).at.held) (the seat.old.me.0).stood) seat.old.me }
-        requires took { took ≡ has_some (woken_of (meets_at C.means (row_in (the seat.old.me.0).at.held)) (the seat.old.me.0).stood.lock) }
-        requires bits { bits ≡ bits_of (waited_in C.means (the seat.old.me.0).at.seat wait again (row_in (the seat.old.me.0).at.held) (the seat.old.me.0).stood).lock }
-        ensures seat { seat.new.table_id ≡ seat.old.table_id }
-        ensures word { IfErr result IsPackable }
-        ensures did { Performed C.means None (Act.WaitReturning wait again last) (tried_for (scanned C.means (row_in (the seat.old.me.0).at.held) (the seat.old.me.0).stood.lock) result) seat.old.me seat.new.me }
-    {
-        let old = encode(last);
-        let releasing = Releasing::of(wait.mode);
-        let released = last.released_returning(releasing, took, bits);
-        let new = encode(released);
-        let found = self
-            .table
-            .shared
-            .compare_exchange::<Go<C, N>>(seat, 0, old, new);
-        came_to(found, last)
+        self.exchange(seat, last, returning.word(last, turned))
     }
 
     /// Puts the seat of this number into the lock list in hand, without condition: at the back, or at

@@ -34,6 +34,7 @@ impl<S, V, A, M: Telling<S, V, A>, J: Says<A>> Play<S, V> for Said<A, M, J> {
 }
 
 /// A load by a step that says this.
+#[inline(always)]
 fn load_said<S, V, K, P: TableRule<S, V, K>, A, M: Telling<S, V, A>, J: Says<A>>(
     shared: &Shared<S, V, K, P>,
     seat: &mut Seat<S, V>,
@@ -50,6 +51,7 @@ fn load_said<S, V, K, P: TableRule<S, V, K>, A, M: Telling<S, V, A>, J: Says<A>>
 }
 
 /// A load that is told this.
+#[inline(always)]
 pub(crate) fn load_saying<S, V, K, P: TableRule<S, V, K>, A, M: Telling<S, V, A>>(
     shared: &Shared<S, V, K, P>,
     seat: &mut Seat<S, V>,

@@ -1,42 +1,35 @@
 -- What a call of the gate's seat tells its caller.
-use Rattle.std.proofs.Common.{◌≡◌, ℕ, Bool, true, false, cond, sym, [], ◌++◌, None, Some, Result, Ok, Err, slice_index, refl, ap, ◌∙◌, subst}
+use Rattle.std.proofs.Common.{◌≡◌, ℕ, Bool, true, false, cond, [], ◌++◌, None, Some, Result, Ok, Err, refl, ap, sym, ◌∙◌, subst}
 use Rattle.std.proofs.lemmas.List.{append-nil}
 use Rattle.atomic_table.specs.Seated.{TableId}
-use Rattle.ns_model.specs.Truths.{Truths}
-use Rattle.ns_model.specs.declared.event.Mode.{Mode}
-use Rattle.ns_gate.proofs.Calls.{begins, goes_on}
-use Rattle.ns_gate.specs.Calls.{SeatOf, IsAtRest, IsAt, HasAnswered, Leads}
-use Rattle.ns_gate.specs.Law.{GateView}
+use Rattle.ns_gate.proofs.Calls.{begins, goes, since, since_then}
+use Rattle.ns_gate.specs.Calls.{SeatOf, HasSince, IsAt, IsAtRest, HasAnswered, Leads}
 use Rattle.ns_gate.specs.Steps.{the, Performed, tried}
-use Rattle.ns_monitor.specs.Known.{known_of, Grows, HasSeenMore}
+use Rattle.ns_model.specs.declared.event.Mode.{Mode}
+use Rattle.ns_model.specs.Truths.{Truths}
+use Rattle.ns_monitor.specs.Known.{Known, known_of, Grows, HasLocked, HasSeenMore}
 use Rattle.ns_monitor.specs.Walks.{trying, getting, setting}
-use Rattle.ns_word.specs.Meanings.{Unchanged, InHand}
-use Rattle.ns_word.specs.Walks.{got_of, has_queues}
+use Rattle.ns_word.specs.Meanings.{Unchanged}
+use Rattle.ns_word.specs.Meanings as TheMeanings
+use Rattle.ns_model.specs.Histories.{row_after}
+use Rattle.ns_word.specs.Walks.{got_of}
 use Rattle.ns_word.specs.Words.{may_acquire}
-use Rattle.ns_word.specs.declared.act.Act.TheVariants.{LoadWord, Acquire, LoadCell, StoreCell}
+use Rattle.ns_word.specs.declared.act.Act.TheVariants.{Acquire, LoadCell, StoreCell}
 use Rattle.ns_word.specs.declared.act.Found.TheVariants.{Saw, Made, Cell}
 use Rattle.ns_word.specs.declared.cell_walk.CellPlace.TheVariants.{SetStore}
 use Rattle.ns_word.specs.declared.request.Request.TheVariants.{TryLock, Get, Set}
-use Rattle.ns_word.specs.declared.request.Request.{Request}
 use Rattle.ns_word.specs.declared.try_walk.TryPlace.TheVariants.{TryAcquire}
-use Rattle.ns_word.specs.declared.view.Held.{Held}
 use Rattle.ns_word.specs.declared.wait.Aim.TheVariants.{ForLock}
 use Rattle.ns_word.specs.declared.walk.Next.TheVariants.{On, Done}
 use Rattle.ns_word.specs.declared.walk.Reply.TheVariants.{Busy, Succeeded, Number}
-use Rattle.ns_word.specs.declared.walk.Reply.{Reply}
 use Rattle.ns_word.specs.declared.walk.Walk.{Walk}
 use Rattle.ns_word.specs.declared.walk.Walk.TheVariants.{InTry, InCells}
 use Rattle.ns_word.specs.declared.word.Arrival.TheVariants.{AsFresh}
 use Rattle.ns_word.specs.declared.word.Word.{Word}
 
-module _ {C : Type 0} (N : ℕ) where
-  -- where a try goes by the word that it loaded
-  by_word : (b : Bool) (mode : Mode) (word : Word) → may_acquire mode AsFresh word ≡ b → got_of {C = C} N (trying mode) (Saw word) ≡ cond b (On (InTry mode (TryAcquire word))) (Done Busy)
-  by_word b mode word e = ap (λ (x : Bool). cond x (On (InTry mode (TryAcquire word))) (Done Busy)) e
-
--- what a try answers whose exchange came to this
-abbrev pub answer_of : Bool → Reply
-answer_of ok = cond ok Succeeded Busy
+-- where a try goes by the word that it loaded
+by_word : {C : Type 0} (N : ℕ) (b : Bool) (mode : Mode) (word : Word) → may_acquire mode AsFresh word ≡ b → got_of {C = C} N (trying mode) (Saw word) ≡ cond b (On (InTry mode (TryAcquire word))) (Done Busy)
+by_word N b mode word e = ap (λ (x : Bool). cond x (On (InTry mode (TryAcquire word))) (Done Busy)) e
 
 abbrev made_of : {A B : Type 0} → Result A B → Bool
 made_of (Ok x) = true
@@ -44,44 +37,46 @@ made_of (Err e) = false
 
 module _ {C : Type 0} {N : ℕ} (truths : Truths C) where
   -- a call that is over has let its caller see more
-  pub grew : (first : Walk C) (request : Request C) (reply : Reply) (old new : TableId) (v : GateView C N) (me : SeatOf C N) → new ≡ old → HasAnswered truths (Some first) request reply v me → Grows truths first (known_of old v) (known_of new (the me.0))
-  grew first request reply old new v me same a = record { monitor = same; limit = a.since.limit; seat = a.since.seat; begins = a.since.begins; begun = a.since.calls; true_to = a.since.true_to; over = a.rest.over; owes = a.rest.owes; no_queues = ap has_queues a.rest.over }
+  pub grew : (first : Walk C) (old : Known C N) (was is : TableId) (me now : SeatOf C N) → known_of was me ≡ old → is ≡ old.monitor → IsAtRest truths now → HasSince (Some first) (the me.0) (the now.0) → Grows truths first old (known_of is now)
+  grew first old was is me now view same rest s = subst (λ (k : Known C N). is ≡ k.monitor → Grows truths first k (known_of is now)) view (λ same. record { monitor = same; limit = s.limit; seat = s.seat; begins = s.begins; begun = s.calls; true_to = rest.true_to; over = rest.over; owes = rest.owes; empty = rest.empty }) same
 
   -- one that has committed nothing leaves its own events
-  pub silent : (first : Walk C) (request : Request C) (reply : Reply) (v : GateView C N) (me : SeatOf C N) → HasAnswered truths (Some first) request reply v me → (the me.0).course.committed ≡ [] → (the me.0).told.mine ≡ v.told.mine
-  silent first request reply v me a none = a.since.mine ∙ (ap (λ es. v.told.mine ++ es) (sym a.since.committed ∙ none) ∙ append-nil v.told.mine)
+  silent : (first : Walk C) (old : Known C N) (was : TableId) (me now : SeatOf C N) → known_of was me ≡ old → HasSince (Some first) (the me.0) (the now.0) → (the now.0).course.committed ≡ [] → (the now.0).told.mine ≡ old.mine
+  silent first old was me now view s none = s.mine ∙ (ap (λ es. (the me.0).told.mine ++ es) (sym s.committed ∙ none) ∙ (append-nil (the me.0).told.mine ∙ ap (λ (k : Known C N). k.mine) view))
 
   -- and one that has changed nothing its section too
-  pub saw_more : (first : Walk C) (request : Request C) (reply : Reply) (old new : TableId) (v : GateView C N) (me : SeatOf C N) → new ≡ old → HasAnswered truths (Some first) request reply v me → Unchanged (the me.0).course (the me.0).at.held → HasSeenMore truths first (known_of old v) (known_of new (the me.0))
-  saw_more first request reply old new v me same a kept = record { grows = grew first request reply old new v me same a; mine = silent first request reply v me a kept.silent; held = kept.same ∙ a.since.began }
+  pub saw_more : (first : Walk C) (old : Known C N) (was is : TableId) (me now : SeatOf C N) → known_of was me ≡ old → is ≡ old.monitor → IsAtRest truths now → HasSince (Some first) (the me.0) (the now.0) → Unchanged (the now.0).course (the now.0).at.held → HasSeenMore truths first old (known_of is now)
+  saw_more first old was is me now view same rest s kept = record { grows = grew first old was is me now view same rest s; mine = silent first old was me now view s kept.silent; held = kept.same ∙ (s.began ∙ ap (λ (k : Known C N). k.held) view) }
+
+  -- one that has locked has a new section
+  pub locked : (first : Walk C) (mode : Mode) (old : Known C N) (was is : TableId) (me now : SeatOf C N) → known_of was me ≡ old → is ≡ old.monitor → IsAtRest truths now → HasSince (Some first) (the me.0) (the now.0) → TheMeanings.HasLocked (row_after (the now.0).told.seen) mode (the now.0).course (the now.0).at.held → HasLocked truths first mode old (known_of is now)
+  locked first mode old was is me now view same rest s h = record { grows = grew first old was is me now view same rest s; mine = silent first old was me now view s h.silent; section = h.section }
 
   -- ---- tries
 
   -- the word that was loaded decides
-  loaded : (mode : Mode) (walk : Walk C) (word : Word) (me now : SeatOf C N) → walk ≡ trying mode → IsAtRest truths me → Performed truths (Some walk) LoadWord (Saw word) me now → Leads truths (Some (trying mode)) (TryLock mode) (got_of N (trying mode) (Saw word)) (the me.0) now
-  loaded mode walk word me now is rest p = begins truths (trying mode) LoadWord (Saw word) (got_of N (trying mode) (Saw word)) me now rest refl (λ r _. p.carried ∙ r.empty) (subst (λ w. Performed truths (Some w) LoadWord (Saw word) me now) is p)
+  pub tries_next : (mode : Mode) (word : Word) (now : SeatOf C N) → may_acquire mode AsFresh word ≡ true → Leads truths (TryLock mode) (got_of N (trying mode) (Saw word)) now → IsAt truths (InTry mode (TryAcquire word)) now
+  tries_next mode word now may led = subst (λ n. Leads truths (TryLock mode) n now) (by_word N true mode word may) led
 
-  pub tries_next : (mode : Mode) (walk : Walk C) (word : Word) (me now : SeatOf C N) → walk ≡ trying mode → IsAtRest truths me → may_acquire mode AsFresh word ≡ true → Performed truths (Some walk) LoadWord (Saw word) me now → IsAt truths (Some (trying mode)) (InTry mode (TryAcquire word)) (the me.0) now
-  tries_next mode walk word me now is rest may p = subst (λ n. Leads truths (Some (trying mode)) (TryLock mode) n (the me.0) now) (by_word N true mode word may) (loaded mode walk word me now is rest p)
+  pub is_busy : (mode : Mode) (word : Word) (now : SeatOf C N) → may_acquire mode AsFresh word ≡ false → Leads truths (TryLock mode) (got_of N (trying mode) (Saw word)) now → HasAnswered truths (TryLock mode) Busy now
+  is_busy mode word now may led = subst (λ n. Leads truths (TryLock mode) n now) (by_word N false mode word may) led
 
-  pub is_busy : (mode : Mode) (walk : Walk C) (word : Word) (me now : SeatOf C N) → walk ≡ trying mode → IsAtRest truths me → may_acquire mode AsFresh word ≡ false → Performed truths (Some walk) LoadWord (Saw word) me now → HasAnswered truths (Some (trying mode)) (TryLock mode) Busy (the me.0) now
-  is_busy mode walk word me now is rest may p = subst (λ n. Leads truths (Some (trying mode)) (TryLock mode) n (the me.0) now) (by_word N false mode word may) (loaded mode walk word me now is rest p)
-
-  pub is_tried : (mode : Mode) (last : Word) (r : Result Unit Word) (v : GateView C N) (me now : SeatOf C N) → IsAt truths (Some (trying mode)) (InTry mode (TryAcquire last)) v me → Performed truths None (Acquire (ForLock mode) AsFresh last) (tried r) me now → HasAnswered truths (Some (trying mode)) (TryLock mode) (answer_of (made_of r)) v now
-  is_tried mode last (Ok x) v me now at p = goes_on truths (Some (trying mode)) (InTry mode (TryAcquire last)) (Acquire (ForLock mode) AsFresh last) Made (Done Succeeded) v me now at refl (λ _. p.carried ∙ at.empty refl) p
-  is_tried mode last (Err word) v me now at p = goes_on truths (Some (trying mode)) (InTry mode (TryAcquire last)) (Acquire (ForLock mode) AsFresh last) (Saw word) (Done Busy) v me now at refl (λ _. p.carried ∙ at.empty refl) p
+  -- and then the exchange
+  pub is_tried : (mode : Mode) (last : Word) (r : Result Unit Word) (made : Bool) (me now : SeatOf C N) → made ≡ made_of r → IsAt truths (InTry mode (TryAcquire last)) me → Performed truths None (Acquire (ForLock mode) AsFresh last) (tried r) me now → HasAnswered truths (TryLock mode) (cond made Succeeded Busy) now
+  is_tried mode last r made me now is at p = subst (λ b. HasAnswered truths (TryLock mode) (cond b Succeeded Busy) now) (sym is) (by_result r p) where
+    by_result : (r : Result Unit Word) → Performed truths None (Acquire (ForLock mode) AsFresh last) (tried r) me now → HasAnswered truths (TryLock mode) (cond (made_of r) Succeeded Busy) now
+    by_result (Ok x) p = goes truths (InTry mode (TryAcquire last)) (Acquire (ForLock mode) AsFresh last) Made (Done Succeeded) me now at refl refl refl p
+    by_result (Err word) p = goes truths (InTry mode (TryAcquire last)) (Acquire (ForLock mode) AsFresh last) (Saw word) (Done Busy) me now at refl refl refl p
 
   -- ---- the row
 
-  pub is_got : (i value : ℕ) (walk : Walk C) (me now : SeatOf C N) → walk ≡ getting i → IsAtRest truths me → Performed truths (Some walk) (LoadCell i) (Cell value) me now → HasAnswered truths (Some (getting i)) (Get i) (Number value) (the me.0) now
-  is_got i value walk me now is rest p = begins truths (getting i) (LoadCell i) (Cell value) (Done (Number value)) me now rest refl (λ r _. p.carried ∙ r.empty) (subst (λ w. Performed truths (Some w) (LoadCell i) (Cell value) me now) is p)
+  pub is_got : (i value : ℕ) (walk : Walk C) (me now : SeatOf C N) → walk ≡ getting i → IsAtRest truths me → Performed truths (Some walk) (LoadCell i) (Cell value) me now → HasAnswered truths (Get i) (Number value) now × HasSince (Some (getting i)) (the me.0) (the now.0)
+  is_got i value walk me now is rest did = let p = subst (λ w. Performed truths (Some w) (LoadCell i) (Cell value) me now) is did in
+      (begins truths (getting i) (LoadCell i) (Cell value) (Done (Number value)) me now refl (λ _. p.carried ∙ rest.empty) p, since truths (Some (getting i)) (LoadCell i) (Cell value) me now p)
 
-  -- the value is the cell's of the section that was in hand before
-  pub got_value : (i value : ℕ) (v : GateView C N) (me : SeatOf C N) → HasAnswered truths (Some (getting i)) (Get i) (Number value) v me → InHand v.at.held (λ section. value ≡ slice_index section.row i)
-  got_value i value v me a = subst (λ held. InHand held (λ (section : Held C N). value ≡ slice_index section.row i)) (a.means.0.same ∙ a.since.began) a.means.1
+  pub sets_next : (i value old : ℕ) (walk : Walk C) (me now : SeatOf C N) → walk ≡ setting i value → IsAtRest truths me → Performed truths (Some walk) (LoadCell i) (Cell old) me now → IsAt truths (InCells (SetStore i value)) now × HasSince (Some (setting i value)) (the me.0) (the now.0)
+  sets_next i value old walk me now is rest did = let p = subst (λ w. Performed truths (Some w) (LoadCell i) (Cell old) me now) is did in
+      (begins truths (setting i value) (LoadCell i) (Cell old) (On (InCells (SetStore i value))) me now refl (λ _. p.carried ∙ rest.empty) p, since truths (Some (setting i value)) (LoadCell i) (Cell old) me now p)
 
-  pub sets_next : (i value old : ℕ) (walk : Walk C) (me now : SeatOf C N) → walk ≡ setting i value → IsAtRest truths me → Performed truths (Some walk) (LoadCell i) (Cell old) me now → IsAt truths (Some (setting i value)) (InCells (SetStore i value)) (the me.0) now
-  sets_next i value old walk me now is rest p = begins truths (setting i value) (LoadCell i) (Cell old) (On (InCells (SetStore i value))) me now rest refl (λ r _. p.carried ∙ r.empty) (subst (λ w. Performed truths (Some w) (LoadCell i) (Cell old) me now) is p)
-
-  pub is_set : (i value : ℕ) (v : GateView C N) (me now : SeatOf C N) → IsAt truths (Some (setting i value)) (InCells (SetStore i value)) v me → Performed truths None (StoreCell i value) Made me now → HasAnswered truths (Some (setting i value)) (Set i value) Succeeded v now
-  is_set i value v me now at p = goes_on truths (Some (setting i value)) (InCells (SetStore i value)) (StoreCell i value) Made (Done Succeeded) v me now at refl (λ _. p.carried ∙ at.empty refl) p
+  pub is_set : (i value : ℕ) (start me now : SeatOf C N) → IsAt truths (InCells (SetStore i value)) me × HasSince (Some (setting i value)) (the start.0) (the me.0) → Performed truths None (StoreCell i value) Made me now → HasAnswered truths (Set i value) Succeeded now × HasSince (Some (setting i value)) (the start.0) (the now.0)
+  is_set i value start me now at p = (goes truths (InCells (SetStore i value)) (StoreCell i value) Made (Done Succeeded) me now at.0 refl refl refl p, since_then (Some (setting i value)) _ _ _ at.1 (since truths None (StoreCell i value) Made me now p))

@@ -1,6 +1,4 @@
 pub mod Callers
-pub mod Hands
-pub mod Judging
 pub mod Locks
 pub mod Looks
 pub mod Made
@@ -8,5 +6,6 @@ pub mod Meetings
 pub mod Releases
 pub mod Returns
 pub mod Saves
+pub mod Standing
 pub mod Tests
 pub mod Waits

@@ -1,186 +1,266 @@
--- The test of a wait's condition: each cell of the section in hand is loaded, and the last load tells.
-use Rattle.std.proofs.Common.{◌≡◌, ℕ, ◌+◌, ◌-◌, ◌<◌, ◌≤◌, Bool, true, false, cond, List, ◌++◌, length, set, Option, None, Some, slice_index, refl, ap, sym, subst, ◌∙◌, arith}
-use Rattle.std.proofs.lemmas.Bool.{lt-ltb, le-ltb}
-use Rattle.ns_model.specs.Histories.{standing_after}
-use Rattle.ns_model.specs.Truths.{Truths}
-use Rattle.ns_gate.proofs.Calls.{can_begin, can_go, begins, goes_on}
+-- The cells of the row are loaded one after another, step by step, and the test of a wait tells.
+use Rattle.std.proofs.Common.{◌≡◌, ℕ, ◌+◌, ◌-◌, ◌<◌, ◌≤◌, Bool, true, false, cond, List, [], ◌∷◌, length, length-set, set, get_or, Option, None, Some, refl, ap, sym, ◌∙◌, subst, arith, inl, inr, nat_lt, slice_index}
+use Rattle.std.proofs.lemmas.Bool.{cases_Bool, cases_eq, cond-false, cond-true, cond_both, le-ltb, lt-ltb, ltb-false, ltb-true}
+use Rattle.std.proofs.lemmas.Grind.{same_number_lists}
+use Rattle.std.proofs.lemmas.List.{get_or-set_same, get_or-set_other}
+use Rattle.ns_monitor.proofs.Standing.{commits_none}
+use Rattle.ns_gate.proofs.Calls.{begins, goes_on, since, since_itself, since_then}
 use Rattle.ns_gate.proofs.Tells.{cell_in_hand, does}
-use Rattle.ns_gate.specs.Calls.{SeatOf, IsAtRest, IsAt, Leads}
+use Rattle.ns_gate.specs.Calls.{SeatOf, HasAnswered, HasSince, IsAt, IsAtRest, IsWide, Leads}
 use Rattle.ns_gate.specs.Law.{GateView}
-use Rattle.ns_gate.specs.Steps.{the, CanStep, Performed}
-use Rattle.ns_monitor.proofs.Judging.{AreRead, reads_more, all_read}
-use Rattle.ns_monitor.specs.Waits.{HasTested, tested_by}
-use Rattle.ns_word.specs.Begins.{view_in}
-use Rattle.ns_word.specs.Finds.{row_in}
-use Rattle.ns_word.specs.Lawful.{SectionFits}
+use Rattle.ns_gate.specs.Steps.{the, carried_by, CanStep, HasTaken, Performed}
+use Rattle.ns_model.specs.Truths.{Truths}
+use Rattle.ns_model.specs.declared.event.Mode.TheVariants.{Write}
+use Rattle.ns_monitor.specs.Tests.{AreRead, HasGone, HasLoaded, HasTested, MayTest, StandsAt, loading, loading_at, tested_by}
+use Rattle.ns_monitor.specs.Walks.{judging}
+use Rattle.ns_queue.specs.Queues.{Lists}
+use Rattle.ns_word.specs.Asked.{asked_of}
+use Rattle.ns_word.specs.Begins.{IsFirst, view_in}
+use Rattle.ns_word.specs.Finds.{before_in, row_in}
 use Rattle.ns_word.specs.Places.{HasMode, IsForCondition, IsSettled, PlaceFits, Tests}
-use Rattle.ns_word.specs.Steps.{Effect, Part, part_of}
-use Rattle.ns_word.specs.Walks.{first_for, judge_of, test_place, wait_first, want_of}
-use Rattle.ns_word.specs.declared.act.Act.TheVariants.{LoadCell, JudgeMet}
-use Rattle.ns_word.specs.declared.act.Found.TheVariants.{Cell, Tested}
-use Rattle.ns_word.specs.declared.request.Request.TheVariants.{Await}
+use Rattle.ns_word.specs.Steps.{Part, State}
+use Rattle.ns_word.specs.Walks.{first_for, got_of, has_queues, release_has_queues, test_place, wait_has_queues, walk_after, want_of}
+use Rattle.ns_word.specs.declared.act.Act.{Act}
+use Rattle.ns_word.specs.declared.act.Act.TheVariants.{JudgeMet, JudgeQuiet, LoadCell}
+use Rattle.ns_word.specs.declared.act.Found.{Found}
+use Rattle.ns_word.specs.declared.act.Found.TheVariants.{Cell, Quiet, Tested}
+use Rattle.ns_word.specs.declared.cell_walk.CellPlace.TheVariants.{QuietCells, QuietLast}
+use Rattle.ns_word.specs.declared.cell_walk.Judging.TheVariants.{ToTell}
+use Rattle.ns_word.specs.declared.release_walk.ReleasePlace.TheVariants.{ScanCells, ScanAndRelease}
+use Rattle.ns_word.specs.declared.request.Request.TheVariants.{Await, IsQuiet}
 use Rattle.ns_word.specs.declared.view.Held.{Held}
 use Rattle.ns_word.specs.declared.view.SeatView.{SeatView}
+use Rattle.ns_word.specs.declared.wait.QueuePlace.TheVariants.{LoadToScan, QueueToWait}
 use Rattle.ns_word.specs.declared.wait.Subject.TheVariants.{OnCondition}
-use Rattle.ns_word.specs.declared.wait.Visit.TheVariants.{OnEntry}
 use Rattle.ns_word.specs.declared.wait.Visit.{Visit}
+use Rattle.ns_word.specs.declared.wait.Visit.TheVariants.{OnEntry}
 use Rattle.ns_word.specs.declared.wait.Wait.{Wait}
-use Rattle.ns_word.specs.declared.wait.WaitPlace.TheVariants.{TestCells, TestLast}
+use Rattle.ns_word.specs.declared.wait.WaitPlace.TheVariants.{TestCells, TestLast, InQueuing}
+use Rattle.ns_word.specs.declared.walk.Next.{Next}
 use Rattle.ns_word.specs.declared.walk.Next.TheVariants.{On}
-use Rattle.ns_word.specs.declared.walk.Walk.TheVariants.{InWait}
+use Rattle.ns_word.specs.declared.walk.Reply.TheVariants.{Is}
 use Rattle.ns_word.specs.declared.walk.Walk.{Walk}
+use Rattle.ns_word.specs.declared.walk.Walk.TheVariants.{InRelease, InCells, InWait}
 
--- ---- the places of a test
+-- ---- the row
 
-module _ {C : Type 0} (N : ℕ) (wait : Wait C) (visit : Visit) where
-  -- which cell it loads next
-  more_cells : (i : ℕ) → i < N - 1 → test_place N wait visit i ≡ InWait wait (TestCells visit i)
-  more_cells i low = ap (λ (b : Bool). cond b (InWait wait (TestCells visit i)) (InWait wait (TestLast visit (N - 1)))) (lt-ltb i (N - 1) low)
+-- one more cell was read
+reads_more : (N : ℕ) (row read : List ℕ) (i value : ℕ) → i < N → AreRead N row read i → value ≡ slice_index row i → AreRead N row (set read i value) (i + 1)
+reads_more N row read i value low are is = let wide = are.width in record {
+  width = length-set read i value ∙ are.width;
+  cells = λ k below. elim (cases_eq k i) [
+    | inl same ↦ subst (λ (m : ℕ). get_or (set read i value) m 0 ≡ get_or row m 0) (sym same) (get_or-set_same read i value 0 (omega (arith, wide, low)) ∙ is)
+    | inr ne ↦ get_or-set_other read i k value 0 ne ∙ are.cells k (omega (arith, below, ne))
+  ];
+}
 
-  last_cell : (i : ℕ) → N - 1 ≤ i → test_place N wait visit i ≡ InWait wait (TestLast visit (N - 1))
-  last_cell i most = ap (λ (b : Bool). cond b (InWait wait (TestCells visit i)) (InWait wait (TestLast visit (N - 1)))) (le-ltb i (N - 1) most)
+-- all of them were
+all_read : (N : ℕ) (row read : List ℕ) → length row ≡ N → AreRead N row read N → read ≡ row
+all_read N row read wide are = let width = are.width in same_number_lists read row (width ∙ sym wide) (λ k low. are.cells k (omega (arith, low, width)))
 
-module _ {C : Type 0} (N : ℕ) (wait : Wait C) (c : C) (on : wait.on ≡ OnCondition c) where
-  -- a wait for a condition begins with its test
-  tests_at_first : wait_first N wait ≡ test_place N wait OnEntry 0
-  tests_at_first = ap (λ subject. first_for N subject wait) on
+-- ---- the places
 
-  first_is : 0 < N - 1 → wait_first N wait ≡ InWait wait (TestCells OnEntry 0)
-  first_is many = tests_at_first ∙ more_cells N wait OnEntry 0 many
+-- what is made of one of two things is one of what is made of them
+moves : {A B : Type 0} (f : A → B) (b : Bool) (x y : A) → f (cond b x y) ≡ cond b (f x) (f y)
+moves f true x y = refl
+moves f false x y = refl
 
-  only_is : N ≡ 1 → wait_first N wait ≡ InWait wait (TestLast OnEntry 0)
-  only_is one =
-      let low : N - 1 ≤ 0 = omega (arith, one) in let zero : N - 1 ≡ 0 = omega (arith, one) in
-      tests_at_first ∙ (last_cell N wait OnEntry 0 low ∙ ap (λ (n : ℕ). InWait wait (TestLast OnEntry n)) zero)
+-- about to load a cell it wants that, and then stands where it has loaded one more, with the queues or without them as before
+record LoadsAt {C : Type 0} (N : ℕ) (walk : Walk C) (i : ℕ) : Type 0 where
+  wants : want_of ((loading N walk).at i) ≡ LoadCell i
+  goes : (value : ℕ) → got_of N ((loading N walk).at i) (Cell value) ≡ On (loading_at N walk (i + 1))
+  free : has_queues (Some (loading_at N walk (i + 1))) ≡ false → has_queues (Some ((loading N walk).at i)) ≡ false
 
-  -- what its first place wants
-  pub first_wants : (walk : Walk C) → walk ≡ wait_first N wait → 0 < N - 1 → want_of walk ≡ LoadCell 0
-  first_wants walk is many = ap want_of (is ∙ first_is many)
+module _ {C : Type 0} (N : ℕ) where
+  loads_at : (walk : Walk C) (i : ℕ) → i < (loading N walk).count → LoadsAt N walk i
+  loads_at (InWait wait (TestCells visit k)) i low = record { wants = refl; goes = λ value. refl; free = λ e. refl }
+  loads_at (InCells (QuietCells judges k)) i low = record { wants = refl; goes = λ value. refl; free = λ e. refl }
+  loads_at (InRelease releasing (ScanCells word k)) i low = record { wants = refl; goes = λ value. refl; free = cond_both _ (ScanCells word (i + 1)) (ScanAndRelease word) (λ place. release_has_queues place ≡ false → true ≡ false) (λ _ e. e) (λ _ e. e) }
+  loads_at (InWait wait (InQueuing again (LoadToScan word k))) i low =
+      record { wants = refl; goes = λ value. refl; free = cond_both _ (LoadToScan word (i + 1)) (QueueToWait word) (λ place. wait_has_queues (InQueuing again place) ≡ false → true ≡ false) (λ _ e. e) (λ _ e. e) }
+  loads_at walk i low = absurd (omega (arith, low))
 
-  pub only_wants : (walk : Walk C) → walk ≡ wait_first N wait → N ≡ 1 → want_of walk ≡ JudgeMet 0 c
-  only_wants walk is one = ap want_of (is ∙ only_is one) ∙ ap (λ subject. judge_of subject 0) on
+  placed : (walk : Walk C) (k : ℕ) → loading_at N walk k ≡ cond (nat_lt k (loading N walk).count) ((loading N walk).at k) (loading N walk).last
+  placed (InWait wait (TestCells visit i)) k = refl
+  placed (InCells (QuietCells judges i)) k = moves (λ place. InCells place) _ (QuietCells judges k) (QuietLast judges (N - 1))
+  placed (InRelease releasing (ScanCells word i)) k = moves (λ place. InRelease releasing place) _ (ScanCells word k) (ScanAndRelease word)
+  placed (InWait wait (InQueuing again (LoadToScan word i))) k = moves (λ place. InWait wait (InQueuing again place)) _ (LoadToScan word k) (QueueToWait word)
+  placed walk k = moves (λ (b : Bool). walk) _ true false
 
-for_condition : {C : Type 0} (wait : Wait C) (c : C) → wait.on ≡ OnCondition c → IsForCondition wait.on
-for_condition wait c on = subst IsForCondition (sym on) tt
+  at_cell : (walk : Walk C) (i : ℕ) → i < (loading N walk).count → loading_at N walk i ≡ (loading N walk).at i
+  at_cell walk i low = placed walk i ∙ cond-true _ _ _ (lt-ltb i (loading N walk).count low)
+
+  at_last : (walk : Walk C) → loading_at N walk (loading N walk).count ≡ (loading N walk).last
+  at_last walk = placed walk (loading N walk).count ∙ cond-false _ _ _ (le-ltb (loading N walk).count (loading N walk).count (omega arith))
+
+  -- it has a section in hand
+  there : (truths : Truths C) (walk : Walk C) (i : ℕ) (held : Option (Held C N)) → i < (loading N walk).count → PlaceFits truths (Some ((loading N walk).at i)) held → (section : Held C N) × (held ≡ Some section)
+  there truths walk i (Some section) low fits = (section, refl)
+  there truths (InWait wait (TestCells visit k)) i None low fits = absurd (fits.0.0)
+  there truths (InCells (QuietCells judges k)) i None low fits = absurd (fits.0.0)
+  there truths (InRelease releasing (ScanCells word k)) i None low fits = absurd (fits.0)
+  there truths (InWait wait (InQueuing again (LoadToScan word k))) i None low fits = absurd (fits.0.0)
+  there truths walk i None low fits = absurd (omega (arith, low))
+
+  wide_row : (held : Option (Held C N)) (section : Held C N) → held ≡ Some section → IsWide held → length (row_in held) ≡ N
+  wide_row held section is = subst (λ (o : Option (Held C N)). IsWide o → length (row_in o) ≡ N) (sym is) (λ wide. wide.1)
 
 module _ {C : Type 0} {N : ℕ} (truths : Truths C) where
-  -- ---- what its steps leave
+  -- ---- a step from where it stands, or with which it begins
+
+  fits_at : (b : Option (Walk C)) (walk : Walk C) (me : SeatOf C N) → StandsAt truths b walk me → PlaceFits truths (Some walk) (the me.0).at.held × IsWide (the me.0).at.held
+  fits_at None walk me at = (at.fits, at.wide)
+  fits_at (Some first) walk me at = (subst (λ w. PlaceFits truths (Some w) (the me.0).at.held) at.0 at.3, at.1.wide)
+
+  can_step : (b : Option (Walk C)) (walk : Walk C) (act : Act C) (me : SeatOf C N) → want_of walk ≡ act → StandsAt truths b walk me → CanStep truths b act me
+  can_step None walk act me wants at = record { one = at.one; may = tt; walk = walk; walks = at.walks; wants = wants }
+  can_step (Some first) walk act me wants at = record { one = at.1.one; may = (at.1.over, at.2, at.3); walk = first; walks = refl; wants = ap want_of at.0 ∙ wants }
+
+  steps : (b : Option (Walk C)) (walk : Walk C) (act : Act C) (found : Found) (next : Next C) (me now : SeatOf C N) → StandsAt truths b walk me → got_of N walk found ≡ next → (has_queues (walk_after next) ≡ false → has_queues (Some walk) ≡ false)
+      → carried_by act found (the now.0).stood me.1 ≡ me.1 → Performed truths b act found me now → Leads truths (asked_of walk) next now
+  steps None walk act found next me now at is free keeps p = goes_on truths walk act found next me now at is (λ e. p.carried ∙ (keeps ∙ at.empty (free e))) p
+  steps (Some first) walk act found next me now at is free keeps p =
+      subst (λ w. Leads truths (asked_of w) next now) at.0 (begins truths first act found next me now (ap (λ w. got_of N w found) at.0 ∙ is) (λ _. p.carried ∙ (keeps ∙ at.1.empty)) p)
+
+  since_more : (b left : Option (Walk C)) (act : Act C) (found : Found) (v : GateView C N) (me now : SeatOf C N) → HasGone b left v (the me.0) → Performed truths left act found me now → HasSince b v (the now.0)
+  since_more b None act found v me now s p = since_then b v (the me.0) (the now.0) s (since truths None act found me now p)
+  since_more b (Some first) act found v me now s p = subst (λ (x : Option (Walk C) × GateView C N). HasSince x.0 x.1 (the now.0)) (λ i. (sym s.0 i, s.1 i)) (since truths (Some first) act found me now p)
 
   held_in : (b : Option (Walk C)) (view : SeatView C N) → (view_in view b).held ≡ view.held
   held_in None view = refl
-  held_in (Some walk) view = refl
+  held_in (Some first) view = refl
 
-  -- a cell that is loaded leaves the section in hand
-  cell_keeps : (b : Option (Walk C)) (i value : ℕ) (me now : SeatOf C N) → Performed truths b (LoadCell i) (Cell value) me now → (the now.0).at.held ≡ (the me.0).at.held
-  cell_keeps b i value me now p =
-      let d = p.did in
-      let e = does truths b (LoadCell i) (Cell value) me now p in
-      ap (λ (x : SeatView C N). x.held) d.becomes ∙ (ap (λ (q : Part C N). q.held) e.1 ∙ held_in b (the me.0).at)
+  -- a step that changes nothing leaves the section in hand
+  same_held : (b : Option (Walk C)) (act : Act C) (found : Found) (me now : SeatOf C N) (p : Performed truths b act found me now) → p.did.made.step.held ≡ (view_in (the me.0).at b).held → (the now.0).at.held ≡ (the me.0).at.held
+  same_held b act found me now p same = ap (λ (x : SeatView C N). x.held) p.did.becomes ∙ (same ∙ held_in b (the me.0).at)
 
-  -- the last load too, and it finds a row of N cells
-  judge_keeps : (b : Option (Walk C)) (i : ℕ) (c : C) (met : Bool) (me now : SeatOf C N) → Performed truths b (JudgeMet i c) (Tested met) me now → ((the now.0).at.held ≡ (the me.0).at.held) × (length (row_in (the me.0).at.held) ≡ N)
-  judge_keeps b i c met me now p =
-      let d = p.did in
-      let e = does truths b (JudgeMet i c) (Tested met) me now p in
-      let same : (the now.0).at.held ≡ (the me.0).at.held = ap (λ (x : SeatView C N). x.held) d.becomes ∙ (ap (λ (q : Part C N). q.held) e.3 ∙ held_in b (the me.0).at) in
-      let there : (the me.0).at.held ≡ Some e.0 = sym (held_in b (the me.0).at) ∙ e.1 in
-      let fits = subst (λ o. SectionFits (standing_after (d.history ++ d.commits)) d.new.row (the now.0).at.seat (the now.0).at.walk o) (same ∙ there) d.fits.section in
-      (same, ap (λ o. length (row_in o)) there ∙ (ap length fits.cells ∙ d.lawful_now.one_history.cells))
+  -- ---- a cell is loaded
 
-  -- ---- where it stands
+  -- the queues in hand stay as they stood
+  stays_taken : (b : Option (Walk C)) (walk : Walk C) (i value : ℕ) (me now : SeatOf C N) → StandsAt truths b walk me → Performed truths b (LoadCell i) (Cell value) me now → HasTaken me → HasTaken now × ((the now.0).stood ≡ (the me.0).stood)
+  stays_taken (Some first) walk i value me now at p taken = absurd (let none : me.1 ≡ [] = at.1.empty in cc)
+  stays_taken None walk i value me now at p taken = elim (cases_Bool (has_queues (Some walk))) [
+    | inl has ↦ let same = p.did.stood_now ∙ (ap (λ (q : Part C N). q.lists) (does truths None (LoadCell i) (Cell value) me now p).1 ∙ (ap (λ (s : State C N). s.lists) p.did.made.begins ∙ sym (p.did.stood_was (ap has_queues at.walks ∙ has)))) in
+        (p.carried ∙ (taken ∙ ap (λ (lists : Lists C). (0, lists) ∷ []) (sym same)), same)
+    | inr free ↦ absurd (let none : me.1 ≡ [] = at.empty free in cc)
+  ]
 
-  -- a test that has loaded so many cells of the section in hand
-  pub record HasLoaded (calls : Option (Walk C)) (wait : Wait C) (visit : Visit) (i : ℕ) (v : GateView C N) (me : SeatOf C N) : Type 0 where
-    pub at : IsAt truths calls (test_place N wait visit i) v me
-    pub held : (the me.0).at.held ≡ v.at.held
+  -- nothing is loaded yet
+  pub loads_none : (b : Option (Walk C)) (walk : Walk C) (row : List ℕ) (me : SeatOf C N) → length row ≡ N → StandsAt truths b (loading_at N walk 0) me → HasLoaded truths b b walk 0 row me me
+  loads_none b walk row me width at = record { at = at; since = gone b; held = refl; mine = refl; taken = λ taken. (taken, refl); read = record { width = width; cells = λ k low. absurd (omega (arith, low)) } } where
+    gone : (b : Option (Walk C)) → HasGone b b (the me.0) (the me.0)
+    gone None = since_itself (the me.0)
+    gone (Some first) = (refl, refl)
 
-  -- a test has a section in hand
-  there_in : (wait : Wait C) (visit : Visit) (held : Option (Held C N)) → Tests truths wait visit held → (section : Held C N) × (held ≡ Some section)
-  there_in wait visit None tests = absurd tests
-  there_in wait visit (Some section) tests = (section, refl)
+  pub can_load_cell : (b left : Option (Walk C)) (walk : Walk C) (i : ℕ) (row : List ℕ) (start me : SeatOf C N) → i < (loading N walk).count → HasLoaded truths b left walk i row start me → CanStep truths left (LoadCell i) me
+  can_load_cell b left walk i row start me low has = can_step left ((loading N walk).at i) (LoadCell i) me (loads_at N walk i low).wants (subst (λ w. StandsAt truths left w me) (at_cell N walk i low) has.at)
 
-  there_by : (b : Bool) (wait : Wait C) (visit : Visit) (i last : ℕ) (held : Option (Held C N)) → PlaceFits truths (Some (cond b (InWait wait (TestCells visit i)) (InWait wait (TestLast visit last)))) held → (section : Held C N) × (held ≡ Some section)
-  there_by true wait visit i last held fits = there_in wait visit held fits.0.0
-  there_by false wait visit i last held fits = there_in wait visit held fits.0.0
-
-  -- what was loaded is the section's cell
-  pub cell_read : (b calls : Option (Walk C)) (wait : Wait C) (visit : Visit) (i value : ℕ) (v : GateView C N) (me now : SeatOf C N) → HasLoaded calls wait visit (i + 1) v now → Performed truths b (LoadCell i) (Cell value) me now → value ≡ slice_index (row_in v.at.held) i
-  cell_read b calls wait visit i value v me now then p =
-      let there = there_by _ wait visit (i + 1) (N - 1) (the now.0).at.held (subst (λ w. PlaceFits truths w (the now.0).at.held) then.at.walks p.did.fits.place) in
-      cell_in_hand truths b i value there.0 me now p there.1 ∙ ap (λ o. slice_index (row_in o) i) (sym there.1 ∙ then.held)
-
-  -- one more cell
-  pub can_load : (calls : Option (Walk C)) (wait : Wait C) (visit : Visit) (i : ℕ) (v : GateView C N) (me : SeatOf C N) → i < N - 1 → HasLoaded calls wait visit i v me → CanStep truths None (LoadCell i) me
-  can_load calls wait visit i v me low has = can_go truths calls (InWait wait (TestCells visit i)) v me (subst (λ w. IsAt truths calls w v me) (more_cells N wait visit i low) has.at)
-
-  pub loads_next : (calls : Option (Walk C)) (wait : Wait C) (visit : Visit) (i value : ℕ) (v : GateView C N) (me now : SeatOf C N) → i < N - 1 → HasLoaded calls wait visit i v me → Performed truths None (LoadCell i) (Cell value) me now → HasLoaded calls wait visit (i + 1) v now
-  loads_next calls wait visit i value v me now low has p =
-      let at = subst (λ w. IsAt truths calls w v me) (more_cells N wait visit i low) has.at in record {
-        at = goes_on truths calls (InWait wait (TestCells visit i)) (LoadCell i) (Cell value) (On (test_place N wait visit (i + 1))) v me now at refl (λ _. p.carried ∙ at.empty refl) p;
-        held = cell_keeps None i value me now p ∙ has.held;
+  -- one more is
+  pub loads_cell : (b left : Option (Walk C)) (walk : Walk C) (i value : ℕ) (row : List ℕ) (start me now : SeatOf C N) → i < (loading N walk).count → i < N → HasLoaded truths b left walk i row start me → Performed truths left (LoadCell i) (Cell value) me now
+      → HasLoaded truths b None walk (i + 1) (set row i value) start now
+  loads_cell b left walk i value row start me now low inside has p =
+      let l = loads_at N walk i low in let place = (loading N walk).at i in let at = subst (λ w. StandsAt truths left w me) (at_cell N walk i low) has.at in
+      let held = same_held left (LoadCell i) (Cell value) me now p (ap (λ (q : Part C N). q.held) (does truths left (LoadCell i) (Cell value) me now p).1) in
+      let section = there N truths walk i (the me.0).at.held low (fits_at left place me at).0 in record {
+        at = steps left place (LoadCell i) (Cell value) (On (loading_at N walk (i + 1))) me now at (l.goes value) l.free refl p;
+        since = since_more b left (LoadCell i) (Cell value) (the start.0) me now has.since p;
+        held = held ∙ has.held;
+        mine = commits_none truths left (LoadCell i) (Cell value) me now p (does truths left (LoadCell i) (Cell value) me now p).2 ∙ has.mine;
+        taken = λ taken. let before = has.taken taken in let after = stays_taken left place i value me now at p before.0 in (after.0, after.1 ∙ before.1);
+        read = reads_more N (row_in (the start.0).at.held) row i value inside has.read
+            (cell_in_hand truths left i value section.0 me now p (held ∙ section.1) ∙ ap (λ (o : Option (Held C N)). slice_index (row_in o) i) (sym section.1 ∙ has.held));
       }
 
-  -- the last one
-  pub can_judge : (calls : Option (Walk C)) (wait : Wait C) (visit : Visit) (c : C) (i : ℕ) (v : GateView C N) (me : SeatOf C N) → wait.on ≡ OnCondition c → i ≡ N - 1 → HasLoaded calls wait visit i v me → CanStep truths None (JudgeMet (N - 1) c) me
-  can_judge calls wait visit c i v me on is has =
-      subst (λ subject. CanStep truths None (judge_of subject (N - 1)) me) on (can_go truths calls (InWait wait (TestLast visit (N - 1))) v me (subst (λ w. IsAt truths calls w v me) (last_cell N wait visit i (omega (arith, is))) has.at))
+  -- ---- the last one tells
 
-  -- what it tells is told of the row that was loaded
-  tells : (calls : Option (Walk C)) (wait : Wait C) (visit : Visit) (c : C) (met : Bool) (row : List ℕ) (v : GateView C N) (me now : SeatOf C N) → (the me.0).at.held ≡ v.at.held → (the now.0).at.held ≡ (the me.0).at.held → row ≡ row_in v.at.held → met ≡ truths.holds c row
-      → Leads truths calls (Await wait) (tested_by wait visit (truths.holds c (row_in (the me.0).at.held))) v now → HasTested truths calls wait visit c met row v now
-  tells calls wait visit c met row v me now held kept row_is is leads = record {
-    leads = subst (λ b. Leads truths calls (Await wait) (tested_by wait visit b) v now) (ap (λ o. truths.holds c (row_in o)) held ∙ (ap (truths.holds c) (sym row_is) ∙ sym is)) leads;
-    held = kept ∙ held;
-    row_is = row_is;
-    is = is;
-  }
+  pub can_tell : (b left : Option (Walk C)) (walk : Walk C) (act : Act C) (row : List ℕ) (start me : SeatOf C N) → want_of (loading N walk).last ≡ act → HasLoaded truths b left walk (loading N walk).count row start me → CanStep truths left act me
+  can_tell b left walk act row start me wants has = can_step left (loading N walk).last act me wants (subst (λ w. StandsAt truths left w me) (at_last N walk) has.at)
 
-  pub is_tested : (calls : Option (Walk C)) (wait : Wait C) (visit : Visit) (c : C) (i value : ℕ) (read : List ℕ) (met : Bool) (v : GateView C N) (me now : SeatOf C N) → 0 < N → i ≡ N - 1 → HasLoaded calls wait visit i v me → AreRead N (row_in v.at.held) read i
-      → value ≡ slice_index (row_in (the me.0).at.held) (N - 1) → Performed truths None (JudgeMet (N - 1) c) (Tested (truths.holds c (row_in (the me.0).at.held))) me now → met ≡ truths.holds c (set read (N - 1) value)
-      → HasTested truths calls wait visit c met (set read (N - 1) value) v now
-  is_tested calls wait visit c i value read met v me now some is has are cell p told =
-      let row = row_in v.at.held in let b = truths.holds c (row_in (the me.0).at.held) in
-      let at = subst (λ w. IsAt truths calls w v me) (last_cell N wait visit i (omega (arith, is))) has.at in
-      let kept = judge_keeps None (N - 1) c b me now p in
-      let more = reads_more N row read (N - 1) value (omega (arith, some)) (subst (AreRead N row read) is are) (cell ∙ ap (λ o. slice_index (row_in o) (N - 1)) has.held) in
-      let whole = all_read N row (set read (N - 1) value) (ap (λ o. length (row_in o)) (sym has.held) ∙ kept.1) (subst (AreRead N row (set read (N - 1) value)) (omega (arith, some)) more) in
-      tells calls wait visit c met (set read (N - 1) value) v me now has.held kept.0 whole told
-      (goes_on truths calls (InWait wait (TestLast visit (N - 1))) (JudgeMet (N - 1) c) (Tested b) (tested_by wait visit b) v me now at refl (λ _. p.carried ∙ at.empty refl) p)
+  -- what comes of a last load: where it leads, and the row, which is the one of the section in hand
+  record HasTold (b : Option (Walk C)) (walk : Walk C) (found : Found) (row : List ℕ) (start now : SeatOf C N) : Type 0 where
+    leads : Leads truths (asked_of (loading N walk).last) (got_of N (loading N walk).last found) now
+    since : HasSince b (the start.0) (the now.0)
+    held : (the now.0).at.held ≡ (the start.0).at.held
+    mine : (the now.0).told.mine ≡ (the start.0).told.mine
+    row_is : row ≡ row_in (the start.0).at.held
 
-  -- ---- as a call begins with it
+  told : (b left : Option (Walk C)) (walk : Walk C) (act : Act C) (found : Found) (row : List ℕ) (value : ℕ) (section : Held C N) (start me now : SeatOf C N) → 1 ≤ N → (loading N walk).count ≡ N - 1 → has_queues (Some (loading N walk).last) ≡ false
+      → HasLoaded truths b left walk (loading N walk).count row start me → (view_in (the me.0).at left).held ≡ Some section → value ≡ slice_index (row_in (the me.0).at.held) (N - 1) → carried_by act found (the now.0).stood me.1 ≡ me.1
+      → (p : Performed truths left act found me now) → p.did.made.step.held ≡ (view_in (the me.0).at left).held → p.did.commits ≡ [] → HasTold b walk found (set row (N - 1) value) start now
+  told b left walk act found row value section start me now some last free has there is keeps p same none =
+      let at = subst (λ w. StandsAt truths left w me) (at_last N walk) has.at in let whole = row_in (the start.0).at.held in
+      let more = reads_more N whole row (N - 1) value (omega (arith, some)) (subst (AreRead N whole row) last has.read) (is ∙ ap (λ (o : Option (Held C N)). slice_index (row_in o) (N - 1)) has.held) in record {
+        leads = steps left (loading N walk).last act found (got_of N (loading N walk).last found) me now at refl (λ _. free) keeps p;
+        since = since_more b left act found (the start.0) me now has.since p;
+        held = same_held left act found me now p same ∙ has.held;
+        mine = commits_none truths left act found me now p none ∙ has.mine;
+        row_is = all_read N whole (set row (N - 1) value) (ap (λ (o : Option (Held C N)). length (row_in o)) (sym has.held) ∙ wide_row N (the me.0).at.held section (sym (held_in left (the me.0).at) ∙ there) (fits_at left (loading N walk).last me at).1)
+            (subst (AreRead N whole (set row (N - 1) value)) (omega (arith, some)) more);
+      }
 
-  tests_entry : (wait : Wait C) (held : Option (Held C N)) → HasMode wait.mode held → IsSettled truths held → Tests truths wait OnEntry held
-  tests_entry wait None mode settled = absurd mode
-  tests_entry wait (Some section) mode settled = (mode, settled)
+  -- ---- a wait tests its condition
 
-  -- the first of several cells
-  pub can_load_first : (wait : Wait C) (c : C) (walk : Walk C) (me : SeatOf C N) → wait.on ≡ OnCondition c → walk ≡ wait_first N wait → 0 < N - 1 → IsAtRest truths me → HasMode wait.mode (the me.0).at.held → CanStep truths (Some walk) (LoadCell 0) me
-  can_load_first wait c walk me on is many rest mode =
-      subst (λ w. CanStep truths (Some w) (LoadCell 0) me) (sym (is ∙ first_is N wait c on many))
-      (can_begin truths (InWait wait (TestCells OnEntry 0)) me rest refl ((tests_entry wait (the me.0).at.held mode rest.settled, omega (arith, many), for_condition wait c on), tt))
+  tests_first : (wait : Wait C) (held : Option (Held C N)) → HasMode wait.mode held → IsSettled truths held → Tests truths wait OnEntry held
+  tests_first wait None mode settled = absurd mode
+  tests_first wait (Some section) mode settled = (mode, settled)
 
-  pub loads_first : (wait : Wait C) (c : C) (walk : Walk C) (value : ℕ) (me now : SeatOf C N) → wait.on ≡ OnCondition c → walk ≡ wait_first N wait → 0 < N - 1 → IsAtRest truths me → Performed truths (Some walk) (LoadCell 0) (Cell value) me now → HasLoaded (Some (wait_first N wait)) wait OnEntry 1 (the me.0) now
-  loads_first wait c walk value me now on is many rest p = record {
-    at = subst (λ w. IsAt truths (Some w) (test_place N wait OnEntry 1) (the me.0) now) (sym (first_is N wait c on many))
-        (begins truths (InWait wait (TestCells OnEntry 0)) (LoadCell 0) (Cell value) (On (test_place N wait OnEntry 1)) me now rest refl (λ r _. p.carried ∙ r.empty) (subst (λ w. Performed truths (Some w) (LoadCell 0) (Cell value) me now) (is ∙ first_is N wait c on many) p));
-    held = cell_keeps (Some walk) 0 value me now p;
-  }
+  -- a wait that begins with its test may
+  pub may_test : (b : Option (Walk C)) (wait : Wait C) (c : C) (visit : Visit) (me : SeatOf C N) → 1 ≤ N → wait.on ≡ OnCondition c → MayTest truths b wait visit me → StandsAt truths b (test_place N wait visit 0) me
+  may_test None wait c visit me some on may = may
+  may_test (Some first) wait c visit me some on may =
+      let for = subst IsForCondition (sym on) tt in let tests = tests_first wait (the me.0).at.held may.3 may.2.settled in
+      let is : first ≡ test_place N wait OnEntry 0 = may.0 ∙ ap (λ subject. first_for N subject wait) on in
+      let begins = cond_both _ (InWait wait (TestCells OnEntry 0)) (InWait wait (TestLast OnEntry (N - 1))) (λ w. IsFirst N w × PlaceFits truths (Some w) (the me.0).at.held)
+      (λ more. let low = ltb-true 0 (N - 1) more in (refl, ((tests, omega (arith, low), for), tt))) (λ most. let few = ltb-false 0 (N - 1) most in (omega (arith, few), ((tests, omega (arith, some), for), tt))) in
+      let entry = subst (λ w. IsFirst N w × PlaceFits truths (Some w) (the me.0).at.held) (sym is) begins in
+      (is ∙ ap (λ v. test_place N wait v 0) (sym may.1), may.2, entry.0, entry.1)
 
-  -- the only one
-  pub can_judge_first : (wait : Wait C) (c : C) (walk : Walk C) (me : SeatOf C N) → wait.on ≡ OnCondition c → walk ≡ wait_first N wait → N ≡ 1 → IsAtRest truths me → HasMode wait.mode (the me.0).at.held → CanStep truths (Some walk) (JudgeMet 0 c) me
-  can_judge_first wait c walk me on is one rest mode =
-      subst (λ w. CanStep truths (Some w) (JudgeMet 0 c) me) (sym (is ∙ only_is N wait c on one))
-      (subst (λ subject. CanStep truths (Some (InWait wait (TestLast OnEntry 0))) (judge_of subject 0) me) on
-      (can_begin truths (InWait wait (TestLast OnEntry 0)) me rest refl ((tests_entry wait (the me.0).at.held mode rest.settled, sym one, for_condition wait c on), tt)))
+  pub is_tested : (b left : Option (Walk C)) (wait : Wait C) (visit : Visit) (c : C) (row : List ℕ) (value : ℕ) (met : Bool) (start me now : SeatOf C N) → 1 ≤ N → HasLoaded truths b left (InWait wait (TestCells visit 0)) (N - 1) row start me
+      → value ≡ slice_index (row_in (the me.0).at.held) (N - 1) → Performed truths left (JudgeMet (N - 1) c) (Tested (truths.holds c (row_in (the me.0).at.held))) me now → met ≡ truths.holds c (set row (N - 1) value)
+      → HasSince b (the start.0) (the now.0) × HasTested truths wait visit c met (set row (N - 1) value) start now
+  is_tested b left wait visit c row value met start me now some has cell p is =
+      let found = Tested (truths.holds c (row_in (the me.0).at.held)) in let e = does truths left (JudgeMet (N - 1) c) found me now p in
+      let t = told b left (InWait wait (TestCells visit 0)) (JudgeMet (N - 1) c) found row value e.0 start me now some refl refl has e.1 cell refl p (ap (λ (q : Part C N). q.held) e.3) e.4 in (
+        t.since,
+        record {
+          leads = subst (λ met. Leads truths (Await wait) (tested_by wait visit met) now) (ap (λ o. truths.holds c (row_in o)) has.held ∙ (ap (truths.holds c) (sym t.row_is) ∙ sym is)) t.leads;
+          held = t.held;
+          mine = t.mine;
+          row_is = t.row_is;
+          is = is;
+        },
+      )
 
-  pub is_tested_first : (wait : Wait C) (c : C) (walk : Walk C) (value : ℕ) (read : List ℕ) (met : Bool) (me now : SeatOf C N) → wait.on ≡ OnCondition c → walk ≡ wait_first N wait → N ≡ 1 → IsAtRest truths me → length read ≡ N
-      → value ≡ slice_index (row_in (the me.0).at.held) 0 → Performed truths (Some walk) (JudgeMet 0 c) (Tested (truths.holds c (row_in (the me.0).at.held))) me now → met ≡ truths.holds c (set read 0 value)
-      → HasTested truths (Some (wait_first N wait)) wait OnEntry c met (set read 0 value) (the me.0) now
-  is_tested_first wait c walk value read met me now on is one rest wide cell p told =
-      let row = row_in (the me.0).at.held in let b = truths.holds c row in
-      let kept = judge_keeps (Some walk) 0 c b me now p in
-      let more = reads_more N row read 0 value (omega (arith, one)) (record { width = wide; cells = λ k low. absurd (omega (arith, low)) }) cell in
-      let whole = all_read N row (set read 0 value) kept.1 (subst (AreRead N row (set read 0 value)) (sym one) more) in
-      tells (Some (wait_first N wait)) wait OnEntry c met (set read 0 value) (the me.0) me now refl kept.0 whole told
-      (subst (λ w. Leads truths (Some w) (Await wait) (tested_by wait OnEntry b) (the me.0) now) (sym (only_is N wait c on one))
-      (begins truths (InWait wait (TestLast OnEntry 0)) (JudgeMet 0 c) (Tested b) (tested_by wait OnEntry b) me now rest refl (λ r _. p.carried ∙ r.empty) (subst (λ w. Performed truths (Some w) (JudgeMet 0 c) (Tested b) me now) (is ∙ only_is N wait c on one) p)))
+  -- ---- a section is judged
+
+  pub may_judge : (first : Walk C) (me : SeatOf C N) → 1 ≤ N → first ≡ judging N → IsAtRest truths me → HasMode Write (the me.0).at.held → StandsAt truths (Some first) (judging N) me
+  may_judge first me some is rest writes =
+      let begins = cond_both _ (QuietCells ToTell 0) (QuietLast ToTell (N - 1)) (λ place. IsFirst {C = C} N (InCells place) × PlaceFits truths (Some (InCells place)) (the me.0).at.held)
+      (λ more. let low = ltb-true 0 (N - 1) more in (refl, ((writes, omega (arith, low)), rest.settled))) (λ most. let few = ltb-false 0 (N - 1) most in (omega (arith, few), ((writes, omega (arith, some)), rest.settled))) in
+      let entry = subst (λ w. IsFirst N w × PlaceFits truths (Some w) (the me.0).at.held) (sym is) begins in
+      (is, rest, entry.0, entry.1)
+
+  -- the answer tells of the section that was in hand as the call began, and the row is that section's
+  pub is_judged : (left : Option (Walk C)) (first : Walk C) (row : List ℕ) (value : ℕ) (start me now : SeatOf C N) → 1 ≤ N → first ≡ judging N → HasLoaded truths (Some first) left (InCells (QuietCells ToTell 0)) (N - 1) row start me
+      → value ≡ slice_index (row_in (the me.0).at.held) (N - 1) → Performed truths left (JudgeQuiet (N - 1)) (Quiet (truths.quiet (before_in (the me.0).at.held) (row_in (the me.0).at.held))) me now
+      → HasSince (Some (judging N)) (the start.0) (the now.0) × HasAnswered truths IsQuiet (Is (truths.quiet (before_in (the start.0).at.held) (row_in (the start.0).at.held))) now × (set row (N - 1) value ≡ row_in (the start.0).at.held)
+  is_judged left first row value start me now some is has cell p =
+      let found = Quiet (truths.quiet (before_in (the me.0).at.held) (row_in (the me.0).at.held)) in let e = does truths left (JudgeQuiet (N - 1)) found me now p in
+      let t = told (Some first) left (InCells (QuietCells ToTell 0)) (JudgeQuiet (N - 1)) found row value e.0 start me now some refl refl has e.1 cell refl p (ap (λ (q : Part C N). q.held) e.3) e.4 in (
+        subst (λ w. HasSince (Some w) (the start.0) (the now.0)) is t.since,
+        subst (λ (o : Option (Held C N)). HasAnswered truths IsQuiet (Is (truths.quiet (before_in o) (row_in o))) now) has.held t.leads,
+        t.row_is,
+      )
+
+  -- ---- a scan has its row
+
+  pub is_scanned : (left : Option (Walk C)) (walk : Walk C) (row : List ℕ) (start me : SeatOf C N) → 1 ≤ N → (loading N walk).count ≡ N → IsAt truths (loading_at N walk 0) start → HasLoaded truths None left walk N row start me
+      → IsAt truths (loading N walk).last me × HasSince None (the start.0) (the me.0) × (row ≡ row_in (the start.0).at.held)
+  is_scanned (Some first) walk row start me some scans at has = absurd (let no = has.since.0 in cc)
+  is_scanned None walk row start me some scans at has =
+      let low = subst (λ n. 1 ≤ n) (sym scans) some in
+      let section = there N truths walk 0 (the start.0).at.held low (subst (λ w. PlaceFits truths (Some w) (the start.0).at.held) (at_cell N walk 0 low) at.fits) in (
+        subst (λ w. IsAt truths w me) (ap (loading_at N walk) (sym scans) ∙ at_last N walk) has.at,
+        has.since,
+        all_read N (row_in (the start.0).at.held) row (wide_row N (the start.0).at.held section.0 section.1 at.wide) has.read,
+      )

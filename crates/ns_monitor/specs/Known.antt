@@ -1,5 +1,5 @@
 -- What contracts see of a caller, and how it grows.
-use Rattle.std.specs.Prelude.{◌≡◌, ℕ, suc, ◌⊎◌, Bool, true, false, not, List, [], ◌∷◌, ◌++◌, Option, None, Some}
+use Rattle.std.specs.Prelude.{◌≡◌, ℕ, suc, ◌⊎◌, Bool, true, not, List, [], ◌∷◌, ◌++◌, Option, None, Some}
 use Rattle.atomic_table.specs.Seated.{TableId}
 use Rattle.ns_model.specs.declared.event.Event.{Event}
 use Rattle.ns_model.specs.declared.event.Mode.{Mode}
@@ -10,13 +10,13 @@ use Rattle.ns_word.specs.declared.view.Held.{Held}
 use Rattle.ns_word.specs.declared.walk.Walk.{Walk}
 use Rattle.ns_word.specs.Lawful.{IsLawful}
 use Rattle.ns_word.specs.Steps.{State}
-use Rattle.ns_word.specs.Walks.{has_queues}
 use Rattle.ns_word.specs.Words.{is_held}
 use Rattle.ns_word.specs.Meanings.{new_section}
-use Rattle.ns_gate.specs.Calls.{IsTrueToHistory}
-use Rattle.ns_gate.specs.Law.{GateView}
+use Rattle.ns_gate.specs.Calls.{SeatOf, IsTrueToHistory}
+use Rattle.ns_gate.specs.Steps.{the}
+use Rattle.ns_queue.specs.Queues.{Lists}
 
--- what contracts see of a seat or a section: its monitor, how many seats that has, its own number, the history that it has seen, its own events, the calls that it has begun, by their first places, the section in hand, the place in the call that is in progress, whether it has the waiter queues in hand, and the seats to which it owes wakes
+-- what contracts see of a seat or a section: its monitor, how many seats that has, its own number, the history that it has seen, its own events, the calls that it has begun, by their first places, the section in hand, the place in the call that is in progress, what it carries of the monitor, by number: the waiter queues, while it has them in hand, and the seats to which it owes wakes
 pub record Known (C : Type 0) (N : ℕ) : Type 0 where
   pub monitor : TableId
   pub limit : ℕ
@@ -26,14 +26,14 @@ pub record Known (C : Type 0) (N : ℕ) : Type 0 where
   pub begun : List (Walk C)
   pub held : Option (Held C N)
   pub call : Option (Walk C)
-  pub has_queues : Bool
+  pub carries : List (ℕ × Lists C)
   pub owed : List ℕ
 
 -- what a seat of the gate shows of itself
-abbrev pub known_of : {C : Type 0} {N : ℕ} → TableId → GateView C N → Known C N
-known_of monitor view = record { monitor = monitor; limit = view.limit; seat = view.at.seat; seen = view.told.seen; mine = view.told.mine; begun = view.told.begun; held = view.at.held; call = view.at.walk; has_queues = has_queues view.at.walk; owed = view.at.owed }
+abbrev pub known_of : {C : Type 0} {N : ℕ} → TableId → SeatOf C N → Known C N
+known_of monitor me = let view = the me.0 in record { monitor = monitor; limit = view.limit; seat = view.at.seat; seen = view.told.seen; mine = view.told.mine; begun = view.told.begun; held = view.at.held; call = view.at.walk; carries = me.1; owed = view.at.owed }
 
--- The same caller behind one call that began so: what it has seen begins with what it had seen, and is a legal history by the seats that there are, in which its own events are just its own; it has begun that call and no other, which is over; and it owes no wake, and has no queues in hand.
+-- The same caller behind one call that began so: what it has seen begins with what it had seen, and is a legal history by the seats that there are, in which its own events are just its own; it has begun that call and no other, which is over; and it owes no wake, and carries nothing.
 pub record Grows {C : Type 0} {N : ℕ} (truths : Truths C) (call : Walk C) (old new : Known C N) : Type 0 where
   pub monitor : new.monitor ≡ old.monitor
   pub limit : new.limit ≡ old.limit
@@ -43,7 +43,7 @@ pub record Grows {C : Type 0} {N : ℕ} (truths : Truths C) (call : Walk C) (old
   pub true_to : IsTrueToHistory truths new.limit new.seat new.seen new.mine
   pub over : new.call ≡ None
   pub owes : new.owed ≡ []
-  pub no_queues : new.has_queues ≡ false
+  pub empty : new.carries ≡ []
 
 -- The same where the call has changed nothing: the caller's own events and its section are as they were.
 pub record HasSeenMore {C : Type 0} {N : ℕ} (truths : Truths C) (call : Walk C) (old new : Known C N) : Type 0 where
@@ -59,14 +59,14 @@ pub record HasLocked {C : Type 0} {N : ℕ} (truths : Truths C) (call : Walk C) 
 
 -- a seat of a new monitor with so many: it has seen and done nothing, and has nothing in hand
 abbrev pub new_seat : {C : Type 0} {N : ℕ} → TableId → ℕ → ℕ → Known C N
-new_seat monitor limit seat = record { monitor = monitor; limit = limit; seat = seat; seen = []; mine = []; begun = []; held = None; call = None; has_queues = false; owed = [] }
+new_seat monitor limit seat = record { monitor = monitor; limit = limit; seat = seat; seen = []; mine = []; begun = []; held = None; call = None; carries = []; owed = [] }
 
 -- the seats of a new monitor, from a number on
 abbrev pub AreNew : {C : Type 0} {N : ℕ} → ℕ → TableId → ℕ → List (Known C N) → Type 0
 AreNew limit monitor from [] = Unit {0}
 AreNew limit monitor from (seat ∷ seats) = (seat ≡ new_seat monitor limit from) × AreNew limit monitor (suc from) seats
 
--- Nothing of the caller has changed but what it has seen: a legal history by the seats that there are, which begins with what it had seen, and in which its own events are just its own. It is in no call, owes no wake, and has no queues in hand.
+-- Nothing of the caller has changed but what it has seen: a legal history by the seats that there are, which begins with what it had seen, and in which its own events are just its own. It is in no call, owes no wake, and carries nothing.
 pub record HasLearned {C : Type 0} {N : ℕ} (truths : Truths C) (old new : Known C N) : Type 0 where
   pub monitor : new.monitor ≡ old.monitor
   pub limit : new.limit ≡ old.limit
@@ -78,7 +78,7 @@ pub record HasLearned {C : Type 0} {N : ℕ} (truths : Truths C) (old new : Know
   pub true_to : IsTrueToHistory truths new.limit new.seat new.seen new.mine
   pub over : new.call ≡ None
   pub owes : new.owed ≡ []
-  pub no_queues : new.has_queues ≡ false
+  pub empty : new.carries ≡ []
 
 -- Of two callers, one has seen all that the other has: a history that begins with what the other has seen, in which the events of both are just their own.
 pub record SawAllOf {C : Type 0} {N : ℕ} (ahead behind : Known C N) : Type 0 where

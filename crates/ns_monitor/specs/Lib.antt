@@ -1,5 +1,19 @@
 pub mod Known
-pub mod Locks
+pub mod Limits
+pub mod Looks
 pub mod Saved
+pub mod Standing
+pub mod Tests
 pub mod Waits
 pub mod Walks
+-- what a user's contract names
+pub use Rattle.ns_gate.specs.Law.{NewFault}
+pub use Rattle.ns_model.specs.Truths.{Truths, truths}
+pub use Rattle.ns_model.specs.declared.event.Mode.{Mode}
+pub use Rattle.ns_model.specs.declared.event.Mode.TheVariants.{Read, Write}
+pub use Rattle.ns_monitor.specs.Known.{AreNew, AreOfOneHistory, EndsAs, Grows, HasLearned, HasLocked, HasSeenMore, new_seat}
+pub use Rattle.ns_monitor.specs.Walks.{getting, judging, locking, releasing_by, setting, trying, waiting}
+pub use Rattle.ns_word.specs.Meanings.{InHand}
+pub use Rattle.ns_word.specs.Places.{HasMode}
+pub use Rattle.ns_word.specs.Steps.{section_of}
+pub use Rattle.ns_word.specs.declared.word.Releasing.TheVariants.{QuietWriter, Reader, Writer}

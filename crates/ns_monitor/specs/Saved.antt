@@ -1,7 +1,11 @@
 -- What a write section keeps of the row that it began at.
-use Rattle.std.specs.Prelude.{◌≡◌, ℕ, ◌<◌, List, Option, None, Some, length, slice_index, slice_index_or, slice_set, is_none, if◌then◌else◌}
+use Rattle.std.specs.Prelude.{◌≡◌, ℕ, ◌<◌, List, true, Option, None, Some, length, slice_index, slice_index_or, slice_set, is_none, if◌then◌else◌}
 use Rattle.ns_model.specs.declared.event.Mode.{Mode}
+use Rattle.ns_model.specs.Truths.{Truths}
+use Rattle.ns_word.specs.Meanings.{InHand}
 use Rattle.ns_word.specs.declared.view.Held.{Held}
+use Rattle.ns_word.specs.declared.word.Releasing.{Releasing}
+use Rattle.ns_word.specs.declared.word.Releasing.TheVariants.{QuietWriter}
 
 -- a cell's value as the section began: the one saved, or the one there is where none was
 abbrev pub value_before : Option ℕ → ℕ → ℕ
@@ -32,3 +36,8 @@ pub record IsFresh {C : Type 0} {N : ℕ} (cells : ℕ) (mode : Mode) (held : He
 abbrev pub IsFreshIn : {C : Type 0} {N : ℕ} → ℕ → Mode → Option (Held C N) → Type 0
 IsFreshIn N mode None = ⊥
 IsFreshIn N mode (Some held) = IsFresh N mode held
+
+-- a section that is released as a quiet one has changed nothing that would make a false condition true
+abbrev pub IsQuietFor : {C : Type 0} {N : ℕ} → Truths C → Releasing → Option (Held C N) → Type 0
+IsQuietFor truths QuietWriter held = InHand held (λ section. truths.quiet section.before section.row ≡ true)
+IsQuietFor truths releasing held = Unit {0}

@@ -4,6 +4,7 @@ use Rattle.ns_model.specs.declared.event.Mode.{Mode}
 use Rattle.ns_word.specs.declared.cell_walk.CellPlace.TheVariants.{GetLoad, SetLoad}
 use Rattle.ns_note.specs.declared.note.Note.{Note}
 use Rattle.ns_word.specs.Walks.{quiet_first, wait_first}
+use Rattle.ns_word.specs.declared.limits.Limits.{Limits}
 use Rattle.ns_word.specs.declared.wait.Subject.TheVariants.{OnCondition}
 use Rattle.ns_word.specs.declared.wait.Wait.{Wait}
 use Rattle.ns_word.specs.declared.cell_walk.Judging.TheVariants.{ToTell}
@@ -40,14 +41,14 @@ setting i value = InCells (SetLoad i value)
 abbrev pub judging : {C : Type 0} → ℕ → Walk C
 judging N = quiet_first N ToTell
 
--- what a wait in this mode is for this condition, with this deadline and the note of this number
-abbrev pub waits_by : {C : Type 0} → Mode → C → Option ℕ → Option ℕ → Wait C
-waits_by mode c deadline number = record { mode = mode; on = OnCondition c; limits = record { deadline = deadline; note = number } }
+-- what may end a wait early that is given this deadline and this note
+abbrev pub limits_of : Option ℕ → Option Note → Limits
+limits_of deadline note = record { deadline = deadline; note = option_map (λ n. n.index) note }
 
--- the same with this note
-abbrev pub waits_for : {C : Type 0} → Mode → C → Option ℕ → Option Note → Wait C
-waits_for mode c deadline note = waits_by mode c deadline (option_map (λ n. n.index) note)
+-- what a wait in this mode is for this condition, with these limits
+abbrev pub waits_by : {C : Type 0} → Mode → C → Limits → Wait C
+waits_by mode c limits = record { mode = mode; on = OnCondition c; limits = limits }
 
--- such a wait, over a row of N cells
+-- such a wait with this deadline and this note, over a row of N cells
 abbrev pub waiting : {C : Type 0} → ℕ → Mode → C → Option ℕ → Option Note → Walk C
-waiting N mode c deadline note = wait_first N (waits_for mode c deadline note)
+waiting N mode c deadline note = wait_first N (waits_by mode c (limits_of deadline note))

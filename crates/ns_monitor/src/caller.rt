@@ -116,13 +116,22 @@ impl<H: Hand<C, N>, C: Condition<N>, const N: usize> Model for Caller<H, C, N> {
     ghost use Rattle.ns_gate.specs.Calls.{IsAtRest};
     ghost use Rattle.ns_gate.specs.Steps.{the};
     ghost use Rattle.ns_monitor.specs.Known.{Known, known_of};
-    ghost use Rattle.ns_monitor.specs.Locks.{IsNumberOf};
+    ghost use Rattle.ns_monitor.specs.Standing.{IsNumberOf};
 
     ghost Value = { Known C N };
 
-    ghost view = { λ c. known_of c.seat.table_id (the c.seat.me.0) };
+    ghost view = { λ c. known_of c.seat.table_id c.seat.me };
 
     ghost invariant = { λ c. IsAtRest C.means c.seat.me × IsNumberOf c.number c.seat.me × H.fits c.hand (the c.seat.me.0).at.held };
+}
+
+impl<H: Section<C, N>, C: Condition<N>, const N: usize> Caller<H, C, N> {
+    /// Attests that the section in hand is in the mode that its type says. It does nothing.
+    pub(crate) fn attest(&self)
+        ensures { HasMode H.mode self.now.held }
+    {
+        let _ = &self.hand;
+    }
 }
 
 /// A seat with no section in hand.

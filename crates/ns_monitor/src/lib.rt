@@ -20,17 +20,17 @@
 //! assert!(rt; closed.free);
 //! ```
 //!
-//! So a second acquire by one seat, a section used after its release, a write through a read section
-//! and a release in the wrong mode don't compile. Many readers may hold the lock beside each other, or
-//! one writer alone.
+//! So a second acquire by one seat, a section used after its release or its wait, a write through a
+//! read section and a release in the wrong mode don't compile. Many readers may hold the lock beside
+//! each other, or one writer alone.
 //!
 //! What is promised: there is one legal history of all sections, that begins with what each caller has
 //! seen, and in which its own events are just the sections that it has released. A section begins at
-//! the row after that history. Two callers compare what they have seen by [`monitor::Monitor::meet`],
-//! or, with sections that read, by [`monitor::Monitor::both_read`]; between callers that never met,
-//! nothing is said of the order.
+//! the row after that history. Two callers compare what they have seen by [`Monitor::meet`], or, with
+//! sections that read, by [`Monitor::both_read`]; between callers that never met, nothing is said of
+//! the order. The words that say so in contracts are in `Rattle.ns_monitor.specs`.
 //!
-//! [`monitor::Monitor::wait`] leaves a section until a condition on the row is true, and comes back with
+//! [`Monitor::wait`] leaves a section until a condition on the row is true, and comes back with
 //! another in the same mode; the one with a deadline may be ended by that or by a note of ns_note, and
 //! says which. The behaviour is that of nsync's `nsync_mu` and `nsync_mu_wait`: waiters queue, one
 //! designated waker is enough, and conditions are tested by whoever releases.
@@ -38,11 +38,19 @@
 
 mod acquiring;
 pub mod caller;
+mod cells;
+mod going;
+mod loops;
 pub mod monitor;
 mod releasing;
 mod rounds;
-mod testing;
 mod waiting;
+mod watching;
 
+pub use caller::{Caller, ReadHeld, Renewed, Seat, Section, WriteHeld};
+pub use monitor::Monitor;
 pub use ns_gate::closed::Closed;
 pub use ns_gate::fault::Fault;
+pub use ns_gate::room::Gated;
+pub use ns_model::condition::Condition;
+pub use ns_model::event::{Answer, Mode};

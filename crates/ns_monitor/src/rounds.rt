@@ -1,123 +1,75 @@
-//! The rounds of a wait for a condition: it looks, queues, is woken or ended, comes back and tests.
+//! The waits, and the rounds of a wait for a condition: it looks, queues, is woken or ended, comes back
+//! and tests.
 
-ghost use Rattle.std.specs.Prelude.{◌≡◌, None, Some, IfErr, IfSome, false, true, option_map};
+ghost use Rattle.std.specs.Prelude.{◌≡◌, ◌⊎◌, None, Some, IfSome, false, true};
 ghost use Rattle.ns_model.specs.Environments.{IsMade};
-ghost use Rattle.ns_model.specs.Sections.{is_met};
-ghost use Rattle.ns_note.specs.Answers.{LookAnswers};
 ghost use Rattle.ns_note.specs.Known.{Grows as EnvGrows};
 ghost use Rattle.ns_word.specs.Finds.{row_in};
-ghost use Rattle.ns_word.specs.Places.{IsForCondition};
-ghost use Rattle.ns_word.specs.Waits.{answer_of, is_limited};
-ghost use Rattle.ns_word.specs.Walks.{got_queuing};
-ghost use Rattle.ns_word.specs.declared.acquire_walk.AcquirePlace.TheVariants.{AcquireLoad};
-ghost use Rattle.ns_word.specs.declared.act.Found.TheVariants.{Looked};
+ghost use Rattle.ns_word.specs.Waits.{is_limited};
+ghost use Rattle.ns_word.specs.Walks.{look_or_queue, wait_first};
 ghost use Rattle.ns_word.specs.declared.request.Request.TheVariants.{Await};
-ghost use Rattle.ns_word.specs.declared.wait.Aim.TheVariants.{ForWait};
-ghost use Rattle.ns_word.specs.declared.wait.QueuePlace.TheVariants.{Load, LookIn};
+ghost use Rattle.ns_word.specs.declared.wait.QueuePlace.TheVariants.{Load};
 ghost use Rattle.ns_word.specs.declared.wait.Subject.TheVariants.{OnCondition};
-ghost use Rattle.ns_word.specs.declared.wait.WaitPlace.TheVariants.{AwaitWakeInWait, InQueuing};
+ghost use Rattle.ns_word.specs.declared.wait.WaitPlace.TheVariants.{InQueuing};
 ghost use Rattle.ns_word.specs.declared.walk.Reply.TheVariants.{Answered};
-ghost use Rattle.ns_word.specs.declared.walk.Walk.TheVariants.{InAcquire, InWait};
-ghost use Rattle.ns_gate.specs.Calls.{HasAnswered, IsAt, Leads};
+ghost use Rattle.ns_word.specs.declared.walk.Walk.TheVariants.{InWait};
+ghost use Rattle.ns_gate.specs.Calls.{HasAnswered, HasSince, IsAt, Leads};
 ghost use Rattle.ns_gate.specs.Steps.{the};
-ghost use Rattle.ns_monitor.specs.Locks.{IsNumberOf};
+ghost use Rattle.ns_monitor.specs.Known.{Grows};
 ghost use Rattle.ns_monitor.specs.Saved.{IsFreshIn};
-ghost use Rattle.ns_monitor.specs.Waits.{EndedBy, ShownBy, WokenOrEnded};
+ghost use Rattle.ns_monitor.specs.Standing.{IsNumberOf};
+ghost use Rattle.ns_monitor.specs.Waits.{EndedBy, HadLooked, HasWaitedFor, IfAnswered, QueuesOrEnds};
+ghost use Rattle.ns_monitor.specs.Walks.{limits_of, waiting, waits_by};
 
+use crate::caller::{Caller, Renewed};
 use crate::monitor::Monitor;
-use crossbeam_utils::Backoff;
+use crate::watching::{Looker, Nothing, Watch};
 use ns_gate::gate::GateSeat;
 use ns_gate::room::Gated;
 use ns_model::event::Answer;
 use ns_note::env::Env;
-use ns_note::note::Note;
+use ns_note::note::{Note, index_of};
 use ns_note::seat::EnvSeat;
-use ns_word::limits::Cause;
-use ns_word::wait::{Aim, Wait as Waiting, answer_of, arrival_of};
-use ns_word::word::Arrival;
+use ns_word::limits::{Cause, Limits};
+use ns_word::wait::{Aim, Outcome, Subject, Visit, Wait as Waiting, answer_of};
+use ns_word::walk::Walk;
 use std::sync::Wait;
 
-/// What a look has shown, as a cause to end a wait. A look never meets a condition.
-fn cause_of(shown: Option<Answer>) -> Option<Cause>
-    requires { IfSome shown (λ answer. is_met answer ≡ false) }
-    ensures { option_map answer_of result ≡ shown }
-{
-    match shown {
-        Some(Answer::TimedOut) => Some(Cause::Expired),
-        Some(Answer::Canceled) => Some(Cause::Notified),
-        _ => None,
-    }
-}
-
 impl<C: Gated<N>, const N: usize> Monitor<C, N> {
-    /// Waits until the condition is true, which is false of this row of the section in hand.
-    pub(crate) fn wait_until_met<R: Wait>(
-        &self,
-        rt: &R,
-        seat: &mut GateSeat<C, N>,
-        number: u8,
-        wait: Waiting<C>,
-        condition: C,
-        row: &mut [u64; N],
-    )
-        requires of { seat.old.table_id ≡ self.now }
-        requires number { IsNumberOf number seat.old.me }
-        requires on { wait.on ≡ OnCondition condition }
-        requires free { is_limited wait.limits ≡ false }
-        requires row { row.old ≡ row_in (the seat.old.me.0).at.held }
-        requires at { IsAt C.means None (InWait wait (InQueuing false Load)) (the seat.old.me.0) seat.old.me }
-        ensures seat { seat.new.table_id ≡ seat.old.table_id }
-        ensures met { HasAnswered C.means None (Await wait) (Answered Answer.Met) (the seat.old.me.0) seat.new.me }
-        ensures fresh { IsFreshIn N wait.mode (the seat.new.me.0).at.held }
-    {
-        let mut again = false;
-        for _ in rt.forever() {
-            self.queue_to_wait(rt, seat, number, wait, again, row);
-            let arrival = self.await_wake_in_wait(rt, seat, number, wait);
-            self.acquire(rt, seat, number, Aim::ForWait(wait, None), arrival);
-            if self.test_again(seat, wait, condition, None, row) {
-                return;
-            }
-            again = true;
-        }
-        unreachable!()
-    }
-
-    /// Looks at the note and the deadline of a wait that is about to queue. Answers what the look has
-    /// shown.
-    pub(crate) fn look_in(
+    /// Looks, before a wait queues, at what may end it early, if anything may. Answers what the look
+    /// has shown; then the wait is over.
+    fn look_before<W: Watch>(
         &self,
         seat: &mut GateSeat<C, N>,
         number: u8,
         wait: Waiting<C>,
         again: bool,
-        note: Option<Note>,
-        env: &Env,
-        env_seat: &mut EnvSeat,
+        watch: &mut W,
     ) -> Option<Cause>
         requires of { seat.old.table_id ≡ self.now }
         requires number { IsNumberOf number seat.old.me }
-        requires env { env_seat.old.env ≡ env.now }
-        requires made { IfSome note (λ n. IsMade env_seat.old.seen n.index) }
-        requires note { wait.limits.note ≡ option_map (λ n. n.index) note }
-        requires at { IsAt C.means None (InWait wait (InQueuing again LookIn)) (the seat.old.me.0) seat.old.me }
-        ensures seat { seat.new.table_id ≡ seat.old.table_id }
-        ensures grows { EnvGrows env_seat.old env_seat.new }
-        ensures mine { env_seat.new.mine ≡ env_seat.old.mine }
-        ensures looked { LookAnswers note wait.limits.deadline env_seat.old.seen env_seat.new.seen (option_map answer_of result) }
-        ensures leads { Leads C.means None (Await wait) (got_queuing N wait again LookIn (Looked result)) (the seat.old.me.0) seat.new.me }
-        ensures held { result ≡ None → (the seat.new.me.0).at.held ≡ (the seat.old.me.0).at.held }
-        ensures kept { again ≡ false → (the seat.new.me.0).at.held ≡ (the seat.old.me.0).at.held }
+        requires watches { W.watches watch.old wait.limits }
+        requires at { Leads C.means (Await wait) (look_or_queue wait again) seat.old.me }
+        ensures seat { seat.new.table_id ≡ self.now }
+        ensures since { HasSince None (the seat.old.me.0) (the seat.new.me.0) }
+        ensures looked { W.since watch.old watch.new }
+        ensures shown { is_limited wait.limits ≡ true → W.shows watch.old watch.new wait.limits result }
+        ensures ends { IfSome result (λ cause. is_limited wait.limits ≡ true) }
+        ensures mine { (the seat.new.me.0).told.mine ≡ (the seat.old.me.0).told.mine }
+        ensures leads { QueuesOrEnds C.means wait again result seat.old.me seat.new.me }
         ensures fresh { IsFreshIn N wait.mode (the seat.old.me.0).at.held → IsFreshIn N wait.mode (the seat.new.me.0).at.held }
     {
-        let cause = cause_of(env.look(env_seat, note, wait.limits.deadline));
-        self.gate.look(seat, number, wait.limits, again, cause);
-        cause
+        if !wait.limits.is_some() {
+            return None;
+        }
+        let shown = watch.look(wait.limits);
+        self.gate.look(seat, number, wait.limits, again, shown);
+        shown
     }
 
     /// Waits until the condition is true, or the wait is ended early. The condition is false of this
     /// row of the section in hand.
-    pub(crate) fn wait_until_ended<R: Wait>(
+    fn wait_on<R: Wait, W: Watch>(
         &self,
         rt: &R,
         seat: &mut GateSeat<C, N>,
@@ -125,38 +77,34 @@ impl<C: Gated<N>, const N: usize> Monitor<C, N> {
         wait: Waiting<C>,
         condition: C,
         row: &mut [u64; N],
-        note: Option<Note>,
-        env: &Env,
-        env_seat: &mut EnvSeat,
+        watch: &mut W,
     ) -> Answer
         requires of { seat.old.table_id ≡ self.now }
         requires number { IsNumberOf number seat.old.me }
         requires on { wait.on ≡ OnCondition condition }
-        requires limited { is_limited wait.limits ≡ true }
-        requires env { env_seat.old.env ≡ env.now }
-        requires made { IfSome note (λ n. IsMade env_seat.old.seen n.index) }
-        requires note { wait.limits.note ≡ option_map (λ n. n.index) note }
+        requires watches { W.watches watch.old wait.limits }
         requires row { row.old ≡ row_in (the seat.old.me.0).at.held }
-        requires at { IsAt C.means None (InWait wait (InQueuing false Load)) (the seat.old.me.0) seat.old.me }
-        ensures seat { seat.new.table_id ≡ seat.old.table_id }
-        ensures grows { EnvGrows env_seat.old env_seat.new }
-        ensures mine { env_seat.new.mine ≡ env_seat.old.mine }
-        ensures ended { EndedBy note wait.limits.deadline env_seat.old.seen env_seat.new.seen result }
-        ensures answered { HasAnswered C.means None (Await wait) (Answered result) (the seat.old.me.0) seat.new.me }
+        requires at { IsAt C.means (InWait wait (InQueuing false Load)) seat.old.me }
+        ensures seat { seat.new.table_id ≡ self.now }
+        ensures since { HasSince None (the seat.old.me.0) (the seat.new.me.0) }
+        ensures looked { W.since watch.old watch.new }
+        ensures ended { IfAnswered result (λ cause. (is_limited wait.limits ≡ true) × W.shows watch.old watch.new wait.limits (Some cause)) }
+        ensures answered { HasAnswered C.means (Await wait) (Answered result) seat.new.me }
         ensures fresh { IsFreshIn N wait.mode (the seat.new.me.0).at.held }
     {
         let mut again = false;
         for _ in rt.forever() {
             self.queue_to_wait(rt, seat, number, wait, again, row);
-            let (arrival, kept) = self.await_in(rt, seat, number, wait, note, env, env_seat);
-            self.acquire(rt, seat, number, Aim::ForWait(wait, kept), arrival);
-            if self.test_again(seat, wait, condition, kept, row) {
+            let (arrival, outcome) = self.await_in(rt, seat, number, wait, watch);
+            self.acquire(rt, seat, number, Aim::ForWait(wait, outcome), arrival);
+            let visit = Visit::OnReturn(outcome);
+            if self.test(seat, None, wait, condition, visit, row) {
                 return Answer::Met;
             }
-            if let Some(cause) = kept {
+            if let Outcome::Ended(cause) = outcome {
                 return answer_of(cause);
             }
-            if let Some(cause) = self.look_in(seat, number, wait, true, note, env, env_seat) {
+            if let Some(cause) = self.look_before(seat, number, wait, true, watch) {
                 return answer_of(cause);
             }
             again = true;
@@ -164,77 +112,113 @@ impl<C: Gated<N>, const N: usize> Monitor<C, N> {
         unreachable!()
     }
 
-    /// Waits until the wait is woken, or has left since something has ended it. Answers how it comes to
-    /// acquire then, and what has ended it.
-    fn await_in<R: Wait>(
+    /// Waits until the condition is true, or what watches for its limits ends the wait. Where the
+    /// condition is true of the section in hand, nothing is released, nor where the first look shows
+    /// what ends it.
+    fn wait_by<H: Renewed<C, N>, R: Wait, W: Watch>(
         &self,
         rt: &R,
-        seat: &mut GateSeat<C, N>,
-        number: u8,
-        wait: Waiting<C>,
-        note: Option<Note>,
-        env: &Env,
-        env_seat: &mut EnvSeat,
-    ) -> (Arrival, Option<Cause>)
-        requires of { seat.old.table_id ≡ self.now }
-        requires number { IsNumberOf number seat.old.me }
-        requires on { IsForCondition wait.on }
-        requires limited { is_limited wait.limits ≡ true }
-        requires env { env_seat.old.env ≡ env.now }
-        requires made { IfSome note (λ n. IsMade env_seat.old.seen n.index) }
-        requires note { wait.limits.note ≡ option_map (λ n. n.index) note }
-        requires at { IsAt C.means None (InWait wait AwaitWakeInWait) (the seat.old.me.0) seat.old.me }
-        ensures seat { seat.new.table_id ≡ seat.old.table_id }
-        ensures grows { EnvGrows env_seat.old env_seat.new }
-        ensures mine { env_seat.new.mine ≡ env_seat.old.mine }
-        ensures shown { ShownBy note wait.limits.deadline env_seat.old.seen env_seat.new.seen result.1 }
-        ensures comes { IsAt C.means None (InAcquire (ForWait wait result.1) (AcquireLoad result.0)) (the seat.old.me.0) seat.new.me }
+        held: Caller<H, C, N>,
+        condition: C,
+        limits: Limits,
+        watch: &mut W,
+    ) -> (Caller<H, C, N>, Answer)
+        requires of { held.monitor ≡ self.now }
+        requires watches { W.watches watch.old limits }
+        ensures grows { Grows C.means (wait_first N (waits_by H.mode condition limits)) held result.0 }
+        ensures waited { HasWaitedFor C.means condition result.1 held result.0 }
+        ensures looked { W.since watch.old watch.new }
+        ensures ended { IfAnswered result.1 (λ cause. W.shows watch.old watch.new limits (Some cause)) }
+        ensures before { is_limited limits ≡ true → (result.0.mine ≡ held.mine) ⊎ W.shows watch.old watch.new limits None }
     {
-        match self.await_wake_or_end(rt, seat, number, wait, note, env, env_seat) {
-            Ok(arrival) => (arrival, None),
-            Err(cause) => (self.leave(rt, seat, number, wait, cause), Some(cause)),
+        let Caller {
+            mut seat,
+            number,
+            hand,
+        } = held;
+        let mode = H::mode();
+        let on = Subject::OnCondition(condition);
+        let wait = Waiting { mode, on, limits };
+        let first = Some(Walk::wait::<N>(wait));
+        let mut row = [0; N];
+        if self.test(&mut seat, first, wait, condition, Visit::OnEntry, &mut row) {
+            return (Caller { seat, number, hand }, Answer::Met);
         }
+        if let Some(cause) = self.look_before(&mut seat, number, wait, false, watch) {
+            return (Caller { seat, number, hand }, answer_of(cause));
+        }
+        let answer = self.wait_on(rt, &mut seat, number, wait, condition, &mut row, watch);
+        let hand = H::begun();
+        (Caller { seat, number, hand }, answer)
     }
 
-    /// Goes round between the seat's flag and a look, until the wait is woken, or the look shows
-    /// something.
-    fn await_wake_or_end<R: Wait>(
+    /// Waits until the condition is true of the row, in a section in the same mode. Where it is true of
+    /// the section in hand, nothing is released.
+    ///
+    /// Else the section is committed, with the condition as its exit, and the call sleeps until another
+    /// has woken it; the section that it comes back with begins at the row after all that it has seen.
+    /// The condition is tested also by others, who release the lock.
+    pub fn wait<H: Renewed<C, N>, R: Wait>(
         &self,
         rt: &R,
-        seat: &mut GateSeat<C, N>,
-        number: u8,
-        wait: Waiting<C>,
+        held: Caller<H, C, N>,
+        condition: C,
+    ) -> Caller<H, C, N>
+        requires { held.monitor ≡ self.now }
+        ensures grows { Grows C.means (waiting N H.mode condition None None) held result }
+        ensures waited { HasWaitedFor C.means condition Answer.Met held result }
+    {
+        let limits = Limits {
+            deadline: None,
+            note: None,
+        };
+        let (back, _) = self.wait_by(rt, held, condition, limits, &mut Nothing);
+        back
+    }
+
+    /// Waits as [`Monitor::wait`] does, and returns earlier once its note is notified or its deadline, in
+    /// ticks, has come, whichever of them is given.
+    ///
+    /// `Met` says that the condition is true of the section that it returns with; else `Canceled` that
+    /// the note was notified, and `TimedOut` that the deadline had come while the note wasn't. Where that
+    /// is so as the call begins, nothing is released: it leaves its section only after a look that showed
+    /// neither.
+    ///
+    /// Needs the environment's own seat, and a note, if one is given, that it has seen made. While it
+    /// waits with a deadline or a note it goes round between its wake and a look.
+    pub fn wait_with_deadline<H: Renewed<C, N>, R: Wait>(
+        &self,
+        rt: &R,
+        held: Caller<H, C, N>,
+        condition: C,
+        deadline: Option<u64>,
         note: Option<Note>,
         env: &Env,
         env_seat: &mut EnvSeat,
-    ) -> Result<Arrival, Cause>
-        requires of { seat.old.table_id ≡ self.now }
-        requires number { IsNumberOf number seat.old.me }
-        requires limited { is_limited wait.limits ≡ true }
+    ) -> (Caller<H, C, N>, Answer)
+        requires of { held.monitor ≡ self.now }
         requires env { env_seat.old.env ≡ env.now }
         requires made { IfSome note (λ n. IsMade env_seat.old.seen n.index) }
-        requires note { wait.limits.note ≡ option_map (λ n. n.index) note }
-        requires at { IsAt C.means None (InWait wait AwaitWakeInWait) (the seat.old.me.0) seat.old.me }
-        ensures seat { seat.new.table_id ≡ seat.old.table_id }
-        ensures grows { EnvGrows env_seat.old env_seat.new }
-        ensures mine { env_seat.new.mine ≡ env_seat.old.mine }
-        ensures shown { IfErr result (λ cause. ShownBy note wait.limits.deadline env_seat.old.seen env_seat.new.seen (Some cause)) }
-        ensures came { WokenOrEnded C.means wait result (the seat.old.me.0) seat.new.me }
+        ensures grows { Grows C.means (waiting N H.mode condition deadline note) held result.0 }
+        ensures waited { HasWaitedFor C.means condition result.1 held result.0 }
+        ensures env_grows { EnvGrows env_seat.old env_seat.new }
+        ensures env_mine { env_seat.new.mine ≡ env_seat.old.mine }
+        ensures ended { EndedBy note deadline env_seat.old.seen env_seat.new.seen result.1 }
+        ensures looked { is_limited (limits_of deadline note) ≡ true → (result.0.mine ≡ held.mine) ⊎ HadLooked note deadline env_seat.old.seen env_seat.new.seen }
     {
+        let limits = Limits {
+            deadline,
+            note: index_of(note),
+        };
+        let waited = {
+            let mut looker = Looker {
+                env,
+                seat: env_seat,
+                note,
+            };
+            self.wait_by(rt, held, condition, limits, &mut looker)
+        };
         env_seat.attest();
-        let backoff = Backoff::new();
-        for _ in rt.forever() {
-            let flag = self.gate.load_flag(seat, number);
-            if flag != 1 {
-                return Ok(arrival_of(0, flag));
-            }
-            let cause = cause_of(env.look(env_seat, note, wait.limits.deadline));
-            self.gate.look(seat, number, wait.limits, false, cause);
-            if let Some(cause) = cause {
-                return Err(cause);
-            }
-            backoff.snooze();
-        }
-        unreachable!()
+        waited
     }
 }

@@ -1,36 +1,31 @@
-//! A wait that has to queue: into its list, and out of it, woken or ended early.
+//! A wait outside: it leaves its section and queues, waits to be woken or ended, and may leave its list.
 
-ghost use Rattle.std.specs.Prelude.{◌≡◌, ◌<◌, None, Some, false};
-ghost use Rattle.ns_queue.specs.Scans.{woken_of};
-ghost use Rattle.ns_queue.specs.Waiters.{seats_of};
-ghost use Rattle.ns_word.specs.Codec.{IsPackable};
+ghost use Rattle.std.specs.Prelude.{◌≡◌, ◌≢◌, None, Some, IfErr, IfSome, true};
 ghost use Rattle.ns_word.specs.Finds.{row_in};
-ghost use Rattle.ns_word.specs.Lists.{bits_of, has_some};
-ghost use Rattle.ns_word.specs.Places.{IsForCondition};
-ghost use Rattle.ns_word.specs.Steps.{changed, meets_at, waited_in};
-ghost use Rattle.ns_word.specs.Waits.{home_of, is_limited};
-ghost use Rattle.ns_word.specs.Walks.{pay_waiting};
+ghost use Rattle.ns_word.specs.Places.{IsForCondition, IsInRange};
+ghost use Rattle.ns_word.specs.Waits.{is_limited};
 ghost use Rattle.ns_word.specs.declared.acquire_walk.AcquirePlace.TheVariants.{AcquireLoad};
-ghost use Rattle.ns_word.specs.declared.request.Request.TheVariants.{Await};
 ghost use Rattle.ns_word.specs.declared.wait.Aim.TheVariants.{ForWait};
-ghost use Rattle.ns_word.specs.declared.wait.LeavePlace.TheVariants.{AwaitWakeToLeave, Leave, LeaveLoad};
-ghost use Rattle.ns_word.specs.declared.wait.QueuePlace.TheVariants.{Load, QueueToWait};
+ghost use Rattle.ns_word.specs.declared.wait.LeavePlace.TheVariants.{LeaveLoad};
+ghost use Rattle.ns_word.specs.declared.wait.QueuePlace.TheVariants.{Load};
 ghost use Rattle.ns_word.specs.declared.wait.WaitPlace.TheVariants.{AwaitWakeInWait, InLeaving, InQueuing};
 ghost use Rattle.ns_word.specs.declared.walk.Walk.TheVariants.{InAcquire, InWait};
-ghost use Rattle.ns_gate.specs.Calls.{IsAt, Leads};
-ghost use Rattle.ns_gate.specs.Steps.{Carries, HasTaken, the};
-ghost use Rattle.ns_monitor.specs.Locks.{IsNumberOf};
-ghost use Rattle.ns_monitor.specs.Waits.{HasTakenToWait, StoodOrTaken};
+ghost use Rattle.ns_gate.specs.Calls.{HasSince, IsAt};
+ghost use Rattle.ns_gate.specs.Steps.{the};
+ghost use Rattle.ns_monitor.specs.Standing.{IsNumberOf};
+ghost use Rattle.ns_monitor.specs.Waits.{IfEnded, WokenOrEnded};
 
 use crate::monitor::Monitor;
-use arrayvec::ArrayVec;
+use crate::watching::Watch;
 use crossbeam_utils::Backoff;
 use ns_gate::gate::GateSeat;
+use ns_gate::queues::{Returning, Turned};
 use ns_gate::room::Gated;
 use ns_word::act::Change;
 use ns_word::limits::Cause;
-use ns_word::wait::{Wait as Waiting, arrival_of};
-use ns_word::word::{Arrival, Bits, Taking, Word};
+use ns_word::wait::{LeavePlace, Outcome, QueuePlace, Wait as Waiting, WaitPlace, arrival_of};
+use ns_word::walk::Walk;
+use ns_word::word::Arrival;
 use std::sync::Wait;
 
 impl<C: Gated<N>, const N: usize> Monitor<C, N> {
@@ -48,239 +43,138 @@ impl<C: Gated<N>, const N: usize> Monitor<C, N> {
         requires of { seat.old.table_id ≡ self.now }
         requires number { IsNumberOf number seat.old.me }
         requires on { IsForCondition wait.on }
-        requires at { IsAt C.means None (InWait wait (InQueuing again Load)) (the seat.old.me.0) seat.old.me }
+        requires at { IsAt C.means (InWait wait (InQueuing again Load)) seat.old.me }
         requires row { row.now ≡ row_in (the seat.old.me.0).at.held }
-        ensures seat { seat.new.table_id ≡ seat.old.table_id }
-        ensures waits { IsAt C.means None (InWait wait AwaitWakeInWait) (the seat.old.me.0) seat.new.me }
+        ensures seat { seat.new.table_id ≡ self.now }
+        ensures since { HasSince None (the seat.old.me.0) (the seat.new.me.0) }
+        ensures waits { IsAt C.means (InWait wait AwaitWakeInWait) seat.new.me }
     {
-        let word = self.take_to_wait(rt, seat, wait, again);
+        let place = Walk::InWait(wait, WaitPlace::InQueuing(again, QueuePlace::Load));
+        let word = self.take(rt, seat, place);
         self.gate.arm_flag(seat, number);
         let (scan, bits) = self
             .gate
             .scan_and_queue_in_hand(seat, row, number, wait, again);
-        let took = !scan.woken.is_empty();
-        self.release_to_wait(rt, seat, wait, again, word, took, bits);
-        self.pay_in_wait(seat, wait, &scan.woken);
-    }
-
-    /// Takes the queues for a wait that is about to queue. Goes round while another has them. Answers
-    /// the word then.
-    fn take_to_wait<R: Wait>(
-        &self,
-        rt: &R,
-        seat: &mut GateSeat<C, N>,
-        _wait: Waiting<C>,
-        _again: bool,
-    ) -> Word
-        requires of { seat.old.table_id ≡ self.now }
-        requires at { IsAt C.means None (InWait _wait (InQueuing _again Load)) (the seat.old.me.0) seat.old.me }
-        ensures seat { seat.new.table_id ≡ seat.old.table_id }
-        ensures taken { HasTakenToWait C.means _wait _again result (the seat.old.me.0) seat.new.me }
-    {
-        let backoff = Backoff::new();
-        let mut word = self.gate.load(seat);
-        for _ in rt.forever() {
-            if word.spin {
-                backoff.snooze();
-                word = self.gate.load(seat);
-            } else {
-                match self.gate.exchange_to_take(seat, Taking::ToChange, word) {
-                    Ok(()) => return word.taken(Taking::ToChange),
-                    Err(other) => word = other,
-                }
-            }
-        }
-        unreachable!()
-    }
-
-    /// Puts the queues back as the scan has left them, with the wait in its list, and releases the
-    /// section.
-    fn release_to_wait<R: Wait>(
-        &self,
-        rt: &R,
-        seat: &mut GateSeat<C, N>,
-        wait: Waiting<C>,
-        again: bool,
-        first: Word,
-        took: bool,
-        bits: Bits,
-    )
-        requires of { seat.old.table_id ≡ self.now }
-        requires word { IsPackable first }
-        requires at { IsAt C.means None (InWait wait (InQueuing again (QueueToWait first))) (the seat.old.me.0) seat.old.me }
-        requires carries { Carries (waited_in C.means (the seat.old.me.0).at.seat wait again (row_in (the seat.old.me.0).at.held) (the seat.old.me.0).stood) seat.old.me }
-        requires took { took ≡ has_some (woken_of (meets_at C.means (row_in (the seat.old.me.0).at.held)) (the seat.old.me.0).stood.lock) }
-        requires bits { bits ≡ bits_of (waited_in C.means (the seat.old.me.0).at.seat wait again (row_in (the seat.old.me.0).at.held) (the seat.old.me.0).stood).lock }
-        ensures seat { seat.new.table_id ≡ seat.old.table_id }
-        ensures released { Leads C.means None (Await wait) (pay_waiting wait (has_some (the seat.new.me.0).at.owed)) (the seat.old.me.0) seat.new.me }
-        ensures owed { (the seat.new.me.0).at.owed ≡ seats_of (woken_of (meets_at C.means (row_in (the seat.old.me.0).at.held)) (the seat.old.me.0).stood.lock) }
-    {
-        let mut word = first;
-        for _ in rt.forever() {
-            match self
-                .gate
-                .exchange_to_wait(seat, wait, again, word, took, bits)
-            {
-                Ok(()) => return,
-                Err(other) => word = other,
-            }
-        }
-        unreachable!()
-    }
-
-    /// Pays the wakes that a wait owes, in order.
-    fn pay_in_wait(&self, seat: &mut GateSeat<C, N>, _wait: Waiting<C>, woken: &ArrayVec<u8, 64>)
-        requires of { seat.old.table_id ≡ self.now }
-        requires at { Leads C.means None (Await _wait) (pay_waiting _wait (has_some (the seat.old.me.0).at.owed)) (the seat.old.me.0) seat.old.me }
-        requires owed { (the seat.old.me.0).at.owed ≡ woken.now.items }
-        ensures seat { seat.new.table_id ≡ seat.old.table_id }
-        ensures paid { IsAt C.means None (InWait _wait AwaitWakeInWait) (the seat.old.me.0) seat.new.me }
-    {
-        for &number in woken.as_slice() {
-            self.gate.pay_wake(seat, number, 0);
-        }
-    }
-
-    /// Waits until the wait is woken, where nothing may end it early; sleeps meanwhile. Answers how it
-    /// comes to acquire then.
-    pub(crate) fn await_wake_in_wait<R: Wait>(
-        &self,
-        rt: &R,
-        seat: &mut GateSeat<C, N>,
-        number: u8,
-        _wait: Waiting<C>,
-    ) -> Arrival
-        requires of { seat.old.table_id ≡ self.now }
-        requires number { IsNumberOf number seat.old.me }
-        requires free { is_limited _wait.limits ≡ false }
-        requires at { IsAt C.means None (InWait _wait AwaitWakeInWait) (the seat.old.me.0) seat.old.me }
-        ensures seat { seat.new.table_id ≡ seat.old.table_id }
-        ensures woken { IsAt C.means None (InAcquire (ForWait _wait None) (AcquireLoad result)) (the seat.old.me.0) seat.new.me }
-    {
-        for _ in rt.forever() {
-            let flag = self.gate.load_flag(seat, number);
-            if flag != 1 {
-                return arrival_of(0, flag);
-            }
-            self.gate.park(rt, number);
-        }
-        unreachable!()
+        let some = !scan.woken.is_empty();
+        let returning = Returning::Waited(wait, again);
+        let place = Walk::InWait(
+            wait,
+            WaitPlace::InQueuing(again, QueuePlace::QueueToWait(word)),
+        );
+        self.put_back(rt, seat, returning, place, word, Turned { some, bits });
+        let place = Walk::InWait(wait, WaitPlace::PayInWait);
+        self.pay(seat, place, &scan.woken, 0);
     }
 
     /// Takes a wait out of its list that is ended early. Where it was taken from there before, waits
-    /// until it is woken. Answers how it comes to acquire then.
-    pub(crate) fn leave<R: Wait>(
+    /// until it is woken. Answers how it comes to acquire then, and what came of it.
+    fn leave<R: Wait>(
         &self,
         rt: &R,
         seat: &mut GateSeat<C, N>,
         number: u8,
         wait: Waiting<C>,
         cause: Cause,
-    ) -> Arrival
+    ) -> (Arrival, Outcome)
         requires of { seat.old.table_id ≡ self.now }
         requires number { IsNumberOf number seat.old.me }
-        requires on { IsForCondition wait.on }
-        requires at { IsAt C.means None (InWait wait (InLeaving cause LeaveLoad)) (the seat.old.me.0) seat.old.me }
-        ensures seat { seat.new.table_id ≡ seat.old.table_id }
-        ensures left { IsAt C.means None (InAcquire (ForWait wait (Some cause)) (AcquireLoad result)) (the seat.old.me.0) seat.new.me }
+        requires range { IsInRange wait.on }
+        requires at { IsAt C.means (InWait wait (InLeaving cause LeaveLoad)) seat.old.me }
+        ensures seat { seat.new.table_id ≡ self.now }
+        ensures since { HasSince None (the seat.old.me.0) (the seat.new.me.0) }
+        ensures ended { IfEnded result.1 (λ other. other ≡ cause) }
+        ensures left { IsAt C.means (InAcquire (ForWait wait result.1) (AcquireLoad result.0)) seat.new.me }
     {
-        let word = self.take_to_leave(rt, seat, wait, cause);
-        let (stood, bits) = self.gate.leave_in_hand(seat, number, wait.on.home());
-        self.put_back_left(rt, seat, wait, cause, word, bits);
+        let place = Walk::InWait(wait, WaitPlace::InLeaving(cause, LeavePlace::LeaveLoad));
+        let word = self.take(rt, seat, place);
+        let home = wait.on.home();
+        let (stood, bits) = self.gate.leave_in_hand(seat, number, home);
+        let returning = Returning::Changed(Change::LeaveSelf(home));
+        let place = Walk::InWait(wait, WaitPlace::InLeaving(cause, LeavePlace::Leave(word)));
+        self.put_back(
+            rt,
+            seat,
+            returning,
+            place,
+            word,
+            Turned { some: false, bits },
+        );
         if stood {
-            Arrival::AsFresh
-        } else {
-            self.await_wake_to_leave(rt, seat, number, wait, cause)
+            return (Arrival::AsFresh, Outcome::Ended(cause));
         }
+        let place = Walk::InWait(
+            wait,
+            WaitPlace::InLeaving(cause, LeavePlace::AwaitWakeToLeave),
+        );
+        let flag = self.await_flag(rt, seat, number, place);
+        (arrival_of(0, flag), wait.on.outcome_taken(cause, flag))
     }
 
-    /// Takes the queues for a wait that leaves. Goes round while another has them. Answers the word
-    /// then.
-    fn take_to_leave<R: Wait>(
-        &self,
-        rt: &R,
-        seat: &mut GateSeat<C, N>,
-        _wait: Waiting<C>,
-        _cause: Cause,
-    ) -> Word
-        requires of { seat.old.table_id ≡ self.now }
-        requires at { IsAt C.means None (InWait _wait (InLeaving _cause LeaveLoad)) (the seat.old.me.0) seat.old.me }
-        ensures seat { seat.new.table_id ≡ seat.old.table_id }
-        ensures word { IsPackable result }
-        ensures at { IsAt C.means None (InWait _wait (InLeaving _cause (Leave result))) (the seat.old.me.0) seat.new.me }
-        ensures taken { HasTaken seat.new.me }
-    {
-        let backoff = Backoff::new();
-        let mut word = self.gate.load(seat);
-        for _ in rt.forever() {
-            if word.spin {
-                backoff.snooze();
-                word = self.gate.load(seat);
-            } else {
-                match self.gate.exchange_to_take(seat, Taking::ToChange, word) {
-                    Ok(()) => return word.taken(Taking::ToChange),
-                    Err(other) => word = other,
-                }
-            }
-        }
-        unreachable!()
-    }
-
-    /// Puts the queues back, in which a wait that leaves stands no more.
-    fn put_back_left<R: Wait>(
-        &self,
-        rt: &R,
-        seat: &mut GateSeat<C, N>,
-        wait: Waiting<C>,
-        _cause: Cause,
-        first: Word,
-        bits: Bits,
-    )
-        requires of { seat.old.table_id ≡ self.now }
-        requires word { IsPackable first }
-        requires at { IsAt C.means None (InWait wait (InLeaving _cause (Leave first))) (the seat.old.me.0) seat.old.me }
-        requires carries { (last : _) → Carries (changed (the seat.old.me.0).at.seat (Change.LeaveSelf (home_of wait.on)) last (the seat.old.me.0).stood) seat.old.me }
-        requires bits { (last : _) → bits ≡ bits_of (changed (the seat.old.me.0).at.seat (Change.LeaveSelf (home_of wait.on)) last (the seat.old.me.0).stood).lock }
-        ensures seat { seat.new.table_id ≡ seat.old.table_id }
-        ensures left { StoodOrTaken C.means wait _cause (the seat.old.me.0) seat.new.me }
-    {
-        let change = Change::LeaveSelf(wait.on.home());
-        let mut word = first;
-        for _ in rt.forever() {
-            match self
-                .gate
-                .exchange_to_return(seat, change, word, false, bits)
-            {
-                Ok(()) => return,
-                Err(other) => word = other,
-            }
-        }
-        unreachable!()
-    }
-
-    /// Waits until a wait is woken that was taken from its list before it could leave it; sleeps
-    /// meanwhile. Answers how it comes to acquire then.
-    fn await_wake_to_leave<R: Wait>(
+    /// Waits until a wait is woken, or has left its list since something has ended it. Answers how it
+    /// comes to acquire then, and what came of it.
+    pub(crate) fn await_in<R: Wait, W: Watch>(
         &self,
         rt: &R,
         seat: &mut GateSeat<C, N>,
         number: u8,
-        _wait: Waiting<C>,
-        _cause: Cause,
-    ) -> Arrival
+        wait: Waiting<C>,
+        watch: &mut W,
+    ) -> (Arrival, Outcome)
         requires of { seat.old.table_id ≡ self.now }
         requires number { IsNumberOf number seat.old.me }
-        requires on { IsForCondition _wait.on }
-        requires at { IsAt C.means None (InWait _wait (InLeaving _cause AwaitWakeToLeave)) (the seat.old.me.0) seat.old.me }
-        ensures seat { seat.new.table_id ≡ seat.old.table_id }
-        ensures woken { IsAt C.means None (InAcquire (ForWait _wait (Some _cause)) (AcquireLoad result)) (the seat.old.me.0) seat.new.me }
+        requires range { IsInRange wait.on }
+        requires watches { W.watches watch.old wait.limits }
+        requires at { IsAt C.means (InWait wait AwaitWakeInWait) seat.old.me }
+        ensures seat { seat.new.table_id ≡ self.now }
+        ensures since { HasSince None (the seat.old.me.0) (the seat.new.me.0) }
+        ensures looked { W.since watch.old watch.new }
+        ensures ended { IfEnded result.1 (λ cause. (is_limited wait.limits ≡ true) × W.shows watch.old watch.new wait.limits (Some cause)) }
+        ensures comes { IsAt C.means (InAcquire (ForWait wait result.1) (AcquireLoad result.0)) seat.new.me }
     {
+        if !wait.limits.is_some() {
+            let place = Walk::InWait(wait, WaitPlace::AwaitWakeInWait);
+            let flag = self.await_flag(rt, seat, number, place);
+            return (arrival_of(0, flag), wait.on.woken_by(flag));
+        }
+        match self.await_or_end(rt, seat, number, wait, watch) {
+            Ok(flag) => (arrival_of(0, flag), wait.on.woken_by(flag)),
+            Err(cause) => self.leave(rt, seat, number, wait, cause),
+        }
+    }
+
+    /// Goes round between the seat's flag and a look, until the flag is cleared, whose value it answers
+    /// then, or the look shows what ends the wait.
+    fn await_or_end<R: Wait, W: Watch>(
+        &self,
+        rt: &R,
+        seat: &mut GateSeat<C, N>,
+        number: u8,
+        wait: Waiting<C>,
+        watch: &mut W,
+    ) -> Result<u8, Cause>
+        requires of { seat.old.table_id ≡ self.now }
+        requires number { IsNumberOf number seat.old.me }
+        requires limited { is_limited wait.limits ≡ true }
+        requires watches { W.watches watch.old wait.limits }
+        requires at { IsAt C.means (InWait wait AwaitWakeInWait) seat.old.me }
+        ensures seat { seat.new.table_id ≡ self.now }
+        ensures since { HasSince None (the seat.old.me.0) (the seat.new.me.0) }
+        ensures looked { W.since watch.old watch.new }
+        ensures ended { IfErr result (λ cause. W.shows watch.old watch.new wait.limits (Some cause)) }
+        ensures came { WokenOrEnded C.means wait result seat.new.me }
+    {
+        let backoff = Backoff::new();
         for _ in rt.forever() {
             let flag = self.gate.load_flag(seat, number);
             if flag != 1 {
-                return arrival_of(0, flag);
+                return Ok(flag);
             }
-            self.gate.park(rt, number);
+            let shown = watch.look(wait.limits);
+            self.gate.look(seat, number, wait.limits, false, shown);
+            if let Some(cause) = shown {
+                return Err(cause);
+            }
+            backoff.snooze();
         }
         unreachable!()
     }

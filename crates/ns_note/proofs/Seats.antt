@@ -6,6 +6,8 @@ use native.Mathlib.Decide.{ℕ_discrete}
 use lib.ListN.{get_elem?}
 use lib.Seq.{set-get_or}
 use Rattle.std.proofs.lemmas.List.{length-replicate}
+use Rattle.std.proofs.lemmas.List.Elements.{All-nil, All-cons}
+use Rattle.std.specs.List.{All}
 use Rattle.atomic_table.specs.Seated.{TableId}
 use Rattle.atomic_table.specs.Table.{Me, keeps, Allows, Splits, Joins}
 use Rattle.atomic_table.proofs.Lists.{at_set}
@@ -206,6 +208,11 @@ fresh_rest limit i h = ap (λ (k : ℕ). rest_of (fresh limit i k)) (more limit 
 pub new_more : (limit : ℕ) (env : TableId) (from : ℕ) (ks : List EnvKnown) (k : EnvKnown) → AreNew env limit from ks → k ≡ known env limit (from + length ks) [] [] → AreNew env limit from (ks ++ k ∷ [])
 new_more limit env from [] k f is = (is ∙ ap (λ (i : ℕ). known env limit i [] []) (omega arith), tt)
 new_more limit env from (x ∷ xs) k f is = (f.0, new_more limit env (suc from) xs k f.1 (is ∙ ap (λ (i : ℕ). known env limit i [] []) (omega arith)))
+
+-- all are of the environment
+pub all_of : (env : TableId) (limit from : ℕ) (seats : List EnvKnown) → AreNew env limit from seats → All (λ (seat : EnvKnown). seat.env ≡ env) seats
+all_of env limit from [] new = All-nil (λ (seat : EnvKnown). seat.env ≡ env)
+all_of env limit from (seat ∷ seats) new = All-cons (λ (seat : EnvKnown). seat.env ≡ env) seat seats (ap (λ (k : EnvKnown). k.env) new.0) (all_of env limit (suc from) seats new.1)
 
 -- what two seats know once they were joined, have learned and are split again
 pub meets : (vs us ws xs a b : List EnvView) → IsOne vs → IsOne us → ws ≡ vs ++ us → ArePair xs → HaveLearned (the ws) (the_second ws) (the xs) (the_second xs) → a ≡ first_of xs → b ≡ rest_of xs → IsOne a × IsOne b × HaveLearned (the vs) (the us) (the a) (the b)

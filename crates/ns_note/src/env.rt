@@ -1,6 +1,6 @@
 //! The clock and the notes of several callers.
 
-ghost use Rattle.std.specs.Prelude.{◌≡◌, ◌<◌, ◌^◌, ◌++◌, ◌↔◌, [], ◌∷◌, true, false, List, length, IfSome, IfOk, IfErr, OnOk, option_map};
+ghost use Rattle.std.specs.Prelude.{◌≡◌, ◌<◌, ◌^◌, ◌++◌, ◌↔◌, [], ◌∷◌, true, false, All, List, length, IfSome, IfOk, IfErr, OnOk, option_map};
 ghost use Rattle.ns_model.specs.Beginnings.{IsBetween};
 ghost use Rattle.ns_model.specs.Environments.{IsMade, IsNotified, clock_of, earlier as earlier_of, env_after, expiry_of, is_made, is_notified, takes_in};
 ghost use Rattle.ns_note.specs.Answers.{LookAnswers, WaitAnswers};
@@ -72,6 +72,7 @@ impl Env {
     pub fn new(alloc: Global, seats: usize) -> Result<(Env, Vec<EnvSeat>), Fault>
         requires { 0 < seats }
         ensures made { IfOk result (λ r. (length r.1.items ≡ seats) × AreNew r.0 seats 0 r.1.items) }
+        ensures seats { IfOk result (λ r. All (λ seat. seat.env ≡ r.0) r.1.items) }
         ensures refused { (result ≡ Err Fault.TooManySeats) ↔ (64 < seats) }
     {
         if seats > 64 {

@@ -1,1 +1,2 @@
 mod Seats
+mod Walking

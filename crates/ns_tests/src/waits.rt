@@ -277,7 +277,7 @@ fn notify_behind<R: Wait>(
     seat
 }
 
-/// One thread waits for what nobody does, and the other notifies the note meanwhile.
+/// One thread waits for what nobody does, with a note, and the other notifies one above that meanwhile.
 fn wait_and_notify<R: Threads + Wait + Sync>(
     rt: &R,
     monitor: &Monitor<AtLeast, 2>,
@@ -287,6 +287,7 @@ fn wait_and_notify<R: Threads + Wait + Sync>(
     mut mine: EnvSeat,
     mut theirs: EnvSeat,
     note: Note,
+    above: Note,
 ) -> ((Seat<AtLeast, 2>, Option<Answer>), Seat<AtLeast, 2>)
     requires monitor { (held.monitor ≡ monitor.now) × (second.monitor ≡ monitor.now) }
     requires env { (mine.env ≡ env.now) × (theirs.env ≡ env.now) }
@@ -300,11 +301,11 @@ fn wait_and_notify<R: Threads + Wait + Sync>(
         { wait_for_note(rt, monitor, held, env, &mut mine, note) },
         move || -> Seat<AtLeast, 2>
             requires { IsSync R.row × (second.monitor ≡ monitor.now) × (theirs.env ≡ env.now) }
-        { notify_behind(rt, monitor, second, env, &mut theirs, note) },
+        { notify_behind(rt, monitor, second, env, &mut theirs, above) },
     )
 }
 
-/// A wait whose condition stays false is over once its note is notified.
+/// A wait whose condition stays false is over once the note two above its own is notified.
 #[test]
 fn wait_is_canceled(rt: HostRuntime) -> Result<(), Fail> {
     let Some((monitor, first, second)) = two_seats(rt.alloc()) else {
@@ -313,10 +314,12 @@ fn wait_is_canceled(rt: HostRuntime) -> Result<(), Fail> {
     let Some((env, mut mine, theirs)) = two_env_seats(rt.alloc()) else {
         panic!(rt; "no environment")
     };
-    let note = env.note_new(&mut mine, None, None)?;
+    let above = env.note_new(&mut mine, None, None)?;
+    let between = env.note_new(&mut mine, Some(above), None)?;
+    let note = env.note_new(&mut mine, Some(between), None)?;
     let held = monitor.lock(&rt, first);
     let ((seat, answer), _) = wait_and_notify(
-        &rt, &monitor, held, second, &env, mine, theirs, note,
+        &rt, &monitor, held, second, &env, mine, theirs, note, above,
     );
     assert_eq!(rt; answer, Some(Answer::Canceled));
     let closed = monitor.close(seat);

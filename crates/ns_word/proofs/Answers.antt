@@ -17,6 +17,8 @@ use Rattle.ns_word.specs.declared.wait.Aim.{Aim}
 use Rattle.ns_word.specs.declared.wait.Aim.TheVariants.{ForWait}
 use Rattle.ns_word.specs.declared.wait.Subject.{Subject}
 use Rattle.ns_word.specs.declared.wait.Subject.TheVariants.{OnCondition, OnVariable}
+use Rattle.ns_word.specs.declared.wait.Outcome.{Outcome}
+use Rattle.ns_word.specs.declared.wait.Outcome.TheVariants.{Woken, Ended}
 use Rattle.ns_word.specs.declared.wait.Wait.{Wait}
 use Rattle.ns_word.specs.declared.wait.Visit.{Visit}
 use Rattle.ns_word.specs.declared.wait.Visit.TheVariants.{OnEntry, OnReturn}
@@ -49,7 +51,7 @@ use Rattle.ns_word.specs.declared.walk.Reply.{Reply}
 use Rattle.ns_word.specs.declared.walk.Reply.TheVariants.{Answered}
 use Rattle.ns_word.specs.declared.walk.Next.{Next}
 use Rattle.ns_word.specs.declared.walk.Next.TheVariants.{On, Done}
-use Rattle.ns_word.specs.Waits.{answer_of, answer_kept, is_limited, mode_for}
+use Rattle.ns_word.specs.Waits.{answer_of, answer_of_wait, is_limited, mode_for}
 use Rattle.ns_word.specs.Walks.{judge_of, want_waiting, want_trying, want_acquiring, want_releasing, want_in_cells, want_leaving, want_signaling, want_of, got_waiting, got_acquiring, got_of, reply_of, acquire_by, back_with, unmet_by, look_or_queue}
 use Rattle.ns_word.specs.Words.{may_acquire}
 use Rattle.ns_model.specs.Truths.{Truths}
@@ -117,32 +119,32 @@ module _ {C : Type 0} {N : ℕ} (truths : Truths C) (wait : Wait C) (c : C) wher
       × (back ≡ true → entry_of truths.holds held.before held.entry ≡ Waited c answer)
 
   -- how such a section says that it began, where the wait is for this condition
-  opens : (on : Subject C) (kept : Option Cause) (held : Held C N) → on ≡ OnCondition c → held.entry ≡ CameBack on kept → entry_of truths.holds held.before held.entry ≡ entry_of truths.holds held.before (CameBack (OnCondition c) kept)
-  opens on kept held for entry = ap (entry_of truths.holds held.before) (entry ∙ ap (λ (z : Subject C). CameBack z kept) for)
+  opens : (on : Subject C) (outcome : Outcome) (held : Held C N) → on ≡ OnCondition c → held.entry ≡ CameBack on outcome → entry_of truths.holds held.before held.entry ≡ entry_of truths.holds held.before (CameBack (OnCondition c) outcome)
+  opens on outcome held for entry = ap (entry_of truths.holds held.before) (entry ∙ ap (λ (z : Subject C). CameBack z outcome) for)
 
   -- how a section is said to begin that has come back by this cause, by whether the condition holds
-  begins_so : (cause : Cause) (held : Held C N) (b : Bool) → wait.on ≡ OnCondition c → ComesBack wait (Some cause) held → truths.holds c held.row ≡ b →
+  begins_so : (cause : Cause) (held : Held C N) (b : Bool) → wait.on ≡ OnCondition c → ComesBack wait (Ended cause) held → truths.holds c held.row ≡ b →
       entry_of truths.holds held.before held.entry ≡ Waited c (cond b Met (answer_of cause))
   begins_so cause held b for back e =
-      opens wait.on (Some cause) held for back.entry
+      opens wait.on (Ended cause) held for back.entry
       ∙ ap (λ (z : Bool). Waited c (cond z Met (answer_of cause))) (ap (truths.holds c) (sym back.cells) ∙ e)
 
   -- and where nothing has ended it
-  begins_met : (held : Held C N) → wait.on ≡ OnCondition c → ComesBack wait None held → entry_of truths.holds held.before held.entry ≡ Waited c Met
-  begins_met held for back = opens wait.on None held for back.entry
+  begins_met : (by : Option ℕ) (held : Held C N) → wait.on ≡ OnCondition c → ComesBack wait (Woken by) held → entry_of truths.holds held.before held.entry ≡ Waited c Met
+  begins_met by held for back = opens wait.on (Woken by) held for back.entry
 
   -- a test that finds the condition true
   met_answers : (visit : Visit) (held : Held C N) → wait.on ≡ OnCondition c → Tests truths wait visit (Some held) → truths.holds c held.row ≡ true → AnswersOf (comes_back visit) (Some held) Met
   met_answers OnEntry held for p e = (held, refl, p.0, sym e, λ b. absurd (cc))
-  met_answers (OnReturn None) held for p e = (held, refl, p.0, sym e, λ _. begins_met held for p.1)
-  met_answers (OnReturn (Some cause)) held for p e = (held, refl, p.0, sym e, λ _. begins_so cause held true for p.1 e)
+  met_answers (OnReturn (Woken by)) held for p e = (held, refl, p.0, sym e, λ _. begins_met by held for p.1)
+  met_answers (OnReturn (Ended cause)) held for p e = (held, refl, p.0, sym e, λ _. begins_so cause held true for p.1 e)
 
   -- and one that finds it false
   unmet_answers : (visit : Visit) (held : Held C N) (answer : Answer) → wait.on ≡ OnCondition c → Tests truths wait visit (Some held) → truths.holds c held.row ≡ false → unmet_by wait visit ≡ Done (Answered answer) →
       AnswersOf (comes_back visit) (Some held) answer
   unmet_answers OnEntry held answer for p e is = absurd (goes_on_not (look_or_queue wait false) (Answered answer) (looks_on N wait false) is)
-  unmet_answers (OnReturn None) held answer for p e is = absurd (goes_on_not (look_or_queue wait true) (Answered answer) (looks_on N wait true) is)
-  unmet_answers (OnReturn (Some cause)) held answer for p e is =
+  unmet_answers (OnReturn (Woken by)) held answer for p e is = absurd (goes_on_not (look_or_queue wait true) (Answered answer) (looks_on N wait true) is)
+  unmet_answers (OnReturn (Ended cause)) held answer for p e is =
       let same : answer_of cause ≡ answer = cc in
       subst (AnswersOf true (Some held)) same (held, refl, p.0, unmet_cause cause ∙ sym e, λ _. begins_so cause held false for p.1 e)
 
@@ -159,7 +161,7 @@ module _ {C : Type 0} {N : ℕ} (truths : Truths C) (wait : Wait C) (c : C) wher
   look_answers false cause held for p = (held, refl, p.mode, unmet_cause cause ∙ sym (unmet_held false held for p), λ b. absurd (cc))
   look_answers true cause held for p =
       let shown : Held C N = record held { entry = opening_by cause held.entry } in
-      let back : ComesBack wait (Some cause) shown = record { entry = ap (opening_by cause) (p.back refl).1.entry; cells = (p.back refl).1.cells } in
+      let back : ComesBack wait (Ended cause) shown = record { entry = ap (opening_by cause) (p.back refl).1.entry; cells = (p.back refl).1.cells; fits = tt } in
       let unmet = unmet_held true held for p in
       (shown, refl, p.mode, unmet_cause cause ∙ sym unmet, λ _. begins_so cause shown false for back unmet)
 
@@ -215,28 +217,28 @@ module _ {C : Type 0} (N : ℕ) (aim : Aim C) where
   acquires_on (AwaitWake tries) (Flag v) e = either_on (eqb v 1) _ _ refl refl
   acquires_on _ _ e = refl
 
-module _ {C : Type 0} {N : ℕ} (truths : Truths C) (wait : Wait C) (kept : Option Cause) (k : ℕ) where
+module _ {C : Type 0} {N : ℕ} (truths : Truths C) (wait : Wait C) (outcome : Outcome) (k : ℕ) where
   -- The section that is in hand then says just that answer of how it began.
   abbrev AnswersAfter : Option (Held C N) → Answer → Type 0
   AnswersAfter left answer = (held : Held C N) × (left ≡ Some held) × (held.mode ≡ wait.mode) × (entry_of truths.holds held.before held.entry ≡ AfterCv k answer)
 
   after_at : (seat : ℕ) (place : AcquirePlace) (old : Part C N) (found : Found) (new : Part C N) (commits : List (Event C N)) (answer : Answer) → wait.on ≡ OnVariable k →
-      Effect truths seat (want_acquiring (ForWait wait kept) place) old found new commits → got_acquiring N (ForWait wait kept) place found ≡ Done (Answered answer) → AnswersAfter new.held answer
+      Effect truths seat (want_acquiring (ForWait wait outcome) place) old found new commits → got_acquiring N (ForWait wait outcome) place found ≡ Done (Answered answer) → AnswersAfter new.held answer
   after_at seat (AcquireExchange arrival last) old Made new commits answer for e is =
-      let over : Done (Answered (answer_kept kept)) ≡ Done (Answered answer) = sym (ap (λ on. back_with N on wait kept) for) ∙ is in
-      let same : answer_kept kept ≡ answer = cc in (
-        newly_held (ForWait wait kept) old.row,
+      let over : Done (Answered (answer_of_wait outcome)) ≡ Done (Answered answer) = sym (ap (λ on. back_with N on wait outcome) for) ∙ is in
+      let same : answer_of_wait outcome ≡ answer = cc in (
+        newly_held (ForWait wait outcome) old.row,
         ap (λ (part : Part C N). part.held) e.3,
         refl,
-        ap (λ (on : Subject C). entry_of truths.holds old.row (CameBack on kept)) for ∙ ap (λ (a : Answer). AfterCv k a) same,
+        ap (λ (on : Subject C). entry_of truths.holds old.row (CameBack on outcome)) for ∙ ap (λ (a : Answer). AfterCv k a) same,
       )
-  after_at seat place old found new commits answer for e is = absurd (goes_on_not (got_acquiring N (ForWait wait kept) place found) (Answered answer) (acquires_on N (ForWait wait kept) place found refl) is)
+  after_at seat place old found new commits answer for e is = absurd (goes_on_not (got_acquiring N (ForWait wait outcome) place found) (Answered answer) (acquires_on N (ForWait wait outcome) place found refl) is)
 
 -- A wait for a variable answers what its section says of how it began.
-pub variable_answers_rightly : {C : Type 0} {N : ℕ} (truths : Truths C) (old new : State C N) (view : SeatView C N) (found : Found) (commits : List (Event C N)) (wait : Wait C) (kept : Option Cause) (place : AcquirePlace) (k : ℕ) (answer : Answer) →
-    (step : Step truths old view found new commits) → step.walk ≡ InAcquire (ForWait wait kept) place → wait.on ≡ OnVariable k → got_of N step.walk found ≡ Done (Answered answer) → AnswersAfter truths wait kept k step.held answer
-variable_answers_rightly {C} {N} truths old new view found commits wait kept place k answer step walks for is =
-    after_at truths wait kept k view.seat place (part_of old view.held view.owed) found (part_of new step.held step.owed) commits answer for
+pub variable_answers_rightly : {C : Type 0} {N : ℕ} (truths : Truths C) (old new : State C N) (view : SeatView C N) (found : Found) (commits : List (Event C N)) (wait : Wait C) (outcome : Outcome) (place : AcquirePlace) (k : ℕ) (answer : Answer) →
+    (step : Step truths old view found new commits) → step.walk ≡ InAcquire (ForWait wait outcome) place → wait.on ≡ OnVariable k → got_of N step.walk found ≡ Done (Answered answer) → AnswersAfter truths wait outcome k step.held answer
+variable_answers_rightly {C} {N} truths old new view found commits wait outcome place k answer step walks for is =
+    after_at truths wait outcome k view.seat place (part_of old view.held view.owed) found (part_of new step.held step.owed) commits answer for
     (subst (λ walk. Effect truths view.seat (want_of walk) (part_of old view.held view.owed) found (part_of new step.held step.owed) commits) walks step.effect) (ap (λ walk. got_of N walk found) (sym walks) ∙ is)
 
 -- ---- and where it answers nothing

@@ -1,5 +1,5 @@
 -- No step of a call changes what it was asked to do.
-use Rattle.std.proofs.Common.{◌≡◌, ℕ, ◌+◌, ◌-◌, ◌==◌, Bool, true, false, not, cond, ltb, Option, None, Some, refl, ap, sym, ◌∙◌}
+use Rattle.std.proofs.Common.{◌≡◌, ℕ, ◌+◌, ◌-◌, ◌==◌, Bool, true, false, not, cond, ltb, None, Some, refl, ap, sym, ◌∙◌}
 use Rattle.ns_model.specs.declared.event.Mode.{Mode}
 use Rattle.ns_word.specs.declared.word.Word.{Word}
 use Rattle.ns_word.specs.declared.word.Arrival.{Arrival}
@@ -9,6 +9,8 @@ use Rattle.ns_word.specs.declared.word.Releasing.TheVariants.{QuietWriter}
 use Rattle.ns_word.specs.declared.limits.Cause.{Cause}
 use Rattle.ns_word.specs.declared.wait.Subject.{Subject}
 use Rattle.ns_word.specs.declared.wait.Subject.TheVariants.{OnCondition, OnVariable}
+use Rattle.ns_word.specs.declared.wait.Outcome.{Outcome}
+use Rattle.ns_word.specs.declared.wait.Outcome.TheVariants.{Woken, Ended}
 use Rattle.ns_word.specs.declared.wait.Visit.{Visit}
 use Rattle.ns_word.specs.declared.wait.Visit.TheVariants.{OnEntry, OnReturn}
 use Rattle.ns_word.specs.declared.wait.Wait.{Wait}
@@ -45,7 +47,7 @@ use Rattle.ns_word.specs.declared.act.Found.TheVariants.{Saw, Made, Cell, Quiet,
 use Rattle.ns_word.specs.declared.request.Request.{Request}
 use Rattle.ns_word.specs.declared.request.Request.TheVariants.{TryLock, Release, Await, Wake}
 use Rattle.ns_word.specs.Words.{may_acquire, needs_scan}
-use Rattle.ns_word.specs.Waits.{is_limited, mode_for, arrival_of, kept_in}
+use Rattle.ns_word.specs.Waits.{arrival_of, is_limited, mode_for, outcome_taken, woken_by}
 use Rattle.ns_word.specs.Walks.{got_of, got_trying, got_acquiring, got_releasing, got_in_cells, got_waiting, got_queuing, got_leaving, got_signaling, walk_after, acquire_by, acquired_for, back_with, release_by, quiet_place, test_place, unmet_by, look_or_queue, rest_or_look}
 use Rattle.ns_word.specs.Asked.{asked_to_judge, asked_in_cells, asked_of}
 
@@ -60,15 +62,10 @@ module _ (C : Type 0) where
   one_of request true x y p q = p
   one_of request false x y p q = q
 
-  -- each place of an acquire is asked the same
-  same_aim : (aim : Aim C) (one other : AcquirePlace) → asked_of (InAcquire aim one) ≡ asked_of (InAcquire aim other)
-  same_aim (ForLock mode) one other = refl
-  same_aim (ForWait wait kept) one other = refl
-
   acquire_asks : (aim : Aim C) (arrival : Arrival) (word : Word) (place : AcquirePlace) → Asks (asked_of (InAcquire aim place)) (acquire_by aim arrival word)
   acquire_asks aim arrival word place =
-      one_of _ (may_acquire (mode_for aim) arrival word) (On (InAcquire aim (AcquireExchange arrival word))) _ (same_aim aim _ place)
-      (one_of _ word.spin (Idle (InAcquire aim (AcquireLoad arrival))) (On (InAcquire aim (TakeToQueue arrival word))) (same_aim aim _ place) (same_aim aim _ place))
+      one_of _ (may_acquire (mode_for aim) arrival word) (On (InAcquire aim (AcquireExchange arrival word))) _ refl
+      (one_of _ word.spin (Idle (InAcquire aim (AcquireLoad arrival))) (On (InAcquire aim (TakeToQueue arrival word))) refl refl)
 
   pub test_asks : (N : ℕ) (wait : Wait C) (visit : Visit) (loaded : ℕ) → asked_of (test_place N wait visit loaded) ≡ Await wait
   test_asks N wait visit loaded = go (ltb loaded (N - 1)) where
@@ -76,13 +73,13 @@ module _ (C : Type 0) where
     go true = refl
     go false = refl
 
-  back_asks : (N : ℕ) (on : Subject C) (wait : Wait C) (kept : Option Cause) → Asks (Await wait) (back_with N on wait kept)
-  back_asks N (OnCondition c) wait kept = test_asks N wait (OnReturn kept) 0
-  back_asks N (OnVariable k) wait kept = tt
+  back_asks : (N : ℕ) (on : Subject C) (wait : Wait C) (outcome : Outcome) → Asks (Await wait) (back_with N on wait outcome)
+  back_asks N (OnCondition c) wait outcome = test_asks N wait (OnReturn outcome) 0
+  back_asks N (OnVariable k) wait outcome = tt
 
   acquired_asks : (N : ℕ) (aim : Aim C) (place : AcquirePlace) → Asks (asked_of (InAcquire aim place)) (acquired_for N aim)
   acquired_asks N (ForLock mode) place = tt
-  acquired_asks N (ForWait wait kept) place = back_asks N wait.on wait kept
+  acquired_asks N (ForWait wait outcome) place = back_asks N wait.on wait outcome
 
   released_asks : (releasing : Releasing) (word : Word) → Asks {C = C} (Release releasing) (release_by releasing word)
   released_asks releasing word =
@@ -106,11 +103,11 @@ module _ (C : Type 0) where
   acquiring_asks N aim (AcquireExchange arrival last) (Saw word) = acquire_asks aim arrival word (AcquireExchange arrival last)
   acquiring_asks N aim (AcquireExchange arrival last) Made = acquired_asks N aim (AcquireExchange arrival last)
   acquiring_asks N aim (TakeToQueue arrival last) (Saw word) = acquire_asks aim arrival word (TakeToQueue arrival last)
-  acquiring_asks N aim (TakeToQueue arrival last) Made = same_aim aim _ _
-  acquiring_asks N aim (Arm arrival last) Made = same_aim aim _ _
-  acquiring_asks N aim (Queue arrival last) (Saw word) = same_aim aim _ _
-  acquiring_asks N aim (Queue arrival last) Made = same_aim aim _ _
-  acquiring_asks N aim (AwaitWake tries) (Flag v) = one_of _ (v == 1) (Idle (InAcquire aim (AwaitWake tries))) (On (InAcquire aim (AcquireLoad (arrival_of tries v)))) refl (same_aim aim _ _)
+  acquiring_asks N aim (TakeToQueue arrival last) Made = refl
+  acquiring_asks N aim (Arm arrival last) Made = refl
+  acquiring_asks N aim (Queue arrival last) (Saw word) = refl
+  acquiring_asks N aim (Queue arrival last) Made = refl
+  acquiring_asks N aim (AwaitWake tries) (Flag v) = one_of _ (v == 1) (Idle (InAcquire aim (AwaitWake tries))) (On (InAcquire aim (AcquireLoad (arrival_of tries v)))) refl refl
   acquiring_asks N aim place found = refl
 
   releasing_asks : (N : ℕ) (releasing : Releasing) (place : ReleasePlace) (found : Found) → Asks {C = C} (Release releasing) (got_releasing N releasing place found)
@@ -139,8 +136,8 @@ module _ (C : Type 0) where
 
   unmet_asks : (wait : Wait C) (visit : Visit) → Asks (Await wait) (unmet_by wait visit)
   unmet_asks wait OnEntry = look_asks wait false
-  unmet_asks wait (OnReturn None) = look_asks wait true
-  unmet_asks wait (OnReturn (Some cause)) = tt
+  unmet_asks wait (OnReturn (Woken by)) = look_asks wait true
+  unmet_asks wait (OnReturn (Ended cause)) = tt
 
   queuing_asks : (N : ℕ) (wait : Wait C) (again : Bool) (place : QueuePlace) (found : Found) → Asks (Await wait) (got_queuing N wait again place found)
   queuing_asks N wait again LookIn (Looked None) = refl
@@ -159,8 +156,8 @@ module _ (C : Type 0) where
   leaving_asks wait cause (TakeToLeave last) (Saw word) = one_of _ word.spin (Idle (InWait wait (InLeaving cause LeaveLoad))) (On (InWait wait (InLeaving cause (TakeToLeave word)))) refl refl
   leaving_asks wait cause (TakeToLeave last) Made = refl
   leaving_asks wait cause (Leave last) (Saw word) = refl
-  leaving_asks wait cause (Leave last) (Left stood) = one_of _ stood (On (InAcquire (ForWait wait (Some cause)) (AcquireLoad AsFresh))) (On (InWait wait (InLeaving cause AwaitWakeToLeave))) refl refl
-  leaving_asks wait cause AwaitWakeToLeave (Flag v) = one_of _ (v == 1) (Idle (InWait wait (InLeaving cause AwaitWakeToLeave))) (On (InAcquire (ForWait wait (kept_in wait.on cause)) (AcquireLoad (arrival_of 0 v)))) refl refl
+  leaving_asks wait cause (Leave last) (Left stood) = one_of _ stood (On (InAcquire (ForWait wait (Ended cause)) (AcquireLoad AsFresh))) (On (InWait wait (InLeaving cause AwaitWakeToLeave))) refl refl
+  leaving_asks wait cause AwaitWakeToLeave (Flag v) = one_of _ (v == 1) (Idle (InWait wait (InLeaving cause AwaitWakeToLeave))) (On (InAcquire (ForWait wait (outcome_taken wait.on cause v)) (AcquireLoad (arrival_of 0 v)))) refl refl
   leaving_asks wait cause place found = refl
 
   waiting_asks : (N : ℕ) (wait : Wait C) (place : WaitPlace) (found : Found) → Asks (Await wait) (got_waiting N wait place found)
@@ -168,7 +165,7 @@ module _ (C : Type 0) where
   waiting_asks N wait (TestLast visit i) (Tested is_met) = one_of _ is_met (Done (Answered Met)) (unmet_by wait visit) tt (unmet_asks wait visit)
   waiting_asks N wait (InQueuing again place) found = queuing_asks N wait again place found
   waiting_asks N wait PayInWait (Paid owes) = one_of _ owes (On (InWait wait PayInWait)) (On (InWait wait AwaitWakeInWait)) refl refl
-  waiting_asks N wait AwaitWakeInWait (Flag v) = one_of _ (v == 1) (rest_or_look wait) (On (InAcquire (ForWait wait None) (AcquireLoad (arrival_of 0 v)))) (one_of _ (is_limited wait.limits) (On (InWait wait LookOut)) (Idle (InWait wait AwaitWakeInWait)) refl refl) refl
+  waiting_asks N wait AwaitWakeInWait (Flag v) = one_of _ (v == 1) (rest_or_look wait) (On (InAcquire (ForWait wait (woken_by wait.on v)) (AcquireLoad (arrival_of 0 v)))) (one_of _ (is_limited wait.limits) (On (InWait wait LookOut)) (Idle (InWait wait AwaitWakeInWait)) refl refl) refl
   waiting_asks N wait LookOut (Looked None) = refl
   waiting_asks N wait LookOut (Looked (Some cause)) = refl
   waiting_asks N wait (InLeaving cause place) found = leaving_asks wait cause place found

@@ -20,7 +20,7 @@ use Rattle.ns_word.specs.Asked.{asked_in_cells, asked_of, asked_to_judge}
 use Rattle.ns_word.specs.Places.{PlaceFits}
 use Rattle.ns_word.specs.Lawful.{EachFits, IsLawful}
 use Rattle.ns_word.specs.Steps.{Effect, Part, State, Step, changed, kept_by, moved_to, part_of, taken_by, wake_of}
-use Rattle.ns_word.specs.Waits.{arrival_of, is_limited, kept_in, mode_for}
+use Rattle.ns_word.specs.Waits.{arrival_of, is_limited, mode_for, outcome_taken, woken_by}
 use Rattle.ns_word.specs.Walks.{acquire_by, acquired_for, back_with, got_acquiring, got_in_cells, got_leaving, got_of, got_queuing, got_releasing, got_signaling, got_trying, got_waiting, is_arrival_woken, judge_of, look_or_queue, pays, release_by, rest_or_look, test_place, unmet_by, walk_after, want_acquiring, want_in_cells, want_leaving, want_of, want_releasing, want_signaling, want_trying, want_waiting, was_woken}
 use Rattle.ns_word.specs.Words.{is_held, is_woken, may_acquire, needs_scan}
 use Rattle.ns_word.specs.declared.acquire_walk.AcquirePlace.{AcquirePlace}
@@ -53,6 +53,7 @@ use Rattle.ns_word.specs.declared.wait.QueuePlace.{QueuePlace}
 use Rattle.ns_word.specs.declared.wait.QueuePlace.TheVariants.{ArmToWait, Load, LoadToScan, LookIn, QueueToWait, Take}
 use Rattle.ns_word.specs.declared.wait.Subject.{Subject}
 use Rattle.ns_word.specs.declared.wait.Subject.TheVariants.{OnCondition, OnVariable}
+use Rattle.ns_word.specs.declared.wait.Outcome.TheVariants.{Woken, Ended}
 use Rattle.ns_word.specs.declared.wait.Visit.{Visit}
 use Rattle.ns_word.specs.declared.wait.Visit.TheVariants.{OnEntry, OnReturn}
 use Rattle.ns_word.specs.declared.wait.Wait.{Wait}
@@ -120,7 +121,7 @@ module _ (C : Type 0) (N : ℕ) (truths : Truths C) (seat : ℕ) (waking : Wakin
   wakes_by : (walk : Walk C) (found : Found) (old new : Part C N) (commits : List (Event C N)) → asked_of walk ≡ Wake waking k → PlaceFits truths (Some walk) old.held → length old.lists.cvs ≡ 4 → Effect truths seat (want_of walk) old found new commits → WakesBy old new commits
   wakes_by (InTry mode place) found old new commits asked fits four e = absurd (cc)
   wakes_by (InAcquire (ForLock mode) place) found old new commits asked fits four e = absurd (cc)
-  wakes_by (InAcquire (ForWait wait kept) place) found old new commits asked fits four e = absurd (cc)
+  wakes_by (InAcquire (ForWait wait outcome) place) found old new commits asked fits four e = absurd (cc)
   wakes_by (InRelease releasing place) found old new commits asked fits four e = absurd (cc)
   wakes_by (InCells place) found old new commits asked fits four e = absurd (cells_ask_not place asked)
   wakes_by (InWait wait place) found old new commits asked fits four e = absurd (cc)
@@ -222,9 +223,9 @@ module _ (C : Type 0) (N : ℕ) where
 
   acquired_calls : (walk : Walk C) (found : Found) (aim : Aim C) → IsCalled walk found (acquired_for N aim)
   acquired_calls walk found (ForLock mode) = not_there walk found _ refl
-  acquired_calls walk found (ForWait wait kept) = go wait.on where
-    go : (on : Subject C) → IsCalled walk found (back_with N on wait kept)
-    go (OnCondition c) = test_calls walk found wait (OnReturn kept) 0
+  acquired_calls walk found (ForWait wait outcome) = go wait.on where
+    go : (on : Subject C) → IsCalled walk found (back_with N on wait outcome)
+    go (OnCondition c) = test_calls walk found wait (OnReturn outcome) 0
     go (OnVariable k) = not_there walk found _ refl
 
   acquire_calls : (aim : Aim C) (place : AcquirePlace) (found : Found) → IsCalled (InAcquire aim place) found (got_acquiring N aim place found)
@@ -269,8 +270,8 @@ module _ (C : Type 0) (N : ℕ) where
 
   unmet_calls : (walk : Walk C) (found : Found) (wait : Wait C) (visit : Visit) → IsCalled walk found (unmet_by wait visit)
   unmet_calls walk found wait OnEntry = look_calls walk found wait false
-  unmet_calls walk found wait (OnReturn None) = look_calls walk found wait true
-  unmet_calls walk found wait (OnReturn (Some cause)) = not_there walk found _ refl
+  unmet_calls walk found wait (OnReturn (Woken by)) = look_calls walk found wait true
+  unmet_calls walk found wait (OnReturn (Ended cause)) = not_there walk found _ refl
 
   queue_calls : (wait : Wait C) (again : Bool) (place : QueuePlace) (found : Found) → IsCalled (InWait wait (InQueuing again place)) found (got_queuing N wait again place found)
   queue_calls wait again LookIn (Looked None) = not_there _ _ _ refl
@@ -289,8 +290,8 @@ module _ (C : Type 0) (N : ℕ) where
   leave_calls wait cause (TakeToLeave last) (Saw word) = neither _ _ word.spin (Idle (InWait wait (InLeaving cause LeaveLoad))) (On (InWait wait (InLeaving cause (TakeToLeave word)))) refl refl
   leave_calls wait cause (TakeToLeave last) Made = not_there _ _ _ refl
   leave_calls wait cause (Leave last) (Saw word) = not_there _ _ _ refl
-  leave_calls wait cause (Leave last) (Left stood) = neither _ _ stood (On (InAcquire (ForWait wait (Some cause)) (AcquireLoad AsFresh))) (On (InWait wait (InLeaving cause AwaitWakeToLeave))) refl refl
-  leave_calls wait cause AwaitWakeToLeave (Flag v) = flag_tells (InWait wait (InLeaving cause AwaitWakeToLeave)) (Idle (InWait wait (InLeaving cause AwaitWakeToLeave))) (ForWait wait (kept_in wait.on cause)) 0 v refl refl
+  leave_calls wait cause (Leave last) (Left stood) = neither _ _ stood (On (InAcquire (ForWait wait (Ended cause)) (AcquireLoad AsFresh))) (On (InWait wait (InLeaving cause AwaitWakeToLeave))) refl refl
+  leave_calls wait cause AwaitWakeToLeave (Flag v) = flag_tells (InWait wait (InLeaving cause AwaitWakeToLeave)) (Idle (InWait wait (InLeaving cause AwaitWakeToLeave))) (ForWait wait (outcome_taken wait.on cause v)) 0 v refl refl
   leave_calls wait cause place found = not_there _ _ _ refl
 
   rest_stays : (wait : Wait C) (b : Bool) → was_woken (walk_after (cond b (On (InWait wait LookOut)) (Idle (InWait wait AwaitWakeInWait)))) ≡ false
@@ -302,7 +303,7 @@ module _ (C : Type 0) (N : ℕ) where
   wait_calls wait (TestLast visit i) (Tested is_met) = two_ways _ _ is_met (Done (Answered Met)) (unmet_by wait visit) (not_there _ _ _ refl) (unmet_calls _ _ wait visit)
   wait_calls wait (InQueuing again place) found = queue_calls wait again place found
   wait_calls wait PayInWait (Paid owes) = neither _ _ owes (On (InWait wait PayInWait)) (On (InWait wait AwaitWakeInWait)) refl refl
-  wait_calls wait AwaitWakeInWait (Flag v) = flag_tells (InWait wait AwaitWakeInWait) (rest_or_look wait) (ForWait wait None) 0 v refl (rest_stays wait (is_limited wait.limits))
+  wait_calls wait AwaitWakeInWait (Flag v) = flag_tells (InWait wait AwaitWakeInWait) (rest_or_look wait) (ForWait wait (woken_by wait.on v)) 0 v refl (rest_stays wait (is_limited wait.limits))
   wait_calls wait LookOut (Looked None) = not_there _ _ _ refl
   wait_calls wait LookOut (Looked (Some cause)) = not_there _ _ _ refl
   wait_calls wait (InLeaving cause place) found = leave_calls wait cause place found

@@ -23,7 +23,7 @@ use Rattle.ns_word.specs.Lists.{has_some}
 use Rattle.ns_word.specs.Meanings.{ConditionWaitMeans, Course, HasLocked, HasReleased, HasWoken, InHand, IsQuietSection, MayAnswer, Means, Unchanged, VariableWaitMeans, leave_told, new_section}
 use Rattle.ns_word.specs.Places.{AimFits, CanLeave, CanWait, CellFits, ComesBack, IsForCondition, IsLeft, MayWait, PlaceFits, QueueFits, ReleaseFits, Tests, WaitFits}
 use Rattle.ns_word.specs.Steps.{State, Step, part_of, Effect, MayShow, Part, entry_of, exit_for, held_after, held_by, leave_of, newly_held, opening_by, section_of, taken_by, wake_of}
-use Rattle.ns_word.specs.Waits.{answer_kept, answer_of, arrival_of, home_of, is_limited, kept_in, mode_for}
+use Rattle.ns_word.specs.Waits.{answer_of, answer_of_wait, arrival_of, cause_in, home_of, is_limited, mode_for, outcome_taken, woken_by}
 use Rattle.ns_word.specs.Walks.{acquire_by, acquired_for, armed_place, back_with, got_acquiring, got_in_cells, got_leaving, got_of, got_queuing, got_releasing, got_signaling, got_trying, got_waiting, judge_of, leave_by, load_place, look_or_queue, pay_releasing, pay_waiting, pay_woken, queue_by, quiet_place, release_by, rest_or_look, scan_place, signal_by, test_place, unmet_by, want_acquiring, want_in_cells, want_leaving, want_of, want_queuing, want_releasing, want_signaling, want_trying, want_waiting}
 use Rattle.ns_word.specs.Words.{is_held, is_woken, may_acquire, mode_released, needs_scan, tries_of, word_taken}
 use Rattle.ns_word.specs.declared.acquire_walk.AcquirePlace.{AcquirePlace}
@@ -56,6 +56,8 @@ use Rattle.ns_word.specs.declared.wait.QueuePlace.{QueuePlace}
 use Rattle.ns_word.specs.declared.wait.QueuePlace.TheVariants.{ArmToWait, Load, LoadToScan, LookIn, QueueToWait, Take}
 use Rattle.ns_word.specs.declared.wait.Subject.{Subject}
 use Rattle.ns_word.specs.declared.wait.Subject.TheVariants.{OnCondition, OnVariable}
+use Rattle.ns_word.specs.declared.wait.Outcome.{Outcome}
+use Rattle.ns_word.specs.declared.wait.Outcome.TheVariants.{Woken, Ended}
 use Rattle.ns_word.specs.declared.wait.Visit.{Visit}
 use Rattle.ns_word.specs.declared.wait.Visit.TheVariants.{OnEntry, OnReturn}
 use Rattle.ns_word.specs.declared.wait.Wait.{Wait}
@@ -116,8 +118,8 @@ module _ (C : Type 0) (N : ℕ) (truths : Truths C) (seat : ℕ) (row : List ℕ
       subst (λ now. Comes request now next new) (sym (same_course found commits course looks silent)) (subst (λ held. Comes request course next held) (sym same) so_far)
 
   -- what a wait has committed as it left stays all of it
-  still_left : (wait : Wait C) (kept : Option Cause) (found : Found) (commits : List (Event C N)) (course : Course C N) → commits ≡ [] → HasLeft truths seat wait kept course → HasLeft truths seat wait kept (course_after found commits course)
-  still_left wait kept found commits course silent left = record {
+  still_left : (wait : Wait C) (ended : Option Cause) (found : Found) (commits : List (Event C N)) (course : Course C N) → commits ≡ [] → HasLeft truths seat wait ended course → HasLeft truths seat wait ended (course_after found commits course)
+  still_left wait ended found commits course silent left = record {
     was = left.was;
     began = left.began;
     mode = left.mode;
@@ -235,30 +237,30 @@ module _ (C : Type 0) (N : ℕ) (truths : Truths C) (seat : ℕ) (row : List ℕ
   }
 
   -- what a wait for a variable has told, by what it answers
-  leave_is_told : (k : ℕ) (kept : Option Cause) → left_by {C = C} {N = N} seat (OnVariable k) kept ≡ leave_told seat k (is_met (answer_kept kept))
-  leave_is_told k None = refl
-  leave_is_told k (Some Expired) = refl
-  leave_is_told k (Some Notified) = refl
+  leave_is_told : (k : ℕ) (outcome : Outcome) → left_by {C = C} {N = N} seat (OnVariable k) (cause_in outcome) ≡ leave_told seat k (is_met (answer_of_wait outcome))
+  leave_is_told k (Woken by) = refl
+  leave_is_told k (Ended Expired) = refl
+  leave_is_told k (Ended Notified) = refl
 
-  -- a wait may answer what it has kept
-  may_answer : (limits : Limits) (looked : Option (Option Cause)) (kept : Option Cause) → MayShow limits kept → KeptFits looked kept → MayAnswer limits looked (answer_kept kept)
-  may_answer limits looked None given shown = tt
-  may_answer limits looked (Some Expired) given shown = (given, shown)
-  may_answer limits looked (Some Notified) given shown = (given, shown)
+  -- a wait may answer what came of it
+  may_answer : (limits : Limits) (looked : Option (Option Cause)) (outcome : Outcome) → MayShow limits (cause_in outcome) → KeptFits looked (cause_in outcome) → MayAnswer limits looked (answer_of_wait outcome)
+  may_answer limits looked (Woken by) given shown = tt
+  may_answer limits looked (Ended Expired) given shown = (given, shown)
+  may_answer limits looked (Ended Notified) given shown = (given, shown)
 
   -- a wait that came back has acquired
-  comes_back : (request : Request C) (course : Course C N) (mode : Mode) (on : Subject C) (limits : Limits) (kept : Option Cause) (held : Option (Held C N)) (cells : List ℕ) → let wait : Wait C = record { mode = mode; on = on; limits = limits } in
-      request ≡ Await wait → cells ≡ row → held ≡ Some (newly_held (ForWait wait kept) cells) → MayShow limits kept → IsComing truths seat wait kept course → Comes request course (back_with N on wait kept) held
-  comes_back request course mode (OnCondition c) limits kept held cells asked same e given coming = test_so_far course held (record { mode = mode; on = OnCondition c; limits = limits }) (OnReturn kept) 0 coming
-  comes_back request course mode (OnVariable k) limits kept held cells asked same e given coming =
+  comes_back : (request : Request C) (course : Course C N) (mode : Mode) (on : Subject C) (limits : Limits) (outcome : Outcome) (held : Option (Held C N)) (cells : List ℕ) → let wait : Wait C = record { mode = mode; on = on; limits = limits } in
+      request ≡ Await wait → cells ≡ row → held ≡ Some (newly_held (ForWait wait outcome) cells) → MayShow limits (cause_in outcome) → IsComing truths seat wait outcome course → Comes request course (back_with N on wait outcome) held
+  comes_back request course mode (OnCondition c) limits outcome held cells asked same e given coming = test_so_far course held (record { mode = mode; on = OnCondition c; limits = limits }) (OnReturn outcome) 0 coming
+  comes_back request course mode (OnVariable k) limits outcome held cells asked same e given coming =
       let wait : Wait C = record { mode = mode; on = OnVariable k; limits = limits } in
-      subst (λ r. Means truths seat row r course (Answered (answer_kept kept)) held) (sym asked) (subst (λ h. InHand h (λ back. VariableWaitMeans truths seat row mode k limits course (answer_kept kept) back)) (sym e)
+      subst (λ r. Means truths seat row r course (Answered (answer_of_wait outcome)) held) (sym asked) (subst (λ h. InHand h (λ back. VariableWaitMeans truths seat row mode k limits course (answer_of_wait outcome) back)) (sym e)
       (record {
         was = coming.left.was;
         began = coming.left.began;
         mode = coming.left.mode;
-        committed = coming.left.committed ∙ ap (λ events. section_of truths.holds seat coming.left.was (CvWait k) ∷ events) (leave_is_told k kept);
-        may = may_answer limits course.looked kept given coming.shown;
+        committed = coming.left.committed ∙ ap (λ events. section_of truths.holds seat coming.left.was (CvWait k) ∷ events) (leave_is_told k outcome);
+        may = may_answer limits course.looked outcome given coming.shown;
         begins = record { mode = refl; before = same; cells = same };
         entry = refl;
       }))
@@ -282,11 +284,11 @@ module _ (C : Type 0) (N : ℕ) (truths : Truths C) (seat : ℕ) (row : List ℕ
   not_met Notified = refl
 
   -- what a section says of how it began that came back, where the condition is true, and where it is false
-  says_met : (c : C) (kept : Option Cause) (before : List ℕ) → truths.holds c before ≡ true → entry_of truths.holds before (CameBack (OnCondition c) kept) ≡ Waited c Met
-  says_met c None before e = refl
-  says_met c (Some cause) before e = ap (λ b. Waited c (cond b Met (answer_of cause))) e
+  says_met : (c : C) (outcome : Outcome) (before : List ℕ) → truths.holds c before ≡ true → entry_of truths.holds before (CameBack (OnCondition c) outcome) ≡ Waited c Met
+  says_met c (Woken by) before e = refl
+  says_met c (Ended cause) before e = ap (λ b. Waited c (cond b Met (answer_of cause))) e
 
-  says_ended : (c : C) (cause : Cause) (before : List ℕ) → truths.holds c before ≡ false → entry_of truths.holds before (CameBack (OnCondition c) (Some cause)) ≡ Waited c (answer_of cause)
+  says_ended : (c : C) (cause : Cause) (before : List ℕ) → truths.holds c before ≡ false → entry_of truths.holds before (CameBack (OnCondition c) (Ended cause)) ≡ Waited c (answer_of cause)
   says_ended c cause before e = ap (λ b. Waited c (cond b Met (answer_of cause))) e
 
   module _ (mode : Mode) (c : C) (limits : Limits) where
@@ -301,10 +303,10 @@ module _ (C : Type 0) (N : ℕ) (truths : Truths C) (seat : ℕ) (row : List ℕ
         (record { mode = m; met = met; may = may; how = inl (subst (λ h. Unchanged course h) e was) })
 
     -- a wait answers that has come back
-    answers_back : (course : Course C N) (held : Option (Held C N)) (section : Held C N) (kept : Option Cause) (answer : Answer) → held ≡ Some section → section.mode ≡ mode → section.before ≡ row → section.row ≡ section.before →
-        is_met answer ≡ truths.holds c section.row → MayAnswer limits course.looked answer → entry_of truths.holds section.before section.entry ≡ Waited c answer → HasLeft truths seat asked kept course →
+    answers_back : (course : Course C N) (held : Option (Held C N)) (section : Held C N) (ended : Option Cause) (answer : Answer) → held ≡ Some section → section.mode ≡ mode → section.before ≡ row → section.row ≡ section.before →
+        is_met answer ≡ truths.holds c section.row → MayAnswer limits course.looked answer → entry_of truths.holds section.before section.entry ≡ Waited c answer → HasLeft truths seat asked ended course →
         Means truths seat row (Await asked) course (Answered answer) held
-    answers_back course held section kept answer e m starts cells met may says left =
+    answers_back course held section ended answer e m starts cells met may says left =
         subst (λ h. InHand h (λ back. ConditionWaitMeans truths seat row mode c limits course answer back)) (sym e)
         (record {
           mode = m;
@@ -327,34 +329,34 @@ module _ (C : Type 0) (N : ℕ) (truths : Truths C) (seat : ℕ) (row : List ℕ
     met_comes OnEntry course held section e holding tests starts so_far =
         let tested = subst (λ h. Tests truths asked OnEntry h) e tests in
         answers_on_entry course held section Met e tested.0 (sym holding) tt so_far
-    met_comes (OnReturn kept) course held section e holding tests starts so_far =
-        let tested : (section.mode ≡ mode) × ComesBack asked kept section = subst (λ h. Tests truths asked (OnReturn kept) h) e tests in
+    met_comes (OnReturn outcome) course held section e holding tests starts so_far =
+        let tested : (section.mode ≡ mode) × ComesBack asked outcome section = subst (λ h. Tests truths asked (OnReturn outcome) h) e tests in
         let cells : section.row ≡ section.before = tested.1.cells in
-        let says : entry_of truths.holds section.before section.entry ≡ Waited c Met = ap (λ entry. entry_of truths.holds section.before entry) tested.1.entry ∙ says_met c kept section.before (ap (truths.holds c) (sym cells) ∙ holding) in
-        answers_back course held section kept Met e tested.0 starts cells (sym holding) tt says so_far.left
+        let says : entry_of truths.holds section.before section.entry ≡ Waited c Met = ap (λ entry. entry_of truths.holds section.before entry) tested.1.entry ∙ says_met c outcome section.before (ap (truths.holds c) (sym cells) ∙ holding) in
+        answers_back course held section (cause_in outcome) Met e tested.0 starts cells (sym holding) tt says so_far.left
 
     -- its condition was tested, and is false: it goes on waiting, or was ended early and answers that
     unmet_comes : (visit : Visit) (course : Course C N) (held : Option (Held C N)) (section : Held C N) → held ≡ Some section → truths.holds c section.row ≡ false → Tests truths asked visit held → MayShow limits (cause_by visit) → section.before ≡ row → TestsSoFar truths seat asked visit course held →
         Comes (Await asked) course (unmet_by asked visit) held
     unmet_comes OnEntry course held section e failing tests given starts so_far = look_comes (Await asked) course held asked false so_far
-    unmet_comes (OnReturn None) course held section e failing tests given starts so_far = look_comes (Await asked) course held asked true so_far.left
-    unmet_comes (OnReturn (Some cause)) course held section e failing tests given starts so_far =
-        let tested : (section.mode ≡ mode) × ComesBack asked (Some cause) section = subst (λ h. Tests truths asked (OnReturn (Some cause)) h) e tests in
+    unmet_comes (OnReturn (Woken by)) course held section e failing tests given starts so_far = look_comes (Await asked) course held asked true so_far.left
+    unmet_comes (OnReturn (Ended cause)) course held section e failing tests given starts so_far =
+        let tested : (section.mode ≡ mode) × ComesBack asked (Ended cause) section = subst (λ h. Tests truths asked (OnReturn (Ended cause)) h) e tests in
         let cells : section.row ≡ section.before = tested.1.cells in
         let says : entry_of truths.holds section.before section.entry ≡ Waited c (answer_of cause) = ap (λ entry. entry_of truths.holds section.before entry) tested.1.entry ∙ says_ended c cause section.before (ap (truths.holds c) (sym cells) ∙ failing) in
-        answers_back course held section (Some cause) (answer_of cause) e tested.0 starts cells (not_met cause ∙ sym failing) (may_answer limits course.looked (Some cause) given so_far.shown) says so_far.left
+        answers_back course held section (Some cause) (answer_of cause) e tested.0 starts cells (not_met cause ∙ sym failing) (may_answer limits course.looked (Ended cause) given so_far.shown) says so_far.left
 
     -- a look has shown what ends it, before it queued
     shown_comes : (again : Bool) (cause : Cause) (course : Course C N) (old new : Option (Held C N)) (section : Held C N) → old ≡ Some section → new ≡ held_after again (Some cause) old → MayWait truths asked again section → MayShow limits (Some cause) → section.before ≡ row → course.looked ≡ Some (Some cause) →
         QueuesSoFar truths seat asked again course old → Means truths seat row (Await asked) course (Answered (answer_of cause)) new
     shown_comes false cause course old new section e same may given starts shown so_far =
-        answers_on_entry course new section (answer_of cause) (same ∙ e) may.mode (not_met cause ∙ sym may.unmet) (may_answer limits course.looked (Some cause) given shown) (subst (λ h. Unchanged course h) (sym same) so_far)
+        answers_on_entry course new section (answer_of cause) (same ∙ e) may.mode (not_met cause ∙ sym may.unmet) (may_answer limits course.looked (Ended cause) given shown) (subst (λ h. Unchanged course h) (sym same) so_far)
     shown_comes true cause course old new section e same may given starts shown so_far =
-        let back : ComesBack asked None section = (may.back refl).1 in
+        let back : ComesBack asked (Woken None) section = (may.back refl).1 in
         let now : Held C N = record section { entry = opening_by cause section.entry } in
         let cells : section.row ≡ section.before = back.cells in
         let says : entry_of truths.holds section.before now.entry ≡ Waited c (answer_of cause) = ap (λ entry. entry_of truths.holds section.before (opening_by cause entry)) back.entry ∙ says_ended c cause section.before (ap (truths.holds c) (sym cells) ∙ may.unmet) in
-        answers_back course new now None (answer_of cause) (same ∙ ap (λ h. held_by cause h) e) may.mode starts cells (not_met cause ∙ sym may.unmet) (may_answer limits course.looked (Some cause) given shown) says so_far
+        answers_back course new now None (answer_of cause) (same ∙ ap (λ h. held_by cause h) e) may.mode starts cells (not_met cause ∙ sym may.unmet) (may_answer limits course.looked (Ended cause) given shown) says so_far
 
   -- ---- by group
 
@@ -379,9 +381,9 @@ module _ (C : Type 0) (N : ℕ) (truths : Truths C) (seat : ℕ) (row : List ℕ
         Comes (asked_of (InAcquire aim (AcquireExchange arrival last))) (course_after Made commits course) (acquired_for N aim) next.held
     acquired_on (ForLock mode) arrival last e given so_far =
         has_locked mode course part.held next.held commits part.row (stands.free e.4 (no_writer mode arrival part.word (subst (λ word. may_acquire mode arrival word ≡ true) e.0 e.1))) (ap (λ p. p.held) e.3) e.4 so_far
-    acquired_on (ForWait wait kept) arrival last e given so_far =
-        subst (λ now. Comes (Await wait) now (back_with N wait.on wait kept) next.held) (sym (same_course Made commits course refl e.4))
-        (comes_back (Await wait) course wait.mode wait.on wait.limits kept next.held part.row refl (stands.free e.4 (no_writer wait.mode arrival part.word (subst (λ word. may_acquire wait.mode arrival word ≡ true) e.0 e.1))) (ap (λ p. p.held) e.3) given so_far)
+    acquired_on (ForWait wait outcome) arrival last e given so_far =
+        subst (λ now. Comes (Await wait) now (back_with N wait.on wait outcome) next.held) (sym (same_course Made commits course refl e.4))
+        (comes_back (Await wait) course wait.mode wait.on wait.limits outcome next.held part.row refl (stands.free e.4 (no_writer wait.mode arrival part.word (subst (λ word. may_acquire wait.mode arrival word ≡ true) e.0 e.1))) (ap (λ p. p.held) e.3) given.1 so_far)
 
     acquires_on : (aim : Aim C) (place : AcquirePlace) (found : Found) → Effect truths seat (want_acquiring aim place) part found next commits → AimFits aim → AcquireSoFar truths seat aim course part.held →
         Comes (asked_of (InAcquire aim place)) (course_after found commits course) (got_acquiring N aim place found) next.held
@@ -541,11 +543,11 @@ module _ (C : Type 0) (N : ℕ) (truths : Truths C) (seat : ℕ) (row : List ℕ
         go false (OnCondition c) silent left = (still_left (record { mode = mode; on = OnCondition c; limits = limits }) None (Left false) commits course silent left, so_far.1)
         go false (OnVariable k) silent left = (still_left (record { mode = mode; on = OnVariable k; limits = limits }) None (Left false) commits course silent left, so_far.1)
 
-    -- one that was taken from its list before it could leave: a wait for a condition keeps what ended it
-    kept_comes : (mode : Mode) (on : Subject C) (limits : Limits) (cause : Cause) → let wait : Wait C = record { mode = mode; on = on; limits = limits } in
-        HasLeft truths seat wait None course × (course.looked ≡ Some (Some cause)) → IsComing truths seat wait (kept_in on cause) course
-    kept_comes mode (OnCondition c) limits cause so_far = record { left = record { was = so_far.0.was; began = so_far.0.began; mode = so_far.0.mode; unmet = so_far.0.unmet; committed = so_far.0.committed }; shown = so_far.1 }
-    kept_comes mode (OnVariable k) limits cause so_far = record { left = so_far.0; shown = tt }
+    -- one that was taken from its list before it could leave: a wait for a condition was ended all the same
+    taken_comes : (mode : Mode) (on : Subject C) (limits : Limits) (cause : Cause) (flag : ℕ) → let wait : Wait C = record { mode = mode; on = on; limits = limits } in
+        HasLeft truths seat wait None course × (course.looked ≡ Some (Some cause)) → IsComing truths seat wait (outcome_taken on cause flag) course
+    taken_comes mode (OnCondition c) limits cause flag so_far = record { left = record { was = so_far.0.was; began = so_far.0.began; mode = so_far.0.mode; unmet = so_far.0.unmet; committed = so_far.0.committed }; shown = so_far.1 }
+    taken_comes mode (OnVariable k) limits cause flag so_far = record { left = so_far.0; shown = tt }
 
     leaves_on : (wait : Wait C) (cause : Cause) (place : LeavePlace) (found : Found) → Effect truths seat (want_leaving wait place) part found next commits → HasLeft truths seat wait None course × (course.looked ≡ Some (Some cause)) →
         Comes (Await wait) (course_after found commits course) (got_leaving wait cause place found) next.held
@@ -557,8 +559,8 @@ module _ (C : Type 0) (N : ℕ) (truths : Truths C) (seat : ℕ) (row : List ℕ
     leaves_on wait cause (Leave last) Made e so_far = let other : Left (ltb 0 (times_in seat (waiters_of part.lists (home_of wait.on)))) ≡ Made = e.0 in absurd (cc)
     leaves_on wait cause (Leave last) (Woke owes) e so_far = let other : Left (ltb 0 (times_in seat (waiters_of part.lists (home_of wait.on)))) ≡ Woke owes = e.0 in absurd (cc)
     leaves_on wait cause AwaitWakeToLeave (Flag v) e so_far =
-        finds (Await wait) (Flag v) _ refl (held_in part e.1) e.2 (either (Await wait) course part.held (eqb v 1) (Idle (InWait wait (InLeaving cause AwaitWakeToLeave))) (On (InAcquire (ForWait wait (kept_in wait.on cause)) (AcquireLoad (arrival_of 0 v))))
-        (λ b. so_far) (λ b. kept_comes wait.mode wait.on wait.limits cause so_far))
+        finds (Await wait) (Flag v) _ refl (held_in part e.1) e.2 (either (Await wait) course part.held (eqb v 1) (Idle (InWait wait (InLeaving cause AwaitWakeToLeave))) (On (InAcquire (ForWait wait (outcome_taken wait.on cause v)) (AcquireLoad (arrival_of 0 v))))
+        (λ b. so_far) (λ b. taken_comes wait.mode wait.on wait.limits cause v so_far))
     leaves_on wait cause _ _ e so_far = absurd e
 
     waits_on : (wait : Wait C) (place : WaitPlace) (found : Found) → Effect truths seat (want_waiting wait place) part found next commits → WaitFits truths wait place part.held → MayShow wait.limits (place_cause_kept place) → WaitSoFar truths seat wait place course part.held →
@@ -568,7 +570,7 @@ module _ (C : Type 0) (N : ℕ) (truths : Truths C) (seat : ℕ) (row : List ℕ
     waits_on wait (InQueuing again place) found e fits given so_far = queues_on wait again place found e fits.0 fits.1 so_far
     waits_on wait PayInWait (Paid owes) e fits given so_far = finds (Await wait) (Paid owes) (pay_waiting wait owes) refl (ap (λ p. p.held) e.3) e.5 (pay_wait_comes (Await wait) course part.held wait owes so_far)
     waits_on wait AwaitWakeInWait (Flag v) e fits given so_far =
-        finds (Await wait) (Flag v) _ refl (held_in part e.1) e.2 (either (Await wait) course part.held (eqb v 1) (rest_or_look wait) (On (InAcquire (ForWait wait None) (AcquireLoad (arrival_of 0 v))))
+        finds (Await wait) (Flag v) _ refl (held_in part e.1) e.2 (either (Await wait) course part.held (eqb v 1) (rest_or_look wait) (On (InAcquire (ForWait wait (woken_by wait.on v)) (AcquireLoad (arrival_of 0 v))))
         (λ b. either (Await wait) course part.held (is_limited wait.limits) (On (InWait wait LookOut)) (Idle (InWait wait AwaitWakeInWait)) (λ b. so_far) (λ b. so_far)) (λ b. record { left = so_far; shown = tt }))
     waits_on wait LookOut (Looked None) e fits given so_far = still_left wait None (Looked None) commits course e.2 so_far
     waits_on wait LookOut (Looked (Some cause)) e fits given so_far = (still_left wait None (Looked (Some cause)) commits course e.2 so_far, refl)
@@ -638,7 +640,7 @@ begins_unchanged C N truths seat held walk first = go walk first where
   go : (walk : Walk C) → IsFirst N walk → SoFar truths seat (course_from held) walk held
   go (InTry mode place) first = none_yet
   go (InAcquire (ForLock mode) place) first = none_yet
-  go (InAcquire (ForWait wait kept) place) first = absurd first
+  go (InAcquire (ForWait wait outcome) place) first = absurd first
   go (InRelease releasing ReleaseLoad) first = none_yet
   go (InRelease releasing _) first = absurd first
   go (InCells place) first = none_yet

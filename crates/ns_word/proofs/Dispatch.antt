@@ -35,6 +35,7 @@ use Rattle.ns_word.specs.declared.limits.Limits.{Limits}
 use Rattle.ns_word.specs.declared.limits.Cause.{Cause}
 use Rattle.ns_word.specs.declared.wait.Subject.{Subject}
 use Rattle.ns_word.specs.declared.wait.Subject.TheVariants.{OnCondition, OnVariable}
+use Rattle.ns_word.specs.declared.wait.Outcome.TheVariants.{Ended}
 use Rattle.ns_word.specs.declared.wait.Visit.{Visit}
 use Rattle.ns_word.specs.declared.wait.Wait.{Wait}
 use Rattle.ns_word.specs.declared.wait.Aim.{Aim}
@@ -63,7 +64,7 @@ use Rattle.ns_word.specs.declared.walk.Next.{Next}
 use Rattle.ns_word.specs.declared.walk.Next.TheVariants.{On, Idle}
 use Rattle.ns_word.specs.Words.{is_held, is_woken, tries_of, mode_released, releasing_of, may_acquire, needs_scan, word_acquired, word_released, word_taken, word_returned, word_released_returning}
 use Rattle.ns_word.specs.Lists.{has_some, bits_of, queued, times_among}
-use Rattle.ns_word.specs.Waits.{mode_for, phase_for, phase_kept, arrival_of, home_of, kept_in}
+use Rattle.ns_word.specs.Waits.{IsWokenBy, OutcomeFits, arrival_of, cause_in, home_of, mode_for, outcome_taken, phase_for, phase_kept, variable_by, woken_by}
 use Rattle.ns_word.specs.Walks.{want_waiting, want_signaling, judge_of, want_of, got_waiting, got_leaving, got_signaling, got_of, walk_after, acquired_for, armed_place, pay_waiting, pay_woken, rest_or_look, pay_releasing, wait_has_queues, place_awaits, has_queues, is_queuing, has_armed, waits_in, awaits, was_woken, calls_from_lock, pays, is_on_way, phase_by, expected_for}
 use Rattle.ns_word.specs.Views.{NoneIs}
 use Rattle.ns_model.specs.Truths.{Truths, QuietKeeps}
@@ -98,7 +99,7 @@ tries_most (AsWoken tries) = go (ltb tries 30) refl where
 
 phase_opened : {C : Type 0} (aim : Aim C) → phase_for aim ≡ phase_before (mode_for aim) (opening_for aim)
 phase_opened (ForLock mode) = refl
-phase_opened (ForWait wait kept) = refl
+phase_opened (ForWait wait outcome) = refl
 
 left_mode : (mode : Mode) → mode_released (releasing_of mode) ≡ mode
 left_mode Write = refl
@@ -160,18 +161,25 @@ way_seen walk aim tries v none e = go (eqb v 0) refl where
   go false z = absurd (not_way (was_woken walk) (awaits walk) (eqb v 0) none z e)
 
 -- the phase of a wait whose flag was seen cleared: one for a variable has been woken, if it waits no more
-seen_phase : {C : Type 0} (on : Subject C) (mode : Mode) (ph : Phase C) → ((k : ℕ) (m : Mode) → ph ≡ Waiting k m → ⊥) → IsExpected (expected_for on mode) ph → ph ≡ phase_kept on mode None
-seen_phase (OnCondition c) mode ph waits is = is
-seen_phase (OnVariable k) mode ph waits (inl is) = absurd (waits k mode is)
-seen_phase (OnVariable k) mode ph waits (inr is) = is
+seen_phase : {C : Type 0} (on : Subject C) (mode : Mode) (flag : ℕ) (ph : Phase C) → ((k : ℕ) (m : Mode) → ph ≡ Waiting k m → ⊥) → IsExpected (expected_for on mode) ph → ph ≡ phase_kept on mode (woken_by on flag)
+seen_phase (OnCondition c) mode flag ph waits is = is
+seen_phase (OnVariable k) mode flag ph waits (inl is) = absurd (waits k mode is)
+seen_phase (OnVariable k) mode flag ph waits (inr is) = is
 
-kept_phase : {C : Type 0} (on : Subject C) (mode : Mode) (cause : Cause) (ph : Phase C) → ((k : ℕ) (m : Mode) → ph ≡ Waiting k m → ⊥) → IsExpected (expected_for on mode) ph → ph ≡ phase_kept on mode (kept_in on cause)
-kept_phase (OnCondition c) mode cause ph waits is = is
-kept_phase (OnVariable k) mode cause ph waits is = seen_phase (OnVariable k) mode ph waits is
+-- and so of one that was about to leave
+taken_phase : {C : Type 0} (on : Subject C) (mode : Mode) (cause : Cause) (flag : ℕ) (ph : Phase C) → ((k : ℕ) (m : Mode) → ph ≡ Waiting k m → ⊥) → IsExpected (expected_for on mode) ph → ph ≡ phase_kept on mode (outcome_taken on cause flag)
+taken_phase (OnCondition c) mode cause flag ph waits is = is
+taken_phase (OnVariable k) mode cause flag ph waits is = seen_phase (OnVariable k) mode flag ph waits is
 
-kept_given : {C : Type 0} (on : Subject C) (limits : Limits) (cause : Cause) → MayShow limits (Some cause) → MayShow limits (kept_in on cause)
-kept_given (OnCondition c) limits cause given = given
-kept_given (OnVariable k) limits cause given = tt
+-- what came of a wait that was woken goes with what it is for
+woken_fits : {C : Type 0} (on : Subject C) (flag : ℕ) → IsWokenBy on (variable_by on flag)
+woken_fits (OnCondition c) flag = refl
+woken_fits (OnVariable k) flag = refl
+
+-- and so of one that was about to leave, which was given its cause
+taken_fits : {C : Type 0} (on : Subject C) (limits : Limits) (cause : Cause) (flag : ℕ) → MayShow limits (Some cause) → OutcomeFits on (outcome_taken on cause flag) × MayShow limits (cause_in (outcome_taken on cause flag))
+taken_fits (OnCondition c) limits cause flag given = (tt, given)
+taken_fits (OnVariable k) limits cause flag given = (refl, tt)
 
 module _ {C : Type 0} {N : ℕ} (truths : Truths C) (seats : ℕ) (h : List (Event C N)) (front : List (SeatView C N)) (who : ℕ) (back : List (SeatView C N)) where
   -- the state with this part of a seat's
@@ -260,18 +268,18 @@ module _ {C : Type 0} {N : ℕ} (truths : Truths C) (seats : ℕ) (h : List (Eve
   withdrawn mode (OnCondition c) limits cause last true part next commits stands same e f none given range few p =
       let wait : Wait C = record { mode = mode; on = OnCondition c; limits = limits } in
       let lock = without_in who part.lists.lock in
-      moved (Some (InAcquire (ForWait wait (Some cause)) (AcquireLoad AsFresh))) (record part { word = word_returned false (bits_of lock) part.word; lists = with_lock part.lists lock; held = None }) next [] commits
+      moved (Some (InAcquire (ForWait wait (Ended cause)) (AcquireLoad AsFresh))) (record part { word = word_returned false (bits_of lock) part.word; lists = with_lock part.lists lock; held = None }) next [] commits
       (e ∙ ap (λ word. record part { word = word_returned false (bits_of lock) word; lists = with_lock part.lists lock }) same ∙ ap (λ x. record part { word = word_returned false (bits_of lock) part.word; lists = with_lock part.lists lock; held = x }) none) f
-      (none_more _ (withdraws truths seats h front who (Some (InWait wait (InLeaving cause (Leave last)))) (Some (InAcquire (ForWait wait (Some cause)) (AcquireLoad AsFresh))) back part.word part.row part.lists part.flags part.owed refl
-      (ltb-true 0 (times_in who part.lists.lock) stands) (refl, tt, given) refl refl refl refl refl refl refl refl refl (with_held (InWait wait (InLeaving cause (Leave last))) part None none p)))
+      (none_more _ (withdraws truths seats h front who (Some (InWait wait (InLeaving cause (Leave last)))) (Some (InAcquire (ForWait wait (Ended cause)) (AcquireLoad AsFresh))) back part.word part.row part.lists part.flags part.owed refl
+      (ltb-true 0 (times_in who part.lists.lock) stands) (refl, tt, (tt, given)) refl refl refl refl refl refl refl refl refl (with_held (InWait wait (InLeaving cause (Leave last))) part None none p)))
   withdrawn mode (OnVariable k) limits cause last true part next commits stands same e f none given range few p =
       let wait : Wait C = record { mode = mode; on = OnVariable k; limits = limits } in
       let lists = with_waiters part.lists (Cv k) (without_in who (waiters_of part.lists (Cv k))) in
-      moved (Some (InAcquire (ForWait wait (Some cause)) (AcquireLoad AsFresh))) (record part { word = word_returned false (bits_of part.lists.lock) part.word; lists = lists; held = None }) next (TheEvent.Leave who k ∷ []) commits
+      moved (Some (InAcquire (ForWait wait (Ended cause)) (AcquireLoad AsFresh))) (record part { word = word_returned false (bits_of part.lists.lock) part.word; lists = lists; held = None }) next (TheEvent.Leave who k ∷ []) commits
       (e ∙ ap (λ word. record part { word = word_returned false (bits_of part.lists.lock) word; lists = lists }) same ∙ ap (λ x. record part { word = word_returned false (bits_of part.lists.lock) part.word; lists = lists; held = x }) none)
       (f ∙ ap (leave_of who (Cv k)) stands)
-      (leaves_variable truths seats h front who (Some (InWait wait (InLeaving cause (Leave last)))) (Some (InAcquire (ForWait wait (Some cause)) (AcquireLoad AsFresh))) back k mode part.word part.row part.lists part.flags part.owed few range refl
-      (ltb-true 0 (times_in who (waiters_of part.lists (Cv k))) stands) refl (refl, tt, given) refl refl refl refl refl refl refl refl refl (with_held (InWait wait (InLeaving cause (Leave last))) part None none p))
+      (leaves_variable truths seats h front who (Some (InWait wait (InLeaving cause (Leave last)))) (Some (InAcquire (ForWait wait (Ended cause)) (AcquireLoad AsFresh))) back k mode part.word part.row part.lists part.flags part.owed few range refl
+      (ltb-true 0 (times_in who (waiters_of part.lists (Cv k))) stands) refl (refl, tt, (tt, given)) refl refl refl refl refl refl refl refl refl (with_held (InWait wait (InLeaving cause (Leave last))) part None none p))
   withdrawn mode on limits cause last false part next commits stands same e f none given range few p =
       let wait : Wait C = record { mode = mode; on = on; limits = limits } in
       let lists = with_waiters part.lists (home_of on) (without_in who (waiters_of part.lists (home_of on))) in
@@ -461,11 +469,11 @@ module _ {C : Type 0} {N : ℕ} (truths : Truths C) (seats : ℕ) (h : List (Eve
   -- it looks at its flag
   by_wait wait AwaitWakeInWait (Flag v) part next commits few some e p =
       let here = (place (InWait wait AwaitWakeInWait) part p).0 in
-      checks (InWait wait AwaitWakeInWait) (ForWait wait None) 0 (rest_or_look wait) v (eqb v 1) part next commits refl e.0 e.1 e.2 here.0 refl refl refl refl (seen_phase wait.on wait.mode) tt (rest_leads truths wait part.held here.0 here.1) p
+      checks (InWait wait AwaitWakeInWait) (ForWait wait (woken_by wait.on v)) 0 (rest_or_look wait) v (eqb v 1) part next commits refl e.0 e.1 e.2 here.0 refl refl refl refl (seen_phase wait.on wait.mode v) (woken_fits wait.on v, tt) (rest_leads truths wait part.held here.0 here.1) p
   by_wait wait (InLeaving cause AwaitWakeToLeave) (Flag v) part next commits few some e p =
       let here = place (InWait wait (InLeaving cause AwaitWakeToLeave)) part p in
-      checks (InWait wait (InLeaving cause AwaitWakeToLeave)) (ForWait wait (kept_in wait.on cause)) 0 (Idle (InWait wait (InLeaving cause AwaitWakeToLeave))) v (eqb v 1) part next commits refl e.0 e.1 e.2 here.0.0 refl refl refl refl
-      (kept_phase wait.on wait.mode cause) (kept_given wait.on wait.limits cause here.1) (here, (refl, refl, refl, refl), refl, λ flag n f. f, λ none. refl) p
+      checks (InWait wait (InLeaving cause AwaitWakeToLeave)) (ForWait wait (outcome_taken wait.on cause v)) 0 (Idle (InWait wait (InLeaving cause AwaitWakeToLeave))) v (eqb v 1) part next commits refl e.0 e.1 e.2 here.0.0 refl refl refl refl
+      (taken_phase wait.on wait.mode cause v) (taken_fits wait.on wait.limits cause v here.1) (here, (refl, refl, refl, refl), refl, λ flag n f. f, λ none. refl) p
   -- it leaves
   by_wait wait (InLeaving cause (Leave last)) (Left stood) part next commits few some e p =
       let here = place (InWait wait (InLeaving cause (Leave last))) part p in

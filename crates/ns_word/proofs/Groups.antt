@@ -9,7 +9,7 @@ use Rattle.ns_word.specs.Lists.{has_some, bits_of}
 use Rattle.ns_word.specs.Views.{queuers, AreApart}
 use Rattle.ns_model.specs.Truths.{Truths}
 use Rattle.ns_word.specs.Steps.{State}
-use Rattle.ns_word.specs.Lawful.{OneWriter, ReadersCounted, OneHistory, SpinHeldOnce, bits_in, WaitersPlaced, WaitersOwn, VariablesTell, DesigOnItsWay, IdleWaitersFalse, AllfalseTrue, WordsSeen, IsLawful}
+use Rattle.ns_word.specs.Lawful.{OneWriter, ReadersCounted, OneHistory, SpinHeldOnce, bits_in, WaitersPlaced, WaitersOwn, VariablesTell, DesigOnItsWay, IdleWaitersFalse, AllFalseTrue, WordsSeen, IsLawful}
 
 -- the sections
 pub record Safe {C : Type 0} {N : ℕ} (truths : Truths C) (seats : ℕ) (history : List (Event C N)) (word : Word) (row : List ℕ) (views : List (SeatView C N)) : Type 0 where
@@ -26,7 +26,7 @@ pub record Homed {C : Type 0} {N : ℕ} (word : Word) (lock : List (Waiter C)) (
 -- that nobody is forgotten; `now` is the row after the history
 pub record Known {C : Type 0} {N : ℕ} (holds : C → List ℕ → Bool) (word : Word) (now : List ℕ) (lock : List (Waiter C)) (flags : ℕ → ℕ) (views : List (SeatView C N)) : Type 0 where
   pub on_way : DesigOnItsWay word flags views
-  pub idle : AllfalseTrue holds now word lock views
+  pub idle : AllFalseTrue holds now word lock views
   pub free : IdleWaitersFalse holds now word lock views
   pub empty : word.waiting ≡ false → (has_some lock ≡ false) × (queuers views ≡ 0)
 
@@ -46,7 +46,7 @@ module _ {C : Type 0} {N : ℕ} (truths : Truths C) (seats : ℕ) (history : Lis
     placed = p.waiters_placed;
     own = p.waiters_own;
     told = p.variables_tell;
-    known = record { on_way = p.desig_on_its_way; idle = p.allfalse_true; free = p.idle_waiters_false; empty = p.bits_tell.nobody };
+    known = record { on_way = p.desig_on_its_way; idle = p.all_false_true; free = p.idle_waiters_false; empty = p.bits_tell.nobody };
   }
 
   pub lawful_by : Groups truths seats history s → WordsSeen s.views → IsLawful truths seats history s
@@ -61,7 +61,7 @@ module _ {C : Type 0} {N : ℕ} (truths : Truths C) (seats : ℕ) (history : Lis
     variables_tell = p.told;
     desig_on_its_way = p.known.on_way;
     idle_waiters_false = p.known.free;
-    allfalse_true = p.known.idle;
+    all_false_true = p.known.idle;
     apart = p.safe.apart;
     words_seen = seen;
   }

@@ -11,6 +11,8 @@ use Rattle.ns_word.specs.declared.word.Arrival.{Arrival}
 use Rattle.ns_word.specs.declared.word.Arrival.TheVariants.{AsFresh}
 use Rattle.ns_word.specs.declared.wait.Subject.{Subject}
 use Rattle.ns_word.specs.declared.wait.Subject.TheVariants.{OnCondition, OnVariable}
+use Rattle.ns_word.specs.declared.wait.Outcome.{Outcome}
+use Rattle.ns_word.specs.declared.wait.Outcome.TheVariants.{Woken, Ended}
 use Rattle.ns_word.specs.declared.wait.Wait.{Wait}
 use Rattle.ns_word.specs.declared.wait.Aim.{Aim}
 use Rattle.ns_word.specs.declared.wait.Aim.TheVariants.{ForLock, ForWait}
@@ -40,7 +42,7 @@ use Rattle.ns_word.specs.declared.walk.Reply.TheVariants.{Answered}
 use Rattle.ns_word.specs.declared.walk.Next.{Next}
 use Rattle.ns_word.specs.declared.walk.Next.TheVariants.{On, Idle, Done}
 use Rattle.ns_word.specs.Words.{may_acquire, needs_scan}
-use Rattle.ns_word.specs.Waits.{answer_of, is_limited, kept_in, mode_for}
+use Rattle.ns_word.specs.Waits.{answer_of, cause_in, is_limited, mode_for, outcome_taken}
 use Rattle.ns_word.specs.Walks.{want_of, got_waiting, got_signaling, got_of, walk_after, unmet_by, look_or_queue, test_place, load_place, armed_place, acquire_by, back_with, acquired_for, release_by}
 use Rattle.ns_model.specs.Truths.{Truths}
 use Rattle.ns_word.specs.Steps.{State, Part, Effect, Step, part_of}
@@ -116,17 +118,17 @@ module _ {C : Type 0} (N : ℕ) where
       either_walk_shown (cause_by visit) found (ltb loaded (N - 1)) (InWait wait (TestCells visit loaded)) (InWait wait (TestLast visit (N - 1))) (stays_shown (cause_by visit) found) (stays_shown (cause_by visit) found)
 
   -- a wait for a variable keeps no cause that was woken before it left
-  woken_shown : (found : Found) (on : Subject C) (cause : Cause) → Shown (Some cause) found (kept_in on cause)
-  woken_shown found (OnCondition c) cause = stays_shown (Some cause) found
-  woken_shown found (OnVariable k) cause = none_shown (Some cause) found
+  taken_shown : (found : Found) (on : Subject C) (cause : Cause) (flag : ℕ) → Shown (Some cause) found (cause_in (outcome_taken on cause flag))
+  taken_shown found (OnCondition c) cause flag = stays_shown (Some cause) found
+  taken_shown found (OnVariable k) cause flag = none_shown (Some cause) found
 
   looks_shown : (kept : Option Cause) (found : Found) (wait : Wait C) (again : Bool) → ShownNext kept found (look_or_queue wait again)
   looks_shown kept found wait again = either_shown kept found (is_limited wait.limits) (On (InWait wait (InQueuing again LookIn))) (On (InWait wait (InQueuing again Load))) (none_shown kept found) (none_shown kept found)
 
   unmet_shown : (found : Found) (wait : Wait C) (visit : Visit) → ShownNext (cause_by visit) found (unmet_by wait visit)
   unmet_shown found wait OnEntry = looks_shown None found wait false
-  unmet_shown found wait (OnReturn None) = looks_shown None found wait true
-  unmet_shown found wait (OnReturn (Some cause)) = answer_shown (Some cause) found cause (stays_shown (Some cause) found)
+  unmet_shown found wait (OnReturn (Woken by)) = looks_shown None found wait true
+  unmet_shown found wait (OnReturn (Ended cause)) = answer_shown (Some cause) found cause (stays_shown (Some cause) found)
 
   waiting_shown : (wait : Wait C) (place : WaitPlace) (found : Found) → ShownNext (place_cause_kept place) found (got_waiting N wait place found)
   waiting_shown wait (TestCells visit i) (Cell v) = test_shown (Cell v) wait visit (i + 1)
@@ -149,22 +151,22 @@ module _ {C : Type 0} (N : ℕ) where
   waiting_shown wait (InLeaving cause (TakeToLeave last)) Made = stays_shown _ _
   waiting_shown wait (InLeaving cause (Leave last)) (Saw word) = stays_shown _ _
   waiting_shown wait (InLeaving cause (Leave last)) (Left stood) = either_shown _ _ stood _ _ (stays_shown _ _) (stays_shown _ _)
-  waiting_shown wait (InLeaving cause AwaitWakeToLeave) (Flag v) = either_shown _ _ (eqb v 1) _ _ (stays_shown _ _) (woken_shown (Flag v) wait.on cause)
+  waiting_shown wait (InLeaving cause AwaitWakeToLeave) (Flag v) = either_shown _ _ (eqb v 1) _ _ (stays_shown _ _) (taken_shown (Flag v) wait.on cause v)
   waiting_shown wait place found = stays_shown (place_cause_kept place) found
 
   acquire_shown : (found : Found) (aim : Aim C) (arrival : Arrival) (word : Word) → ShownNext (cause_for aim) found (acquire_by aim arrival word)
   acquire_shown found aim arrival word =
       either_shown (cause_for aim) found (may_acquire (mode_for aim) arrival word) _ _ (stays_shown _ _) (either_shown (cause_for aim) found word.spin _ _ (stays_shown _ _) (stays_shown _ _))
 
-  -- a wait for a condition that comes back tests it with the cause that it kept, and one for a variable answers by that
-  back_shown : (found : Found) (on : Subject C) (wait : Wait C) (kept : Option Cause) → ShownNext kept found (back_with N on wait kept)
-  back_shown found (OnCondition c) wait kept = test_shown found wait (OnReturn kept) 0
-  back_shown found (OnVariable k) wait None = none_shown None found
-  back_shown found (OnVariable k) wait (Some cause) = answer_shown (Some cause) found cause (stays_shown (Some cause) found)
+  -- a wait for a condition that comes back tests it with what came of it, and one for a variable answers that
+  back_shown : (found : Found) (on : Subject C) (wait : Wait C) (outcome : Outcome) → ShownNext (cause_in outcome) found (back_with N on wait outcome)
+  back_shown found (OnCondition c) wait outcome = test_shown found wait (OnReturn outcome) 0
+  back_shown found (OnVariable k) wait (Woken by) = none_shown None found
+  back_shown found (OnVariable k) wait (Ended cause) = answer_shown (Some cause) found cause (stays_shown (Some cause) found)
 
   acquired_shown : (found : Found) (aim : Aim C) → ShownNext (cause_for aim) found (acquired_for N aim)
   acquired_shown found (ForLock mode) = none_shown _ _
-  acquired_shown found (ForWait wait kept) = back_shown found wait.on wait kept
+  acquired_shown found (ForWait wait outcome) = back_shown found wait.on wait outcome
 
   shown_by : (walk : Walk C) (found : Found) → ShownNext (cause_kept walk) found (got_of N walk found)
   shown_by (InTry mode TryLoad) (Saw word) = either_shown _ _ (may_acquire mode AsFresh word) _ _ (none_shown _ _) (none_shown _ _)
@@ -261,7 +263,7 @@ module _ {C : Type 0} (N : ℕ) where
 
   unmet_out : (wait : Wait C) (visit : Visit) → comes_back visit ≡ false → Out (unmet_by wait visit)
   unmet_out wait OnEntry e = either_out (is_limited wait.limits) (On (InWait wait (InQueuing false LookIn))) (On (InWait wait (InQueuing false Load))) refl refl
-  unmet_out wait (OnReturn kept) e = absurd (cc)
+  unmet_out wait (OnReturn outcome) e = absurd (cc)
 
   waiting_out : (wait : Wait C) (place : WaitPlace) (found : Found) → place_has_come_back place ≡ false → Out (got_waiting N wait place found)
   waiting_out wait (TestCells visit i) (Cell v) e = test_out wait visit (i + 1) e

@@ -14,6 +14,8 @@ use Rattle.ns_word.specs.declared.word.Releasing.TheVariants.{Writer, QuietWrite
 use Rattle.ns_word.specs.declared.limits.Cause.{Cause}
 use Rattle.ns_word.specs.declared.wait.Subject.{Subject}
 use Rattle.ns_word.specs.declared.wait.Subject.TheVariants.{OnCondition, OnVariable}
+use Rattle.ns_word.specs.declared.wait.Outcome.{Outcome}
+use Rattle.ns_word.specs.declared.wait.Outcome.TheVariants.{Woken, Ended}
 use Rattle.ns_word.specs.declared.wait.Wait.{Wait}
 use Rattle.ns_word.specs.declared.wait.Aim.{Aim}
 use Rattle.ns_word.specs.declared.wait.Aim.TheVariants.{ForLock, ForWait}
@@ -39,12 +41,12 @@ use Rattle.ns_word.specs.declared.walk.Next.TheVariants.{On, Idle, Done}
 use Rattle.ns_word.specs.declared.walk.Reply.TheVariants.{Busy, Answered}
 use Rattle.ns_word.specs.Words.{mode_released, may_acquire, needs_scan}
 use Rattle.ns_word.specs.Lists.{has_eligible}
-use Rattle.ns_word.specs.Waits.{is_limited, mode_for, phase_kept}
+use Rattle.ns_word.specs.Waits.{IsWokenBy, is_limited, mode_for, phase_kept}
 use Rattle.ns_word.specs.Walks.{judged, walk_after, acquire_by, back_with, acquired_for, load_place, armed_place, signal_by, pay_woken, expected_for, calls_from_lock, was_woken, release_by, quiet_place, scan_place, pay_releasing, test_place, unmet_by, queue_by, pay_waiting, rest_or_look, leave_by, has_queues, is_queuing, has_armed, waits_in, pays, phase_by}
 use Rattle.ns_model.specs.Truths.{Truths, QuietKeeps}
 use Rattle.ns_word.specs.Answers.{cause_by}
 use Rattle.ns_word.specs.Steps.{MayShow, newly_held, opening_by, held_after, meets_at}
-use Rattle.ns_word.specs.Places.{PlaceFits, IsForCondition, IsUnmet, IsInRange, HasMode, IsSettledBy, IsSettled, CanLeave, IsLeft, Tests, CanWait, AimFits}
+use Rattle.ns_word.specs.Places.{ComesBack, PlaceFits, IsForCondition, IsUnmet, IsInRange, HasMode, IsSettledBy, IsSettled, CanLeave, IsLeft, Tests, CanWait, AimFits}
 use Rattle.ns_word.specs.Finds.{row_in}
 use Rattle.ns_word.specs.Lawful.{IsExpected, phase_before}
 use Rattle.ns_word.proofs.Scans.{quiet_eligible}
@@ -60,14 +62,19 @@ abbrev pub outside : {C : Type 0} → Wait C → Option (Walk C)
 outside wait = Some (InWait wait AwaitWakeInWait)
 
 -- what ends a wait for a condition changes nothing of its phase
-shown_phase : {C : Type 0} (mode : Mode) (cause : Cause) (on : Subject C) (kept : Option Cause) → IsForCondition on → phase_kept on mode (Some cause) ≡ phase_kept on mode kept
-shown_phase mode cause (OnCondition c) kept is = refl
-shown_phase mode cause (OnVariable k) kept is = absurd is
+shown_phase : {C : Type 0} (mode : Mode) (cause : Cause) (on : Subject C) (outcome : Outcome) → IsForCondition on → phase_kept on mode (Ended cause) ≡ phase_kept on mode outcome
+shown_phase mode cause (OnCondition c) outcome is = refl
+shown_phase mode cause (OnVariable k) outcome is = absurd is
 
 -- what ended a wait settles it
-ended_settled : {C : Type 0} (holds : C → List ℕ → Bool) (before : List ℕ) (on : Subject C) (cause : Cause) → IsSettledBy holds before (CameBack on (Some cause))
+ended_settled : {C : Type 0} (holds : C → List ℕ → Bool) (before : List ℕ) (on : Subject C) (cause : Cause) → IsSettledBy holds before (CameBack on (Ended cause))
 ended_settled holds before (OnCondition c) cause = tt
 ended_settled holds before (OnVariable k) cause = tt
+
+-- a wait for a condition is woken by a wake of no variable
+woken_by_none : {C : Type 0} (on : Subject C) (by : Option ℕ) → IsForCondition on → IsWokenBy on by → by ≡ None
+woken_by_none (OnCondition c) by for is = is
+woken_by_none (OnVariable k) by for is = absurd for
 
 module _ {C : Type 0} {N : ℕ} (truths : Truths C) where
   -- The step changes the place in the call alone.
@@ -150,19 +157,19 @@ module _ {C : Type 0} {N : ℕ} (truths : Truths C) where
   test_leads wait visit held loaded some p kept on = test_place_at wait visit held loaded (ltb loaded (N - 1)) refl some p kept on
 
   -- after an acquire
-  back_leads : (on : Subject C) (wait : Wait C) (kept : Option Cause) (row : List ℕ) → wait.on ≡ on → 0 < N → MayShow wait.limits kept → let next = walk_after (back_with N on wait kept) in
-      PlaceFits truths next (Some (newly_held {C = C} {N = N} (ForWait wait kept) row)) × Same None next × (is_queuing next ≡ false)
-  back_leads (OnCondition c) wait kept row is some fits =
-      let to = test_leads wait (OnReturn kept) (Some (newly_held {C = C} {N = N} (ForWait wait kept) row)) 0 some (refl, record { entry = refl; cells = refl }) fits (subst IsForCondition (sym is) tt) in (to.0, to.1, to.2)
-  back_leads (OnVariable k) wait kept row is some fits = (subst (λ on. IsSettledBy truths.holds row (CameBack on kept)) (sym is) (variable_settled kept), (refl, refl, refl, refl), refl) where
-    variable_settled : (kept : Option Cause) → IsSettledBy truths.holds row (CameBack (OnVariable k) kept)
-    variable_settled None = tt
-    variable_settled (Some cause) = tt
+  back_leads : (on : Subject C) (wait : Wait C) (outcome : Outcome) (row : List ℕ) → wait.on ≡ on → 0 < N → AimFits (ForWait wait outcome) → let next = walk_after (back_with N on wait outcome) in
+      PlaceFits truths next (Some (newly_held {C = C} {N = N} (ForWait wait outcome) row)) × Same None next × (is_queuing next ≡ false)
+  back_leads (OnCondition c) wait outcome row is some fits =
+      let to = test_leads wait (OnReturn outcome) (Some (newly_held {C = C} {N = N} (ForWait wait outcome) row)) 0 some (refl, record { entry = refl; cells = refl; fits = fits.0 }) fits.1 (subst IsForCondition (sym is) tt) in (to.0, to.1, to.2)
+  back_leads (OnVariable k) wait outcome row is some fits = (subst (λ on. IsSettledBy truths.holds row (CameBack on outcome)) (sym is) (variable_settled outcome), (refl, refl, refl, refl), refl) where
+    variable_settled : (outcome : Outcome) → IsSettledBy truths.holds row (CameBack (OnVariable k) outcome)
+    variable_settled (Woken by) = tt
+    variable_settled (Ended cause) = tt
 
   pub acquired_leads : (aim : Aim C) (row : List ℕ) → 0 < N → AimFits aim → let next = walk_after (acquired_for N aim) in
       PlaceFits truths next (Some (newly_held {C = C} {N = N} aim row)) × Same None next × (is_queuing next ≡ false)
   acquired_leads (ForLock mode) row some fits = (tt, (refl, refl, refl, refl), refl)
-  acquired_leads (ForWait wait kept) row some fits = back_leads wait.on wait kept row refl some fits
+  acquired_leads (ForWait wait outcome) row some fits = back_leads wait.on wait outcome row refl some fits
 
   -- a section is in hand where a condition is tested
   pub tests_some : (wait : Wait C) (visit : Visit) (held : Option (Held C N)) → Tests truths wait visit held → IsSome held
@@ -177,15 +184,17 @@ module _ {C : Type 0} {N : ℕ} (truths : Truths C) where
   unmet_leads : (wait : Wait C) (visit : Visit) (held : Option (Held C N)) → Tests truths wait visit held → IsForCondition wait.on → IsUnmet truths wait.on (row_in held) → Leads (inside wait) (walk_after (unmet_by wait visit)) held
   unmet_leads wait visit None p on e = absurd p
   unmet_leads wait OnEntry (Some held) p on e = look_place wait false (Some held) (is_limited wait.limits) on (record { mode = p.0; unmet = e; settled = λ first. p.1; back = λ again. absurd (cc) })
-  unmet_leads wait (OnReturn None) (Some held) p on e = look_place wait true (Some held) (is_limited wait.limits) on (record { mode = p.0; unmet = e; settled = λ first. absurd (cc); back = λ again. (on, p.1) })
-  unmet_leads wait (OnReturn (Some cause)) (Some held) p on e = (subst (λ x. IsSettledBy truths.holds held.before x) (sym p.1.entry) (ended_settled truths.holds held.before wait.on cause), (refl, refl, refl, refl), refl, λ flag n f. f, λ none. absurd (cc))
+  unmet_leads wait (OnReturn (Woken by)) (Some held) p on e =
+      let back : ComesBack wait (Woken None) held = subst (λ one. ComesBack wait (Woken one) held) (woken_by_none wait.on by on p.1.fits) p.1 in
+      look_place wait true (Some held) (is_limited wait.limits) on (record { mode = p.0; unmet = e; settled = λ first. absurd (cc); back = λ again. (on, back) })
+  unmet_leads wait (OnReturn (Ended cause)) (Some held) p on e = (subst (λ x. IsSettledBy truths.holds held.before x) (sym p.1.entry) (ended_settled truths.holds held.before wait.on cause), (refl, refl, refl, refl), refl, λ flag n f. f, λ none. absurd (cc))
 
   -- a section whose wait has met its condition is settled
   met_settled : (wait : Wait C) (c : C) (visit : Visit) (held : Option (Held C N)) → wait.on ≡ OnCondition c → Tests truths wait visit held → truths.holds c (row_in held) ≡ true → IsSettled truths held
   met_settled wait c visit None is p e = absurd p
   met_settled wait c OnEntry (Some held) is p e = p.1
-  met_settled wait c (OnReturn None) (Some held) is p e = subst (λ x. IsSettledBy truths.holds held.before x) (sym (p.1.entry ∙ ap (λ on. CameBack on None) is)) (ap (truths.holds c) (sym p.1.cells) ∙ e)
-  met_settled wait c (OnReturn (Some cause)) (Some held) is p e = subst (λ x. IsSettledBy truths.holds held.before x) (sym p.1.entry) (ended_settled truths.holds held.before wait.on cause)
+  met_settled wait c (OnReturn (Woken by)) (Some held) is p e = subst (λ x. IsSettledBy truths.holds held.before x) (sym (p.1.entry ∙ ap (λ on. CameBack on (Woken by)) is)) (ap (truths.holds c) (sym p.1.cells) ∙ e)
+  met_settled wait c (OnReturn (Ended cause)) (Some held) is p e = subst (λ x. IsSettledBy truths.holds held.before x) (sym p.1.entry) (ended_settled truths.holds held.before wait.on cause)
 
   -- the condition was tested
   pub met_leads : (wait : Wait C) (c : C) (visit : Visit) (held : Option (Held C N)) (b : Bool) → wait.on ≡ OnCondition c → Tests truths wait visit held → truths.holds c (row_in held) ≡ b →
@@ -270,7 +279,7 @@ module _ {C : Type 0} {N : ℕ} (truths : Truths C) where
     reading = refl;
     fits = λ now row seat q. record {
       starts = q.starts;
-      enters = q.enters ∙ ap (phase_before held.mode) (p.back refl).1.entry ∙ sym (shown_phase held.mode cause wait.on None (p.back refl).0) ∙ sym (ap (λ x. phase_before held.mode (opening_by cause x)) (p.back refl).1.entry);
+      enters = q.enters ∙ ap (phase_before held.mode) (p.back refl).1.entry ∙ sym (shown_phase held.mode cause wait.on (Woken None) (p.back refl).0) ∙ sym (ap (λ x. phase_before held.mode (opening_by cause x)) (p.back refl).1.entry);
       cells = q.cells;
       reads = q.reads;
     };

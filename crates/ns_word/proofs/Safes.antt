@@ -19,6 +19,7 @@ use Rattle.ns_word.specs.declared.word.Word.{Word}
 use Rattle.ns_word.specs.declared.limits.Cause.{Cause}
 use Rattle.ns_word.specs.declared.limits.Cause.TheVariants.{Expired, Notified}
 use Rattle.ns_word.specs.declared.wait.Subject.TheVariants.{OnCondition, OnVariable}
+use Rattle.ns_word.specs.declared.wait.Outcome.TheVariants.{Woken, Ended}
 use Rattle.ns_word.specs.declared.view.Opening.{Opening}
 use Rattle.ns_word.specs.declared.view.Opening.TheVariants.{Locked, CameBack}
 use Rattle.ns_word.specs.declared.view.Held.{Held}
@@ -64,11 +65,11 @@ met_of false Notified = refl
 -- the entry of a section that is settled fits the phase that it comes from
 pub entry_fits : {C : Type 0} (holds : C → List ℕ → Bool) (before : List ℕ) (mode : Mode) (entry : Opening C) → IsSettledBy holds before entry → EntryFits holds before mode (entry_of holds before entry) (phase_before mode entry)
 entry_fits holds before mode Locked settled = tt
-entry_fits holds before mode (CameBack (OnCondition c) None) settled = (refl, settled, settled)
-entry_fits holds before mode (CameBack (OnCondition c) (Some cause)) settled = (refl, met_of (holds c before) cause, met_of (holds c before) cause)
-entry_fits holds before mode (CameBack (OnVariable k) None) settled = (refl, refl, refl)
-entry_fits holds before mode (CameBack (OnVariable k) (Some Expired)) settled = (refl, refl, refl)
-entry_fits holds before mode (CameBack (OnVariable k) (Some Notified)) settled = (refl, refl, refl)
+entry_fits holds before mode (CameBack (OnCondition c) (Woken by)) settled = (refl, settled, settled)
+entry_fits holds before mode (CameBack (OnCondition c) (Ended cause)) settled = (refl, met_of (holds c before) cause, met_of (holds c before) cause)
+entry_fits holds before mode (CameBack (OnVariable k) (Woken by)) settled = (refl, refl, refl)
+entry_fits holds before mode (CameBack (OnVariable k) (Ended Expired)) settled = (refl, refl, refl)
+entry_fits holds before mode (CameBack (OnVariable k) (Ended Notified)) settled = (refl, refl, refl)
 
 -- a wake leaves all views as they are
 pub after_wake : {C : Type 0} {N : ℕ} (truths : Truths C) (seats : ℕ) (h : List (Event C N)) (e : Event C N) (word : Word) (row : List ℕ) (views : List (SeatView C N)) → who_of e < seats → IsLegalEvent truths.holds (standing_after h) e →

@@ -13,6 +13,8 @@ use Rattle.ns_word.specs.declared.word.Taking.TheVariants.{ToChange, ToQueue}
 use Rattle.ns_word.specs.declared.limits.Cause.{Cause}
 use Rattle.ns_word.specs.declared.wait.Subject.{Subject}
 use Rattle.ns_word.specs.declared.wait.Subject.TheVariants.{OnCondition, OnVariable}
+use Rattle.ns_word.specs.declared.wait.Outcome.{Outcome}
+use Rattle.ns_word.specs.declared.wait.Outcome.TheVariants.{Woken, Ended}
 use Rattle.ns_word.specs.declared.wait.Visit.{Visit}
 use Rattle.ns_word.specs.declared.wait.Visit.TheVariants.{OnEntry, OnReturn}
 use Rattle.ns_word.specs.declared.wait.Wait.{Wait}
@@ -48,7 +50,7 @@ use Rattle.ns_word.specs.declared.act.Found.{Found}
 use Rattle.ns_word.specs.declared.act.Found.TheVariants.{Saw, Made, Cell, Quiet, Tested, Scanned, Paid, Left, Woke, Flag, Looked}
 use Rattle.ns_word.specs.Codec.{IsPackable}
 use Rattle.ns_word.specs.Words.{may_acquire, needs_scan, word_taken}
-use Rattle.ns_word.specs.Waits.{is_limited, mode_for, arrival_of, kept_in}
+use Rattle.ns_word.specs.Waits.{arrival_of, is_limited, mode_for, outcome_taken, woken_by}
 use Rattle.ns_word.specs.Views.{readers}
 use Rattle.ns_word.specs.Walks.{got_of, got_trying, got_acquiring, got_releasing, got_in_cells, got_waiting, got_queuing, got_leaving, got_signaling, walk_after, acquire_by, acquired_for, back_with, release_by, scan_place, test_place, load_place, armed_place, unmet_by, look_or_queue, queue_by, leave_by, signal_by, rest_or_look}
 use Rattle.ns_word.specs.Steps.{Part, State, Effect}
@@ -142,21 +144,21 @@ module _ (C : Type 0) where
     go true = tt
     go false = tt
 
-  back_seen : (N : ℕ) (on : Subject C) (wait : Wait C) (kept : Option Cause) → Seen (walk_after (back_with N on wait kept))
-  back_seen N (OnCondition c) wait kept = test_seen N wait (OnReturn kept) 0
-  back_seen N (OnVariable k) wait kept = tt
+  back_seen : (N : ℕ) (on : Subject C) (wait : Wait C) (outcome : Outcome) → Seen (walk_after (back_with N on wait outcome))
+  back_seen N (OnCondition c) wait outcome = test_seen N wait (OnReturn outcome) 0
+  back_seen N (OnVariable k) wait outcome = tt
 
   acquired_seen : (N : ℕ) (aim : Aim C) → Seen (walk_after (acquired_for N aim))
   acquired_seen N (ForLock mode) = tt
-  acquired_seen N (ForWait wait kept) = back_seen N wait.on wait kept
+  acquired_seen N (ForWait wait outcome) = back_seen N wait.on wait outcome
 
   queue_or_look_seen : (wait : Wait C) (again : Bool) → Seen (walk_after (look_or_queue wait again))
   queue_or_look_seen wait again = after (is_limited wait.limits) (On (InWait wait (InQueuing again LookIn))) (On (InWait wait (InQueuing again Load))) tt tt
 
   unmet_seen : (wait : Wait C) (visit : Visit) → Seen (walk_after (unmet_by wait visit))
   unmet_seen wait OnEntry = queue_or_look_seen wait false
-  unmet_seen wait (OnReturn None) = queue_or_look_seen wait true
-  unmet_seen wait (OnReturn (Some cause)) = tt
+  unmet_seen wait (OnReturn (Woken by)) = queue_or_look_seen wait true
+  unmet_seen wait (OnReturn (Ended cause)) = tt
 
   try_next : (mode : Mode) (place : TryPlace) (found : Found) → FoundFits found → Seen (Some (InTry mode place)) → Seen (walk_after (got_trying mode place found))
   try_next mode TryLoad (Saw word) f p = after (may_acquire mode AsFresh word) (On (InTry mode (TryAcquire word))) _ f tt
@@ -214,8 +216,8 @@ module _ (C : Type 0) where
   leave_next wait cause (TakeToLeave last) (Saw word) f p = leave_by_seen wait cause word f
   leave_next wait cause (TakeToLeave last) Made f p = taken_packable ToChange last p
   leave_next wait cause (Leave last) (Saw word) f p = f
-  leave_next wait cause (Leave last) (Left stood) f p = after stood (On (InAcquire (ForWait wait (Some cause)) (AcquireLoad AsFresh))) (On (InWait wait (InLeaving cause AwaitWakeToLeave))) tt tt
-  leave_next wait cause AwaitWakeToLeave (Flag v) f p = after (v == 1) (Idle (InWait wait (InLeaving cause AwaitWakeToLeave))) (On (InAcquire (ForWait wait (kept_in wait.on cause)) (AcquireLoad (arrival_of 0 v)))) tt tt
+  leave_next wait cause (Leave last) (Left stood) f p = after stood (On (InAcquire (ForWait wait (Ended cause)) (AcquireLoad AsFresh))) (On (InWait wait (InLeaving cause AwaitWakeToLeave))) tt tt
+  leave_next wait cause AwaitWakeToLeave (Flag v) f p = after (v == 1) (Idle (InWait wait (InLeaving cause AwaitWakeToLeave))) (On (InAcquire (ForWait wait (outcome_taken wait.on cause v)) (AcquireLoad (arrival_of 0 v)))) tt tt
   leave_next wait cause place found f p = p
 
   wait_next : (N : ℕ) (wait : Wait C) (place : WaitPlace) (found : Found) → FoundFits found → Seen (Some (InWait wait place)) → Seen (walk_after (got_waiting N wait place found))
@@ -223,7 +225,7 @@ module _ (C : Type 0) where
   wait_next N wait (TestLast visit i) (Tested is_met) f p = after is_met (Done (Answered Met)) (unmet_by wait visit) tt (unmet_seen wait visit)
   wait_next N wait (InQueuing again place) found f p = queue_next N wait again place found f p
   wait_next N wait PayInWait (Paid owes) f p = after owes (On (InWait wait PayInWait)) (On (InWait wait AwaitWakeInWait)) tt tt
-  wait_next N wait AwaitWakeInWait (Flag v) f p = after (v == 1) (rest_or_look wait) (On (InAcquire (ForWait wait None) (AcquireLoad (arrival_of 0 v)))) (after (is_limited wait.limits) (On (InWait wait LookOut)) (Idle (InWait wait AwaitWakeInWait)) tt tt) tt
+  wait_next N wait AwaitWakeInWait (Flag v) f p = after (v == 1) (rest_or_look wait) (On (InAcquire (ForWait wait (woken_by wait.on v)) (AcquireLoad (arrival_of 0 v)))) (after (is_limited wait.limits) (On (InWait wait LookOut)) (Idle (InWait wait AwaitWakeInWait)) tt tt) tt
   wait_next N wait LookOut (Looked None) f p = tt
   wait_next N wait LookOut (Looked (Some cause)) f p = tt
   wait_next N wait (InLeaving cause place) found f p = leave_next wait cause place found f p

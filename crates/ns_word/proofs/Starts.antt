@@ -118,7 +118,7 @@ module _ (C : Type 0) (N : ℕ) where
     variables_tell = record { own = λ k low. nobody_waits (VariableWaiterFits (λ seat. Idle) (fresh 0 seats) k) k; all = λ k seat mode e. absurd (cc) };
     desig_on_its_way = λ e. absurd (cc);
     idle_waiters_false = λ e f g. (refl, no_queuers 0 seats);
-    allfalse_true = λ e. absurd (cc);
+    all_false_true = λ e. absurd (cc);
     apart = apart 0 seats;
     words_seen = none_seen 0 seats;
   }

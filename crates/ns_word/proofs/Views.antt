@@ -8,9 +8,11 @@ use Rattle.ns_model.proofs.Tallies.{total_amid, every_parts, every_join}
 use Rattle.ns_model.specs.declared.event.Mode.{Mode}
 use Rattle.ns_model.specs.declared.phase.Phase.{Phase}
 use Rattle.ns_model.specs.declared.phase.Phase.TheVariants.{Idle, Cond, Waiting, Woken, Left}
-use Rattle.ns_word.specs.declared.limits.Cause.{Cause}
 use Rattle.ns_word.specs.declared.wait.Subject.{Subject}
 use Rattle.ns_word.specs.declared.wait.Subject.TheVariants.{OnCondition, OnVariable}
+use Rattle.ns_word.specs.declared.wait.Outcome.{Outcome}
+use Rattle.ns_word.specs.declared.wait.Outcome.TheVariants as TheOutcome
+use Rattle.ns_word.specs.declared.wait.Outcome.TheVariants.{Ended}
 use Rattle.ns_word.specs.declared.wait.Aim.{Aim}
 use Rattle.ns_word.specs.declared.wait.Aim.TheVariants.{ForLock, ForWait}
 use Rattle.ns_word.specs.declared.view.Opening.{Opening}
@@ -161,18 +163,18 @@ module _ {C : Type 0} {N : ℕ} where
 
 module _ {C : Type 0} where
   -- only one that waits for a variable is woken
-  kept_steady : (on : Subject C) (mode : Mode) (kept : Option Cause) → woken_phase (phase_kept on mode kept) ≡ phase_kept on mode kept
-  kept_steady (OnCondition c) mode kept = refl
-  kept_steady (OnVariable k) mode None = refl
-  kept_steady (OnVariable k) mode (Some cause) = refl
+  kept_steady : (on : Subject C) (mode : Mode) (outcome : Outcome) → woken_phase (phase_kept on mode outcome) ≡ phase_kept on mode outcome
+  kept_steady (OnCondition c) mode outcome = refl
+  kept_steady (OnVariable k) mode (TheOutcome.Woken by) = refl
+  kept_steady (OnVariable k) mode (Ended cause) = refl
 
   before_steady : (mode : Mode) (entry : Opening C) → woken_phase (phase_before mode entry) ≡ phase_before mode entry
   before_steady mode Locked = refl
-  before_steady mode (CameBack on kept) = kept_steady on mode kept
+  before_steady mode (CameBack on outcome) = kept_steady on mode outcome
 
   for_steady : (aim : Aim C) → woken_phase (phase_for aim) ≡ phase_for aim
   for_steady (ForLock mode) = refl
-  for_steady (ForWait wait kept) = kept_steady wait.on wait.mode kept
+  for_steady (ForWait wait outcome) = kept_steady wait.on wait.mode outcome
 
   woken_twice : (phase : Phase C) → woken_phase (woken_phase phase) ≡ woken_phase phase
   woken_twice Idle = refl

@@ -6,7 +6,7 @@ use Rattle.ns_model.specs.declared.event.Mode.TheVariants.{Read}
 use Rattle.ns_word.proofs.Answers.{acquire_looks_not, cells_look_not, judge_looks_not, leaver_looks_not, release_looks_not, signal_looks_not, try_looks_not}
 use Rattle.ns_word.proofs.Calls.{no_look}
 use Rattle.ns_word.specs.Answers.{cause_kept}
-use Rattle.ns_word.specs.Waits.{answer_of, arrival_of, kept_in}
+use Rattle.ns_word.specs.Waits.{answer_of, arrival_of, outcome_taken, woken_by}
 use Rattle.ns_word.specs.Walks.{calls_from_lock, got_of, judge_of, rest_or_look, walk_after, want_acquiring, want_in_cells, want_leaving, want_of, want_queuing, want_releasing, want_signaling, want_trying, want_waiting}
 use Rattle.ns_word.specs.Words.{may_acquire}
 use Rattle.ns_word.specs.declared.acquire_walk.AcquirePlace.{AcquirePlace}
@@ -161,8 +161,8 @@ module _ (C : Type 0) (N : ℕ) where
   -- who finds its flag cleared goes to acquire
   pub woken_acquires : (walk : Walk C) (v : ℕ) → want_of walk ≡ LoadFlag → v ≢ 1 → Acquires (got_of N walk (Flag v))
   woken_acquires (InAcquire aim (AwaitWake tries)) v e ne = cleared v (Idle (InAcquire aim (AwaitWake tries))) aim (arrival_of tries v) ne
-  woken_acquires (InWait wait AwaitWakeInWait) v e ne = cleared v (rest_or_look wait) (ForWait wait None) (arrival_of 0 v) ne
-  woken_acquires (InWait wait (InLeaving cause AwaitWakeToLeave)) v e ne = cleared v (Idle (InWait wait (InLeaving cause AwaitWakeToLeave))) (ForWait wait (kept_in wait.on cause)) (arrival_of 0 v) ne
+  woken_acquires (InWait wait AwaitWakeInWait) v e ne = cleared v (rest_or_look wait) (ForWait wait (woken_by wait.on v)) (arrival_of 0 v) ne
+  woken_acquires (InWait wait (InLeaving cause AwaitWakeToLeave)) v e ne = cleared v (Idle (InWait wait (InLeaving cause AwaitWakeToLeave))) (ForWait wait (outcome_taken wait.on cause v)) (arrival_of 0 v) ne
   woken_acquires (InTry mode TryLoad) v e ne = absurd (cc)
   woken_acquires (InTry mode (TryAcquire last)) v e ne = absurd (cc)
   woken_acquires (InAcquire aim (AcquireLoad arrival)) v e ne = absurd (cc)

@@ -10,11 +10,12 @@ use Rattle.ns_word.specs.declared.wait.WaitPlace.TheVariants.{TestCells, TestLas
 use Rattle.ns_word.specs.declared.wait.QueuePlace.TheVariants.{LookIn}
 use Rattle.ns_word.specs.declared.walk.Walk.{Walk}
 use Rattle.ns_word.specs.declared.walk.Walk.TheVariants.{InAcquire, InWait}
+use Rattle.ns_word.specs.Waits.{cause_in}
 
 -- the condition is tested after the lock was acquired again
 abbrev pub comes_back : Visit → Bool
 comes_back OnEntry = false
-comes_back (OnReturn kept) = true
+comes_back (OnReturn outcome) = true
 
 -- the place is one of a wait that has come back with the lock, and hasn't settled whether it is to answer or to queue again
 abbrev pub place_has_come_back : WaitPlace → Bool
@@ -36,12 +37,12 @@ is_back (Some walk) = has_come_back walk
 -- what ended the wait early that this acquire is for, if it is for one and anything did
 abbrev pub cause_for : {C : Type 0} → Aim C → Option Cause
 cause_for (ForLock mode) = None
-cause_for (ForWait wait kept) = kept
+cause_for (ForWait wait outcome) = cause_in outcome
 
 -- what ended the wait early before the condition is tested, if anything did
 abbrev pub cause_by : Visit → Option Cause
 cause_by OnEntry = None
-cause_by (OnReturn kept) = kept
+cause_by (OnReturn outcome) = cause_in outcome
 
 -- what ends the wait early, by its place
 abbrev pub place_cause_kept : WaitPlace → Option Cause

@@ -1,5 +1,6 @@
 -- What a call was asked to do, by its place.
 use Rattle.ns_word.specs.declared.word.Releasing.TheVariants.{QuietWriter}
+use Rattle.ns_word.specs.declared.wait.Aim.{Aim}
 use Rattle.ns_word.specs.declared.wait.Aim.TheVariants.{ForLock, ForWait}
 use Rattle.ns_word.specs.declared.cell_walk.Judging.{Judging}
 use Rattle.ns_word.specs.declared.cell_walk.Judging.TheVariants.{ToTell, ToRelease}
@@ -23,11 +24,15 @@ asked_in_cells (SetStore i v) = Set i v
 asked_in_cells (QuietCells judging i) = asked_to_judge judging
 asked_in_cells (QuietLast judging i) = asked_to_judge judging
 
--- an acquire belongs to the wait that comes back with it, if it is for one
+-- what a call was asked that acquires: it is one that locks, or a wait that comes back
+abbrev pub request_for : {C : Type 0} → Aim C → Request C
+request_for (ForLock mode) = Lock mode
+request_for (ForWait wait outcome) = Await wait
+
+-- what a call was asked that stands at this place
 abbrev pub asked_of : {C : Type 0} → Walk C → Request C
 asked_of (InTry mode place) = TryLock mode
-asked_of (InAcquire (ForLock mode) place) = Lock mode
-asked_of (InAcquire (ForWait wait kept) place) = Await wait
+asked_of (InAcquire aim place) = request_for aim
 asked_of (InRelease releasing place) = Release releasing
 asked_of (InCells place) = asked_in_cells place
 asked_of (InWait wait place) = Await wait

@@ -9,6 +9,7 @@ use Rattle.ns_word.specs.declared.wait.Subject.{Subject}
 use Rattle.ns_word.specs.declared.wait.Subject.TheVariants.{OnCondition, OnVariable}
 use Rattle.ns_word.specs.declared.wait.Visit.{Visit}
 use Rattle.ns_word.specs.declared.wait.Visit.TheVariants.{OnEntry, OnReturn}
+use Rattle.ns_word.specs.declared.wait.Outcome.{Outcome}
 use Rattle.ns_word.specs.declared.wait.Wait.{Wait}
 use Rattle.ns_word.specs.declared.wait.Aim.{Aim}
 use Rattle.ns_word.specs.declared.wait.Aim.TheVariants.{ForLock, ForWait}
@@ -31,7 +32,7 @@ use Rattle.ns_word.specs.declared.walk.Walk.TheVariants.{InTry, InAcquire, InRel
 use Rattle.ns_word.specs.declared.walk.Next.{Next}
 use Rattle.ns_word.specs.declared.walk.Next.TheVariants.{On, Idle, Done}
 use Rattle.ns_word.specs.Asked.{asked_of}
-use Rattle.ns_word.specs.Waits.{is_limited}
+use Rattle.ns_word.specs.Waits.{cause_in, is_limited}
 use Rattle.ns_word.specs.Places.{IsUnmet}
 use Rattle.ns_word.specs.Steps.{section_of, exit_for}
 use Rattle.ns_word.specs.Meanings.{Course, Unchanged, HasReleased, HasWoken, Means}
@@ -52,15 +53,15 @@ course_after found commits course = record { began = course.began; committed = c
 -- a wait for a variable that leaves early has told so, once something has ended it
 abbrev pub left_by : {C : Type 0} {N : ℕ} → ℕ → Subject C → Option Cause → List (Event C N)
 left_by seat (OnVariable k) (Some cause) = TheEvent.Leave seat k ∷ []
-left_by seat on kept = []
+left_by seat on ended = []
 
 -- A wait has left the section that the call began with, of whose row its condition was false, if it is for one: that was committed, with what it waits for as its exit, and nothing else but that it left a variable early.
-pub record HasLeft {C : Type 0} {N : ℕ} (truths : Truths C) (seat : ℕ) (wait : Wait C) (kept : Option Cause) (course : Course C N) : Type 0 where
+pub record HasLeft {C : Type 0} {N : ℕ} (truths : Truths C) (seat : ℕ) (wait : Wait C) (ended : Option Cause) (course : Course C N) : Type 0 where
   pub was : Held C N
   pub began : course.began ≡ Some was
   pub mode : was.mode ≡ wait.mode
   pub unmet : IsUnmet truths wait.on was.row
-  pub committed : course.committed ≡ section_of truths.holds seat was (exit_for wait.on) ∷ left_by seat wait.on kept
+  pub committed : course.committed ≡ section_of truths.holds seat was (exit_for wait.on) ∷ left_by seat wait.on ended
 
 -- a cause that a place keeps is the one that the last look has shown; a place that keeps none says nothing of it
 abbrev pub KeptFits : Option (Option Cause) → Option Cause → Type 0
@@ -77,15 +78,15 @@ abbrev pub QueuesAfter : {C : Type 0} → Wait C → QueuePlace → Option (Opti
 QueuesAfter wait LookIn looked = Unit {0}
 QueuesAfter wait place looked = HasLookedFor wait.on wait.limits looked
 
--- the wait has come back, or is about to acquire so that it does, and has kept this
-pub record IsComing {C : Type 0} {N : ℕ} (truths : Truths C) (seat : ℕ) (wait : Wait C) (kept : Option Cause) (course : Course C N) : Type 0 where
-  pub left : HasLeft truths seat wait kept course
-  pub shown : KeptFits course.looked kept
+-- the wait has come back, or is about to acquire so that it does, and this came of it
+pub record IsComing {C : Type 0} {N : ℕ} (truths : Truths C) (seat : ℕ) (wait : Wait C) (outcome : Outcome) (course : Course C N) : Type 0 where
+  pub left : HasLeft truths seat wait (cause_in outcome) course
+  pub shown : KeptFits course.looked (cause_in outcome)
 
 -- a wait tests its condition as the call begins, or after it came back
 abbrev pub TestsSoFar : {C : Type 0} {N : ℕ} → Truths C → ℕ → Wait C → Visit → Course C N → Option (Held C N) → Type 0
 TestsSoFar truths seat wait OnEntry course held = Unchanged course held
-TestsSoFar truths seat wait (OnReturn kept) course held = IsComing truths seat wait kept course
+TestsSoFar truths seat wait (OnReturn outcome) course held = IsComing truths seat wait outcome course
 
 -- a wait is about to queue for the first time, or again after it came back and found its condition false
 abbrev pub QueuesSoFar : {C : Type 0} {N : ℕ} → Truths C → ℕ → Wait C → Bool → Course C N → Option (Held C N) → Type 0
@@ -103,7 +104,7 @@ WaitSoFar truths seat wait place course held = HasLeft truths seat wait None cou
 -- an acquire for a lock has changed nothing; one for a wait comes back
 abbrev pub AcquireSoFar : {C : Type 0} {N : ℕ} → Truths C → ℕ → Aim C → Course C N → Option (Held C N) → Type 0
 AcquireSoFar truths seat (ForLock mode) course held = Unchanged course held
-AcquireSoFar truths seat (ForWait wait kept) course held = IsComing truths seat wait kept course
+AcquireSoFar truths seat (ForWait wait outcome) course held = IsComing truths seat wait outcome course
 
 -- a release has changed nothing until it owes wakes alone: then it has released
 abbrev pub ReleaseSoFar : {C : Type 0} {N : ℕ} → Truths C → ℕ → Releasing → ReleasePlace → Course C N → Option (Held C N) → Type 0

@@ -44,7 +44,7 @@ ReadersCounted word views = word.readers ≡ readers views
 -- the phase that a section comes from
 abbrev pub phase_before : {C : Type 0} → Mode → Opening C → Phase C
 phase_before mode Locked = Idle
-phase_before mode (CameBack on kept) = phase_kept on mode kept
+phase_before mode (CameBack on outcome) = phase_kept on mode outcome
 
 -- a section in hand begins where the history has left the row and its seat, its row is the row's cells, and a reader changes nothing
 pub record HeldFits {C : Type 0} {N : ℕ} (now : Standing C) (row : List ℕ) (seat : ℕ) (held : Held C N) : Type 0 where
@@ -150,7 +150,7 @@ pub record VariablesTell {C : Type 0} {N : ℕ} (phases : ℕ → Phase C) (list
 
 -- ---- nobody is forgotten
 
--- Where the designated bit is set, some seat is on its way that a scan took from the lock list.
+-- Where the `desig` bit is set, some seat is on its way that a scan took from the lock list.
 abbrev pub DesigOnItsWay : {C : Type 0} {N : ℕ} → Word → (ℕ → ℕ) → List (SeatView C N) → Type 0
 DesigOnItsWay word flags views = word.desig ≡ true → (seat : ℕ) × (is_on_way (walk_at seat views) (flags seat) (called_to seat views) ≡ true)
 
@@ -163,8 +163,8 @@ abbrev pub IdleWaitersFalse : {C : Type 0} {N : ℕ} → (C → List ℕ → Boo
 IdleWaitersFalse holds row word lock views = word.write ≡ false → word.readers ≡ 0 → word.desig ≡ false → NobodyCouldGoOn holds row lock views
 
 -- Where the word says that all conditions are false, they are, of the row that the history left.
-abbrev pub AllfalseTrue : {C : Type 0} {N : ℕ} → (C → List ℕ → Bool) → List ℕ → Word → List (Waiter C) → List (SeatView C N) → Type 0
-AllfalseTrue holds row word lock views = word.all_false ≡ true → NobodyCouldGoOn holds row lock views
+abbrev pub AllFalseTrue : {C : Type 0} {N : ℕ} → (C → List ℕ → Bool) → List ℕ → Word → List (Waiter C) → List (SeatView C N) → Type 0
+AllFalseTrue holds row word lock views = word.all_false ≡ true → NobodyCouldGoOn holds row lock views
 
 -- The word that a seat has last seen has a number, so that an exchange can compare it with the lock's.
 abbrev pub WordsSeen : {C : Type 0} {N : ℕ} → List (SeatView C N) → Type 0
@@ -182,6 +182,6 @@ pub record IsLawful {C : Type 0} {N : ℕ} (truths : Truths C) (seats : ℕ) (hi
   pub variables_tell : VariablesTell (standing_after history).phases s.lists s.views
   pub desig_on_its_way : DesigOnItsWay s.word s.flags s.views
   pub idle_waiters_false : IdleWaitersFalse truths.holds (standing_after history).row s.word s.lists.lock s.views
-  pub allfalse_true : AllfalseTrue truths.holds (standing_after history).row s.word s.lists.lock s.views
+  pub all_false_true : AllFalseTrue truths.holds (standing_after history).row s.word s.lists.lock s.views
   pub apart : AreApart s.views
   pub words_seen : WordsSeen s.views

@@ -6,9 +6,10 @@ use Rattle.ns_queue.specs.Queues.{IsList, times}
 use Rattle.ns_word.specs.declared.word.Releasing.{Releasing}
 use Rattle.ns_word.specs.declared.word.Releasing.TheVariants.{Writer, QuietWriter, Reader}
 use Rattle.ns_word.specs.declared.view.Held.{Held}
-use Rattle.ns_word.specs.declared.limits.Cause.{Cause}
 use Rattle.ns_word.specs.declared.wait.Subject.{Subject}
 use Rattle.ns_word.specs.declared.wait.Subject.TheVariants.{OnCondition, OnVariable}
+use Rattle.ns_word.specs.declared.wait.Outcome.{Outcome}
+use Rattle.ns_word.specs.declared.wait.Outcome.TheVariants.{Woken}
 use Rattle.ns_word.specs.declared.wait.Wait.{Wait}
 use Rattle.ns_word.specs.declared.wait.Visit.{Visit}
 use Rattle.ns_word.specs.declared.wait.Visit.TheVariants.{OnEntry, OnReturn}
@@ -40,7 +41,7 @@ use Rattle.ns_word.specs.declared.act.Change.TheVariants.{QueueSelf, LeaveSelf, 
 use Rattle.ns_word.specs.declared.act.Act.{Act}
 use Rattle.ns_word.specs.declared.act.Act.TheVariants.{LoadWord, Acquire, TakeQueues, ReturnQueues, Release, ReleaseReturning, WaitReturning, LoadCell, JudgeQuiet, JudgeMet, StoreCell, ArmFlag, PayWake, LoadFlag, Look}
 use Rattle.ns_word.specs.Words.{mode_released, may_acquire, needs_scan}
-use Rattle.ns_word.specs.Waits.{mode_for}
+use Rattle.ns_word.specs.Waits.{OutcomeFits, cause_in, mode_for}
 use Rattle.ns_word.specs.Answers.{place_cause_kept}
 use Rattle.ns_model.specs.Truths.{Truths}
 use Rattle.ns_word.specs.Steps.{MayShow, Part}
@@ -53,8 +54,8 @@ HasMode mode (Some held) = held.mode ≡ mode
 -- How a section began is settled: it came back from no wait for a condition, or something has ended the wait, or the condition is true of the row that the section began at.
 abbrev pub IsSettledBy : {C : Type 0} → (C → List ℕ → Bool) → List ℕ → Opening C → Type 0
 IsSettledBy holds before Locked = Unit {0}
-IsSettledBy holds before (CameBack (OnCondition c) None) = holds c before ≡ true
-IsSettledBy holds before (CameBack on kept) = Unit {0}
+IsSettledBy holds before (CameBack (OnCondition c) (Woken by)) = holds c before ≡ true
+IsSettledBy holds before (CameBack on outcome) = Unit {0}
 
 -- so it is of the section in hand, if there is one; an open one isn't committed
 abbrev pub IsSettled : {C : Type 0} {N : ℕ} → Truths C → Option (Held C N) → Type 0
@@ -72,10 +73,11 @@ abbrev pub CanLeave : {C : Type 0} {N : ℕ} → Truths C → Releasing → Opti
 CanLeave truths releasing None = ⊥
 CanLeave truths releasing (Some held) = (held.mode ≡ mode_released releasing) × IsLeft truths releasing held × IsSettledBy truths.holds held.before held.entry
 
--- the section in hand came back from this wait, and nothing has changed in it: it goes by what ended the wait, if anything did
-pub record ComesBack {C : Type 0} {N : ℕ} (wait : Wait C) (kept : Option Cause) (held : Held C N) : Type 0 where
-  pub entry : held.entry ≡ CameBack wait.on kept
+-- the section in hand came back from this wait, and nothing has changed in it: it goes by what came of the wait
+pub record ComesBack {C : Type 0} {N : ℕ} (wait : Wait C) (outcome : Outcome) (held : Held C N) : Type 0 where
+  pub entry : held.entry ≡ CameBack wait.on outcome
   pub cells : held.row ≡ held.before
+  pub fits : OutcomeFits wait.on outcome
 
 -- the wait is for a condition
 abbrev pub IsForCondition : {C : Type 0} → Subject C → Type 0
@@ -91,24 +93,24 @@ IsUnmet truths (OnVariable k) row = k < 4
 abbrev pub Tests : {C : Type 0} {N : ℕ} → Truths C → Wait C → Visit → Option (Held C N) → Type 0
 Tests truths wait visit None = ⊥
 Tests truths wait OnEntry (Some held) = (held.mode ≡ wait.mode) × IsSettledBy truths.holds held.before held.entry
-Tests truths wait (OnReturn kept) (Some held) = (held.mode ≡ wait.mode) × ComesBack wait kept held
+Tests truths wait (OnReturn outcome) (Some held) = (held.mode ≡ wait.mode) × ComesBack wait outcome held
 
 -- a wait is about to queue: its condition, if it is for one, is false of the section in hand, which is settled, or which it came back with if it queues again
 pub record MayWait {C : Type 0} {N : ℕ} (truths : Truths C) (wait : Wait C) (again : Bool) (held : Held C N) : Type 0 where
   pub mode : held.mode ≡ wait.mode
   pub unmet : IsUnmet truths wait.on held.row
   pub settled : again ≡ false → IsSettledBy truths.holds held.before held.entry
-  pub back : again ≡ true → IsForCondition wait.on × ComesBack wait None held
+  pub back : again ≡ true → IsForCondition wait.on × ComesBack wait (Woken None) held
 
 -- a wait that is about to queue has a section in its own mode, of whose row its condition is false; one that queues again has not changed the row
 abbrev pub CanWait : {C : Type 0} {N : ℕ} → Truths C → Wait C → Bool → Option (Held C N) → Type 0
 CanWait truths wait again None = ⊥
 CanWait truths wait again (Some held) = MayWait truths wait again held
 
--- an acquire for a wait keeps only a cause that the wait was given
+-- what came of a wait that comes back goes with what it is for, and it was ended only by a cause that it was given
 abbrev pub AimFits : {C : Type 0} → Aim C → Type 0
 AimFits (ForLock mode) = Unit {0}
-AimFits (ForWait wait kept) = MayShow wait.limits kept
+AimFits (ForWait wait outcome) = OutcomeFits wait.on outcome × MayShow wait.limits (cause_in outcome)
 
 -- what a try has seen
 abbrev pub TryFits : Mode → TryPlace → Type 0

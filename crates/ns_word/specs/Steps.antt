@@ -25,6 +25,7 @@ use Rattle.ns_word.specs.declared.limits.Cause.{Cause}
 use Rattle.ns_word.specs.declared.limits.Cause.TheVariants.{Expired, Notified}
 use Rattle.ns_word.specs.declared.wait.Subject.{Subject}
 use Rattle.ns_word.specs.declared.wait.Subject.TheVariants.{OnCondition, OnVariable}
+use Rattle.ns_word.specs.declared.wait.Outcome.TheVariants.{Woken, Ended}
 use Rattle.ns_word.specs.declared.wait.Wait.{Wait}
 use Rattle.ns_word.specs.declared.wait.Aim.{Aim}
 use Rattle.ns_word.specs.declared.wait.Aim.TheVariants.{ForLock, ForWait}
@@ -53,7 +54,7 @@ use Rattle.ns_word.specs.declared.act.Act.TheVariants.{LoadWord, Acquire, TakeQu
 use Rattle.ns_word.specs.declared.act.Found.{Found}
 use Rattle.ns_word.specs.declared.act.Found.TheVariants.{Saw, Made, Cell, Quiet, Tested, Scanned, Paid, Left, Woke, Flag, Looked}
 use Rattle.ns_word.specs.Words.{is_held, is_woken, tries_of, mode_released, releasing_of, may_acquire, word_acquired, word_taken, word_returned, word_released, word_released_returning}
-use Rattle.ns_word.specs.Waits.{answer_of, answer_kept, home_of, mode_for}
+use Rattle.ns_word.specs.Waits.{answer_of, answer_of_wait, home_of, mode_for}
 use Rattle.ns_word.specs.Lists.{has_some, bits_of, queued}
 use Rattle.ns_word.specs.Walks.{want_of, got_of, walk_after}
 
@@ -77,9 +78,9 @@ pub record Part (C : Type 0) (N : ℕ) : Type 0 where
 -- How a section is said to begin in the history. A wait for a condition that came back is said to have met it where it is true of the row that the section began at, or where nothing has ended the wait; else it is said to have been ended by its cause. A wait for a variable says what it was ended by, or that it was woken.
 abbrev pub entry_of : {C : Type 0} → (C → List ℕ → Bool) → List ℕ → Opening C → Entry C
 entry_of holds before Locked = Plain
-entry_of holds before (CameBack (OnCondition c) None) = Waited c Met
-entry_of holds before (CameBack (OnCondition c) (Some cause)) = Waited c (if holds c before then Met else answer_of cause)
-entry_of holds before (CameBack (OnVariable k) kept) = AfterCv k (answer_kept kept)
+entry_of holds before (CameBack (OnCondition c) (Woken by)) = Waited c Met
+entry_of holds before (CameBack (OnCondition c) (Ended cause)) = Waited c (if holds c before then Met else answer_of cause)
+entry_of holds before (CameBack (OnVariable k) outcome) = AfterCv k (answer_of_wait outcome)
 
 -- the event that a section is, where it ends so
 abbrev pub section_of : {C : Type 0} {N : ℕ} → (C → List ℕ → Bool) → ℕ → Held C N → Exit C → Event C N
@@ -88,7 +89,7 @@ section_of holds seat held exit = Section seat held.mode (entry_of holds held.be
 -- how a section begins that is acquired for this
 abbrev pub opening_for : {C : Type 0} → Aim C → Opening C
 opening_for (ForLock mode) = Locked
-opening_for (ForWait wait kept) = CameBack wait.on kept
+opening_for (ForWait wait outcome) = CameBack wait.on outcome
 
 -- a section as it begins at a row
 abbrev pub newly_held : {C : Type 0} {N : ℕ} → Aim C → List ℕ → Held C N
@@ -97,7 +98,7 @@ newly_held aim row = record { mode = mode_for aim; entry = opening_for aim; befo
 -- a section that came back from a wait, once it is known what ended that
 abbrev pub opening_by : {C : Type 0} → Cause → Opening C → Opening C
 opening_by cause Locked = Locked
-opening_by cause (CameBack on was) = CameBack on (Some cause)
+opening_by cause (CameBack on was) = CameBack on (Ended cause)
 
 -- the section in hand, once it is known what ended its wait
 abbrev pub held_by : {C : Type 0} {N : ℕ} → Cause → Option (Held C N) → Option (Held C N)

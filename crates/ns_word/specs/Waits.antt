@@ -1,5 +1,5 @@
 -- Waits, for a condition or for a condition variable.
-use Rattle.std.specs.Prelude.{ℕ, Bool, ◌||◌, ◌==◌, if◌then◌else◌, is_some, Option, None, Some}
+use Rattle.std.specs.Prelude.{◌≡◌, ℕ, Bool, ◌||◌, ◌==◌, if◌then◌else◌, is_some, Option, None, Some}
 use Rattle.ns_model.specs.declared.event.Mode.{Mode}
 use Rattle.ns_model.specs.declared.event.Answer.{Answer}
 use Rattle.ns_model.specs.declared.event.Answer.TheVariants.{Met, TimedOut, Canceled}
@@ -14,6 +14,9 @@ use Rattle.ns_word.specs.declared.word.Arrival.{Arrival}
 use Rattle.ns_word.specs.declared.word.Arrival.TheVariants.{AsFresh, AsWoken}
 use Rattle.ns_word.specs.declared.wait.Subject.{Subject}
 use Rattle.ns_word.specs.declared.wait.Subject.TheVariants.{OnCondition, OnVariable}
+use Rattle.ns_word.specs.declared.wait.Outcome.{Outcome}
+use Rattle.ns_word.specs.declared.wait.Outcome.TheVariants as TheOutcome
+use Rattle.ns_word.specs.declared.wait.Outcome.TheVariants.{Ended}
 use Rattle.ns_word.specs.declared.wait.Aim.{Aim}
 use Rattle.ns_word.specs.declared.wait.Aim.TheVariants.{ForLock, ForWait}
 
@@ -22,10 +25,15 @@ abbrev pub answer_of : Cause → Answer
 answer_of Expired = TimedOut
 answer_of Notified = Canceled
 
--- what a wait for a variable answers: it was woken where nothing has ended it early
-abbrev pub answer_kept : Option Cause → Answer
-answer_kept None = Met
-answer_kept (Some cause) = answer_of cause
+-- what ended a wait early of which this came, if anything did
+abbrev pub cause_in : Outcome → Option Cause
+cause_in (TheOutcome.Woken by) = None
+cause_in (Ended cause) = Some cause
+
+-- what a wait for a variable answers of which this came
+abbrev pub answer_of_wait : Outcome → Answer
+answer_of_wait (TheOutcome.Woken by) = Met
+answer_of_wait (Ended cause) = answer_of cause
 
 -- how one comes to acquire that stood there with so many failed tries, and has found this value in its flag: 0 is the wake of one taken from the lock list
 abbrev pub arrival_of : ℕ → ℕ → Arrival
@@ -36,10 +44,29 @@ abbrev pub home_of : {C : Type 0} → Subject C → Which
 home_of (OnCondition c) = Lock
 home_of (OnVariable k) = Cv k
 
--- what such a wait keeps that was about to leave for this cause, and was taken from its list before
-abbrev pub kept_in : {C : Type 0} → Subject C → Cause → Option Cause
-kept_in (OnCondition c) cause = Some cause
-kept_in (OnVariable k) cause = None
+-- the variable whose wake such a wait has found by this value in its flag, if it is for one: the list in which it stood tells that already
+abbrev pub variable_by : {C : Type 0} → Subject C → ℕ → Option ℕ
+variable_by (OnCondition c) flag = None
+variable_by (OnVariable k) flag = Some k
+
+-- what came of such a wait that was woken, and has found this value in its flag
+abbrev pub woken_by : {C : Type 0} → Subject C → ℕ → Outcome
+woken_by on flag = TheOutcome.Woken (variable_by on flag)
+
+-- what came of such a wait that was about to leave for this cause, was taken from its list before, and has found this value in its flag: a wait for a variable was woken
+abbrev pub outcome_taken : {C : Type 0} → Subject C → Cause → ℕ → Outcome
+outcome_taken (OnCondition c) cause flag = Ended cause
+outcome_taken {C} (OnVariable k) cause flag = woken_by {C = C} (OnVariable k) flag
+
+-- such a wait is woken by a wake of its variable, if it is for one, and else by one of none
+abbrev pub IsWokenBy : {C : Type 0} → Subject C → Option ℕ → Type 0
+IsWokenBy (OnCondition c) by = by ≡ None
+IsWokenBy (OnVariable k) by = by ≡ Some k
+
+-- what may come of such a wait: any may be ended early
+abbrev pub OutcomeFits : {C : Type 0} → Subject C → Outcome → Type 0
+OutcomeFits on (TheOutcome.Woken by) = IsWokenBy on by
+OutcomeFits on (Ended cause) = Unit {0}
 
 -- something may end the wait early
 abbrev pub is_limited : Limits → Bool
@@ -48,15 +75,15 @@ is_limited limits = is_some limits.deadline || is_some limits.note
 -- the mode in which the lock is acquired
 abbrev pub mode_for : {C : Type 0} → Aim C → Mode
 mode_for (ForLock mode) = mode
-mode_for (ForWait wait kept) = wait.mode
+mode_for (ForWait wait outcome) = wait.mode
 
--- the phase of a seat whose wait for this comes back, with what ended it early, if anything did
-abbrev pub phase_kept : {C : Type 0} → Subject C → Mode → Option Cause → Phase C
-phase_kept (OnCondition c) mode kept = Cond c mode
-phase_kept (OnVariable k) mode None = Woken k mode
-phase_kept (OnVariable k) mode (Some cause) = Left k mode
+-- the phase of a seat whose wait for this comes back, with what came of it
+abbrev pub phase_kept : {C : Type 0} → Subject C → Mode → Outcome → Phase C
+phase_kept (OnCondition c) mode outcome = Cond c mode
+phase_kept (OnVariable k) mode (TheOutcome.Woken by) = Woken k mode
+phase_kept (OnVariable k) mode (Ended cause) = Left k mode
 
 -- the phase of a seat that acquires for this
 abbrev pub phase_for : {C : Type 0} → Aim C → Phase C
 phase_for (ForLock mode) = Idle
-phase_for (ForWait wait kept) = phase_kept wait.on wait.mode kept
+phase_for (ForWait wait outcome) = phase_kept wait.on wait.mode outcome

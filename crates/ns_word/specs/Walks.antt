@@ -15,6 +15,8 @@ use Rattle.ns_word.specs.declared.limits.Cause.{Cause}
 use Rattle.ns_word.specs.declared.wait.Subject.{Subject}
 use Rattle.ns_word.specs.declared.wait.Subject.TheVariants.{OnCondition, OnVariable}
 use Rattle.ns_word.specs.declared.wait.Wait.{Wait}
+use Rattle.ns_word.specs.declared.wait.Outcome.{Outcome}
+use Rattle.ns_word.specs.declared.wait.Outcome.TheVariants.{Woken, Ended}
 use Rattle.ns_word.specs.declared.wait.Aim.{Aim}
 use Rattle.ns_word.specs.declared.wait.Aim.TheVariants.{ForLock, ForWait}
 use Rattle.ns_word.specs.declared.wait.Visit.{Visit}
@@ -50,7 +52,7 @@ use Rattle.ns_word.specs.declared.walk.Reply.TheVariants.{Succeeded, Busy, Noisy
 use Rattle.ns_word.specs.declared.walk.Next.{Next}
 use Rattle.ns_word.specs.declared.walk.Next.TheVariants.{On, Idle, Done}
 use Rattle.ns_word.specs.Words.{is_woken, tries_of, may_acquire, needs_scan, word_taken}
-use Rattle.ns_word.specs.Waits.{answer_of, answer_kept, arrival_of, home_of, kept_in, is_limited, mode_for, phase_for}
+use Rattle.ns_word.specs.Waits.{answer_of, answer_of_wait, arrival_of, home_of, is_limited, mode_for, outcome_taken, phase_for, woken_by}
 
 -- ---- what a place wants
 
@@ -170,14 +172,14 @@ abbrev pub test_place : {C : Type 0} → ℕ → Wait C → Visit → ℕ → Wa
 test_place N wait visit loaded = if nat_lt loaded (N - 1) then InWait wait (TestCells visit loaded) else InWait wait (TestLast visit (N - 1))
 
 -- where a wait goes that has come back: one for a condition tests it, and one for a variable is over
-abbrev pub back_with : {C : Type 0} → ℕ → Subject C → Wait C → Option Cause → Next C
-back_with N (OnCondition c) wait kept = On (test_place N wait (OnReturn kept) 0)
-back_with N (OnVariable k) wait kept = Done (Answered (answer_kept kept))
+abbrev pub back_with : {C : Type 0} → ℕ → Subject C → Wait C → Outcome → Next C
+back_with N (OnCondition c) wait outcome = On (test_place N wait (OnReturn outcome) 0)
+back_with N (OnVariable k) wait outcome = Done (Answered (answer_of_wait outcome))
 
 -- where an acquire goes that was made
 abbrev pub acquired_for : {C : Type 0} → ℕ → Aim C → Next C
 acquired_for N (ForLock mode) = Done Succeeded
-acquired_for N (ForWait wait kept) = back_with N wait.on wait kept
+acquired_for N (ForWait wait outcome) = back_with N wait.on wait outcome
 
 -- a wait has to go on waiting, unless a look shows something
 abbrev pub look_or_queue : {C : Type 0} → Wait C → Bool → Next C
@@ -186,8 +188,8 @@ look_or_queue wait again = if is_limited wait.limits then On (InWait wait (InQue
 -- where a wait goes whose condition is false: one that came back because it was ended early answers that
 abbrev pub unmet_by : {C : Type 0} → Wait C → Visit → Next C
 unmet_by wait OnEntry = look_or_queue wait false
-unmet_by wait (OnReturn None) = look_or_queue wait true
-unmet_by wait (OnReturn (Some cause)) = Done (Answered (answer_of cause))
+unmet_by wait (OnReturn (Woken by)) = look_or_queue wait true
+unmet_by wait (OnReturn (Ended cause)) = Done (Answered (answer_of cause))
 
 -- where a wait that is about to queue goes by the word last seen
 abbrev pub queue_by : {C : Type 0} → Wait C → Bool → Word → Next C
@@ -300,9 +302,9 @@ got_leaving wait cause (TakeToLeave last) (Saw word) = leave_by wait cause word
 got_leaving wait cause (TakeToLeave last) Made = On (InWait wait (InLeaving cause (Leave (word_taken ToChange last))))
 got_leaving wait cause (Leave last) (Saw word) = On (InWait wait (InLeaving cause (Leave word)))
 got_leaving wait cause (Leave last) (Left stood) =
-    if stood then On (InAcquire (ForWait wait (Some cause)) (AcquireLoad AsFresh)) else On (InWait wait (InLeaving cause AwaitWakeToLeave))
+    if stood then On (InAcquire (ForWait wait (Ended cause)) (AcquireLoad AsFresh)) else On (InWait wait (InLeaving cause AwaitWakeToLeave))
 got_leaving wait cause AwaitWakeToLeave (Flag v) =
-    if v == 1 then Idle (InWait wait (InLeaving cause AwaitWakeToLeave)) else On (InAcquire (ForWait wait (kept_in wait.on cause)) (AcquireLoad (arrival_of 0 v)))
+    if v == 1 then Idle (InWait wait (InLeaving cause AwaitWakeToLeave)) else On (InAcquire (ForWait wait (outcome_taken wait.on cause v)) (AcquireLoad (arrival_of 0 v)))
 got_leaving wait cause place found = On (InWait wait (InLeaving cause place))
 
 -- where a wait goes
@@ -311,7 +313,7 @@ got_waiting N wait (TestCells visit i) (Cell v) = On (test_place N wait visit (i
 got_waiting N wait (TestLast visit i) (Tested is_met) = if is_met then Done (Answered Met) else unmet_by wait visit
 got_waiting N wait (InQueuing again place) found = got_queuing N wait again place found
 got_waiting N wait PayInWait (Paid owes) = pay_waiting wait owes
-got_waiting N wait AwaitWakeInWait (Flag v) = if v == 1 then rest_or_look wait else On (InAcquire (ForWait wait None) (AcquireLoad (arrival_of 0 v)))
+got_waiting N wait AwaitWakeInWait (Flag v) = if v == 1 then rest_or_look wait else On (InAcquire (ForWait wait (woken_by wait.on v)) (AcquireLoad (arrival_of 0 v)))
 got_waiting N wait LookOut (Looked None) = Idle (InWait wait AwaitWakeInWait)
 got_waiting N wait LookOut (Looked (Some cause)) = On (InWait wait (InLeaving cause LeaveLoad))
 got_waiting N wait (InLeaving cause place) found = got_leaving wait cause place found

@@ -4,7 +4,7 @@ ghost use Rattle.std.specs.Prelude.{◌≡◌, ◌≤◌};
 ghost use Rattle.ns_word.specs.Walks.{want_acquiring, got_acquiring, acquire_by, acquired_for};
 
 use crate::act::{Act, Change, Found};
-use crate::wait::{Aim, Subject, Visit, answer_kept, arrival_of};
+use crate::wait::{Aim, Subject, Visit, arrival_of};
 use crate::wait_walk::test_place;
 use crate::walk::{Next, Reply, Walk};
 use crate::word::{Arrival, Taking, Word};
@@ -46,11 +46,11 @@ fn acquired_for<C: Copy, const N: usize>(aim: Aim<C>) -> Next<C>
 {
     match aim {
         Aim::ForLock(_) => Next::Done(Reply::Succeeded),
-        Aim::ForWait(wait, kept) => match wait.on {
+        Aim::ForWait(wait, outcome) => match wait.on {
             Subject::OnCondition(_) => {
-                Next::On(test_place::<C, N>(wait, Visit::OnReturn(kept), 0))
+                Next::On(test_place::<C, N>(wait, Visit::OnReturn(outcome), 0))
             }
-            Subject::OnVariable(_) => Next::Done(Reply::Answered(answer_kept(kept))),
+            Subject::OnVariable(_) => Next::Done(Reply::Answered(outcome.answer())),
         },
     }
 }

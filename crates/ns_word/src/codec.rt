@@ -14,9 +14,9 @@ const SPIN: u64 = 2;
 
 const WAITING: u64 = 4;
 
-const DESIGNATED: u64 = 8;
+const DESIG: u64 = 8;
 
-const CONDITIONAL: u64 = 16;
+const COND: u64 = 16;
 
 const WRITER_WAITS: u64 = 32;
 
@@ -61,8 +61,8 @@ pub fn encode(word: Word) -> u64
     valued(word.write, WRITE)
         + valued(word.spin, SPIN)
         + valued(word.waiting, WAITING)
-        + valued(word.desig, DESIGNATED)
-        + valued(word.cond, CONDITIONAL)
+        + valued(word.desig, DESIG)
+        + valued(word.cond, COND)
         + valued(word.writer_waits, WRITER_WAITS)
         + valued(word.all_false, ALL_FALSE)
         + valued(word.long, LONG)
@@ -85,8 +85,8 @@ fn taken_apart(bits: u64) -> Word
         write: is_set(bits, WRITE),
         spin: is_set(bits, SPIN),
         waiting: is_set(bits, WAITING),
-        desig: is_set(bits, DESIGNATED),
-        cond: is_set(bits, CONDITIONAL),
+        desig: is_set(bits, DESIG),
+        cond: is_set(bits, COND),
         writer_waits: is_set(bits, WRITER_WAITS),
         all_false: is_set(bits, ALL_FALSE),
         long: is_set(bits, LONG),

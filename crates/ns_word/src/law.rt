@@ -13,6 +13,7 @@ ghost use Rattle.ns_queue.specs.declared.waiter.Waiter.{Waiter};
 ghost use Rattle.ns_queue.specs.Waiters.{is_long};
 ghost use Rattle.ns_word.specs.declared.limits.Cause.{Cause};
 ghost use Rattle.ns_word.specs.declared.wait.Aim.TheVariants.{ForWait};
+ghost use Rattle.ns_word.specs.declared.wait.Outcome.{Outcome};
 ghost use Rattle.ns_word.specs.declared.wait.Subject.TheVariants.{OnCondition, OnVariable};
 ghost use Rattle.ns_word.specs.declared.wait.Wait.{Wait};
 ghost use Rattle.ns_word.specs.declared.wait.WaitPlace.{WaitPlace};
@@ -128,9 +129,9 @@ pub fn waits_answer_rightly<C: Condition<N>, const N: usize>()
 /// A wait for a variable answers what its section says of how it began: that it was woken, or by
 /// what it was ended. Its section is in the mode that it was called in.
 pub fn variable_waits_answer_rightly<C: Condition<N>, const N: usize>()
-    ensures { (old new : State C N) (view : SeatView C N) (found : Found) (commits : List (Event C N)) (wait : Wait C) (kept : Option Cause) (place : AcquirePlace) (k : ℕ) (answer : Answer) →
+    ensures { (old new : State C N) (view : SeatView C N) (found : Found) (commits : List (Event C N)) (wait : Wait C) (outcome : Outcome) (place : AcquirePlace) (k : ℕ) (answer : Answer) →
         (step : Step C.means old view found new commits) →
-        step.walk ≡ InAcquire (ForWait wait kept) place → wait.on ≡ OnVariable k → got_of N step.walk found ≡ Done (Answered answer) →
+        step.walk ≡ InAcquire (ForWait wait outcome) place → wait.on ≡ OnVariable k → got_of N step.walk found ≡ Done (Answered answer) →
         (held : Held C N) × (step.held ≡ Some held) × (held.mode ≡ wait.mode) × (entry_of C.means.holds held.before held.entry ≡ AfterCv k answer) }
 {}
 

@@ -2,8 +2,7 @@
 
 ghost use Rattle.std.specs.Prelude.{◌≡◌, ⊤};
 
-use crate::limits::Cause;
-use crate::wait::Subject;
+use crate::wait::{Outcome, Subject};
 use crate::walk::Walk;
 use ns_model::event::Mode;
 use std::alloc::AllocError;
@@ -14,10 +13,10 @@ use std::collections::LinkedList;
 pub enum Opening<C> {
     /// A call locked.
     Locked,
-    /// A wait for this came back, with what ended it early, if anything did. A wait for a condition
-    /// is said to have met it where it is true of the row that the section began at. Where it isn't,
-    /// and nothing has ended the wait, the answer is open, and the section isn't committed.
-    CameBack(Subject<C>, Option<Cause>),
+    /// A wait for this came back, with what came of it. A wait for a condition is said to have met it
+    /// where it is true of the row that the section began at. Where it isn't, and nothing has ended
+    /// the wait, the answer is open, and the section isn't committed.
+    CameBack(Subject<C>, Outcome),
 }
 
 impl<C: Copy> Clone for Opening<C> {

@@ -1,7 +1,7 @@
 //! Waits, for a condition or for a condition variable.
 
 ghost use Rattle.std.specs.Prelude.{◌≡◌, ⊤};
-ghost use Rattle.ns_word.specs.Waits.{answer_kept, answer_of, arrival_of, home_of, is_limited, kept_in, mode_for};
+ghost use Rattle.ns_word.specs.Waits.{answer_of, answer_of_wait, arrival_of, home_of, is_limited, mode_for, outcome_taken, woken_by};
 
 use crate::limits::{Cause, Limits};
 use crate::word::{Arrival, Word};
@@ -49,13 +49,22 @@ impl<C: Copy> Clone for Wait<C> {
     }
 }
 
+/// What came of a wait.
+#[derive(Clone, Copy)]
+pub enum Outcome {
+    /// It was woken: by a wake of the variable of this number, if it is for one.
+    Woken(Option<u8>),
+    /// It was ended early.
+    Ended(Cause),
+}
+
 /// What an acquire is for.
 #[derive(Copy)]
 pub enum Aim<C> {
     /// For a call that locks in this mode.
     ForLock(Mode),
-    /// For a wait that comes back, with what ended it early, if anything did.
-    ForWait(Wait<C>, Option<Cause>),
+    /// For a wait that comes back, with what came of it.
+    ForWait(Wait<C>, Outcome),
 }
 
 impl<C: Copy> Clone for Aim<C> {
@@ -73,8 +82,8 @@ impl<C: Copy> Clone for Aim<C> {
 pub enum Visit {
     /// As the call begins.
     OnEntry,
-    /// After the lock was acquired again, with what ended the wait early, if anything did.
-    OnReturn(Option<Cause>),
+    /// After the lock was acquired again, with what came of the wait.
+    OnReturn(Outcome),
 }
 
 /// A place in a wait.
@@ -137,13 +146,15 @@ pub fn answer_of(cause: Cause) -> Answer
     }
 }
 
-/// What a wait for a variable answers, by what has ended it early, if anything has.
-pub fn answer_kept(kept: Option<Cause>) -> Answer
-    ensures { result ≡ answer_kept kept }
-{
-    match kept {
-        None => Answer::Met,
-        Some(cause) => answer_of(cause),
+impl Outcome {
+    /// What a wait for a variable answers of which this came.
+    pub fn answer(self) -> Answer
+        ensures { result ≡ answer_of_wait self }
+    {
+        match self {
+            Outcome::Woken(_) => Answer::Met,
+            Outcome::Ended(cause) => answer_of(cause),
+        }
     }
 }
 
@@ -170,14 +181,26 @@ impl<C: Copy> Subject<C> {
         }
     }
 
-    /// What such a wait keeps that was about to leave for this cause, and was taken from its list
-    /// before: a wait for a variable was woken, and one for a condition keeps the cause.
-    pub fn kept(self, cause: Cause) -> Option<Cause>
-        ensures { result ≡ kept_in self cause }
+    /// What came of such a wait that was woken, and has found this value in its flag. The list in
+    /// which it stood tells the variable already, so the flag isn't read for that.
+    pub fn woken_by(self, _flag: u8) -> Outcome
+        ensures { result ≡ woken_by self _flag }
     {
         match self {
-            Subject::OnCondition(_) => Some(cause),
-            Subject::OnVariable(_) => None,
+            Subject::OnCondition(_) => Outcome::Woken(None),
+            Subject::OnVariable(k) => Outcome::Woken(Some(k)),
+        }
+    }
+
+    /// What came of such a wait that was about to leave for this cause, was taken from its list
+    /// before, and has found this value in its flag: a wait for a variable was woken, and one for a
+    /// condition was ended by the cause.
+    pub fn outcome_taken(self, cause: Cause, flag: u8) -> Outcome
+        ensures { result ≡ outcome_taken self cause flag }
+    {
+        match self {
+            Subject::OnCondition(_) => Outcome::Ended(cause),
+            Subject::OnVariable(_) => self.woken_by(flag),
         }
     }
 }

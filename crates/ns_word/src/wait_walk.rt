@@ -21,11 +21,12 @@
 //! | | `Leave` | has the queues | put the queues back without oneself | `AcquireLoad`, fresh, if one still stood there; else `AwaitWakeToLeave` |
 //! | | `AwaitWakeToLeave` | was taken before it could leave | load one's own flag | cleared: `AcquireLoad` as above, and a wait for a variable has been woken; else idle, and again |
 //!
-//! The wait's decision, where its condition is false: over with the cause that it has kept, if it has
-//! one; else `LookIn`, if anything may end it early; else `Load`. An acquire is *for* a lock or for a
-//! wait (`Aim`): the latter goes on with the test. What a wait answers early is open until the section
-//! is committed: the section in hand keeps the cause (`Opening`), and the event says 'met' where the
-//! condition is true of the row that the section began at.
+//! The wait's decision, where its condition is false: over with the cause that has ended it early, if
+//! one has; else `LookIn`, if anything may end it early; else `Load`. An acquire is *for* a lock or for
+//! a wait (`Aim`): the latter goes on with the test, and with what came of the wait (`Outcome`). What a
+//! wait answers early is open until the section is committed: the section in hand keeps the outcome
+//! (`Opening`), and the event says 'met' where the condition is true of the row that the section began
+//! at.
 
 ghost use Rattle.std.specs.Prelude.{◌≡◌, ◌≤◌};
 ghost use Rattle.ns_word.specs.Waits.{arrival_of};
@@ -35,7 +36,7 @@ use crate::acquire_walk::AcquirePlace;
 use crate::act::{Act, Change, Found};
 use crate::limits::Cause;
 use crate::wait::{
-    Aim, LeavePlace, QueuePlace, Subject, Visit, Wait, WaitPlace, answer_of, arrival_of,
+    Aim, LeavePlace, Outcome, QueuePlace, Subject, Visit, Wait, WaitPlace, answer_of, arrival_of,
 };
 use crate::walk::{Next, Reply, Walk};
 use crate::word::{Arrival, Taking, Word};
@@ -69,13 +70,13 @@ fn look_or_queue<C: Copy>(wait: Wait<C>, again: bool) -> Next<C>
     }
 }
 
-/// Where a wait goes that has found this value in its flag and comes back: it acquires, and has not
-/// failed in that yet.
-fn acquire_woken<C: Copy>(wait: Wait<C>, kept: Option<Cause>, value: u8) -> Next<C>
-    ensures { result ≡ Next.On (Walk.InAcquire (Aim.ForWait wait kept) (AcquirePlace.AcquireLoad (arrival_of 0 value))) }
+/// Where a wait goes that has found this value in its flag and comes back, with what came of it: it
+/// acquires, and has not failed in that yet.
+fn acquire_woken<C: Copy>(wait: Wait<C>, outcome: Outcome, value: u8) -> Next<C>
+    ensures { result ≡ Next.On (Walk.InAcquire (Aim.ForWait wait outcome) (AcquirePlace.AcquireLoad (arrival_of 0 value))) }
 {
     let place = AcquirePlace::AcquireLoad(arrival_of(0, value));
-    Next::On(Walk::InAcquire(Aim::ForWait(wait, kept), place))
+    Next::On(Walk::InAcquire(Aim::ForWait(wait, outcome), place))
 }
 
 /// Where a wait goes whose condition is false.
@@ -84,8 +85,8 @@ fn unmet_by<C: Copy>(wait: Wait<C>, visit: Visit) -> Next<C>
 {
     match visit {
         Visit::OnEntry => look_or_queue(wait, false),
-        Visit::OnReturn(None) => look_or_queue(wait, true),
-        Visit::OnReturn(Some(cause)) => Next::Done(Reply::Answered(answer_of(cause))),
+        Visit::OnReturn(Outcome::Woken(_)) => look_or_queue(wait, true),
+        Visit::OnReturn(Outcome::Ended(cause)) => Next::Done(Reply::Answered(answer_of(cause))),
     }
 }
 
@@ -250,7 +251,7 @@ impl LeavePlace {
             }
             (LeavePlace::Leave(_), Found::Left(stood)) => {
                 if stood {
-                    let aim = Aim::ForWait(wait, Some(cause));
+                    let aim = Aim::ForWait(wait, Outcome::Ended(cause));
                     Next::On(Walk::InAcquire(aim, AcquirePlace::AcquireLoad(Arrival::AsFresh)))
                 } else {
                     let place = LeavePlace::AwaitWakeToLeave;
@@ -262,7 +263,7 @@ impl LeavePlace {
                     let place = LeavePlace::AwaitWakeToLeave;
                     Next::Idle(Walk::InWait(wait, WaitPlace::InLeaving(cause, place)))
                 } else {
-                    acquire_woken(wait, wait.on.kept(cause), value)
+                    acquire_woken(wait, wait.on.outcome_taken(cause, value), value)
                 }
             }
             (place, _) => Next::On(Walk::InWait(wait, WaitPlace::InLeaving(cause, place))),
@@ -308,7 +309,7 @@ impl WaitPlace {
                 if value == 1 {
                     rest_or_look(wait)
                 } else {
-                    acquire_woken(wait, None, value)
+                    acquire_woken(wait, wait.on.woken_by(value), value)
                 }
             }
             (WaitPlace::LookOut, Found::Looked(None)) => {

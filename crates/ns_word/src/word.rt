@@ -6,11 +6,11 @@
 //! One that can't acquire takes the waiter queues by setting the spinlock bit, puts itself into the lock
 //! list, puts the queues back, and waits for its own flag to be cleared.
 //!
-//! - **One designated waker is enough.** A release that wakes somebody sets the designated bit; while it
+//! - **One designated waker is enough.** A release that wakes somebody sets the `desig` bit; while it
 //!   is set, other releases wake nobody. The woken one clears it as it acquires or queues again, so from
 //!   then on a release looks at the list itself. So somebody is always on its way, or the next release
 //!   looks, and nobody is forgotten; and a lock that changes hands often wakes no crowd.
-//! - **When 'all false' may be believed.** A release that has the queues, tests the waiters' conditions
+//! - **When `all_false` may be believed.** A release that has the queues, tests the waiters' conditions
 //!   and takes nobody sets the bit: all wait for conditions that are false of the row which it leaves.
 //!   Whoever may change that clears it: an ordinary writer as it releases, and a waiter
 //!   without condition as it queues.

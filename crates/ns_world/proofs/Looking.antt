@@ -13,6 +13,8 @@ use Rattle.ns_word.specs.declared.word.Arrival.{Arrival}
 use Rattle.ns_word.specs.declared.word.Arrival.TheVariants.{AsFresh}
 use Rattle.ns_word.specs.declared.wait.Subject.{Subject}
 use Rattle.ns_word.specs.declared.wait.Subject.TheVariants.{OnCondition, OnVariable}
+use Rattle.ns_word.specs.declared.wait.Outcome.{Outcome}
+use Rattle.ns_word.specs.declared.wait.Outcome.TheVariants.{Woken, Ended}
 use Rattle.ns_word.specs.declared.wait.Wait.{Wait}
 use Rattle.ns_word.specs.declared.wait.Aim.{Aim}
 use Rattle.ns_word.specs.declared.wait.Aim.TheVariants.{ForLock, ForWait}
@@ -79,18 +81,18 @@ module _ {C : Type 0} (N : ℕ) (P : Option ℕ → Type 0) where
   test_noted : (wait : Wait C) (visit : Visit) (loaded : ℕ) → P wait.limits.note → Keeps P (On (test_place N wait visit loaded))
   test_noted wait visit loaded p = by_walks (nat_lt loaded (N - 1)) (record { note = p }) (record { note = p })
 
-  back_noted : (on : Subject C) (wait : Wait C) (kept : Option Cause) → P None → P wait.limits.note → Keeps P (back_with N on wait kept)
-  back_noted (OnCondition c) wait kept none p = test_noted wait (OnReturn kept) 0 p
-  back_noted (OnVariable k) wait kept none p = record { note = none }
+  back_noted : (on : Subject C) (wait : Wait C) (outcome : Outcome) → P None → P wait.limits.note → Keeps P (back_with N on wait outcome)
+  back_noted (OnCondition c) wait outcome none p = test_noted wait (OnReturn outcome) 0 p
+  back_noted (OnVariable k) wait outcome none p = record { note = none }
 
   acquired_noted : (aim : Aim C) → P None → P (note_for aim) → Keeps P (acquired_for N aim)
   acquired_noted (ForLock mode) none p = record { note = none }
-  acquired_noted (ForWait wait kept) none p = back_noted wait.on wait kept none p
+  acquired_noted (ForWait wait outcome) none p = back_noted wait.on wait outcome none p
 
   unmet_noted : (wait : Wait C) (visit : Visit) → P None → P wait.limits.note → Keeps P (unmet_by wait visit)
   unmet_noted wait OnEntry none p = by_two (is_limited wait.limits) (record { note = p }) (record { note = p })
-  unmet_noted wait (OnReturn None) none p = by_two (is_limited wait.limits) (record { note = p }) (record { note = p })
-  unmet_noted wait (OnReturn (Some cause)) none p = record { note = none }
+  unmet_noted wait (OnReturn (Woken by)) none p = by_two (is_limited wait.limits) (record { note = p }) (record { note = p })
+  unmet_noted wait (OnReturn (Ended cause)) none p = record { note = none }
 
   wait_noted : (wait : Wait C) (place : WaitPlace) (found : Found) → P None → P wait.limits.note → Keeps P (got_waiting N wait place found)
   wait_noted wait (TestCells visit i) (Cell v) none p = test_noted wait visit (i + 1) p

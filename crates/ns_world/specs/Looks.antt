@@ -47,7 +47,7 @@ AsksFor (Some walk) (Some place) = (limits : Limits) × (looks_at (want_of walk)
 -- the note that may end the wait that a seat is in
 abbrev pub note_for : {C : Type 0} → Aim C → Option ℕ
 note_for (ForLock mode) = None
-note_for (ForWait wait kept) = wait.limits.note
+note_for (ForWait wait outcome) = wait.limits.note
 
 -- the note that may end the wait of a seat at this place, if it is in a wait and a note was given
 abbrev pub note_in : {C : Type 0} → Option (Walk C) → Option ℕ

@@ -18,7 +18,7 @@ use ns_queue::waiter::Which;
 use ns_word::act::{Act, Change, Found, Waking};
 use ns_word::hand::{bits, leave_self, queue_self, scan_and_queue, wake_waiters};
 use ns_word::view::{Held, Opening};
-use ns_word::wait::{Aim, Subject, Wait, answer_kept, answer_of};
+use ns_word::wait::{Aim, Outcome, Subject, Wait, answer_of};
 use ns_word::word::{Arrival, Releasing, Taking, Word};
 use std::alloc::AllocError;
 
@@ -28,7 +28,7 @@ fn opening_for<C: Seated<N>, const N: usize>(aim: Aim<C>) -> Opening<C>
 {
     match aim {
         Aim::ForLock(_) => Opening::Locked,
-        Aim::ForWait(wait, kept) => Opening::CameBack(wait.on, kept),
+        Aim::ForWait(wait, outcome) => Opening::CameBack(wait.on, outcome),
     }
 }
 
@@ -240,15 +240,17 @@ fn entry<C: Seated<N>, const N: usize>(section: &Held<C, N>) -> Entry<C>
 {
     match section.entry {
         Opening::Locked => Entry::Plain,
-        Opening::CameBack(Subject::OnCondition(cond), None) => Entry::Waited(cond, Answer::Met),
-        Opening::CameBack(Subject::OnCondition(cond), Some(cause)) => {
+        Opening::CameBack(Subject::OnCondition(cond), Outcome::Woken(_)) => {
+            Entry::Waited(cond, Answer::Met)
+        }
+        Opening::CameBack(Subject::OnCondition(cond), Outcome::Ended(cause)) => {
             if cond.test(&section.before) {
                 Entry::Waited(cond, Answer::Met)
             } else {
                 Entry::Waited(cond, answer_of(cause))
             }
         }
-        Opening::CameBack(Subject::OnVariable(k), kept) => Entry::AfterCv(k, answer_kept(kept)),
+        Opening::CameBack(Subject::OnVariable(k), outcome) => Entry::AfterCv(k, outcome.answer()),
     }
 }
 

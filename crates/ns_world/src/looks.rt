@@ -19,6 +19,7 @@ use ns_word::act::{Act, Found};
 use ns_word::env_walk::{EnvNext, EnvWalk};
 use ns_word::limits::Cause;
 use ns_word::view::{Held, Opening};
+use ns_word::wait::Outcome;
 use ns_word::walk::Walk;
 
 /// A section that came back from a wait, once it is known what ended that.
@@ -27,7 +28,7 @@ fn opening_by<C: Seated<N>, const N: usize>(entry: Opening<C>, cause: Cause) -> 
 {
     match entry {
         Opening::Locked => Opening::Locked,
-        Opening::CameBack(on, _) => Opening::CameBack(on, Some(cause)),
+        Opening::CameBack(on, _) => Opening::CameBack(on, Outcome::Ended(cause)),
     }
 }
 

@@ -1,11 +1,25 @@
-use Rattle.std.proofs.Common.{rules, arith, refl}
+use Rattle.std.proofs.Common.{rules, arith, refl, ap, ◌+◌, ◌∙◌}
 use Rattle.ns_word.specs.declared.act.Act.TheVariants.{PayWake}
-use Rattle.ns_gate.proofs.Turns.{may_pay}
-use Rattle.ns_gate.proofs.Tells.{performed, meant_in}
+use Rattle.ns_gate.proofs.Tells.{owed_next}
 use Rattle.ns_gate.proofs.gate.Gate.pay_wake.Goals as goal
 
-pub store-requires : goal.store-requires
-store-requires g c = (search rules, (let below = c.requires.owed.1 in let at = c.flag_at-flag.ensures in omega (arith, below, at)), may_pay _ g.met.C.Condition.has_cells.0 g.met.C.Condition.quiet_keeps _ _ _ _ _ _ c.args.woken _ c.args.value (meant_in _ _ _ c.requires.can) c.flag_at-flag.ensures c.requires.owed.0 c.requires.can)
+pub store_at-requires : goal.store_at-requires
+store_at-requires g c = (
+  omega arith,
+  (
+    g.met.C.Gated.queues_fit,
+    (
+      search rules,
+      (
+        c.requires.of,
+        (
+          c.flag_at-flag.ensures.1,
+          record { act = PayWake c.args.value; can = c.requires.can; stores = refl; there = c.flag_at-flag.ensures.0 ∙ ap (λ n. n + (g.row.N + 1)) (owed_next c.args.woken _ c.requires.owed.0) },
+        ),
+      ),
+    ),
+  ),
+)
 
 pub returns-clause-did : goal.returns-clause-did
-returns-clause-did g c = performed _ _ _ (PayWake c.args.value) _ _ _ _ (meant_in _ _ _ c.requires.can) refl c.store.ensures.2
+returns-clause-did g c = (c.store_at.ensures.did (PayWake c.args.value) c.requires.can).made

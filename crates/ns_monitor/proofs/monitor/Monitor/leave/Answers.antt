@@ -1,54 +1,48 @@
-use Rattle.std.proofs.Common.{◌≡◌, ◌∙◌, ◌∷◌, [], ap, arith, nat_lt, refl, sym, None, Some}
+use Rattle.std.proofs.Common.{◌∙◌, ap, sym, subst, refl, arith, None, true, false}
 use Rattle.atomic_table.specs.Seated.{TableId}
-use Rattle.ns_gate.proofs.Calls.{from_here, then_at, works}
-use Rattle.ns_gate.specs.Calls.{IsAt}
+use Rattle.ns_gate.proofs.Calls.{since_then, works}
+use Rattle.ns_gate.specs.Calls.{HasSince, IsAt, Leads}
 use Rattle.ns_gate.specs.Steps.{the}
-use Rattle.ns_monitor.proofs.Locks.{same_number}
-use Rattle.ns_monitor.proofs.Waits.{still_there, stood_there, taken_before}
-use Rattle.ns_monitor.specs.Waits.{stood_in}
-use Rattle.ns_queue.specs.Queues.{waiters_of}
-use Rattle.ns_queue.specs.Waiters.{times_in}
-use Rattle.ns_word.specs.Lists.{bits_of}
-use Rattle.ns_word.specs.Steps.{changed}
-use Rattle.ns_word.specs.declared.acquire_walk.AcquirePlace.TheVariants.{AcquireLoad}
+use Rattle.ns_gate.specs.declared.queues.Returning.TheVariants.{Changed}
+use Rattle.ns_monitor.proofs.Standing.{hand_by, same_number, still_since}
+use Rattle.ns_monitor.proofs.Waits.{home_there, left_next, taken_next}
 use Rattle.ns_word.specs.declared.act.Change.TheVariants.{LeaveSelf}
-use Rattle.ns_word.specs.declared.wait.Aim.TheVariants.{ForWait}
+use Rattle.ns_word.specs.declared.request.Request.TheVariants.{Await}
 use Rattle.ns_word.specs.declared.wait.LeavePlace.TheVariants.{AwaitWakeToLeave, Leave}
 use Rattle.ns_word.specs.declared.wait.WaitPlace.TheVariants.{InLeaving}
-use Rattle.ns_word.specs.declared.walk.Walk.TheVariants.{InAcquire, InWait}
-use Rattle.ns_word.specs.declared.word.Arrival.TheVariants.{AsFresh}
+use Rattle.ns_word.specs.declared.walk.Walk.TheVariants.{InWait}
+use Rattle.ns_queue.specs.Queues.{IsList}
 use Rattle.ns_monitor.proofs.monitor.Monitor.leave.Given.{Over}
-use Rattle.ns_monitor.proofs.monitor.Monitor.leave.Goals.{After-leave_in_hand-stood}
+use Rattle.ns_monitor.proofs.monitor.Monitor.leave.Goals.{After-put_back}
 use Rattle.ns_monitor.proofs.monitor.Monitor.leave.Goals as goal
 
--- the wait is out of its list in hand
-taken_out : (g : Over) (c : After-leave_in_hand-stood g) → IsAt g.C.Condition.means None (InWait c.args.wait (InLeaving c.args.cause (Leave c.take_to_leave-word.result))) (the c.args.seat.now.me.0) c.leave_in_hand-stood.new.seat.me
-taken_out g c = let took = c.take_to_leave-word in
-    works g.C.Condition.means None (InWait c.args.wait (InLeaving c.args.cause (Leave took.result))) (the c.args.seat.now.me.0) took.new.seat.me c.leave_in_hand-stood.new.seat.me took.ensures.at refl c.leave_in_hand-stood.ensures.seat.1
+pub leave_in_hand-stood-requires : goal.leave_in_hand-stood-requires
+leave_in_hand-stood-requires g c = (omega arith, (g.met.C.Gated.queues_fit, (omega arith, (◌∙◌ {A = TableId} c.take-word.ensures.seat (sym c.self.view_is), (c.take-word.ensures.taken.taken, subst IsList (sym c.home-home.ensures) (home_there c.args.wait.on c.requires.range))))))
 
--- whether it stood there is what the seat knows of the list
-stood_is : (g : Over) (c : After-leave_in_hand-stood g) → c.leave_in_hand-stood.result.0 ≡ stood_in (the c.leave_in_hand-stood.new.seat.me.0) c.args.wait
-stood_is g c = let t = g.C.Condition.means in let me = c.args.seat.now.me in let me1 = c.take_to_leave-word.new.seat.me in let left = c.leave_in_hand-stood in
-    let number = (same_number t None (the me.0) c.args.number me me1 refl c.requires.number c.take_to_leave-word.ensures.at.since).0 in
-    stood_there t c.args.wait c.args.number left.result.0 me1 left.new.seat.me number left.ensures.seat.1 (left.ensures.stood ∙ ap (λ which. nat_lt 0 (times_in c.args.number (waiters_of (the me1.0).stood which))) c.home.ensures)
+pub put_back-requires : goal.put_back-requires
+put_back-requires g c = let t = g.C.Condition.means in let took = c.take-word in let left = c.leave_in_hand-stood in let me1 = took.new.seat.me in let e = left.ensures in
+    let hand = hand_by t (LeaveSelf c.home-home.result) c.args.number left.result.1 me1 left.new.seat.me (c.requires.number.0 ∙ sym took.ensures.since.seat) e.seat.1 (λ last. refl) e.lists e.bits in
+    (omega arith, (g.met.C.Gated.queues_fit, (omega arith, (◌∙◌ {A = TableId} e.seat.0 took.ensures.seat, (tt, (ap (λ w. Changed (LeaveSelf w)) c.home-home.ensures, (took.ensures.taken.packs, (works t (InWait c.args.wait (InLeaving c.args.cause (Leave took.result))) me1 left.new.seat.me took.ensures.taken.at refl e.seat.1, hand))))))))
 
-pub put_back_left-requires : goal.put_back_left-requires
-put_back_left-requires g c = let t = g.C.Condition.means in let me = c.args.seat.now.me in let took = c.take_to_leave-word in let left = c.leave_in_hand-stood in let me2 = left.new.seat.me in let same = left.ensures.seat.1 in
-    let at = taken_out g (goal.at.put_back_left-requires g c).After-leave_in_hand-stood in
-    let number = (same_number t None (the me.0) c.args.number me me2 refl c.requires.number at.since).0 in
-    (omega arith, (g.met.C.Gated.queues_fit, (omega arith, (◌∙◌ {A = TableId} left.ensures.seat.0 (◌∙◌ {A = TableId} took.ensures.seat c.requires.of), (took.ensures.word, (from_here t None (InWait c.args.wait (InLeaving c.args.cause (Leave took.result))) (the me.0) me2 at, ((λ last. left.ensures.lists last ∙ λ i. (0, changed (number i) (LeaveSelf (c.home.ensures i)) last (the (sym same i)).stood) ∷ []), (λ last. left.ensures.bits last ∙ λ i. bits_of (changed (number i) (LeaveSelf (c.home.ensures i)) last (the (sym same i)).stood).lock))))))))
+-- it came so far, and stands where its list tells
+since_back : (g : Over) (c : After-put_back g) → HasSince None (the c.args.seat.now.me.0) (the c.put_back.new.seat.me.0)
+since_back g c = since_then None _ _ _ (still_since g.C.Condition.means None _ c.take-word.new.seat.me c.leave_in_hand-stood.new.seat.me c.leave_in_hand-stood.ensures.seat.1 c.take-word.ensures.since) c.put_back.ensures.since
 
-pub await_wake_to_leave-requires : goal.await_wake_to_leave-requires
-await_wake_to_leave-requires g c = let t = g.C.Condition.means in let me = c.args.seat.now.me in let left = c.leave_in_hand-stood in let me2 = left.new.seat.me in let me3 = c.put_back_left.new.seat.me in let after = (goal.at.await_wake_to_leave-requires g c).After-leave_in_hand-stood in
-    let waits = InWait c.args.wait (InLeaving c.args.cause AwaitWakeToLeave) in
-    let at = then_at t None waits (the me.0) (the me2.0) me3 (taken_out g after).since (taken_before t c.args.wait c.args.cause left.result.0 (the me2.0) me3 (stood_is g after) c.if-stood.false c.put_back_left.ensures.left) in
-    (omega arith, (g.met.C.Gated.queues_fit, (omega arith, (◌∙◌ {A = TableId} c.put_back_left.ensures.seat (◌∙◌ {A = TableId} left.ensures.seat.0 (◌∙◌ {A = TableId} c.take_to_leave-word.ensures.seat c.requires.of)), (same_number t None (the me.0) c.args.number me me3 refl c.requires.number at.since, (c.requires.on, from_here t None waits (the me.0) me3 at))))))
+pub returns-then-stood-clause-since : goal.returns-then-stood-clause-since
+returns-then-stood-clause-since g c = since_back g (goal.at.returns-then-stood-clause-since g c).After-put_back
 
 pub returns-then-stood-clause-left : goal.returns-then-stood-clause-left
-returns-then-stood-clause-left g c = let t = g.C.Condition.means in let me2 = c.leave_in_hand-stood.new.seat.me in let me3 = c.put_back_left.new.seat.me in let after = (goal.at.returns-then-stood-clause-left g c).After-leave_in_hand-stood in
-    then_at t None (InAcquire (ForWait c.args.wait (Some c.args.cause)) (AcquireLoad AsFresh)) (the c.args.seat.now.me.0) (the me2.0) me3 (taken_out g after).since (still_there t c.args.wait c.args.cause c.leave_in_hand-stood.result.0 (the me2.0) me3 (stood_is g after) c.if-stood.true c.put_back_left.ensures.left)
+returns-then-stood-clause-left g c = let t = g.C.Condition.means in let took = c.take-word in let left = c.leave_in_hand-stood in
+    subst (λ next. Leads t (Await c.args.wait) next c.put_back.new.seat.me) (left_next t c.args.wait c.args.cause took.result c.home-home.result c.args.number left.result.0 true took.new.seat.me left.new.seat.me c.home-home.ensures (c.requires.number.0 ∙ sym took.ensures.since.seat) left.ensures.seat.1 left.ensures.stood c.if-stood.true) c.put_back.ensures.returned
 
-pub returns-else-stood-clause-left : goal.returns-else-stood-clause-left
-returns-else-stood-clause-left g c = let t = g.C.Condition.means in let v = the c.args.seat.now.me.0 in let me2 = c.leave_in_hand-stood.new.seat.me in let me3 = c.put_back_left.new.seat.me in let after = (goal.at.returns-else-stood-clause-left g c).After-leave_in_hand-stood in
-    let at = then_at t None (InWait c.args.wait (InLeaving c.args.cause AwaitWakeToLeave)) v (the me2.0) me3 (taken_out g after).since (taken_before t c.args.wait c.args.cause c.leave_in_hand-stood.result.0 (the me2.0) me3 (stood_is g after) c.if-stood.false c.put_back_left.ensures.left) in
-    then_at t None (InAcquire (ForWait c.args.wait (Some c.args.cause)) (AcquireLoad c.await_wake_to_leave.result)) v (the me3.0) c.await_wake_to_leave.new.seat.me at.since c.await_wake_to_leave.ensures.woken
+pub await_flag-flag-requires : goal.await_flag-flag-requires
+await_flag-flag-requires g c = let t = g.C.Condition.means in let took = c.take-word in let left = c.leave_in_hand-stood in
+    let at : IsAt t (InWait c.args.wait (InLeaving c.args.cause AwaitWakeToLeave)) c.put_back.new.seat.me = subst (λ next. Leads t (Await c.args.wait) next c.put_back.new.seat.me) (left_next t c.args.wait c.args.cause took.result c.home-home.result c.args.number left.result.0 false took.new.seat.me left.new.seat.me c.home-home.ensures (c.requires.number.0 ∙ sym took.ensures.since.seat) left.ensures.seat.1 left.ensures.stood c.if-stood.false) c.put_back.ensures.returned in
+    (omega arith, (g.met.C.Gated.queues_fit, (omega arith, (c.put_back.ensures.seat, (same_number t None c.args.number c.args.seat.now.me c.put_back.new.seat.me c.requires.number (since_back g (goal.at.await_flag-flag-requires g c).After-put_back), (record { loads = refl; free = refl; rests = refl }, at))))))
+
+pub returns-clause-since : goal.returns-clause-since
+returns-clause-since g c = since_then None _ _ _ (since_back g (goal.at.returns-clause-since g c).After-put_back) c.await_flag-flag.ensures.since
+
+pub returns-clause-left : goal.returns-clause-left
+returns-clause-left g c = let t = g.C.Condition.means in let flag = c.await_flag-flag.result in
+    taken_next t c.args.wait c.args.cause flag c.outcome_taken.result c.arrival_of.result c.await_flag-flag.new.seat.me c.await_flag-flag.ensures.cleared c.outcome_taken.ensures c.arrival_of.ensures c.await_flag-flag.ensures.woken

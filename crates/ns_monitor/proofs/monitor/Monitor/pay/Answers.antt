@@ -1,30 +1,35 @@
-use Rattle.atomic_table.specs.Seated.{TableId}
-use Rattle.std.proofs.Common.{◌∙◌, ◌+◌, arith, drop, get_or, refl, sym}
+use Rattle.std.proofs.Common.{◌∙◌, ◌+◌, arith, drop, get_or, refl, sym, None}
 use Rattle.std.proofs.lemmas.List.{drop_all, drop_more}
-use Rattle.ns_gate.proofs.Calls.{can_go}
+use Rattle.atomic_table.specs.Seated.{TableId}
+use Rattle.ns_gate.proofs.Calls.{can_go, since, since_itself, since_then}
 use Rattle.ns_gate.specs.Steps.{the}
-use Rattle.ns_monitor.proofs.Releases.{all_paid, can_pay, is_paid, owes_next}
-use Rattle.ns_word.specs.declared.release_walk.ReleasePlace.TheVariants.{Pay}
-use Rattle.ns_word.specs.declared.walk.Walk.TheVariants.{InRelease}
-use Rattle.std.proofs.Common.{None}
+use Rattle.ns_monitor.proofs.Standing.{all_paid, can_pay, is_paid, owes_next}
+use Rattle.ns_word.specs.Finds.{owes_more}
+use Rattle.ns_word.specs.declared.act.Act.TheVariants.{PayWake}
 use Rattle.ns_monitor.proofs.monitor.Monitor.pay.Goals as goal
 
 pub loop-number-init : goal.loop-number-init
-loop-number-init g c = (refl, c.requires.owed ∙ sym c.as_slice-number-items.ensures.value, c.requires.at)
+loop-number-init g c = (refl, c.requires.owed ∙ sym c.as_slice-number-items.ensures.value, since_itself (the c.args.seat.now.me.0), c.requires.at)
 
 pub pay_wake-requires : goal.pay_wake-requires
 pay_wake-requires g c = let t = g.C.Condition.means in let inv = c.loop-number.invariant in let i = c.loop-number.number-index in let items = c.as_slice-number-items.result.now in
     let some = inv.1 ∙ drop_more items i 0 c.loop-number-test.true in
-    let at = can_pay t c.args._releasing (the c.loop-number.seat.me.0).at.owed (get_or items i 0) (drop (i + 1) items) (the c.args.seat.now.me.0) c.loop-number.seat.me some inv.2 in
-    (omega arith, (g.met.C.Gated.queues_fit, (omega arith, (◌∙◌ {A = TableId} inv.0 (◌∙◌ {A = TableId} c.requires.of (sym c.self.view_is)), (owes_next t (get_or items i 0) (drop (i + 1) items) c.loop-number.seat.me some at.owes, can_go t None (InRelease c.args._releasing Pay) (the c.args.seat.now.me.0) c.loop-number.seat.me at)))))
+    let at = can_pay t c.args._walk c.args.value (get_or items i 0) (drop (i + 1) items) c.loop-number.seat.me c.requires.pays some inv.3 in
+    (omega arith, (g.met.C.Gated.queues_fit, (omega arith, (◌∙◌ {A = TableId} inv.0 (◌∙◌ {A = TableId} c.requires.of (sym c.self.view_is)), (owes_next t (get_or items i 0) (drop (i + 1) items) c.loop-number.seat.me some at.owes, can_go t c.args._walk (PayWake c.args.value) c.loop-number.seat.me c.requires.pays.pays at)))))
 
 pub loop-number-preserved : goal.loop-number-preserved
-loop-number-preserved g c = let t = g.C.Condition.means in let inv = c.loop-number.invariant in let i = c.loop-number.number-index in let items = c.as_slice-number-items.result.now in
+loop-number-preserved g c = let t = g.C.Condition.means in let inv = c.loop-number.invariant in let i = c.loop-number.number-index in let items = c.as_slice-number-items.result.now in let me = c.loop-number.seat.me in let now = c.pay_wake.new.seat.me in
     let some = inv.1 ∙ drop_more items i 0 c.loop-number-test.true in
-    let at = can_pay t c.args._releasing (the c.loop-number.seat.me.0).at.owed (get_or items i 0) (drop (i + 1) items) (the c.args.seat.now.me.0) c.loop-number.seat.me some inv.2 in
-    let paid = is_paid t c.args._releasing (get_or items i 0) (drop (i + 1) items) (the c.args.seat.now.me.0) c.loop-number.seat.me c.pay_wake.new.seat.me some at c.pay_wake.ensures.did in
-    (◌∙◌ {A = TableId} c.pay_wake.ensures.seat inv.0, paid.0, paid.1)
+    let at = can_pay t c.args._walk c.args.value (get_or items i 0) (drop (i + 1) items) me c.requires.pays some inv.3 in
+    let paid = is_paid t c.args._walk c.args.value (get_or items i 0) (drop (i + 1) items) me now c.requires.pays some at c.pay_wake.ensures.did in
+    (◌∙◌ {A = TableId} c.pay_wake.ensures.seat inv.0, paid.0, since_then None _ _ _ inv.2 (since t None (PayWake c.args.value) (owes_more (the me.0).at.owed) me now c.pay_wake.ensures.did), paid.1)
+
+pub returns-clause-seat : goal.returns-clause-seat
+returns-clause-seat g c = ◌∙◌ {A = TableId} c.loop-number.invariant.0 c.requires.of
+
+pub returns-clause-since : goal.returns-clause-since
+returns-clause-since g c = c.loop-number.invariant.2
 
 pub returns-clause-paid : goal.returns-clause-paid
 returns-clause-paid g c = let inv = c.loop-number.invariant in
-    all_paid g.C.Condition.means c.args._releasing (the c.args.seat.now.me.0) c.loop-number.seat.me (inv.1 ∙ drop_all c.loop-number.number-index c.as_slice-number-items.result.now (omega arith)) inv.2
+    all_paid g.C.Condition.means c.args._walk c.loop-number.seat.me (inv.1 ∙ drop_all c.loop-number.number-index c.as_slice-number-items.result.now (omega arith)) inv.3

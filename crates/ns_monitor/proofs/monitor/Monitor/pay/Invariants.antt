@@ -1,12 +1,13 @@
-use Rattle.std.proofs.Common.{◌≡◌, None, drop}
-use Rattle.ns_gate.specs.Calls.{Leads}
+use Rattle.std.proofs.Common.{◌≡◌, drop, None}
+use Rattle.ns_gate.specs.Calls.{HasSince, Leads}
 use Rattle.ns_gate.specs.Steps.{the}
+use Rattle.ns_word.specs.Asked.{asked_of}
 use Rattle.ns_word.specs.Lists.{has_some}
-use Rattle.ns_word.specs.Walks.{pay_releasing}
-use Rattle.ns_word.specs.declared.request.Request.TheVariants.{Release}
+use Rattle.ns_word.specs.Walks.{got_of}
+use Rattle.ns_word.specs.declared.act.Found.TheVariants.{Paid}
 use Rattle.ns_monitor.proofs.monitor.Monitor.pay.Given as goal
 
 abbrev pub invariant-loop-number : goal.invariant-loop-number
 invariant-loop-number g l =
-    (l.seat.table_id ≡ l.fn.seat.table_id) × ((the l.seat.me.0).at.owed ≡ drop l.number-index l.number-items)
-    × Leads g.C.Condition.means None (Release l.fn._releasing) (pay_releasing l.fn._releasing (has_some (the l.seat.me.0).at.owed)) (the l.fn.seat.me.0) l.seat.me
+    (l.seat.table_id ≡ l.fn.seat.table_id) × ((the l.seat.me.0).at.owed ≡ drop l.number-index l.number-items) × HasSince None (the l.fn.seat.me.0) (the l.seat.me.0)
+    × Leads g.C.Condition.means (asked_of l.fn._walk) (got_of g.row.N l.fn._walk (Paid (has_some (the l.seat.me.0).at.owed))) l.seat.me

@@ -1,13 +1,12 @@
 use Rattle.std.proofs.Common.{◌≡◌, None}
 use Rattle.ns_gate.proofs.Stays.{HasKeptItsQueues}
-use Rattle.ns_gate.specs.Calls.{IsAt}
-use Rattle.ns_word.specs.Codec.{IsPackable}
-use Rattle.ns_word.specs.declared.acquire_walk.AcquirePlace.TheVariants.{Queue}
-use Rattle.ns_word.specs.declared.walk.Walk.TheVariants.{InAcquire}
+use Rattle.ns_gate.specs.Calls.{HasSince, IsAt}
 use Rattle.ns_gate.specs.Steps.{the}
+use Rattle.ns_monitor.specs.Standing.{returning_at}
+use Rattle.ns_word.specs.Codec.{IsPackable}
 use Rattle.ns_monitor.proofs.monitor.Monitor.put_back.Given as goal
 
 abbrev pub invariant-loop : goal.invariant-loop
 invariant-loop g l =
-    (goal.iterator-loop g).can_next l.iterator' × (goal.iterator-loop g).is_finite l.iterator' × (l.seat.table_id ≡ l.fn.seat.table_id)
-    × IsPackable l.word × IsAt g.C.Condition.means None (InAcquire l.fn.aim (Queue l.fn.arrival l.word)) (the l.fn.seat.me.0) l.seat.me × HasKeptItsQueues l.fn.seat.me l.seat.me
+    (goal.iterator-loop g).can_next l.iterator' × (goal.iterator-loop g).is_finite l.iterator' × (l.seat.table_id ≡ l.fn.seat.table_id) × IsPackable l.word
+    × HasSince None (the l.fn.seat.me.0) (the l.seat.me.0) × HasKeptItsQueues l.fn.seat.me l.seat.me × IsAt g.C.Condition.means (returning_at l.fn._walk l.word) l.seat.me

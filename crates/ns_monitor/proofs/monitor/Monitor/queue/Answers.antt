@@ -1,45 +1,45 @@
-use Rattle.std.proofs.Common.{◌≡◌, ◌∙◌, ◌∷◌, [], sym, subst, ap, refl, arith, None}
+use Rattle.std.proofs.Common.{◌≡◌, ◌∙◌, sym, subst, ap, refl, arith, None}
 use Rattle.atomic_table.specs.Seated.{TableId}
-use Rattle.ns_gate.proofs.Calls.{from_here, then_at, works}
+use Rattle.ns_gate.proofs.Calls.{since, since_then, works}
 use Rattle.ns_gate.proofs.Stays.{stays_arming, still_carries}
-use Rattle.ns_gate.specs.Calls.{IsAt}
+use Rattle.ns_gate.specs.Calls.{HasSince, IsAt}
 use Rattle.ns_gate.specs.Law.{GateView}
 use Rattle.ns_gate.specs.Steps.{the}
-use Rattle.ns_monitor.proofs.Locks.{armed, same_number, stands_nowhere}
+use Rattle.ns_gate.specs.declared.queues.Returning.TheVariants.{Changed}
+use Rattle.ns_monitor.proofs.Locks.{armed, stands_nowhere}
+use Rattle.ns_monitor.proofs.Standing.{hand_by, still_since}
 use Rattle.ns_queue.specs.Queues.{times}
-use Rattle.ns_word.specs.Lists.{bits_of}
-use Rattle.ns_word.specs.Steps.{changed}
 use Rattle.ns_word.specs.Walks.{has_queues}
-use Rattle.ns_word.specs.Words.{tries_of}
-use Rattle.ns_word.specs.declared.acquire_walk.AcquirePlace.TheVariants.{AwaitWake, AcquireLoad, Queue}
+use Rattle.ns_word.specs.declared.acquire_walk.AcquirePlace.TheVariants.{Queue}
+use Rattle.ns_word.specs.declared.act.Act.TheVariants.{ArmFlag}
 use Rattle.ns_word.specs.declared.act.Change.TheVariants.{QueueSelf}
+use Rattle.ns_word.specs.declared.act.Found.TheVariants.{Made}
 use Rattle.ns_word.specs.declared.walk.Walk.TheVariants.{InAcquire}
+use Rattle.ns_monitor.proofs.monitor.Monitor.queue.Given.{Over}
+use Rattle.ns_monitor.proofs.monitor.Monitor.queue.Goals.{After-arm_flag}
 use Rattle.ns_monitor.proofs.monitor.Monitor.queue.Goals as goal
 
+-- its flag is set
+at_queue : (g : Over) (c : After-arm_flag g) → IsAt g.C.Condition.means (InAcquire c.args.aim (Queue c.args.arrival c.args.word)) c.arm_flag.new.seat.me
+at_queue g c = armed g.C.Condition.means c.args.aim c.args.arrival c.args.word c.args.seat.now.me c.arm_flag.new.seat.me c.requires.at c.arm_flag.ensures.did
+
+since_armed : (g : Over) (c : After-arm_flag g) → HasSince None (the c.args.seat.now.me.0) (the c.arm_flag.new.seat.me.0)
+since_armed g c = since g.C.Condition.means None ArmFlag Made c.args.seat.now.me c.arm_flag.new.seat.me c.arm_flag.ensures.did
+
+number_is : (g : Over) (c : After-arm_flag g) → c.args.number ≡ (the c.arm_flag.new.seat.me.0).at.seat
+number_is g c = c.requires.number.0 ∙ sym (since_armed g c).seat
+
 pub queue_in_hand-bits-requires : goal.queue_in_hand-bits-requires
-queue_in_hand-bits-requires g c = let me = c.args.seat.now.me in let me1 = c.arm_flag.new.seat.me in
-    let at1 = armed g.C.Condition.means c.args.aim c.args.arrival c.args.word (the c.args.seat.now.me.0) me me1 c.requires.at c.arm_flag.ensures.did in
-    let s = stays_arming g.C.Condition.means me me1 c.arm_flag.ensures.did (ap has_queues c.requires.at.walks) in
-    let nowhere = stands_nowhere g.C.Condition.means c.args.aim c.args.arrival c.args.word (the c.args.seat.now.me.0) me me1 at1 c.arm_flag.ensures.did in
-    (omega arith, (g.met.C.Gated.queues_fit, (omega arith, (◌∙◌ {A = TableId} c.arm_flag.ensures.seat (◌∙◌ {A = TableId} c.requires.of (sym c.self.view_is)), (still_carries (λ (v : GateView g.row.C.Denot g.row.N). v.stood) me me1 s.stood s c.requires.taken, (c.requires.number.1, subst (λ n. times n (the me1.0).stood ≡ 0) (s.seat ∙ sym c.requires.number.0) nowhere))))))
+queue_in_hand-bits-requires g c = let t = g.C.Condition.means in let me = c.args.seat.now.me in let me1 = c.arm_flag.new.seat.me in let after = (goal.at.queue_in_hand-bits-requires g c).After-arm_flag in
+    let s = stays_arming t me me1 c.arm_flag.ensures.did (ap has_queues c.requires.at.walks) in
+    let nowhere = stands_nowhere t c.args.aim c.args.arrival c.args.word me me1 (at_queue g after) c.arm_flag.ensures.did in
+    (omega arith, (g.met.C.Gated.queues_fit, (omega arith, (◌∙◌ {A = TableId} c.arm_flag.ensures.seat (◌∙◌ {A = TableId} c.requires.of (sym c.self.view_is)), (still_carries (λ (v : GateView g.row.C.Denot g.row.N). v.stood) me me1 s.stood s c.requires.taken, (c.requires.number.1, subst (λ n. times n (the me1.0).stood ≡ 0) (sym (number_is g after)) nowhere))))))
 
 pub put_back-requires : goal.put_back-requires
-put_back-requires g c = let me = c.args.seat.now.me in let me1 = c.arm_flag.new.seat.me in
-    let at1 = armed g.C.Condition.means c.args.aim c.args.arrival c.args.word (the c.args.seat.now.me.0) me me1 c.requires.at c.arm_flag.ensures.did in let me2 = c.queue_in_hand-bits.new.seat.me in let same = c.queue_in_hand-bits.ensures.seat.1 in
-    let at2 = works g.C.Condition.means None (InAcquire c.args.aim (Queue c.args.arrival c.args.word)) (the c.args.seat.now.me.0) me1 me2 at1 refl same in
-    let number = (same_number g.C.Condition.means None (the c.args.seat.now.me.0) c.args.number me me2 refl c.requires.number at2.since).0 in
-    (omega arith, (g.met.C.Gated.queues_fit, (omega arith, (◌∙◌ {A = TableId} c.queue_in_hand-bits.ensures.seat.0 (◌∙◌ {A = TableId} c.arm_flag.ensures.seat c.requires.of), (c.requires.word, (from_here g.C.Condition.means None (InAcquire c.args.aim (Queue c.args.arrival c.args.word)) (the c.args.seat.now.me.0) me2 at2, ((λ last. c.queue_in_hand-bits.ensures.lists last ∙ λ i. (0, changed (number i) (QueueSelf (c.mode-mode.ensures i) c.args.arrival) last (the (sym same i)).stood) ∷ []), (λ last. c.queue_in_hand-bits.ensures.bits last ∙ λ i. bits_of (changed (number i) (QueueSelf (c.mode-mode.ensures i) c.args.arrival) last (the (sym same i)).stood).lock))))))))
+put_back-requires g c = let t = g.C.Condition.means in let me1 = c.arm_flag.new.seat.me in let queued = c.queue_in_hand-bits in let after = (goal.at.put_back-requires g c).After-arm_flag in let same = queued.ensures.seat.1 in let mode = c.mode-mode.result in
+    let hand = hand_by t (QueueSelf mode c.args.arrival) c.args.number queued.result me1 queued.new.seat.me (number_is g after) same (λ last. refl) queued.ensures.lists queued.ensures.bits in
+    (omega arith, (g.met.C.Gated.queues_fit, (omega arith, (◌∙◌ {A = TableId} queued.ensures.seat.0 (◌∙◌ {A = TableId} c.arm_flag.ensures.seat c.requires.of), (tt, (ap (λ m. Changed (QueueSelf m c.args.arrival)) c.mode-mode.ensures, (c.requires.word, (works t (InAcquire c.args.aim (Queue c.args.arrival c.args.word)) me1 queued.new.seat.me (at_queue g after) refl same, hand))))))))
 
-pub await_wake-requires : goal.await_wake-requires
-await_wake-requires g c = let me = c.args.seat.now.me in let me1 = c.arm_flag.new.seat.me in
-    let at1 = armed g.C.Condition.means c.args.aim c.args.arrival c.args.word (the c.args.seat.now.me.0) me me1 c.requires.at c.arm_flag.ensures.did in let me2 = c.queue_in_hand-bits.new.seat.me in let same = c.queue_in_hand-bits.ensures.seat.1 in
-    let at2 = works g.C.Condition.means None (InAcquire c.args.aim (Queue c.args.arrival c.args.word)) (the c.args.seat.now.me.0) me1 me2 at1 refl same in let me3 = c.put_back.new.seat.me in
-    let at3 = then_at g.C.Condition.means None (InAcquire c.args.aim (AwaitWake (tries_of c.args.arrival))) (the c.args.seat.now.me.0) (the me2.0) me3 at2.since c.put_back.ensures.waits in
-    (omega arith, (g.met.C.Gated.queues_fit, (omega arith, (◌∙◌ {A = TableId} c.put_back.ensures.seat (◌∙◌ {A = TableId} c.queue_in_hand-bits.ensures.seat.0 (◌∙◌ {A = TableId} c.arm_flag.ensures.seat c.requires.of)), (same_number g.C.Condition.means None (the c.args.seat.now.me.0) c.args.number me me3 refl c.requires.number at3.since, subst (λ n. IsAt g.C.Condition.means None (InAcquire c.args.aim (AwaitWake n)) (the me3.0) me3) (sym c.tries.ensures) (from_here g.C.Condition.means None (InAcquire c.args.aim (AwaitWake (tries_of c.args.arrival))) (the c.args.seat.now.me.0) me3 at3))))))
-
-pub returns-clause-woken : goal.returns-clause-woken
-returns-clause-woken g c = let me = c.args.seat.now.me in let me1 = c.arm_flag.new.seat.me in
-    let at1 = armed g.C.Condition.means c.args.aim c.args.arrival c.args.word (the c.args.seat.now.me.0) me me1 c.requires.at c.arm_flag.ensures.did in let me2 = c.queue_in_hand-bits.new.seat.me in let same = c.queue_in_hand-bits.ensures.seat.1 in
-    let at2 = works g.C.Condition.means None (InAcquire c.args.aim (Queue c.args.arrival c.args.word)) (the c.args.seat.now.me.0) me1 me2 at1 refl same in let me3 = c.put_back.new.seat.me in
-    let at3 = then_at g.C.Condition.means None (InAcquire c.args.aim (AwaitWake (tries_of c.args.arrival))) (the c.args.seat.now.me.0) (the me2.0) me3 at2.since c.put_back.ensures.waits in
-    then_at g.C.Condition.means None (InAcquire c.args.aim (AcquireLoad c.await_wake.result)) (the c.args.seat.now.me.0) (the me3.0) c.await_wake.new.seat.me at3.since c.await_wake.ensures.woken
+pub returns-clause-since : goal.returns-clause-since
+returns-clause-since g c = let after = (goal.at.returns-clause-since g c).After-arm_flag in
+    since_then None _ _ _ (still_since g.C.Condition.means None _ c.arm_flag.new.seat.me c.queue_in_hand-bits.new.seat.me c.queue_in_hand-bits.ensures.seat.1 (since_armed g after)) (since_then None _ _ _ c.put_back.ensures.since c.await_flag-flag.ensures.since)

@@ -1,59 +1,49 @@
+use Rattle.std.proofs.Common.{◌≡◌, ◌∙◌, ap, cond, not, sym, subst, refl, arith, None}
 use Rattle.atomic_table.specs.Seated.{TableId}
-use Rattle.std.proofs.Common.{◌≡◌, ◌∙◌, None, ap, arith, not, subst, sym}
+use Rattle.ns_gate.proofs.Calls.{since_itself, since_then, works}
+use Rattle.ns_gate.specs.Calls.{IsAt, Leads}
 use Rattle.ns_gate.specs.Steps.{the}
-use Rattle.ns_gate.proofs.Calls.{leads_here}
-use Rattle.ns_monitor.proofs.Releases.{IsReady, is_over, owes_them, ready_by_row, ready_plain, scan_is}
+use Rattle.ns_gate.specs.declared.queues.Returning.TheVariants.{Released}
+use Rattle.ns_monitor.proofs.Releases.{hand_scanned, ready_by_row, ready_plain, took_some, woken_is, IsReady}
+use Rattle.ns_monitor.proofs.Standing.{still_since}
+use Rattle.ns_queue.specs.Scans.{woken_of}
+use Rattle.ns_word.specs.Finds.{row_in}
 use Rattle.ns_word.specs.Lists.{has_some}
-use Rattle.ns_word.specs.Walks.{pay_releasing}
-use Rattle.ns_word.specs.declared.request.Request.TheVariants.{Release}
+use Rattle.ns_word.specs.Steps.{meets_at}
+use Rattle.ns_word.specs.Walks.{pay_releasing, scan_place}
+use Rattle.ns_word.specs.declared.request.Request.TheVariants as TheRequest
+use Rattle.ns_word.specs.declared.release_walk.ReleasePlace.TheVariants.{ScanAndRelease}
+use Rattle.ns_word.specs.declared.walk.Walk.TheVariants.{InRelease}
 use Rattle.ns_monitor.proofs.monitor.Monitor.scan_and_release.Given.{Over}
 use Rattle.ns_monitor.proofs.monitor.Monitor.scan_and_release.Goals.{After-scan_in_hand-scan, then-word, else-word}
 use Rattle.ns_monitor.proofs.monitor.Monitor.scan_and_release.Goals as goal
 
 -- the row was loaded, or none is needed
-ready : (g : Over) (c : After-scan_in_hand-scan g) → IsReady g.C.Condition.means c.args.releasing c.args.word c.if-word.row (the c.args.seat.now.me.0) c.if-word.seat.me
-ready g c = let t = g.C.Condition.means in let v = the c.args.seat.now.me.0 in elim c.if-word.branch [
+ready : (g : Over) (c : After-scan_in_hand-scan g) → IsReady g.C.Condition.means (InRelease c.args.releasing (ScanAndRelease c.args.word)) c.if-word.row c.args.seat.now.me c.if-word.seat.me
+ready g c = let t = g.C.Condition.means in let walk = InRelease c.args.releasing (ScanAndRelease c.args.word) in let me = c.args.seat.now.me in elim c.if-word.branch [
   | then-word w ↦ let l = w.load_to_scan in
-      subst (λ s. IsReady t c.args.releasing c.args.word c.if-word.row v s.me) (sym w.seat-is)
-      (ready_by_row t c.args.releasing c.args.word c.if-word.row l.new.row v.at.held v l.new.seat.me l.ensures.at l.ensures.taken.0 w.row-is l.ensures.row.0 l.ensures.row.1)
+      subst (λ s. IsReady t walk c.if-word.row me s.me) (sym w.seat-is) (ready_by_row t walk c.if-word.row me l.new.seat.me (w.row-is ∙ (l.ensures.row.0 ∙ ap row_in (sym l.ensures.row.1))) l.ensures.since l.ensures.at l.ensures.taken.0)
   | else-word w ↦
-      subst (λ s. IsReady t c.args.releasing c.args.word c.if-word.row v s.me) (sym w.seat-is)
-      (ready_plain t c.args.releasing c.args.word c.if-word.row v c.args.seat.now.me w.if-word.false c.requires.at c.requires.taken c.requires.tells)
+      subst (λ s. IsReady t walk c.if-word.row me s.me) (sym w.seat-is) (ready_plain t walk c.if-word.row c.args.word.cond me me w.if-word.false (since_itself (the me.0)) (subst (λ b. IsAt t (InRelease c.args.releasing (cond b (scan_place g.row.N c.args.word 0) (ScanAndRelease c.args.word))) me) w.if-word.false c.requires.at) c.requires.taken c.requires.tells)
 ]
 
 -- the seat is the table's
 same_table : (g : Over) (c : After-scan_in_hand-scan g) → c.if-word.seat.table_id ≡ c.args.self.now
 same_table g c = elim c.if-word.branch [
-  | then-word w ↦ subst (λ s. s.table_id ≡ c.args.self.now) (sym w.seat-is) (◌∙◌ {A = TableId} w.load_to_scan.ensures.seat c.requires.of)
+  | then-word w ↦ subst (λ s. s.table_id ≡ c.args.self.now) (sym w.seat-is) w.load_to_scan.ensures.seat
   | else-word w ↦ subst (λ s. s.table_id ≡ c.args.self.now) (sym w.seat-is) c.requires.of
 ]
 
-pub release_scanned-requires : goal.release_scanned-requires
-release_scanned-requires g c = let t = g.C.Condition.means in let v = the c.args.seat.now.me.0 in
-    let e = c.scan_in_hand-scan.ensures in
-    let is = scan_is t c.args.releasing c.args.word c.if-word.row c.scan_in_hand-scan.result.0.woken.items _ c.scan_in_hand-scan.result.1 v c.if-word.seat.me c.scan_in_hand-scan.new.seat.me (ready g (goal.at.release_scanned-requires g c).After-scan_in_hand-scan) e.seat.1 e.lists e.woken (ap not c.is_empty-took.ensures) e.bits in
-    (omega arith, (g.met.C.Gated.queues_fit, (omega arith, (◌∙◌ {A = TableId} e.seat.0 (same_table g (goal.at.release_scanned-requires g c).After-scan_in_hand-scan), (c.requires.word, (is.0, (is.1, (is.2, is.3))))))))
+pub put_back-requires : goal.put_back-requires
+put_back-requires g c = let t = g.C.Condition.means in let scan = c.scan_in_hand-scan in let e = scan.ensures in let after = (goal.at.put_back-requires g c).After-scan_in_hand-scan in let is = ready g after in let me1 = c.if-word.seat.me in let walk = InRelease c.args.releasing (ScanAndRelease c.args.word) in
+    let some = ap not c.is_empty-some.ensures ∙ took_some (woken_of (meets_at t c.if-word.row) (the me1.0).stood.lock) scan.result.0.woken.items e.woken in
+    (omega arith, (g.met.C.Gated.queues_fit, (omega arith, (◌∙◌ {A = TableId} e.seat.0 (same_table g after), (tt, (refl, (c.requires.word, (works t walk me1 scan.new.seat.me is.at refl e.seat.1, hand_scanned t (Released c.args.releasing) walk c.if-word.row (the me1.0).at.seat _ _ c.args.seat.now.me me1 scan.new.seat.me is refl e.seat.1 (λ last. e.lists) (λ last. some) (λ last. e.bits)))))))))
 
 pub pay-requires : goal.pay-requires
-pay-requires g c = let t = g.C.Condition.means in let v = the c.args.seat.now.me.0 in let s = c.release_scanned.new.seat in
-    let e = c.scan_in_hand-scan.ensures in (
-      omega arith,
-      (
-        g.met.C.Gated.queues_fit,
-        (
-          omega arith,
-          (
-            ◌∙◌ {A = TableId} c.release_scanned.ensures.seat (◌∙◌ {A = TableId} e.seat.0 (same_table g (goal.at.pay-requires g c).After-scan_in_hand-scan)),
-            (
-              leads_here t None (Release c.args.releasing) (pay_releasing c.args.releasing (has_some (the s.me.0).at.owed)) (the c.scan_in_hand-scan.new.seat.me.0) s.me c.release_scanned.ensures.released,
-              owes_them t c.args.releasing c.args.word c.if-word.row c.scan_in_hand-scan.result.0.woken.items (the s.me.0).at.owed v c.if-word.seat.me c.scan_in_hand-scan.new.seat.me (ready g (goal.at.pay-requires g c).After-scan_in_hand-scan) e.seat.1 e.woken c.release_scanned.ensures.owed,
-            ),
-          ),
-        ),
-      ),
-    )
+pay-requires g c = let t = g.C.Condition.means in let scan = c.scan_in_hand-scan in let after = (goal.at.pay-requires g c).After-scan_in_hand-scan in let now = c.put_back.new.seat.me in let walk = InRelease c.args.releasing (ScanAndRelease c.args.word) in
+    let owed = c.put_back.ensures.owes in
+    (omega arith, (g.met.C.Gated.queues_fit, (omega arith, (c.put_back.ensures.seat, (record { pays = refl; free = refl; more = refl }, (subst (λ ns. Leads t (TheRequest.Release c.args.releasing) (pay_releasing c.args.releasing (has_some ns)) now) (sym owed) c.put_back.ensures.returned, owed ∙ sym (woken_is t walk c.if-word.row scan.result.0.woken.items c.args.seat.now.me c.if-word.seat.me scan.new.seat.me (ready g after) scan.ensures.seat.1 scan.ensures.woken)))))))
 
-pub returns-clause-released : goal.returns-clause-released
-returns-clause-released g c = let t = g.C.Condition.means in let s = c.release_scanned.new.seat in
-    is_over t c.args.releasing c.args.word c.if-word.row (pay_releasing c.args.releasing (has_some (the s.me.0).at.owed)) (the c.args.seat.now.me.0) c.if-word.seat.me c.scan_in_hand-scan.new.seat.me s.me c.pay.new.seat.me
-    (ready g (goal.at.returns-clause-released g c).After-scan_in_hand-scan) c.scan_in_hand-scan.ensures.seat.1 c.release_scanned.ensures.released c.pay.ensures.paid
+pub returns-clause-since : goal.returns-clause-since
+returns-clause-since g c = let scan = c.scan_in_hand-scan in let after = (goal.at.returns-clause-since g c).After-scan_in_hand-scan in
+    since_then None _ _ _ (still_since g.C.Condition.means None _ c.if-word.seat.me scan.new.seat.me scan.ensures.seat.1 (ready g after).since) (since_then None _ _ _ c.put_back.ensures.since c.pay.ensures.since)

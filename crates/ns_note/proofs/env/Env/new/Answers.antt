@@ -1,9 +1,10 @@
 use Rattle.std.proofs.Common.{rules, arith, ap, sym, subst, refl, ◌∙◌, ◌≡◌, ◌+◌, ◌<◌, ℕ, List, [], ◌∷◌, length, length-append}
+use Rattle.atomic_table.specs.Seated.{TableId}
 use Rattle.atomic_table.specs.Table.{Me}
 use Rattle.ns_note.specs.declared.view.EnvView.{EnvView}
 use Rattle.ns_note.specs.Law.{first_of, rest_of}
 use Rattle.ns_note.specs.Known.{the, IsAtRest, AreNew, known, known_of}
-use Rattle.ns_note.proofs.Seats.{begins_with, cuts, fresh_first, fresh_rest, new_more}
+use Rattle.ns_note.proofs.Seats.{all_of, begins_with, cuts, fresh_first, fresh_rest, new_more}
 use Rattle.ns_note.proofs.env.Env.new.Goals as goal
 
 abbrev Seated : Type 0
@@ -30,3 +31,6 @@ loop-who-preserved c = let v = c.loop-who.invariant in let n = c.args.seats in l
       omega (arith, ap length p, length-append c.loop-who.given.items (c.seated.result ∷ [])),
       subst (AreNew t n 0) (sym p) (new_more n t 0 c.loop-who.given.items c.seated.result v.3 (k ∙ ap (λ (j : ℕ). known t n j [] []) e)),
     )
+
+pub returns-clause-seats : goal.returns-clause-seats
+returns-clause-seats c = let e = c.in_ok-table in all_of e.table.shared.table_id c.args.seats 0 c.loop-who.given.items (subst (λ (t : TableId). AreNew t c.args.seats 0 c.loop-who.given.items) e.ensures.2 c.loop-who.invariant.3)

@@ -1,0 +1,61 @@
+-- What is to be known beside an act.
+use Rattle.std.specs.Prelude.{◌≡◌, ℕ, ◌<◌, List, Option, None, slice_index, slice_set}
+use Rattle.ns_gate.specs.declared.perform.Beside.{Beside}
+use Rattle.ns_gate.specs.declared.queues.Returning.{Returning}
+use Rattle.ns_gate.specs.declared.queues.Returning.TheVariants.{Changed, Released, Waited}
+use Rattle.ns_gate.specs.Calls.{SeatOf}
+use Rattle.ns_gate.specs.Law.{GateView}
+use Rattle.ns_gate.specs.Steps.{the, Carries, IsOwedNext, found_returned, lists_returned, some_returned}
+use Rattle.ns_model.specs.Truths.{Truths}
+use Rattle.ns_word.specs.declared.act.Act.{Act}
+use Rattle.ns_word.specs.declared.act.Act.TheVariants.{LoadWord, Acquire, TakeQueues, ReturnQueues, Release, ReleaseReturning, WaitReturning, LoadCell, JudgeQuiet, JudgeMet, StoreCell, ArmFlag, PayWake, LoadFlag, Look}
+use Rattle.ns_word.specs.declared.walk.Walk.{Walk}
+use Rattle.ns_word.specs.declared.word.Word.{Word}
+use Rattle.ns_word.specs.Codec.{IsPackable}
+use Rattle.ns_word.specs.Finds.{before_in, owes_more, row_in}
+use Rattle.ns_word.specs.Lists.{bits_of}
+use Rattle.ns_word.specs.Steps.{MayShow}
+
+-- The queues are in hand as they are put back for this, and it is known what the hand has made of them; the word last seen has a number.
+pub record IsTurned {C : Type 0} {N : ℕ} (truths : Truths C) (returning : Returning C) (last : Word) (beside : Beside N) (me : SeatOf C N) : Type 0 where
+  pub number : IsPackable last
+  pub carries : Carries (lists_returned truths (the me.0).at.seat returning last (row_in (the me.0).at.held) (the me.0).stood) me
+  pub moved : beside.turned.some ≡ some_returned truths returning last (row_in (the me.0).at.held) (the me.0).stood
+  pub bits : beside.turned.bits ≡ bits_of (lists_returned truths (the me.0).at.seat returning last (row_in (the me.0).at.held) (the me.0).stood).lock
+  pub finds : beside.finds ≡ found_returned truths (the me.0).at.seat returning last (row_in (the me.0).at.held) (the me.0).stood
+
+-- the seat's own number is known
+abbrev pub IsNumbered : {C : Type 0} {N : ℕ} → Beside N → GateView C N → Type 0
+IsNumbered beside view = (beside.number ≡ view.at.seat) × (beside.number < 64)
+
+-- the one is the other row, but for this cell
+abbrev pub IsRowBut : ℕ → List ℕ → List ℕ → Type 0
+IsRowBut i row whole = slice_set row i (slice_index whole i) ≡ whole
+
+-- the act is an exchange of the lock word
+abbrev pub IsOnWord : {C : Type 0} → Act C → Type 0
+IsOnWord (Acquire aim arrival last) = Unit {0}
+IsOnWord (TakeQueues taking last) = Unit {0}
+IsOnWord (ReturnQueues change last) = Unit {0}
+IsOnWord (Release releasing last) = Unit {0}
+IsOnWord (ReleaseReturning releasing last) = Unit {0}
+IsOnWord (WaitReturning wait again last) = Unit {0}
+IsOnWord act = ⊥
+
+-- What an act needs beside itself. None but loads begin a call.
+abbrev pub Needs : {C : Type 0} {N : ℕ} → Truths C → Option (Walk C) → Act C → Beside N → SeatOf C N → Type 0
+Needs truths begins LoadWord beside me = Unit {0}
+Needs truths begins (Acquire aim arrival last) beside me = (begins ≡ None) × IsPackable last
+Needs truths begins (TakeQueues taking last) beside me = (begins ≡ None) × IsPackable last
+Needs truths begins (ReturnQueues change last) beside me = (begins ≡ None) × IsTurned truths (Changed change) last beside me
+Needs truths begins (Release releasing last) beside me = (begins ≡ None) × IsPackable last
+Needs truths begins (ReleaseReturning releasing last) beside me = (begins ≡ None) × IsTurned truths (Released releasing) last beside me
+Needs truths begins (WaitReturning wait again last) beside me = (begins ≡ None) × IsTurned truths (Waited wait again) last beside me
+Needs {C} {N} truths begins (LoadCell i) beside me = i < N
+Needs {C} {N} truths begins (JudgeQuiet i) beside me = (i < N) × (beside.before ≡ before_in (the me.0).at.held) × IsRowBut i beside.row (row_in (the me.0).at.held)
+Needs {C} {N} truths begins (JudgeMet i c) beside me = (i < N) × IsRowBut i beside.row (row_in (the me.0).at.held)
+Needs {C} {N} truths begins (StoreCell i v) beside me = (begins ≡ None) × (i < N)
+Needs truths begins ArmFlag beside me = (begins ≡ None) × IsNumbered beside (the me.0)
+Needs truths begins (PayWake value) beside me = (begins ≡ None) × IsOwedNext beside.woken (the me.0).at.owed × (beside.woken < 64) × (beside.finds ≡ owes_more (the me.0).at.owed)
+Needs truths begins LoadFlag beside me = (begins ≡ None) × IsNumbered beside (the me.0)
+Needs truths begins (Look limits again) beside me = (begins ≡ None) × IsNumbered beside (the me.0) × MayShow limits beside.shown

@@ -1,0 +1,156 @@
+//! One function for every act that a seat's call wants, for whoever runs walks as values.
+
+ghost use Rattle.std.specs.Prelude.{◌≡◌};
+ghost use Rattle.ns_gate.specs.Performing.{IsOnWord, IsTurned, Needs};
+ghost use Rattle.ns_gate.specs.Steps.{CanStep, Performed, act_returning, found_returned, the, tried_for};
+
+use crate::gate::{Gate, GateSeat};
+use crate::queues::{Returning, Turned};
+use crate::room::Gated;
+use ns_word::act::{Act, Found};
+use ns_word::limits::Cause;
+use ns_word::walk::Walk;
+use ns_word::word::Word;
+
+/// What is to be known beside an act. Each act needs little of it, as [`Gate::perform`] says.
+#[derive(Clone, Copy)]
+pub struct Beside<const N: usize> {
+    /// The seat's number.
+    pub number: u8,
+    /// The row that the section in hand began at.
+    pub before: [u64; N],
+    /// The section's row as it stands.
+    pub row: [u64; N],
+    /// What the look has shown.
+    pub shown: Option<Cause>,
+    /// What the hand has made of the queues.
+    pub turned: Turned,
+    /// Who is owed the next wake.
+    pub woken: u8,
+    /// What is found where the queues are put back or a wake is paid, which no word tells.
+    pub finds: Found,
+}
+
+/// What an exchange came to, as the machine says it, where this is found if it is made.
+fn found_by(tries: Result<(), Word>, made: Found) -> Found
+    ensures { result ≡ tried_for made tries }
+{
+    match tries {
+        Ok(()) => made,
+        Err(word) => Found::Saw(word),
+    }
+}
+
+impl<C: Gated<N>, const N: usize> Gate<C, N> {
+    /// Makes the act that the seat's call wants next, or begins with.
+    ///
+    /// Needs a seat of this gate, whose call wants that; and beside it what the act's own function
+    /// asks for: for an exchange a word that has a number, for a cell one below `N`; for the seat's
+    /// flag and for a look its number, and what the look has shown; for a judgment the section's rows;
+    /// for a wake who is owed it; and for putting the queues back what the hand has made of them.
+    pub fn perform(
+        &self,
+        seat: &mut GateSeat<C, N>,
+        begins: Option<Walk<C>>,
+        act: Act<C>,
+        beside: &Beside<N>,
+    ) -> Found
+        requires of { seat.old.table_id ≡ self.now }
+        requires can { CanStep C.means begins act seat.old.me }
+        requires needs { Needs C.means begins act beside.now seat.old.me }
+        ensures seat { seat.new.table_id ≡ seat.old.table_id }
+        ensures did { Performed C.means begins act result seat.old.me seat.new.me }
+    {
+        match act {
+            Act::LoadWord => Found::Saw(self.load(seat, begins)),
+            Act::LoadCell(i) => Found::Cell(self.load_cell(seat, begins, i)),
+            Act::JudgeQuiet(i) => {
+                let mut row = beside.row;
+                row[usize::from(i)] = self.judge_quiet(seat, begins, i);
+                Found::Quiet(C::quiet(&beside.before, &row))
+            }
+            Act::JudgeMet(i, condition) => {
+                let mut row = beside.row;
+                row[usize::from(i)] = self.judge_met(seat, begins, i, condition);
+                Found::Tested(condition.test(&row))
+            }
+            Act::LoadFlag => Found::Flag(self.load_flag(seat, beside.number)),
+            Act::Look(limits, again) => {
+                self.look(seat, beside.number, limits, again, beside.shown);
+                Found::Looked(beside.shown)
+            }
+            Act::StoreCell(i, value) => {
+                self.store_cell(seat, i, value);
+                Found::Made
+            }
+            Act::ArmFlag => {
+                self.arm_flag(seat, beside.number);
+                Found::Made
+            }
+            Act::PayWake(value) => {
+                self.pay_wake(seat, beside.woken, u64::from(value));
+                beside.finds
+            }
+            _ => self.perform_exchange(seat, begins, act, beside),
+        }
+    }
+
+    /// The same for an exchange.
+    fn perform_exchange(
+        &self,
+        seat: &mut GateSeat<C, N>,
+        _begins: Option<Walk<C>>,
+        act: Act<C>,
+        beside: &Beside<N>,
+    ) -> Found
+        requires of { seat.old.table_id ≡ self.now }
+        requires kind { IsOnWord act }
+        requires can { CanStep C.means _begins act seat.old.me }
+        requires needs { Needs C.means _begins act beside.now seat.old.me }
+        ensures seat { seat.new.table_id ≡ seat.old.table_id }
+        ensures did { Performed C.means _begins act result seat.old.me seat.new.me }
+    {
+        match act {
+            Act::Acquire(aim, arrival, last) => {
+                found_by(
+                    self.exchange_to_acquire(seat, aim, arrival, last),
+                    Found::Made,
+                )
+            }
+            Act::TakeQueues(taking, last) => {
+                found_by(self.exchange_to_take(seat, taking, last), Found::Made)
+            }
+            Act::Release(releasing, last) => {
+                found_by(self.exchange_to_release(seat, releasing, last), Found::Made)
+            }
+            Act::ReturnQueues(change, last) => {
+                self.put_back(seat, Returning::Changed(change), last, beside)
+            }
+            Act::ReleaseReturning(releasing, last) => {
+                self.put_back(seat, Returning::Released(releasing), last, beside)
+            }
+            Act::WaitReturning(wait, again, last) => {
+                self.put_back(seat, Returning::Waited(wait, again), last, beside)
+            }
+            _ => unreachable!(),
+        }
+    }
+
+    /// Puts the queues back, with what is to be known beside.
+    fn put_back(
+        &self,
+        seat: &mut GateSeat<C, N>,
+        returning: Returning<C>,
+        last: Word,
+        beside: &Beside<N>,
+    ) -> Found
+        requires of { seat.old.table_id ≡ self.now }
+        requires can { CanStep C.means None (act_returning returning last) seat.old.me }
+        requires turned { IsTurned C.means returning last beside.now seat.old.me }
+        ensures seat { seat.new.table_id ≡ seat.old.table_id }
+        ensures did { Performed C.means None (act_returning returning last) result seat.old.me seat.new.me }
+    {
+        let tries = self.exchange_to_return(seat, returning, last, beside.turned);
+        found_by(tries, beside.finds)
+    }
+}

@@ -1,0 +1,11 @@
+use Rattle.std.proofs.Common.{◌≡◌, None}
+use Rattle.ns_gate.specs.Calls.{HasSince}
+use Rattle.ns_gate.specs.Steps.{the}
+use Rattle.ns_monitor.specs.Standing.{AcquiresBy}
+use Rattle.ns_word.specs.Codec.{IsPackable}
+use Rattle.ns_monitor.proofs.monitor.Monitor.acquire_on.Given as goal
+
+abbrev pub invariant-loop : goal.invariant-loop
+invariant-loop g l =
+    (goal.iterator-loop g).can_next l.iterator' × (goal.iterator-loop g).is_finite l.iterator' × (l.seat.table_id ≡ l.fn.seat.table_id) × IsPackable l.word
+    × HasSince None (the l.fn.seat.me.0) (the l.seat.me.0) × AcquiresBy g.C.Condition.means l.aim l.arrival l.word l.seat.me

@@ -1,0 +1,14 @@
+use Rattle.std.proofs.Common.{◌≡◌, None}
+use Rattle.ns_gate.specs.Calls.{HasSince, Leads}
+use Rattle.ns_gate.specs.Steps.{the}
+use Rattle.ns_word.specs.Asked.{asked_of}
+use Rattle.ns_word.specs.Codec.{IsPackable}
+use Rattle.ns_word.specs.Walks.{got_of}
+use Rattle.ns_word.specs.declared.act.Found.TheVariants.{Saw}
+use Rattle.ns_monitor.proofs.monitor.Monitor.go_or_take.Given as goal
+
+abbrev pub invariant-loop : goal.invariant-loop
+invariant-loop g l =
+    (goal.iterator-loop g).can_next l.iterator' × (goal.iterator-loop g).is_finite l.iterator' × (l.seat.table_id ≡ l.fn.seat.table_id) × IsPackable l.word
+    × HasSince None (the l.fn.seat.me.0) (the l.seat.me.0) × ((the l.seat.me.0).at.held ≡ (the l.fn.seat.me.0).at.held)
+    × Leads g.C.Condition.means (asked_of l.fn._walk) (got_of g.row.N l.fn._walk (Saw l.word)) l.seat.me

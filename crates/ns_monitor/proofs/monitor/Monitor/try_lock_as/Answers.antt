@@ -1,0 +1,21 @@
+use Rattle.std.proofs.Common.{◌∙◌, cond, sym, subst}
+use Rattle.atomic_table.specs.Seated.{TableId}
+use Rattle.ns_gate.specs.Calls.{HasAnswered}
+use Rattle.ns_monitor.proofs.Callers.{locked, saw_more}
+use Rattle.ns_monitor.specs.Known.{HasLocked, HasSeenMore, known_of}
+use Rattle.ns_monitor.specs.Walks.{trying}
+use Rattle.ns_word.specs.declared.request.Request.TheVariants.{TryLock}
+use Rattle.ns_word.specs.declared.walk.Reply.TheVariants.{Busy, Succeeded}
+use Rattle.ns_monitor.proofs.monitor.Monitor.try_lock_as.Goals as goal
+
+pub returns-then-try_acquire-clause-locked : goal.returns-then-try_acquire-clause-locked
+returns-then-try_acquire-clause-locked g c = let t = g.C.Condition.means in let a = c.try_acquire in let mode = c.mode.result in
+    let answered = subst (λ b. HasAnswered t (TryLock mode) (cond b Succeeded Busy) a.new.seat.me) c.if-try_acquire.true a.ensures.tried in
+    subst (λ m. HasLocked t (trying m) m c.args.seat (known_of a.new.seat.table_id a.new.seat.me)) c.mode.ensures
+    (locked t (trying mode) mode c.args.seat c.seat.inside.seat.table_id a.new.seat.table_id c.seat.inside.seat.me a.new.seat.me c.seat.view_is (◌∙◌ {A = TableId} a.ensures.seat (sym c.requires)) answered.rest a.ensures.since answered.means)
+
+pub returns-else-try_acquire-clause-busy : goal.returns-else-try_acquire-clause-busy
+returns-else-try_acquire-clause-busy g c = let t = g.C.Condition.means in let a = c.try_acquire in let mode = c.mode.result in
+    let answered = subst (λ b. HasAnswered t (TryLock mode) (cond b Succeeded Busy) a.new.seat.me) c.if-try_acquire.false a.ensures.tried in
+    subst (λ m. HasSeenMore t (trying m) c.args.seat (known_of a.new.seat.table_id a.new.seat.me)) c.mode.ensures
+    (saw_more t (trying mode) c.args.seat c.seat.inside.seat.table_id a.new.seat.table_id c.seat.inside.seat.me a.new.seat.me c.seat.view_is (◌∙◌ {A = TableId} a.ensures.seat (sym c.requires)) answered.rest a.ensures.since answered.means)

@@ -1,0 +1,114 @@
+use Rattle.std.proofs.Common.{◌≡◌, ◌∙◌, sym, subst, ap, refl, arith, None, Some, IfSome, true, false}
+use Rattle.atomic_table.specs.Seated.{TableId}
+use Rattle.ns_gate.proofs.Calls.{since_itself, since_then}
+use Rattle.ns_gate.specs.Calls.{HasAnswered, HasSince, Leads}
+use Rattle.ns_gate.specs.Steps.{the}
+use Rattle.ns_monitor.proofs.Returns.{back_to_test, comes_fresh, ended_as, is_for_condition, met_now, unmet_now}
+use Rattle.ns_monitor.proofs.Standing.{same_number}
+use Rattle.ns_monitor.proofs.Waits.{in_range}
+use Rattle.ns_monitor.specs.Saved.{IsFreshIn}
+use Rattle.ns_monitor.specs.Waits.{IfEnded, QueuesOrEnds}
+use Rattle.ns_word.specs.Finds.{row_in}
+use Rattle.ns_word.specs.Waits.{is_limited}
+use Rattle.ns_word.specs.Walks.{unmet_by}
+use Rattle.ns_word.specs.declared.limits.Cause.{Cause}
+use Rattle.ns_word.specs.declared.request.Request.TheVariants.{Await}
+use Rattle.ns_word.specs.declared.wait.Visit.TheVariants.{OnReturn}
+use Rattle.ns_word.specs.declared.walk.Reply.TheVariants.{Answered}
+use Rattle.ns_monitor.proofs.monitor.Monitor.wait_on.Given.{Over}
+use Rattle.ns_monitor.proofs.monitor.Monitor.wait_on.Goals.{After-look_before, After-test}
+use Rattle.ns_monitor.proofs.monitor.Monitor.wait_on.Goals as goal
+
+pub loop-init : goal.loop-init
+loop-init g c = (tt, tt, refl, since_itself (the c.args.seat.now.me.0), g.W.Watch.same c.args.watch.now, c.requires.at, c.requires.row)
+
+pub queue_to_wait-requires : goal.queue_to_wait-requires
+queue_to_wait-requires g c = let inv = c.loop.invariant in
+    (omega arith, (g.met.C.Gated.queues_fit, (omega arith, (omega (arith, g.met.C.Condition.has_cells), (◌∙◌ {A = TableId} inv.2 c.requires.of, (same_number g.C.Condition.means None c.args.number c.args.seat.now.me c.loop.seat.me c.requires.number inv.3, (is_for_condition c.args.wait.on c.args.condition c.requires.on, (inv.5, inv.6))))))))
+
+pub await_in-arrival-requires : goal.await_in-arrival-requires
+await_in-arrival-requires g c = let inv = c.loop.invariant in let me = c.queue_to_wait.new.seat.me in
+    (omega arith, (g.met.C.Gated.queues_fit, (omega arith, (c.queue_to_wait.ensures.seat, (same_number g.C.Condition.means None c.args.number c.args.seat.now.me me c.requires.number (since_then None _ _ _ inv.3 c.queue_to_wait.ensures.since), (in_range c.args.wait.on (is_for_condition c.args.wait.on c.args.condition c.requires.on), (g.W.Watch.still c.args.watch.now c.loop.watch c.args.wait.limits inv.4 c.requires.watches, c.queue_to_wait.ensures.waits)))))))
+
+pub test-requires : goal.test-requires
+test-requires g c = (omega arith, (g.met.C.Gated.queues_fit, (omega arith, (omega (arith, g.met.C.Condition.has_cells), (c.acquire.ensures.seat, (c.requires.on, back_to_test g.C.Condition.means c.args.wait c.args.condition c.await_in-arrival.result.1 c.acquire.new.seat.me c.requires.on c.acquire.ensures.acquired))))))
+
+-- it has acquired the lock again and has tested its condition
+since_test : (g : Over) (c : After-test g) → HasSince None (the c.args.seat.now.me.0) (the c.test.new.seat.me.0)
+since_test g c = since_then None _ _ _ (since_then None _ _ _ (since_then None _ _ _ c.loop.invariant.3 c.queue_to_wait.ensures.since) (since_then None _ _ _ c.await_in-arrival.ensures.since c.acquire.ensures.since)) c.test.ensures.since
+
+watched : (g : Over) (c : After-test g) → g.W.Watch.since c.args.watch.now c.await_in-arrival.new.watch
+watched g c = g.W.Watch.then c.args.watch.now c.loop.watch c.await_in-arrival.new.watch c.loop.invariant.4 c.await_in-arrival.ensures.looked
+
+fresh : (g : Over) (c : After-test g) → IsFreshIn g.row.N c.args.wait.mode (the c.test.new.seat.me.0).at.held
+fresh g c = subst (IsFreshIn g.row.N c.args.wait.mode) (sym c.test.ensures.tested.held) (comes_fresh g.C.Condition.means c.args.wait c.await_in-arrival.result.1 c.acquire.new.seat.me (back_to_test g.C.Condition.means c.args.wait c.args.condition c.await_in-arrival.result.1 c.acquire.new.seat.me c.requires.on c.acquire.ensures.acquired))
+
+-- it was false
+unmet : (g : Over) (c : After-test g) → c.test.result ≡ false → Leads g.C.Condition.means (Await c.args.wait) (unmet_by c.args.wait (OnReturn c.await_in-arrival.result.1)) c.test.new.seat.me
+unmet g c false_now = unmet_now g.C.Condition.means c.args.wait (OnReturn c.await_in-arrival.result.1) c.args.condition c.test.result c.test.new.row c.acquire.new.seat.me c.test.new.seat.me false_now c.test.ensures.tested
+
+pub returns-then-test-clause-since : goal.returns-then-test-clause-since
+returns-then-test-clause-since g c = since_test g (goal.at.returns-then-test-clause-since g c).After-test
+
+pub returns-then-test-clause-looked : goal.returns-then-test-clause-looked
+returns-then-test-clause-looked g c = watched g (goal.at.returns-then-test-clause-looked g c).After-test
+
+pub returns-then-test-clause-answered : goal.returns-then-test-clause-answered
+returns-then-test-clause-answered g c = met_now g.C.Condition.means c.args.wait (OnReturn c.await_in-arrival.result.1) c.args.condition c.test.result c.test.new.row c.acquire.new.seat.me c.test.new.seat.me c.if-test.true c.test.ensures.tested
+
+pub returns-then-test-clause-fresh : goal.returns-then-test-clause-fresh
+returns-then-test-clause-fresh g c = fresh g (goal.at.returns-then-test-clause-fresh g c).After-test
+
+pub returns-in-Ended-clause-since : goal.returns-in-Ended-clause-since
+returns-in-Ended-clause-since g c = since_test g (goal.at.returns-in-Ended-clause-since g c).After-test
+
+pub returns-in-Ended-clause-looked : goal.returns-in-Ended-clause-looked
+returns-in-Ended-clause-looked g c = watched g (goal.at.returns-in-Ended-clause-looked g c).After-test
+
+pub returns-in-Ended-clause-ended : goal.returns-in-Ended-clause-ended
+returns-in-Ended-clause-ended g c = ended_as (λ cause. (is_limited c.args.wait.limits ≡ true) × g.W.Watch.shows c.args.watch.now c.await_in-arrival.new.watch c.args.wait.limits (Some cause)) c.in-Ended.cause c.answer_of.result c.answer_of.ensures
+    (let shown = subst (λ o. IfEnded o (λ cause. (is_limited c.args.wait.limits ≡ true) × g.W.Watch.shows c.loop.watch c.await_in-arrival.new.watch c.args.wait.limits (Some cause))) c.in-Ended.is c.await_in-arrival.ensures.ended in
+    (shown.0, g.W.Watch.later c.args.watch.now c.loop.watch c.await_in-arrival.new.watch c.args.wait.limits (Some c.in-Ended.cause) c.loop.invariant.4 shown.1))
+
+pub returns-in-Ended-clause-answered : goal.returns-in-Ended-clause-answered
+returns-in-Ended-clause-answered g c = subst (λ a. HasAnswered g.C.Condition.means (Await c.args.wait) (Answered a) c.test.new.seat.me) (sym c.answer_of.ensures) (subst (λ o. Leads g.C.Condition.means (Await c.args.wait) (unmet_by c.args.wait (OnReturn o)) c.test.new.seat.me) c.in-Ended.is (unmet g (goal.at.returns-in-Ended-clause-answered g c).After-test c.if-test.false))
+
+pub returns-in-Ended-clause-fresh : goal.returns-in-Ended-clause-fresh
+returns-in-Ended-clause-fresh g c = fresh g (goal.at.returns-in-Ended-clause-fresh g c).After-test
+
+pub look_before-requires : goal.look_before-requires
+look_before-requires g c = let t = g.C.Condition.means in let me = c.test.new.seat.me in let after = (goal.at.look_before-requires g c).After-test in
+    (omega arith, (g.met.C.Gated.queues_fit, (omega arith, (c.test.ensures.seat, (same_number t None c.args.number c.args.seat.now.me me c.requires.number (since_test g after), (g.W.Watch.still c.args.watch.now c.await_in-arrival.new.watch c.args.wait.limits (watched g after) c.requires.watches, subst (λ o. Leads t (Await c.args.wait) (unmet_by c.args.wait (OnReturn o)) me) c.in_default.is (unmet g after c.if-test.false)))))))
+
+-- it has looked, and goes on
+since_look : (g : Over) (c : After-look_before g) → HasSince None (the c.args.seat.now.me.0) (the c.look_before.new.seat.me.0)
+since_look g c = since_then None _ _ _ (since_then None _ _ _ (since_then None _ _ _ (since_then None _ _ _ c.loop.invariant.3 c.queue_to_wait.ensures.since) (since_then None _ _ _ c.await_in-arrival.ensures.since c.acquire.ensures.since)) c.test.ensures.since) c.look_before.ensures.since
+
+looked_on : (g : Over) (c : After-look_before g) → g.W.Watch.since c.args.watch.now c.look_before.new.watch
+looked_on g c = g.W.Watch.then c.args.watch.now c.await_in-arrival.new.watch c.look_before.new.watch (g.W.Watch.then c.args.watch.now c.loop.watch c.await_in-arrival.new.watch c.loop.invariant.4 c.await_in-arrival.ensures.looked) c.look_before.ensures.looked
+
+pub returns-in-Some-look_before-clause-since : goal.returns-in-Some-look_before-clause-since
+returns-in-Some-look_before-clause-since g c = since_look g (goal.at.returns-in-Some-look_before-clause-since g c).After-look_before
+
+pub returns-in-Some-look_before-clause-looked : goal.returns-in-Some-look_before-clause-looked
+returns-in-Some-look_before-clause-looked g c = looked_on g (goal.at.returns-in-Some-look_before-clause-looked g c).After-look_before
+
+pub returns-in-Some-look_before-clause-ended : goal.returns-in-Some-look_before-clause-ended
+returns-in-Some-look_before-clause-ended g c = let limits = c.args.wait.limits in let mid = c.await_in-arrival.new.watch in let new = c.look_before.new.watch in let cause = c.in-Some-look_before.cause in
+    let limited = subst (λ o. IfSome o (λ (x : Cause). is_limited limits ≡ true)) c.in-Some-look_before.is c.look_before.ensures.ends in
+    ended_as (λ x. (is_limited limits ≡ true) × g.W.Watch.shows c.args.watch.now new limits (Some x)) cause c.answer_of-in-Some-look_before.result c.answer_of-in-Some-look_before.ensures
+    (limited, g.W.Watch.later c.args.watch.now mid new limits (Some cause) (g.W.Watch.then c.args.watch.now c.loop.watch mid c.loop.invariant.4 c.await_in-arrival.ensures.looked) (subst (g.W.Watch.shows mid new limits) c.in-Some-look_before.is (c.look_before.ensures.shown limited)))
+
+pub returns-in-Some-look_before-clause-fresh : goal.returns-in-Some-look_before-clause-fresh
+returns-in-Some-look_before-clause-fresh g c = c.look_before.ensures.fresh (fresh g (goal.at.returns-in-Some-look_before-clause-fresh g c).After-test)
+
+pub loop-preserved : goal.loop-preserved
+loop-preserved g c = let after = (goal.at.loop-preserved g c).After-look_before in let led = subst (λ o. QueuesOrEnds g.C.Condition.means c.args.wait true o c.test.new.seat.me c.look_before.new.seat.me) c.in_default-look_before.is c.look_before.ensures.leads in (
+  tt,
+  tt,
+  ◌∙◌ {A = TableId} c.look_before.ensures.seat (sym c.requires.of),
+  since_look g after,
+  looked_on g after,
+  led.0,
+  c.test.ensures.tested.row_is ∙ ap row_in (sym (led.1 ∙ c.test.ensures.tested.held)),
+)

@@ -1,0 +1,30 @@
+-- What may end a wait early, and what a look has shown of it.
+use Rattle.std.specs.Prelude.{◌≡◌, ℕ, Option, IfSome, option_map}
+use Rattle.atomic_table.specs.Seated.{TableId}
+use Rattle.ns_model.specs.Beginnings.{BeginsWith}
+use Rattle.ns_model.specs.Environments.{IsMade}
+use Rattle.ns_note.specs.Answers.{LookAnswers}
+use Rattle.ns_note.specs.Known.{EnvKnown}
+use Rattle.ns_note.specs.declared.note.Note.{Note}
+use Rattle.ns_word.specs.Waits.{answer_of}
+use Rattle.ns_word.specs.declared.limits.Cause.{Cause}
+use Rattle.ns_word.specs.declared.limits.Limits.{Limits}
+
+-- the seat is of the environment, and has seen the note made that the limits name, if they name one
+pub record IsLooking (env : TableId) (seat : EnvKnown) (note : Option Note) (limits : Limits) : Type 0 where
+  pub of : seat.env ≡ env
+  pub made : IfSome note (λ n. IsMade seat.seen n.index)
+  pub named : limits.note ≡ option_map (λ n. n.index) note
+
+-- the same seat later, which has seen more and done nothing of its own
+pub record HasLookedOn (old new : EnvKnown) : Type 0 where
+  pub env : new.env ≡ old.env
+  pub limit : new.limit ≡ old.limit
+  pub who : new.who ≡ old.who
+  pub begins : BeginsWith new.seen old.seen
+  pub mine : new.mine ≡ old.mine
+  pub makes : (note : ℕ) → IsMade old.seen note → IsMade new.seen note
+
+-- a look between has shown this
+abbrev pub LookShows : Option Note → Limits → EnvKnown → EnvKnown → Option Cause → Type 0
+LookShows note limits old new shown = LookAnswers note limits.deadline old.seen new.seen (option_map answer_of shown)

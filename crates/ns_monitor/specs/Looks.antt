@@ -1,0 +1,65 @@
+-- What a look at a note and a deadline shows stays so: the laws of what watches for the end of a wait.
+use Rattle.std.proofs.Common.{◌≡◌, ℕ, List, Option, None, Some, IfSome, IsSome, option_map, refl, sym, ◌∙◌, subst}
+use Rattle.atomic_table.specs.Seated.{TableId}
+use Rattle.ns_model.proofs.Beginnings.{begins_itself, begins_through}
+use Rattle.ns_model.specs.Beginnings.{BeginsWith}
+use Rattle.ns_model.specs.Environments.{IsMade}
+use Rattle.ns_model.specs.declared.environment.EnvEvent.{EnvEvent}
+use Rattle.ns_monitor.specs.Limits.{HasLookedOn, IsLooking, LookShows}
+use Rattle.ns_note.specs.Answers.{LookAnswers}
+use Rattle.ns_note.specs.Known.{EnvKnown}
+use Rattle.ns_note.specs.declared.note.Note.{Note}
+use Rattle.ns_model.specs.declared.event.Answer.TheVariants.{TimedOut}
+use Rattle.ns_word.specs.Steps.{MayShow}
+use Rattle.ns_word.specs.Waits.{answer_of}
+use Rattle.ns_word.specs.declared.limits.Cause.{Cause}
+use Rattle.ns_word.specs.declared.limits.Cause.TheVariants.{Expired, Notified}
+use Rattle.ns_word.specs.declared.limits.Limits.{Limits}
+
+-- ---- a seat that looks on
+
+pub same_looker : (seat : EnvKnown) → HasLookedOn seat seat
+same_looker seat = record { env = refl; limit = refl; who = refl; begins = begins_itself seat.seen; mine = refl; makes = λ given made. made }
+
+pub then_looker : (one two three : EnvKnown) → HasLookedOn one two → HasLookedOn two three → HasLookedOn one three
+then_looker one two three s t = record { env = t.env ∙ s.env; limit = t.limit ∙ s.limit; who = t.who ∙ s.who; begins = begins_through three.seen two.seen one.seen t.begins s.begins; mine = t.mine ∙ s.mine; makes = λ given made. t.makes given (s.makes given made) }
+
+-- a note that was made stays so
+still_made : (given : Option Note) (old new : EnvKnown) → HasLookedOn old new → IfSome given (λ n. IsMade old.seen n.index) → IfSome given (λ n. IsMade new.seen n.index)
+still_made None old new s made = tt
+still_made (Some n) old new s made = s.makes n.index made
+
+pub still_looking : (env env' : TableId) (one two : EnvKnown) (given given' : Option Note) (limits : Limits) → env' ≡ env → given' ≡ given → HasLookedOn one two → IsLooking env one given limits → IsLooking env' two given' limits
+still_looking env env' one two given given' limits same same' s is = subst (λ (x : TableId × Option Note). IsLooking x.0 two x.1 limits) (λ i. (sym same i, sym same' i)) (record { of = s.env ∙ is.of; made = still_made given one two s is.made; named = is.named })
+
+-- ---- what was shown
+
+given_deadline : (given : Option Note) (old new : EnvKnown) (limits : Limits) → LookShows given limits old new (Some Expired) → IsSome limits.deadline
+given_deadline given old new limits shown = by_deadline limits.deadline shown where
+  by_deadline : (deadline : Option ℕ) → LookAnswers given deadline old.seen new.seen (Some TimedOut) → IsSome deadline
+  by_deadline None answers = absurd answers
+  by_deadline (Some d) answers = refl
+
+given_note : (given : Option Note) (old new : EnvKnown) (limits : Limits) → LookShows given limits old new (Some Notified) → IsSome (option_map (λ (n : Note). n.index) given)
+given_note None old new limits shown = absurd shown
+given_note (Some n) old new limits shown = refl
+
+-- a wait was given what it shows
+pub may_show : (given : Option Note) (limits : Limits) (old new : EnvKnown) (shown : Option Cause) → limits.note ≡ option_map (λ n. n.index) given → LookShows given limits old new shown → MayShow limits shown
+may_show given limits old new None is shows = tt
+may_show given limits old new (Some Expired) is shows = given_deadline given old new limits shows
+may_show given limits old new (Some Notified) is shows = subst IsSome (sym is) (given_note given old new limits shows)
+
+-- what was shown to one that had seen more was shown to one that had seen less
+shown_before : (given : Option Note) (deadline : Option ℕ) (old mid new : List EnvEvent) (shown : Option Cause) → BeginsWith mid old → LookAnswers given deadline mid new (option_map answer_of shown) → LookAnswers given deadline old new (option_map answer_of shown)
+shown_before given deadline old mid new None begins shows = (shows.0, (begins_through shows.0 mid old shows.1.0 begins, shows.1.1), shows.2, shows.3)
+shown_before given deadline old mid new (Some Notified) begins shows = shows
+shown_before given None old mid new (Some Expired) begins shows = absurd shows
+shown_before given (Some d) old mid new (Some Expired) begins shows = (shows.0, (begins_through shows.0 mid old shows.1.0 begins, shows.1.1), shows.2, shows.3)
+
+pub shown_since : (given given' : Option Note) (limits : Limits) (one two three : EnvKnown) (shown : Option Cause) → given' ≡ given → HasLookedOn one two → LookShows given' limits two three shown → LookShows given limits one three shown
+shown_since given given' limits one two three shown same s shows = shown_before given limits.deadline one.seen two.seen three.seen shown s.begins (subst (λ n. LookShows n limits two three shown) same shows)
+
+-- and that nothing was shown stays so
+pub none_shown : (given : Option Note) (limits : Limits) (one two three : EnvKnown) → LookShows given limits one two None → HasLookedOn two three → LookShows given limits one three None
+none_shown given limits one two three shows s = (shows.0, (shows.1.0, begins_through three.seen two.seen shows.0 s.begins shows.1.1), shows.2, shows.3)

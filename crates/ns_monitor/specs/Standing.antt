@@ -1,0 +1,205 @@
+-- What the loops of a call are told of the place at which it stands, and where they lead it.
+use Rattle.std.specs.Prelude.{◌≡◌, ℕ, ◌<◌, List, true, Bool, false, not, if◌then◌else◌, Option, None, Some}
+use Rattle.ns_gate.specs.Calls.{SeatOf, IsAt, Leads}
+use Rattle.ns_gate.specs.Steps.{the, Carries, HasTaken, found_returned, lists_returned, some_returned}
+use Rattle.ns_gate.specs.declared.queues.Returning.{Returning}
+use Rattle.ns_gate.specs.declared.queues.Returning.TheVariants.{Changed, Released, Waited}
+use Rattle.ns_gate.specs.declared.queues.Turned.{Turned}
+use Rattle.ns_model.specs.Truths.{Truths}
+use Rattle.ns_queue.specs.Scans.{woken_of}
+use Rattle.ns_queue.specs.Waiters.{seats_of}
+use Rattle.ns_queue.specs.declared.waiter.Which.TheVariants.{Lock}
+use Rattle.ns_word.specs.Finds.{row_in}
+use Rattle.ns_word.specs.Steps.{meets_at}
+use Rattle.ns_word.specs.declared.act.Change.TheVariants.{QueueSelf, LeaveSelf}
+use Rattle.ns_word.specs.declared.act.Found.{Found}
+use Rattle.ns_monitor.specs.declared.going.Going.{Going}
+use Rattle.ns_monitor.specs.declared.going.Going.TheVariants.{Acquiring, Leaving, Changing}
+use Rattle.ns_word.specs.Asked.{asked_of, request_for}
+use Rattle.ns_word.specs.Codec.{IsPackable}
+use Rattle.ns_word.specs.Lists.{bits_of}
+use Rattle.ns_word.specs.Waits.{home_of, mode_for}
+use Rattle.ns_word.specs.Walks.{want_of, got_of, has_queues, acquire_by, acquired_for, release_by, scan_place}
+use Rattle.ns_word.specs.Words.{may_acquire, needs_scan}
+use Rattle.ns_word.specs.declared.act.Act.{Act}
+use Rattle.ns_word.specs.declared.act.Act.TheVariants.{LoadWord, LoadFlag, PayWake, Acquire, Release}
+use Rattle.ns_word.specs.declared.act.Found.TheVariants.{Flag, Paid}
+use Rattle.ns_word.specs.declared.acquire_walk.AcquirePlace.TheVariants.{AcquireLoad, AcquireExchange, TakeToQueue, Arm, Queue}
+use Rattle.ns_word.specs.declared.release_walk.ReleasePlace.{ReleasePlace}
+use Rattle.ns_word.specs.declared.release_walk.ReleasePlace.TheVariants.{ReleaseLoad, ReleaseExchange, TakeToScan, ScanAndRelease}
+use Rattle.ns_word.specs.declared.request.Request.TheVariants as TheRequest
+use Rattle.ns_word.specs.declared.wait.Aim.{Aim}
+use Rattle.ns_word.specs.declared.word.Arrival.{Arrival}
+use Rattle.ns_word.specs.declared.word.Releasing.{Releasing}
+use Rattle.ns_word.specs.declared.signal_walk.SignalPlace.TheVariants.{SignalLoad, TakeToWake, WakeAndReturn}
+use Rattle.ns_word.specs.declared.wait.LeavePlace.TheVariants.{LeaveLoad, TakeToLeave, Leave}
+use Rattle.ns_word.specs.declared.wait.QueuePlace.TheVariants.{Load, Take, ArmToWait, QueueToWait}
+use Rattle.ns_word.specs.declared.wait.WaitPlace.TheVariants.{InQueuing, InLeaving}
+use Rattle.ns_word.specs.declared.walk.Next.{Next}
+use Rattle.ns_word.specs.declared.walk.Next.TheVariants.{On, Idle, Done}
+use Rattle.ns_word.specs.declared.walk.Reply.TheVariants.{Succeeded}
+use Rattle.ns_word.specs.declared.walk.Walk.{Walk}
+use Rattle.ns_word.specs.declared.walk.Walk.TheVariants.{InAcquire, InRelease, InWait, InSignal}
+use Rattle.ns_word.specs.declared.word.Taking.{Taking}
+use Rattle.ns_word.specs.declared.word.Taking.TheVariants.{ToChange, ToQueue}
+use Rattle.ns_word.specs.declared.word.Word.{Word}
+
+-- the seat's number, as its caller has it at hand
+abbrev pub IsNumberOf : {C : Type 0} {N : ℕ} → ℕ → SeatOf C N → Type 0
+IsNumberOf number me = (number ≡ (the me.0).at.seat) × (number < 64)
+
+-- ---- at the flag
+
+-- a call at this place waits until its flag is cleared, and has nothing else to do while it is set
+pub record Sleeps {C : Type 0} (N : ℕ) (walk : Walk C) : Type 0 where
+  pub loads : want_of walk ≡ LoadFlag
+  pub free : has_queues (Some walk) ≡ false
+  pub rests : got_of N walk (Flag 1) ≡ Idle walk
+
+-- a call at this place pays the wakes that it owes, each with this value, until it owes none
+pub record Pays {C : Type 0} (N value : ℕ) (walk : Walk C) : Type 0 where
+  pub pays : want_of walk ≡ PayWake value
+  pub free : has_queues (Some walk) ≡ false
+  pub more : got_of N walk (Paid true) ≡ On walk
+
+-- ---- by the word last seen
+
+-- A call loads the word at this place, and goes on by what it sees: an acquire, a release, or one that has to change the lists.
+abbrev pub Decides : {C : Type 0} → Walk C → Type 0
+Decides (InAcquire aim (AcquireLoad arrival)) = Unit {0}
+Decides (InRelease releasing ReleaseLoad) = Unit {0}
+Decides (InWait wait (InQueuing again Load)) = Unit {0}
+Decides (InWait wait (InLeaving cause LeaveLoad)) = Unit {0}
+Decides (InSignal waking k SignalLoad) = Unit {0}
+Decides walk = ⊥
+
+-- what it would do without the queues
+abbrev pub going_of : {C : Type 0} → Walk C → Going C
+going_of (InAcquire aim (AcquireLoad arrival)) = Acquiring aim arrival
+going_of (InRelease releasing place) = Leaving releasing
+going_of walk = Changing
+
+-- the word last seen lets it
+abbrev pub may_go : {C : Type 0} → Going C → Word → Bool
+may_go (Acquiring aim arrival) word = may_acquire (mode_for aim) arrival word
+may_go (Leaving releasing) word = not (needs_scan releasing word)
+may_go Changing word = false
+
+-- by this exchange
+abbrev pub going_act : {C : Type 0} → Going C → Word → Act C
+going_act (Acquiring aim arrival) last = Acquire aim arrival last
+going_act (Leaving releasing) last = Release releasing last
+going_act Changing last = LoadWord
+
+-- what it tells the others as it takes the queues
+abbrev pub taking_for : {C : Type 0} → Going C → Taking
+taking_for (Acquiring aim arrival) = ToQueue (mode_for aim) arrival
+taking_for (Leaving releasing) = ToChange
+taking_for Changing = ToChange
+
+-- where it stands that is about to go
+abbrev pub going_at : {C : Type 0} → Walk C → Word → Walk C
+going_at (InAcquire aim (AcquireLoad arrival)) word = InAcquire aim (AcquireExchange arrival word)
+going_at (InRelease releasing place) word = InRelease releasing (ReleaseExchange word)
+going_at walk word = walk
+
+-- or to take the queues
+abbrev pub taking_at : {C : Type 0} → Walk C → Word → Walk C
+taking_at (InAcquire aim (AcquireLoad arrival)) word = InAcquire aim (TakeToQueue arrival word)
+taking_at (InRelease releasing place) word = InRelease releasing (TakeToScan word)
+taking_at (InWait wait (InQueuing again Load)) word = InWait wait (InQueuing again (Take word))
+taking_at (InWait wait (InLeaving cause LeaveLoad)) word = InWait wait (InLeaving cause (TakeToLeave word))
+taking_at (InSignal waking k SignalLoad) word = InSignal waking k (TakeToWake word)
+taking_at walk word = walk
+
+-- where a release goes that has taken the queues at this word: it loads the row where some waiter has a condition
+abbrev pub scanning_at : ℕ → Word → ReleasePlace
+scanning_at N word = if word.cond then scan_place N word 0 else ScanAndRelease word
+
+-- where a call goes that has gone without the queues
+abbrev pub gone_to : {C : Type 0} → ℕ → Walk C → Next C
+gone_to N (InAcquire aim place) = acquired_for N aim
+gone_to N (InRelease releasing place) = Done Succeeded
+gone_to N walk = Idle walk
+
+-- where it stands that has taken them, at this word
+abbrev pub taken_at : {C : Type 0} → ℕ → Walk C → Word → Walk C
+taken_at N (InAcquire aim (AcquireLoad arrival)) word = InAcquire aim (Arm arrival word)
+taken_at N (InRelease releasing place) word = InRelease releasing (scanning_at N word)
+taken_at N (InWait wait (InQueuing again Load)) word = InWait wait (InQueuing again (ArmToWait word))
+taken_at N (InWait wait (InLeaving cause LeaveLoad)) word = InWait wait (InLeaving cause (Leave word))
+taken_at N (InSignal waking k SignalLoad) word = InSignal waking k (WakeAndReturn word)
+taken_at N walk word = walk
+
+-- A call has taken the queues, at a word that has a number and tells whether some waiter has a condition; its section is as it was.
+pub record HasTakenAt {C : Type 0} {N : ℕ} (truths : Truths C) (walk : Walk C) (word : Word) (me now : SeatOf C N) : Type 0 where
+  pub at : IsAt truths (taken_at N walk word) now
+  pub taken : HasTaken now
+  pub packs : IsPackable word
+  pub held : (the now.0).at.held ≡ (the me.0).at.held
+  pub tells : word.cond ≡ (bits_of (the now.0).stood.lock).conditional
+
+-- it may go without the queues at all
+abbrev pub MayGoAlone : {C : Type 0} → Going C → Type 0
+MayGoAlone Changing = ⊥
+MayGoAlone going = Unit {0}
+
+-- A call has gone by the words that it has seen, or has taken the queues; then this is the word.
+abbrev pub WentOrTook : {C : Type 0} {N : ℕ} → Truths C → Walk C → Option Word → SeatOf C N → SeatOf C N → Type 0
+WentOrTook {C} {N} truths walk None me now = MayGoAlone (going_of walk) × Leads truths (asked_of walk) (gone_to N walk) now
+WentOrTook truths walk (Some word) me now = HasTakenAt truths walk word me now
+
+-- ---- with the queues in hand
+
+-- A call puts the queues back at this place: one that acquires, or that waits, with itself in its list or without, or that releases.
+abbrev pub PutsBack : {C : Type 0} → Walk C → Type 0
+PutsBack (InAcquire aim (Queue arrival last)) = Unit {0}
+PutsBack (InRelease releasing (ScanAndRelease last)) = Unit {0}
+PutsBack (InWait wait (InQueuing again (QueueToWait last))) = Unit {0}
+PutsBack (InWait wait (InLeaving cause (Leave last))) = Unit {0}
+PutsBack walk = ⊥
+
+-- what for; another place puts back none
+abbrev pub returning_of : {C : Type 0} → Walk C → Returning C
+returning_of (InAcquire aim (Queue arrival last)) = Changed (QueueSelf (mode_for aim) arrival)
+returning_of (InRelease releasing place) = Released releasing
+returning_of (InWait wait (InQueuing again place)) = Waited wait again
+returning_of (InWait wait place) = Changed (LeaveSelf (home_of wait.on))
+returning_of walk = Changed (LeaveSelf Lock)
+
+-- the same place, by another word
+abbrev pub returning_at : {C : Type 0} → Walk C → Word → Walk C
+returning_at (InAcquire aim (Queue arrival last)) word = InAcquire aim (Queue arrival word)
+returning_at (InRelease releasing place) word = InRelease releasing (ScanAndRelease word)
+returning_at (InWait wait (InQueuing again place)) word = InWait wait (InQueuing again (QueueToWait word))
+returning_at (InWait wait (InLeaving cause place)) word = InWait wait (InLeaving cause (Leave word))
+returning_at walk word = walk
+
+-- the seat has in hand what is put back for this, whatever the word is; this tells of it
+pub record HasInHand {C : Type 0} {N : ℕ} (truths : Truths C) (returning : Returning C) (turned : Turned) (me : SeatOf C N) : Type 0 where
+  pub carries : (last : Word) → Carries (lists_returned truths (the me.0).at.seat returning last (row_in (the me.0).at.held) (the me.0).stood) me
+  pub some : (last : Word) → turned.some ≡ some_returned truths returning last (row_in (the me.0).at.held) (the me.0).stood
+  pub bits : (last : Word) → turned.bits ≡ bits_of (lists_returned truths (the me.0).at.seat returning last (row_in (the me.0).at.held) (the me.0).stood).lock
+
+-- what the seat finds that has put it back
+abbrev pub found_back : {C : Type 0} {N : ℕ} → Truths C → Returning C → Word → SeatOf C N → Found
+found_back truths returning last me = found_returned truths (the me.0).at.seat returning last (row_in (the me.0).at.held) (the me.0).stood
+
+-- whom it then owes a wake: those whom a scan of the lock list takes at the row of the section in hand
+abbrev pub OwesTheWoken : {C : Type 0} {N : ℕ} → Truths C → Returning C → SeatOf C N → List ℕ → Type 0
+OwesTheWoken truths (Changed change) me owed = Unit {0}
+OwesTheWoken truths returning me owed = owed ≡ seats_of (woken_of (meets_at truths (row_in (the me.0).at.held)) (the me.0).stood.lock)
+
+-- ---- acquires and releases
+
+-- an acquire has seen this word, and stands where its decision leads
+abbrev pub AcquiresBy : {C : Type 0} {N : ℕ} → Truths C → Aim C → Arrival → Word → SeatOf C N → Type 0
+AcquiresBy truths aim arrival word me = Leads truths (request_for aim) (acquire_by aim arrival word) me
+
+-- an acquire was made: a call that locks is over, and a wait stands where it goes on
+abbrev pub HasAcquired : {C : Type 0} {N : ℕ} → Truths C → Aim C → SeatOf C N → Type 0
+HasAcquired {C} {N} truths aim me = Leads truths (request_for aim) (acquired_for N aim) me
+
+-- a release has seen this word, and stands where its decision leads
+abbrev pub ReleasesBy : {C : Type 0} {N : ℕ} → Truths C → Releasing → Word → SeatOf C N → Type 0
+ReleasesBy truths releasing word me = Leads truths (TheRequest.Release releasing) (release_by releasing word) me

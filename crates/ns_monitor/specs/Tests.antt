@@ -1,0 +1,92 @@
+-- How a call loads the cells of the row one after another, and what the test of a wait tells.
+use Rattle.std.specs.Prelude.{◌≡◌, ℕ, ◌-◌, ◌<◌, if◌then◌else◌, List, length, slice_index, Bool, Option, None, Some}
+use Rattle.ns_gate.specs.Calls.{SeatOf, HasSince, IsAt, IsAtRest, Leads}
+use Rattle.ns_gate.specs.Law.{GateView}
+use Rattle.ns_gate.specs.Steps.{the, HasTaken}
+use Rattle.ns_model.specs.Truths.{Truths}
+use Rattle.ns_model.specs.declared.event.Answer.TheVariants.{Met}
+use Rattle.ns_word.specs.Begins.{IsFirst}
+use Rattle.ns_word.specs.Finds.{row_in}
+use Rattle.ns_word.specs.Places.{HasMode, PlaceFits}
+use Rattle.ns_word.specs.Walks.{load_place, quiet_place, scan_place, test_place, unmet_by, wait_first}
+use Rattle.ns_word.specs.declared.cell_walk.CellPlace.TheVariants.{QuietCells, QuietLast}
+use Rattle.ns_word.specs.declared.release_walk.ReleasePlace.TheVariants.{ScanCells, ScanAndRelease}
+use Rattle.ns_word.specs.declared.request.Request.TheVariants.{Await}
+use Rattle.ns_word.specs.declared.wait.QueuePlace.TheVariants.{LoadToScan, QueueToWait}
+use Rattle.ns_word.specs.declared.wait.Visit.{Visit}
+use Rattle.ns_word.specs.declared.wait.Visit.TheVariants.{OnEntry}
+use Rattle.ns_word.specs.declared.wait.Wait.{Wait}
+use Rattle.ns_word.specs.declared.wait.WaitPlace.TheVariants.{TestCells, TestLast, InQueuing}
+use Rattle.ns_word.specs.declared.walk.Next.{Next}
+use Rattle.ns_word.specs.declared.walk.Next.TheVariants.{Done}
+use Rattle.ns_word.specs.declared.walk.Reply.TheVariants.{Answered}
+use Rattle.ns_word.specs.declared.walk.Walk.{Walk}
+use Rattle.ns_word.specs.declared.walk.Walk.TheVariants.{InRelease, InCells, InWait}
+
+-- ---- cells one after another
+
+-- how a call loads cells: how many, its place as it is about to load one, and its place once it has loaded them all
+pub record Loading (C : Type 0) : Type 0 where
+  pub count : ℕ
+  pub at : ℕ → Walk C
+  pub last : Walk C
+
+-- how the call that stands at such a place loads the cells of a row of N; a test or a judgement leaves the last cell, which tells
+abbrev pub loading : {C : Type 0} → ℕ → Walk C → Loading C
+loading N (InWait wait (TestCells visit i)) = record { count = N - 1; at = λ k. InWait wait (TestCells visit k); last = InWait wait (TestLast visit (N - 1)) }
+loading N (InCells (QuietCells judges i)) = record { count = N - 1; at = λ k. InCells (QuietCells judges k); last = InCells (QuietLast judges (N - 1)) }
+loading N (InRelease releasing (ScanCells word i)) = record { count = N; at = λ k. InRelease releasing (ScanCells word k); last = InRelease releasing (ScanAndRelease word) }
+loading N (InWait wait (InQueuing again (LoadToScan word i))) =
+    record { count = N; at = λ k. InWait wait (InQueuing again (LoadToScan word k)); last = InWait wait (InQueuing again (QueueToWait word)) }
+loading N walk = record { count = 0; at = λ k. walk; last = walk }
+
+-- its place once it has loaded so many
+abbrev pub loading_at : {C : Type 0} → ℕ → Walk C → ℕ → Walk C
+loading_at N (InWait wait (TestCells visit i)) k = test_place N wait visit k
+loading_at N (InCells (QuietCells judges i)) k = InCells (quiet_place N judges k)
+loading_at N (InRelease releasing (ScanCells word i)) k = InRelease releasing (scan_place N word k)
+loading_at N (InWait wait (InQueuing again (LoadToScan word i))) k = InWait wait (InQueuing again (load_place N word k))
+loading_at N walk k = walk
+
+-- a call stands at this place, or its seat, at rest, may begin it there
+abbrev pub StandsAt : {C : Type 0} {N : ℕ} → Truths C → Option (Walk C) → Walk C → SeatOf C N → Type 0
+StandsAt truths None walk me = IsAt truths walk me
+StandsAt {C} {N} truths (Some first) walk me = (first ≡ walk) × IsAtRest truths me × IsFirst N first × PlaceFits truths (Some first) (the me.0).at.held
+
+-- the seat has made steps of a call that begins so; or that call is yet to begin, and nothing has changed
+abbrev pub HasGone : {C : Type 0} {N : ℕ} → Option (Walk C) → Option (Walk C) → GateView C N → GateView C N → Type 0
+HasGone begins None v w = HasSince begins v w
+HasGone begins (Some first) v w = (begins ≡ Some first) × (w ≡ v)
+
+-- so many cells of a row of N were read into another
+pub record AreRead (N : ℕ) (row read : List ℕ) (count : ℕ) : Type 0 where
+  pub width : length read ≡ N
+  pub cells : (k : ℕ) → k < count → slice_index read k ≡ slice_index row k
+
+-- A call has loaded so many cells of the section in hand. The section is as it was, nothing was committed, and the queues are as they were, if they are in hand as they stood.
+pub record HasLoaded {C : Type 0} {N : ℕ} (truths : Truths C) (begins left : Option (Walk C)) (walk : Walk C) (count : ℕ) (row : List ℕ) (me now : SeatOf C N) : Type 0 where
+  pub at : StandsAt truths left (loading_at N walk count) now
+  pub since : HasGone begins left (the me.0) (the now.0)
+  pub held : (the now.0).at.held ≡ (the me.0).at.held
+  pub mine : (the now.0).told.mine ≡ (the me.0).told.mine
+  pub taken : HasTaken me → HasTaken now × ((the now.0).stood ≡ (the me.0).stood)
+  pub read : AreRead N (row_in (the me.0).at.held) row count
+
+-- ---- the test of a wait
+
+-- where a wait goes that has tested its condition
+abbrev pub tested_by : {C : Type 0} → Wait C → Visit → Bool → Next C
+tested_by wait visit met = if met then Done (Answered Met) else unmet_by wait visit
+
+-- a wait may test its condition, as it has come back, or as a seat at rest with a section in the wait's mode begins it
+abbrev pub MayTest : {C : Type 0} {N : ℕ} → Truths C → Option (Walk C) → Wait C → Visit → SeatOf C N → Type 0
+MayTest {C} {N} truths None wait visit me = IsAt truths (test_place N wait visit 0) me
+MayTest {C} {N} truths (Some first) wait visit me = (first ≡ wait_first N wait) × (visit ≡ OnEntry) × IsAtRest truths me × HasMode wait.mode (the me.0).at.held
+
+-- a wait has tested its condition, of the row of the section in hand, which was loaded, and has found this; the section is as it was, and nothing was committed
+pub record HasTested {C : Type 0} {N : ℕ} (truths : Truths C) (wait : Wait C) (visit : Visit) (c : C) (met : Bool) (row : List ℕ) (me now : SeatOf C N) : Type 0 where
+  pub leads : Leads truths (Await wait) (tested_by wait visit met) now
+  pub held : (the now.0).at.held ≡ (the me.0).at.held
+  pub mine : (the now.0).told.mine ≡ (the me.0).told.mine
+  pub row_is : row ≡ row_in (the me.0).at.held
+  pub is : met ≡ truths.holds c row

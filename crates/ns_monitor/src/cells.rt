@@ -1,0 +1,104 @@
+//! Calls that load the cells of the row one after another: a wait that tests its condition, a question
+//! whether the section is quiet, and a scan.
+
+ghost use Rattle.std.specs.Prelude.{◌≡◌, ◌≤◌, None, Some};
+ghost use Rattle.ns_model.specs.declared.event.Mode.TheVariants.{Write};
+ghost use Rattle.ns_word.specs.Finds.{before_in, row_in};
+ghost use Rattle.ns_word.specs.Places.{HasMode};
+ghost use Rattle.ns_word.specs.declared.request.Request.TheVariants.{IsQuiet};
+ghost use Rattle.ns_word.specs.declared.wait.Subject.TheVariants.{OnCondition};
+ghost use Rattle.ns_word.specs.declared.walk.Reply.TheVariants.{Is};
+ghost use Rattle.ns_gate.specs.Calls.{HasAnswered, HasSince, IsAt, IsAtRest};
+ghost use Rattle.ns_gate.specs.Steps.{HasTaken, the};
+ghost use Rattle.ns_monitor.specs.Tests.{HasLoaded, HasTested, MayTest, StandsAt, loading, loading_at};
+ghost use Rattle.ns_monitor.specs.Walks.{judging};
+
+use crate::monitor::Monitor;
+use ns_gate::gate::GateSeat;
+use ns_gate::room::Gated;
+use ns_word::cell_walk::{CellPlace, Judging};
+use ns_word::wait::{Visit, Wait, WaitPlace};
+use ns_word::walk::Walk;
+
+impl<C: Gated<N>, const N: usize> Monitor<C, N> {
+    /// Loads so many cells, from the first on, for the call that stands at this place, or begins there.
+    /// Answers what is still to begin: nothing, once a cell is loaded. No code reads the place.
+    fn load_cells(
+        &self,
+        seat: &mut GateSeat<C, N>,
+        begins: Option<Walk<C>>,
+        _walk: Walk<C>,
+        row: &mut [u64; N],
+        count: usize,
+    ) -> Option<Walk<C>>
+        requires of { seat.old.table_id ≡ self.now }
+        requires count { (count ≤ N) × (count ≡ (loading N _walk).count) }
+        requires stands { StandsAt C.means begins (loading_at N _walk 0) seat.old.me }
+        ensures seat { seat.new.table_id ≡ self.now }
+        ensures loaded { HasLoaded C.means begins result _walk count row.new seat.old.me seat.new.me }
+    {
+        let mut begun = begins;
+        for i in 0..count {
+            row[i] = self.gate.load_cell(seat, begun, i as u8);
+            begun = None;
+        }
+        begun
+    }
+
+    /// Tests the condition of a wait: as the call begins, or as it comes back. The row is loaded into
+    /// the one given.
+    pub(crate) fn test(
+        &self,
+        seat: &mut GateSeat<C, N>,
+        begins: Option<Walk<C>>,
+        wait: Wait<C>,
+        condition: C,
+        visit: Visit,
+        row: &mut [u64; N],
+    ) -> bool
+        requires of { seat.old.table_id ≡ self.now }
+        requires on { wait.on ≡ OnCondition condition }
+        requires may { MayTest C.means begins wait visit seat.old.me }
+        ensures seat { seat.new.table_id ≡ self.now }
+        ensures since { HasSince begins (the seat.old.me.0) (the seat.new.me.0) }
+        ensures tested { HasTested C.means wait visit condition result row.new seat.old.me seat.new.me }
+    {
+        let place = Walk::InWait(wait, WaitPlace::TestCells(visit, 0));
+        let begun = self.load_cells(seat, begins, place, row, N - 1);
+        row[N - 1] = self.gate.judge_met(seat, begun, (N - 1) as u8, condition);
+        condition.test(row)
+    }
+
+    /// Loads the row of the section in hand, for a call that judges whether it is quiet.
+    pub(crate) fn load_to_judge(&self, seat: &mut GateSeat<C, N>) -> [u64; N]
+        requires of { seat.old.table_id ≡ self.now }
+        requires rest { IsAtRest C.means seat.old.me }
+        requires writes { HasMode Write (the seat.old.me.0).at.held }
+        ensures seat { seat.new.table_id ≡ self.now }
+        ensures since { HasSince (Some (judging N)) (the seat.old.me.0) (the seat.new.me.0) }
+        ensures judged { HasAnswered C.means IsQuiet (Is (C.means.quiet (before_in (the seat.old.me.0).at.held) (row_in (the seat.old.me.0).at.held))) seat.new.me }
+        ensures row { result ≡ row_in (the seat.old.me.0).at.held }
+    {
+        let begins = Some(Walk::is_quiet::<N>());
+        let place = Walk::InCells(CellPlace::QuietCells(Judging::ToTell, 0));
+        let mut row = [0; N];
+        let begun = self.load_cells(seat, begins, place, &mut row, N - 1);
+        row[N - 1] = self.gate.judge_quiet(seat, begun, (N - 1) as u8);
+        row
+    }
+
+    /// Loads the whole row for a scan, with the queues in hand. No code reads the place.
+    pub(crate) fn load_to_scan(&self, seat: &mut GateSeat<C, N>, walk: Walk<C>, row: &mut [u64; N])
+        requires of { seat.old.table_id ≡ self.now }
+        requires scans { (loading N walk).count ≡ N }
+        requires at { IsAt C.means (loading_at N walk 0) seat.old.me }
+        requires taken { HasTaken seat.old.me }
+        ensures seat { seat.new.table_id ≡ self.now }
+        ensures since { HasSince None (the seat.old.me.0) (the seat.new.me.0) }
+        ensures at { IsAt C.means (loading N walk).last seat.new.me }
+        ensures taken { HasTaken seat.new.me × ((the seat.new.me.0).stood ≡ (the seat.old.me.0).stood) }
+        ensures row { (row.new ≡ row_in (the seat.old.me.0).at.held) × ((the seat.new.me.0).at.held ≡ (the seat.old.me.0).at.held) }
+    {
+        self.load_cells(seat, None, walk, row, N);
+    }
+}

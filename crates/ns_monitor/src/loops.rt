@@ -1,0 +1,190 @@
+//! The loops that a call may go round in, each once. Each is told the place at which its call stands,
+//! which is for the proof alone: no code reads it.
+
+ghost use Rattle.std.specs.Prelude.{◌≡◌, ◌≢◌, None, Some, true, false, IfErr};
+ghost use Rattle.ns_gate.specs.Calls.{HasSince, IsAt, Leads};
+ghost use Rattle.ns_gate.specs.Steps.{CanStep, Performed, the, tried};
+ghost use Rattle.ns_monitor.specs.Standing.{Decides, HasInHand, HasTakenAt, IsNumberOf, OwesTheWoken, Pays, PutsBack, Sleeps, WentOrTook, found_back, going_act, going_of, may_go, returning_at, returning_of};
+ghost use Rattle.ns_monitor.specs.declared.going.Going.TheVariants.{Changing};
+ghost use Rattle.ns_word.specs.Asked.{asked_of};
+ghost use Rattle.ns_word.specs.Codec.{IsPackable};
+ghost use Rattle.ns_word.specs.Lists.{has_some};
+ghost use Rattle.ns_word.specs.Walks.{got_of};
+
+use crate::going::Going;
+use crate::monitor::Monitor;
+use arrayvec::ArrayVec;
+use crossbeam_utils::Backoff;
+use ns_gate::gate::GateSeat;
+use ns_gate::queues::{Returning, Turned};
+use ns_gate::room::Gated;
+use ns_word::act::Found;
+use ns_word::walk::Walk;
+use ns_word::word::Word;
+use std::sync::Wait;
+
+impl<C: Gated<N>, const N: usize> Monitor<C, N> {
+    /// Makes the exchange by which a call goes without the waiter queues, where the word is still the
+    /// one last seen; else tells the word.
+    fn exchange_to_go(
+        &self,
+        seat: &mut GateSeat<C, N>,
+        going: Going<C>,
+        last: Word,
+    ) -> Result<(), Word>
+        requires of { seat.old.table_id ≡ self.now }
+        requires last { IsPackable last }
+        requires may { may_go going last ≡ true }
+        requires can { CanStep C.means None (going_act going last) seat.old.me }
+        ensures seat { seat.new.table_id ≡ self.now }
+        ensures word { IfErr result IsPackable }
+        ensures did { Performed C.means None (going_act going last) (tried result) seat.old.me seat.new.me }
+    {
+        match going {
+            Going::Acquiring(aim, arrival) => {
+                self.gate.exchange_to_acquire(seat, aim, arrival, last)
+            }
+            Going::Leaving(releasing) => self.gate.exchange_to_release(seat, releasing, last),
+            Going::Changing => unreachable!(),
+        }
+    }
+
+    /// Goes on by the word last seen, as the call does that loads the word at this place: acquires or
+    /// releases, where the word lets it, or takes the queues; then this is the word. Goes round while
+    /// another has the queues.
+    pub(crate) fn go_or_take<R: Wait>(
+        &self,
+        rt: &R,
+        seat: &mut GateSeat<C, N>,
+        going: Going<C>,
+        _walk: Walk<C>,
+        first: Word,
+    ) -> Option<Word>
+        requires of { seat.old.table_id ≡ self.now }
+        requires decides { Decides _walk }
+        requires going { going ≡ going_of _walk }
+        requires word { IsPackable first }
+        requires at { Leads C.means (asked_of _walk) (got_of N _walk (Found.Saw first)) seat.old.me }
+        ensures seat { seat.new.table_id ≡ self.now }
+        ensures since { HasSince None (the seat.old.me.0) (the seat.new.me.0) }
+        ensures came { WentOrTook C.means _walk result seat.old.me seat.new.me }
+    {
+        let taking = going.taking();
+        let backoff = Backoff::new();
+        let mut word = first;
+        for _ in rt.forever() {
+            if going.may_go(word) {
+                match self.exchange_to_go(seat, going, word) {
+                    Ok(()) => return None,
+                    Err(other) => word = other,
+                }
+            } else if word.spin {
+                backoff.snooze();
+                word = self.gate.load(seat, None);
+            } else {
+                match self.gate.exchange_to_take(seat, taking, word) {
+                    Ok(()) => return Some(word.taken(taking)),
+                    Err(other) => word = other,
+                }
+            }
+        }
+        unreachable!()
+    }
+
+    /// Takes the queues, for a call that has to change the lists. Answers the word then.
+    pub(crate) fn take<R: Wait>(&self, rt: &R, seat: &mut GateSeat<C, N>, _walk: Walk<C>) -> Word
+        requires of { seat.old.table_id ≡ self.now }
+        requires decides { Decides _walk }
+        requires going { going_of _walk ≡ Changing }
+        requires at { IsAt C.means _walk seat.old.me }
+        ensures seat { seat.new.table_id ≡ self.now }
+        ensures since { HasSince None (the seat.old.me.0) (the seat.new.me.0) }
+        ensures taken { HasTakenAt C.means _walk result seat.old.me seat.new.me }
+    {
+        let first = self.gate.load(seat, None);
+        match self.go_or_take(rt, seat, Going::Changing, _walk, first) {
+            Some(word) => word,
+            None => unreachable!(),
+        }
+    }
+
+    /// Puts the queues back as they are in hand, for this; tries again with the word found where another
+    /// has changed it meanwhile.
+    pub(crate) fn put_back<R: Wait>(
+        &self,
+        rt: &R,
+        seat: &mut GateSeat<C, N>,
+        returning: Returning<C>,
+        _walk: Walk<C>,
+        first: Word,
+        turned: Turned,
+    )
+        requires of { seat.old.table_id ≡ self.now }
+        requires puts { PutsBack _walk }
+        requires returning { returning ≡ returning_of _walk }
+        requires word { IsPackable first }
+        requires at { IsAt C.means (returning_at _walk first) seat.old.me }
+        requires hand { HasInHand C.means returning turned seat.old.me }
+        ensures seat { seat.new.table_id ≡ self.now }
+        ensures since { HasSince None (the seat.old.me.0) (the seat.new.me.0) }
+        ensures returned { Leads C.means (asked_of _walk) (got_of N _walk (found_back C.means returning first seat.old.me)) seat.new.me }
+        ensures owes { OwesTheWoken C.means returning seat.old.me (the seat.new.me.0).at.owed }
+    {
+        let mut word = first;
+        for _ in rt.forever() {
+            match self.gate.exchange_to_return(seat, returning, word, turned) {
+                Ok(()) => return,
+                Err(other) => word = other,
+            }
+        }
+        unreachable!()
+    }
+
+    /// Waits until the seat's flag is cleared, and sleeps meanwhile. Answers its value then.
+    pub(crate) fn await_flag<R: Wait>(
+        &self,
+        rt: &R,
+        seat: &mut GateSeat<C, N>,
+        number: u8,
+        _walk: Walk<C>,
+    ) -> u8
+        requires of { seat.old.table_id ≡ self.now }
+        requires number { IsNumberOf number seat.old.me }
+        requires sleeps { Sleeps N _walk }
+        requires at { IsAt C.means _walk seat.old.me }
+        ensures seat { seat.new.table_id ≡ self.now }
+        ensures since { HasSince None (the seat.old.me.0) (the seat.new.me.0) }
+        ensures cleared { result ≢ 1 }
+        ensures woken { Leads C.means (asked_of _walk) (got_of N _walk (Found.Flag result)) seat.new.me }
+    {
+        for _ in rt.forever() {
+            let flag = self.gate.load_flag(seat, number);
+            if flag != 1 {
+                return flag;
+            }
+            self.gate.park(rt, seat, number);
+        }
+        unreachable!()
+    }
+
+    /// Pays the wakes that the seat owes, in order: each flag gets this value.
+    pub(crate) fn pay(
+        &self,
+        seat: &mut GateSeat<C, N>,
+        _walk: Walk<C>,
+        woken: &ArrayVec<u8, 64>,
+        value: u64,
+    )
+        requires of { seat.old.table_id ≡ self.now }
+        requires pays { Pays N value _walk }
+        requires at { Leads C.means (asked_of _walk) (got_of N _walk (Found.Paid (has_some (the seat.old.me.0).at.owed))) seat.old.me }
+        requires owed { (the seat.old.me.0).at.owed ≡ woken.now.items }
+        ensures seat { seat.new.table_id ≡ self.now }
+        ensures since { HasSince None (the seat.old.me.0) (the seat.new.me.0) }
+        ensures paid { Leads C.means (asked_of _walk) (got_of N _walk (Found.Paid false)) seat.new.me }
+    {
+        for &number in woken.as_slice() {
+            self.gate.pay_wake(seat, number, value);
+        }
+    }
+}

@@ -1,0 +1,129 @@
+//! What watches for an early end of a wait.
+
+ghost use Rattle.std.specs.Prelude.{◌≡◌, refl, true, false, None, Some, Option, IfSome, option_map};
+ghost use Rattle.std.proofs.Common.{◌∙◌};
+ghost use Rattle.ns_model.specs.Sections.{is_met};
+ghost use Rattle.ns_monitor.specs.Limits.{HasLookedOn, IsLooking, LookShows};
+ghost use Rattle.ns_monitor.specs.Looks.{may_show, none_shown, same_looker, shown_since, still_looking, then_looker};
+ghost use Rattle.ns_word.specs.Steps.{MayShow};
+ghost use Rattle.ns_word.specs.Waits.{answer_of, is_limited};
+ghost use Rattle.ns_word.specs.declared.limits.Cause.{Cause};
+ghost use Rattle.ns_word.specs.declared.limits.Limits.{Limits};
+
+use ns_model::event::Answer;
+use ns_note::env::Env;
+use ns_note::note::Note;
+use ns_note::seat::EnvSeat;
+use ns_word::limits::{Cause, Limits};
+
+/// What watches for an early end of a wait: it looks, where the wait's limits let anything end it.
+pub trait Watch {
+    /// It watches for what these limits name.
+    ghost watches: { Self → Limits → Type 0 };
+
+    /// The second is the first, some looks later.
+    ghost since: { Self → Self → Type 0 };
+
+    /// A look between the two has shown this.
+    ghost shows: { Self → Self → Limits → Option Cause → Type 0 };
+
+    /// It is itself, no look later.
+    ghost same: { (one : Self) → Self.since one one };
+
+    /// It may be looked with again and again.
+    ghost then: { (one two three : Self) → Self.since one two → Self.since two three → Self.since one three };
+
+    /// It watches on.
+    ghost still: { (one two : Self) (limits : Limits) → Self.since one two → Self.watches one limits → Self.watches two limits };
+
+    /// What was shown since a later one was shown since an earlier one.
+    ghost later: { (one two three : Self) (limits : Limits) (shown : Option Cause) → Self.since one two → Self.shows two three limits shown → Self.shows one three limits shown };
+
+    /// That nothing was shown stays so.
+    ghost stays: { (one two three : Self) (limits : Limits) → Self.shows one two limits None → Self.since two three → Self.shows one three limits None };
+
+    /// It shows what the limits name.
+    ghost names: { (one two : Self) (limits : Limits) (shown : Option Cause) → Self.watches one limits → Self.shows one two limits shown → MayShow limits shown };
+
+    /// Looks for what ends a wait with these limits early.
+    fn look(&mut self, limits: Limits) -> Option<Cause>
+        requires limited { is_limited limits ≡ true }
+        requires watches { Self.watches self.old limits }
+        ensures since { Self.since self.old self.new }
+        ensures shown { Self.shows self.old self.new limits result };
+}
+
+/// Nothing ends the wait early: there is nothing to look at.
+#[derive(Drop)]
+pub struct Nothing;
+
+impl Watch for Nothing {
+    ghost watches = { λ me limits. is_limited limits ≡ false };
+
+    ghost since = { λ one two. Unit {0} };
+
+    ghost shows = { λ one two limits shown. ⊥ };
+
+    ghost same = { λ one. tt };
+
+    ghost then = { λ one two three s t. tt };
+
+    ghost still = { λ one two limits s watches. watches };
+
+    ghost later = { λ one two three limits shown s shows. shows };
+
+    ghost stays = { λ one two three limits shows s. shows };
+
+    ghost names = { λ one two limits shown watches shows. absurd shows };
+
+    fn look(&mut self, _limits: Limits) -> Option<Cause> {
+        unreachable!()
+    }
+}
+
+/// A note or a deadline may end the wait early, and is looked at.
+#[derive(Drop)]
+pub struct Looker<'a> {
+    /// The environment.
+    pub env: &'a Env,
+    /// The caller's seat of it.
+    pub seat: &'a mut EnvSeat,
+    /// The note, if one is given.
+    pub note: Option<Note>,
+}
+
+/// What a look has shown, as a cause to end a wait. A look never meets a condition.
+fn cause_of(shown: Option<Answer>) -> Option<Cause>
+    requires { IfSome shown (λ answer. is_met answer ≡ false) }
+    ensures { option_map answer_of result ≡ shown }
+{
+    match shown {
+        Some(Answer::TimedOut) => Some(Cause::Expired),
+        Some(Answer::Canceled) => Some(Cause::Notified),
+        _ => None,
+    }
+}
+
+impl<'a> Watch for Looker<'a> {
+    ghost watches = { λ me limits. IsLooking me.env.now me.seat.now me.note limits };
+
+    ghost since = { λ one two. (two.seat.ghost_name ≡ one.seat.ghost_name) × (two.env ≡ one.env) × (two.note ≡ one.note) × HasLookedOn one.seat.now two.seat.now };
+
+    ghost shows = { λ one two limits shown. LookShows one.note limits one.seat.now two.seat.now shown };
+
+    ghost same = { λ one. (refl, refl, refl, same_looker one.seat.now) };
+
+    ghost then = { λ one two three s t. (t.0 ∙ s.0, t.1 ∙ s.1, t.2 ∙ s.2, then_looker one.seat.now two.seat.now three.seat.now s.3 t.3) };
+
+    ghost still = { λ one two limits s watches. still_looking one.env.now two.env.now one.seat.now two.seat.now one.note two.note limits (λ i. (s.1 i).now) s.2 s.3 watches };
+
+    ghost later = { λ one two three limits shown s shows. shown_since one.note two.note limits one.seat.now two.seat.now three.seat.now shown s.2 s.3 shows };
+
+    ghost stays = { λ one two three limits shows s. none_shown one.note limits one.seat.now two.seat.now three.seat.now shows s.3 };
+
+    ghost names = { λ one two limits shown watches shows. may_show one.note limits one.seat.now two.seat.now shown watches.named shows };
+
+    fn look(&mut self, limits: Limits) -> Option<Cause> {
+        cause_of(self.env.look(self.seat, self.note, limits.deadline))
+    }
+}
