@@ -12,6 +12,7 @@ pub use Rattle.ns_model.specs.Truths.{Truths, truths}
 pub use Rattle.ns_model.specs.declared.event.Mode.{Mode}
 pub use Rattle.ns_model.specs.declared.event.Mode.TheVariants.{Read, Write}
 pub use Rattle.ns_monitor.specs.Known.{AreNew, AreOfOneHistory, EndsAs, Grows, HasLearned, HasLocked, HasSeenMore, new_seat}
+pub use Rattle.ns_monitor.specs.Waits.{EndedBy, HadLooked, HasComeBack, HasStayed, HasWaitedFor}
 pub use Rattle.ns_monitor.specs.Walks.{getting, judging, locking, releasing_by, setting, trying, waiting}
 pub use Rattle.ns_word.specs.Meanings.{InHand}
 pub use Rattle.ns_word.specs.Places.{HasMode}

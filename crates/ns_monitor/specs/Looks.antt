@@ -50,6 +50,11 @@ may_show given limits old new None is shows = tt
 may_show given limits old new (Some Expired) is shows = given_deadline given old new limits shows
 may_show given limits old new (Some Notified) is shows = subst IsSome (sym is) (given_note given old new limits shows)
 
+-- where nothing can be shown, nothing is
+pub nothing_named : (limits : Limits) (shown : Option Cause) → IfSome shown (λ cause. ⊥) → MayShow limits shown
+nothing_named limits None is = tt
+nothing_named limits (Some cause) is = absurd is
+
 -- what was shown to one that had seen more was shown to one that had seen less
 shown_before : (given : Option Note) (deadline : Option ℕ) (old mid new : List EnvEvent) (shown : Option Cause) → BeginsWith mid old → LookAnswers given deadline mid new (option_map answer_of shown) → LookAnswers given deadline old new (option_map answer_of shown)
 shown_before given deadline old mid new None begins shows = (shows.0, (begins_through shows.0 mid old shows.1.0 begins, shows.1.1), shows.2, shows.3)

@@ -61,10 +61,12 @@ impl<C, const N: usize> Section<C, N> for Reading {
 }
 
 impl<C, const N: usize> Renewed<C, N> for Reading {
+    #[inline(always)]
     fn mode() -> Mode {
         Mode::Read
     }
 
+    #[inline(always)]
     fn begun() -> Self {
         Reading
     }
@@ -88,10 +90,12 @@ impl<C, const N: usize> Section<C, N> for Writing<N> {
 }
 
 impl<C, const N: usize> Renewed<C, N> for Writing<N> {
+    #[inline(always)]
     fn mode() -> Mode {
         Mode::Write
     }
 
+    #[inline(always)]
     fn begun() -> Self {
         Writing { saved: [None; N] }
     }

@@ -167,12 +167,16 @@ impl<C: Gated<N>, const N: usize> Monitor<C, N> {
             hand: _,
         } = seat;
         self.acquire_first(rt, &mut seat, number, H::mode());
-        let hand = H::begun();
-        Caller { seat, number, hand }
+        Caller {
+            seat,
+            number,
+            hand: H::begun(),
+        }
     }
 
     /// Acquires the lock to write, and waits as long as it has to. The section begins at the row after
     /// all that it has seen.
+    #[inline(always)]
     pub fn lock<R: Wait>(&self, rt: &R, seat: Seat<C, N>) -> WriteHeld<C, N>
         requires { seat.monitor ≡ self.now }
         ensures { HasLocked C.means (locking Write) Write seat result }
@@ -182,6 +186,7 @@ impl<C: Gated<N>, const N: usize> Monitor<C, N> {
 
     /// Acquires the lock to read, beside other readers, and waits as long as it has to. The section
     /// begins at the row after all that it has seen.
+    #[inline(always)]
     pub fn rlock<R: Wait>(&self, rt: &R, seat: Seat<C, N>) -> ReadHeld<C, N>
         requires { seat.monitor ≡ self.now }
         ensures { HasLocked C.means (locking Read) Read seat result }
@@ -330,6 +335,7 @@ impl<C: Gated<N>, const N: usize> Monitor<C, N> {
     /// Where waiters may be able to go on, it tests their conditions, here in this thread, and wakes
     /// those who can. It tries its exchange again where another has changed the word meanwhile, and goes
     /// round while another has the waiter queues.
+    #[inline(always)]
     pub fn unlock<R: Wait>(&self, rt: &R, held: WriteHeld<C, N>) -> Seat<C, N>
         requires { held.monitor ≡ self.now }
         ensures grows { Grows C.means (releasing_by Writer) held result }
@@ -341,6 +347,7 @@ impl<C: Gated<N>, const N: usize> Monitor<C, N> {
     /// Ends a read section: it is committed, and the caller's events have it as their last.
     ///
     /// Goes round as [`Monitor::unlock`] does.
+    #[inline(always)]
     pub fn runlock<R: Wait>(&self, rt: &R, held: ReadHeld<C, N>) -> Seat<C, N>
         requires { held.monitor ≡ self.now }
         ensures grows { Grows C.means (releasing_by Reader) held result }

@@ -4,7 +4,7 @@ ghost use Rattle.std.specs.Prelude.{◌≡◌, refl, true, false, None, Some, Op
 ghost use Rattle.std.proofs.Common.{◌∙◌};
 ghost use Rattle.ns_model.specs.Sections.{is_met};
 ghost use Rattle.ns_monitor.specs.Limits.{HasLookedOn, IsLooking, LookShows};
-ghost use Rattle.ns_monitor.specs.Looks.{may_show, none_shown, same_looker, shown_since, still_looking, then_looker};
+ghost use Rattle.ns_monitor.specs.Looks.{may_show, none_shown, nothing_named, same_looker, shown_since, still_looking, then_looker};
 ghost use Rattle.ns_word.specs.Steps.{MayShow};
 ghost use Rattle.ns_word.specs.Waits.{answer_of, is_limited};
 ghost use Rattle.ns_word.specs.declared.limits.Cause.{Cause};
@@ -47,13 +47,12 @@ pub trait Watch {
 
     /// Looks for what ends a wait with these limits early.
     fn look(&mut self, limits: Limits) -> Option<Cause>
-        requires limited { is_limited limits ≡ true }
         requires watches { Self.watches self.old limits }
         ensures since { Self.since self.old self.new }
         ensures shown { Self.shows self.old self.new limits result };
 }
 
-/// Nothing ends the wait early: there is nothing to look at.
+/// Nothing ends the wait early: a look would show nothing, and none is made.
 #[derive(Drop)]
 pub struct Nothing;
 
@@ -62,7 +61,7 @@ impl Watch for Nothing {
 
     ghost since = { λ one two. Unit {0} };
 
-    ghost shows = { λ one two limits shown. ⊥ };
+    ghost shows = { λ one two limits shown. IfSome shown (λ cause. ⊥) };
 
     ghost same = { λ one. tt };
 
@@ -74,10 +73,10 @@ impl Watch for Nothing {
 
     ghost stays = { λ one two three limits shows s. shows };
 
-    ghost names = { λ one two limits shown watches shows. absurd shows };
+    ghost names = { λ one two limits shown watches shows. nothing_named limits shown shows };
 
     fn look(&mut self, _limits: Limits) -> Option<Cause> {
-        unreachable!()
+        None
     }
 }
 

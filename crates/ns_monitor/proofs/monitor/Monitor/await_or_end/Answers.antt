@@ -33,8 +33,8 @@ returns-then-flag-ne1-clause-since g c = since_flag g (goal.at.returns-then-flag
 pub returns-then-flag-ne1-clause-came : goal.returns-then-flag-ne1-clause-came
 returns-then-flag-ne1-clause-came g c = (c.if-flag-ne1.true, goes g.C.Condition.means (InWait c.args.wait AwaitWakeInWait) LoadFlag (Flag c.load_flag-flag.result) _ c.loop.seat.me c.load_flag-flag.new.seat.me c.loop.invariant.5 refl refl refl c.load_flag-flag.ensures.did)
 
-pub look-shown-requires-clause-watches : goal.look-shown-requires-clause-watches
-look-shown-requires-clause-watches g c = g.W.Watch.still c.args.watch.now c.loop.watch c.args.wait.limits c.loop.invariant.4 c.requires.watches
+pub look-shown-requires : goal.look-shown-requires
+look-shown-requires g c = record { watches = g.W.Watch.still c.args.watch.now c.loop.watch c.args.wait.limits c.loop.invariant.4 c.requires.watches }
 
 pub look-requires : goal.look-requires
 look-requires g c = let t = g.C.Condition.means in let me = c.load_flag-flag.new.seat.me in let after = (goal.at.look-requires g c).After-load_flag-flag in
