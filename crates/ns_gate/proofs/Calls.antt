@@ -1,35 +1,9 @@
 -- A step takes its call on, as its caller follows it.
 use Rattle.std.proofs.Common.{◌≡◌, ℕ, ◌≤◌, true, false, arith, List, [], ◌∷◌, ◌++◌, length, Option, None, Some, refl, ap, sym, ◌∙◌, subst}
 use Rattle.std.proofs.lemmas.List.{append_assoc, append-nil}
-use Rattle.ns_gate.specs.Calls.{SeatOf, IsTrueToHistory, IsWide, IsAtRest, OwesBelow, HasSince, IsAt, Leads}
+use Rattle.ns_gate.specs.Prelude.{SeatOf, IsTrueToHistory, IsWide, IsAtRest, OwesBelow, HasSince, IsAt, Leads, GateView, the, IsOne, walk_by, course_by, carried_by, CanStep, Did, Performed, Standing, row_after, standing_after, Truths, asked_of, CallGoes, SectionFits, has_some, Course, PlaceFits, ActFits, OwesOne, part_of, PayWake, Pay, PayTheWoken, PayInWait, InTry, InAcquire, InRelease, InCells, InWait, InSignal, Told, IsTold, want_of, got_of, walk_after, pays, has_queues, Act, Found, IsFirst, Held, SeatView, On, Idle, Done, Next, Walk}
 use Rattle.ns_gate.proofs.Tells.{fits_now}
-use Rattle.ns_gate.specs.Law.{GateView}
-use Rattle.ns_gate.specs.Steps.{the, IsOne, walk_by, course_by, carried_by, CanStep, Did, Performed}
 use Rattle.ns_model.proofs.Beginnings.{begins_itself, begins_through}
-use Rattle.ns_model.specs.Histories.{Standing, row_after, standing_after}
-use Rattle.ns_model.specs.Truths.{Truths}
-use Rattle.ns_word.specs.Asked.{asked_of}
-use Rattle.ns_word.specs.Courses.{CallGoes}
-use Rattle.ns_word.specs.Lawful.{SectionFits}
-use Rattle.ns_word.specs.Lists.{has_some}
-use Rattle.ns_word.specs.Meanings.{Course}
-use Rattle.ns_word.specs.Places.{PlaceFits, ActFits, OwesOne}
-use Rattle.ns_word.specs.Steps.{part_of}
-use Rattle.ns_word.specs.declared.act.Act.TheVariants.{PayWake}
-use Rattle.ns_word.specs.declared.release_walk.ReleasePlace.TheVariants.{Pay}
-use Rattle.ns_word.specs.declared.signal_walk.SignalPlace.TheVariants.{PayTheWoken}
-use Rattle.ns_word.specs.declared.wait.WaitPlace.TheVariants.{PayInWait}
-use Rattle.ns_word.specs.declared.walk.Walk.TheVariants.{InTry, InAcquire, InRelease, InCells, InWait, InSignal}
-use Rattle.ns_word.specs.Told.{Told, IsTold}
-use Rattle.ns_word.specs.Walks.{want_of, got_of, walk_after, pays, has_queues}
-use Rattle.ns_word.specs.declared.act.Act.{Act}
-use Rattle.ns_word.specs.declared.act.Found.{Found}
-use Rattle.ns_word.specs.Begins.{IsFirst}
-use Rattle.ns_word.specs.declared.view.Held.{Held}
-use Rattle.ns_word.specs.declared.view.SeatView.{SeatView}
-use Rattle.ns_word.specs.declared.walk.Next.TheVariants.{On, Idle, Done}
-use Rattle.ns_word.specs.declared.walk.Next.{Next}
-use Rattle.ns_word.specs.declared.walk.Walk.{Walk}
 
 none_of : {A : Type 0} (xs : List A) → has_some xs ≡ false → xs ≡ []
 none_of [] e = refl

@@ -2,21 +2,10 @@
 use Rattle.std.specs.Prelude.{not, nat_lt, ◌||◌}
 use Rattle.std.proofs.Common.{◌≡◌, ℕ, zero, suc, ◌+◌, ◌<◌, ◌≤◌, Bool, true, false, List, [], ◌∷◌, length, get_or, refl, ap, sym, ◌∙◌, subst, arith}
 use Rattle.std.proofs.lemmas.List.{ext_get_or}
-use Rattle.atomic_table.specs.Table.{Final, Seen}
-use Rattle.ns_gate.specs.Endings.{EndsAs}
-use Rattle.ns_gate.specs.Law.{GateView, Views, Homes, Fits, Shown, IsRuled, Holds}
-use Rattle.ns_gate.specs.Steps.{the, IsOne}
+use Rattle.ns_gate.specs.Prelude.{Final, Seen, EndsAs, GateView, Views, Homes, Fits, Shown, IsRuled, Holds, the, IsOne, Every, Truths, Lists, word_of, IsPackable, IsLawful, IsTold, is_held, Word}
 use Rattle.ns_model.proofs.Tallies.{every_at}
-use Rattle.ns_model.specs.Tallies.{Every}
-use Rattle.ns_model.specs.Truths.{Truths}
-use Rattle.ns_queue.specs.Queues.{Lists}
 use Rattle.ns_word.proofs.Codes.{decoded}
 use Rattle.ns_word.proofs.Seen.{packable}
-use Rattle.ns_word.specs.Codec.{word_of, IsPackable}
-use Rattle.ns_word.specs.Lawful.{IsLawful}
-use Rattle.ns_word.specs.Told.{IsTold}
-use Rattle.ns_word.specs.Words.{is_held}
-use Rattle.ns_word.specs.declared.word.Word.{Word}
 use lib.ListN.{get_elem?}
 use mathlib.Core.Option.{some, some-injective, some-ne-none}
 

@@ -2,35 +2,13 @@
 use Rattle.std.specs.Prelude.{nat_lt, slice_get}
 use Rattle.std.proofs.Common.{◌≡◌, ◌≢◌, ◌⊎◌, inl, inr, ℕ, zero, suc, ◌<◌, ◌≤◌, Bool, true, false, cond, eqb, List, [], ◌∷◌, ◌++◌, Option, None, Some, IfSome, set, slice_set, take, drop, refl, ap, sym, ◌∙◌, subst, arith, eq-eqb}
 use Rattle.std.proofs.lemmas.Option.{slice_get_within}
-use Rattle.ns_gate.specs.Law.{GateView, Views, Homes, is_seat, HasCome, Fits, Shows, AtHome, Shown, IsRuled}
-use Rattle.ns_gate.specs.Steps.{walk_by, course_by, MayBegin, Did}
+use Rattle.ns_gate.specs.Prelude.{GateView, Views, Homes, is_seat, HasCome, Fits, Shows, AtHome, Shown, IsRuled, walk_by, course_by, MayBegin, Did, BeginsWith, row_after, standing_after, total, one_if, Every, Truths, QuietKeeps, Event, asked_of, BeginsIf, SeatStep, view_in, CallGoes, SoFar, course_after, IsLawful, ViewFits, Course, course_from, State, Part, part_of, Effect, Step, IsTold, told_after, calls_of, takers, want_of, got_of, walk_after, has_queues, Found, Request, Held, SeatView, On, Idle, Done, Next, Walk}
 use Rattle.ns_model.proofs.Tallies.{total_set, total_none, Others, every_at, others_of, others_both, others_map, others_none, every_both, every_put}
-use Rattle.ns_model.specs.Beginnings.{BeginsWith}
-use Rattle.ns_model.specs.Histories.{row_after, standing_after}
-use Rattle.ns_model.specs.Tallies.{total, one_if, Every}
-use Rattle.ns_model.specs.Truths.{Truths, QuietKeeps}
-use Rattle.ns_model.specs.declared.event.Event.{Event}
 use Rattle.ns_word.proofs.Acts.{view_fits}
 use Rattle.ns_word.proofs.Courses.{takes_on, begins_unchanged}
 use Rattle.ns_word.proofs.EnvKeeps.{set_here, set_there}
 use Rattle.ns_word.proofs.Numbers.{step_at, begin_at, set_same, split_at}
 use Rattle.ns_word.proofs.Tells.{begins_if, seat_steps_keep, seat_step_tells, seat_step_by, told_there, seat_in}
-use Rattle.ns_word.specs.Asked.{asked_of}
-use Rattle.ns_word.specs.Begins.{BeginsIf, SeatStep, view_in}
-use Rattle.ns_word.specs.Courses.{CallGoes, SoFar, course_after}
-use Rattle.ns_word.specs.Lawful.{IsLawful, ViewFits}
-use Rattle.ns_word.specs.Meanings.{Course, course_from}
-use Rattle.ns_word.specs.Steps.{State, Part, part_of, Effect, Step}
-use Rattle.ns_word.specs.Told.{IsTold, told_after, calls_of}
-use Rattle.ns_word.specs.Views.{takers}
-use Rattle.ns_word.specs.Walks.{want_of, got_of, walk_after, has_queues}
-use Rattle.ns_word.specs.declared.act.Found.{Found}
-use Rattle.ns_word.specs.declared.request.Request.{Request}
-use Rattle.ns_word.specs.declared.view.Held.{Held}
-use Rattle.ns_word.specs.declared.view.SeatView.{SeatView}
-use Rattle.ns_word.specs.declared.walk.Next.TheVariants.{On, Idle, Done}
-use Rattle.ns_word.specs.declared.walk.Next.{Next}
-use Rattle.ns_word.specs.declared.walk.Walk.{Walk}
 use lib.ListN.{get_elem?}
 use mathlib.Core.Option.{some}
 

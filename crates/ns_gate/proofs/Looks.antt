@@ -1,21 +1,10 @@
 -- A look changes no word of the table: any load may be told what it has shown.
 use Rattle.std.proofs.Common.{◌≡◌, ◌<◌, ℕ, Bool, inl, List, [], ◌∷◌, set, Option, None, Some, refl, ap, sym, ◌∙◌, subst}
 use Rattle.std.proofs.lemmas.List.{set-get_or}
-use Rattle.atomic_table.specs.Table.{Me, keeps as keeps_slots, carried_after, Allows}
+use Rattle.ns_gate.specs.Prelude.{Me, carried_after, Allows, GateView, Views, Homes, Shown, IsRuled, Holds, the, IsOne, CanStep, Did, Performed, HasLooked, Truths, QuietKeeps, Lists, Part, part_of, Effect, MayShow, held_after, want_of, Look, Act, Looked, Cause, Limits, Walk}
+use Rattle.atomic_table.specs.Table.{keeps as keeps_slots}
 use Rattle.ns_gate.proofs.Keeps.{now, later, did, ruled}
 use Rattle.ns_gate.proofs.Tells.{meant_by, walk_is}
-use Rattle.ns_gate.specs.Law.{GateView, Views, Homes, Shown, IsRuled, Holds}
-use Rattle.ns_gate.specs.Steps.{the, IsOne, CanStep, Did, Performed, HasLooked}
-use Rattle.ns_model.specs.Truths.{Truths, QuietKeeps}
-use Rattle.ns_queue.specs.Queues.{Lists}
-use Rattle.ns_word.specs.Steps.{Part, part_of, Effect, MayShow, held_after}
-use Rattle.ns_word.specs.Walks.{want_of}
-use Rattle.ns_word.specs.declared.act.Act.TheVariants.{Look}
-use Rattle.ns_word.specs.declared.act.Act.{Act}
-use Rattle.ns_word.specs.declared.act.Found.TheVariants.{Looked}
-use Rattle.ns_word.specs.declared.limits.Cause.{Cause}
-use Rattle.ns_word.specs.declared.limits.Limits.{Limits}
-use Rattle.ns_word.specs.declared.walk.Walk.{Walk}
 use lib.ListN.{get_elem?}
 use mathlib.Core.Option.{some}
 

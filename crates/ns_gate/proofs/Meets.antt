@@ -3,30 +3,13 @@ use Rattle.std.specs.Prelude.{not, slice_get}
 use Rattle.std.proofs.Common.{◌≡◌, ◌≢◌, ℕ, zero, suc, ◌+◌, ◌≤◌, Bool, true, false, cond, eqb, List, [], ◌∷◌, ◌++◌, Option, None, Some, set, get_or, refl, ap, sym, ◌∙◌, subst, arith, eq-eqb, inl, inr, ⊎_elim}
 use Rattle.std.proofs.lemmas.List.{set-get_or}
 use Rattle.atomic_table.proofs.Lists.{at_set}
-use Rattle.atomic_table.specs.Table.{keeps as keeps_slots, Allows, Joins}
-use Rattle.ns_gate.specs.Calls.{SeatOf, IsWide, IsAtRest}
-use Rattle.ns_gate.specs.Law.{GateView, Views, Homes, is_seat, Fits, Shows, Shown, IsRuled, Holds, first_of, rest_of}
-use Rattle.ns_gate.specs.Meetings.{the_second, ArePair, HasLearned, SawAllOf, AreOfOneHistory, ShareTheLock, HaveMet, HaveLearned}
-use Rattle.ns_gate.specs.Steps.{the, IsOne}
+use Rattle.ns_gate.specs.Prelude.{Allows, Joins, SeatOf, IsWide, IsAtRest, GateView, Views, Homes, is_seat, Fits, Shows, Shown, IsRuled, Holds, first_of, rest_of, the_second, ArePair, HasLearned, SawAllOf, AreOfOneHistory, ShareTheLock, HaveMet, HaveLearned, the, IsOne, BeginsWith, IsBySeats, is_write, total, one_if, Every, Truths, Event, Read, Write, Mode, Lists, OneWriter, IsSettled, is_writing, is_reading, readers, writers, Held, SeatView, Word}
+use Rattle.atomic_table.specs.Table.{keeps as keeps_slots}
 use Rattle.ns_gate.proofs.Keeps.{once}
 use Rattle.ns_model.proofs.Beginnings.{begins_itself, begins_either, begins_both}
 use Rattle.ns_model.proofs.Tallies.{total_set, total-append, total_at, every_at, others_of, every_put, every-append}
-use Rattle.ns_model.specs.Beginnings.{BeginsWith}
-use Rattle.ns_model.specs.Histories.{IsBySeats, own as own_of}
-use Rattle.ns_model.specs.Phases.{is_write}
-use Rattle.ns_model.specs.Tallies.{total, one_if, Every}
-use Rattle.ns_model.specs.Truths.{Truths}
-use Rattle.ns_model.specs.declared.event.Event.{Event}
-use Rattle.ns_model.specs.declared.event.Mode.TheVariants.{Read, Write}
-use Rattle.ns_model.specs.declared.event.Mode.{Mode}
-use Rattle.ns_queue.specs.Queues.{Lists}
+use Rattle.ns_model.specs.Histories.{own as own_of}
 use Rattle.ns_word.proofs.Tells.{own_append}
-use Rattle.ns_word.specs.Lawful.{OneWriter}
-use Rattle.ns_word.specs.Places.{IsSettled}
-use Rattle.ns_word.specs.Views.{is_writing, is_reading, readers, writers}
-use Rattle.ns_word.specs.declared.view.Held.{Held}
-use Rattle.ns_word.specs.declared.view.SeatView.{SeatView}
-use Rattle.ns_word.specs.declared.word.Word.{Word}
 use lib.ListN.{get_elem?}
 use mathlib.Core.Option.{some}
 

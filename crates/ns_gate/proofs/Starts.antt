@@ -3,15 +3,10 @@ use Rattle.std.specs.Prelude.{nat_lt, slice_get}
 use Rattle.std.proofs.Common.{◌≡◌, ◌≢◌, ℕ, zero, suc, ◌+◌, ◌-◌, ◌<◌, ◌≤◌, eqb, List, [], ◌∷◌, length, set, get_or, replicate, map, Some, sym, refl, ap, ◌∙◌, arith, eq-eqb, inl, inr}
 use Rattle.std.proofs.lemmas.Bool.{ne_eqb, cases_eq, le-ltb, lt-ltb}
 use Rattle.std.proofs.lemmas.List.{length-replicate, get_or-replicate}
-use Rattle.atomic_table.specs.Table.{Splits, opening}
-use Rattle.ns_gate.specs.Law.{GateView, is_seat, Fits, Holds, no_lists, fresh_seat, fresh, first_of, rest_of}
+use Rattle.ns_gate.specs.Prelude.{Splits, opening, GateView, is_seat, Fits, Holds, no_lists, fresh_seat, fresh, first_of, rest_of, total, one_if, Every, Truths, Lists, fresh_state, fresh_views}
 use Rattle.ns_model.proofs.Tallies.{total_set, total-append, every_at, others_of, every_put, every-append}
-use Rattle.ns_model.specs.Tallies.{total, one_if, Every}
-use Rattle.ns_model.specs.Truths.{Truths}
-use Rattle.ns_queue.specs.Queues.{Lists}
 use Rattle.ns_word.proofs.Starts.{lawful_fresh}
 use Rattle.ns_word.proofs.Tells.{told_first}
-use Rattle.ns_word.specs.Begins.{fresh_state, fresh_views}
 use mathlib.Core.Option.{some}
 
 module _ (C : Type 0) (N : ℕ) where

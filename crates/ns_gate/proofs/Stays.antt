@@ -1,24 +1,7 @@
 -- What stays as it is where a step changes nothing, or nothing but a flag.
 use Rattle.std.proofs.Common.{◌≡◌, ◌≤◌, ℕ, Bool, true, [], ◌∷◌, None, Some, refl, ap, sym, ◌∙◌, subst}
-use Rattle.ns_gate.specs.Calls.{SeatOf}
-use Rattle.ns_gate.specs.Law.{GateView}
-use Rattle.ns_gate.specs.Steps.{the, Performed, Carries}
+use Rattle.ns_gate.specs.Prelude.{SeatOf, GateView, the, Performed, Carries, Truths, Lists, ActFits, Part, part_of, Effect, changed, want_of, has_queues, ReturnQueues, ReleaseReturning, WaitReturning, LoadCell, ArmFlag, Act, Change, Saw, Cell, Made, Found, SeatView, Wait, Walk, Releasing, Word}
 use Rattle.ns_gate.proofs.Tells.{does, fits_now}
-use Rattle.ns_model.specs.Truths.{Truths}
-use Rattle.ns_queue.specs.Queues.{Lists}
-use Rattle.ns_word.specs.Places.{ActFits}
-use Rattle.ns_word.specs.Steps.{Part, part_of, Effect, changed}
-use Rattle.ns_word.specs.Walks.{want_of, has_queues}
-use Rattle.ns_word.specs.declared.act.Act.TheVariants.{ReturnQueues, ReleaseReturning, WaitReturning, LoadCell, ArmFlag}
-use Rattle.ns_word.specs.declared.act.Act.{Act}
-use Rattle.ns_word.specs.declared.act.Change.{Change}
-use Rattle.ns_word.specs.declared.act.Found.TheVariants.{Saw, Cell, Made}
-use Rattle.ns_word.specs.declared.act.Found.{Found}
-use Rattle.ns_word.specs.declared.view.SeatView.{SeatView}
-use Rattle.ns_word.specs.declared.wait.Wait.{Wait}
-use Rattle.ns_word.specs.declared.walk.Walk.{Walk}
-use Rattle.ns_word.specs.declared.word.Releasing.{Releasing}
-use Rattle.ns_word.specs.declared.word.Word.{Word}
 
 -- the seat has the same slots, the same section in hand, and knows the lists to stand as they did
 pub record HasKeptItsQueues {C : Type 0} {N : ℕ} (me now : SeatOf C N) : Type 0 where

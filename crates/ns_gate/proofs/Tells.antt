@@ -2,32 +2,12 @@
 use Rattle.std.specs.Prelude.{slice_index}
 use Rattle.std.proofs.Common.{◌≡◌, ℕ, Bool, cond, inl, inr, ◌≤◌, List, [], ◌++◌, ◌∷◌, Option, None, Some, Result, refl, ap, sym, ◌∙◌, subst}
 use Rattle.std.proofs.lemmas.Bool.{ne_eqb, cases_eq}
-use Rattle.atomic_table.specs.Table.{Me, rest}
-use Rattle.ns_gate.specs.Law.{GateView}
+use Rattle.ns_gate.specs.Prelude.{Me, rest, GateView, the, walk_by, CanStep, Did, Performed, Stepped, IsExchange, IsOwedNext, MayExchange, PutsBack, act_by, act_of, act_returning, found_returned, made_by, next_owed, tried_for, standing_after, Truths, Lists, BeginsIf, view_in, number_of, word_of, IsPackable, found_of, exchanged, row_in, scanned, SectionFits, ActFits, State, Part, part_of, Effect, change_found, want_of, got_of, walk_after, LoadWord, LoadCell, JudgeQuiet, JudgeMet, LoadFlag, Acquire, TakeQueues, ReturnQueues, Release, ReleaseReturning, WaitReturning, Act, Saw, Made, Cell, Flag, Found, Held, SeatView, Walk, Word}
 use Rattle.ns_gate.specs.declared.queues.Returning.{Returning}
 use Rattle.ns_gate.specs.declared.queues.Returning.TheVariants.{Changed, Released, Waited}
-use Rattle.ns_gate.specs.Steps.{the, walk_by, CanStep, Did, Performed, Stepped, IsExchange, IsOwedNext, MayExchange, PutsBack, act_by, act_of, act_returning, found_returned, made_by, next_owed, tried_for}
-use Rattle.ns_model.specs.Histories.{standing_after}
-use Rattle.ns_model.specs.Truths.{Truths}
-use Rattle.ns_queue.specs.Queues.{Lists}
 use Rattle.ns_word.proofs.Codes.{decoded}
 use Rattle.ns_word.proofs.Seen.{packable, found_fits}
-use Rattle.ns_word.specs.Begins.{BeginsIf, view_in}
-use Rattle.ns_word.specs.Codec.{number_of, word_of, IsPackable}
-use Rattle.ns_word.specs.Finds.{found_of, exchanged, row_in, scanned}
-use Rattle.ns_word.specs.Lawful.{SectionFits}
 use Rattle.ns_word.proofs.Acts.{act_fits, view_fits}
-use Rattle.ns_word.specs.Places.{ActFits}
-use Rattle.ns_word.specs.Steps.{State, Part, part_of, Effect, change_found}
-use Rattle.ns_word.specs.Walks.{want_of, got_of, walk_after}
-use Rattle.ns_word.specs.declared.act.Act.TheVariants.{LoadWord, LoadCell, JudgeQuiet, JudgeMet, LoadFlag, Acquire, TakeQueues, ReturnQueues, Release, ReleaseReturning, WaitReturning}
-use Rattle.ns_word.specs.declared.act.Act.{Act}
-use Rattle.ns_word.specs.declared.act.Found.TheVariants.{Saw, Made, Cell, Flag}
-use Rattle.ns_word.specs.declared.act.Found.{Found}
-use Rattle.ns_word.specs.declared.view.Held.{Held}
-use Rattle.ns_word.specs.declared.view.SeatView.{SeatView}
-use Rattle.ns_word.specs.declared.walk.Walk.{Walk}
-use Rattle.ns_word.specs.declared.word.Word.{Word}
 
 -- who is owed a wake next
 pub owed_next : (woken : ℕ) (owed : List ℕ) → IsOwedNext woken owed → woken ≡ next_owed owed

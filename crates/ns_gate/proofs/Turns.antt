@@ -3,59 +3,14 @@ use Rattle.std.specs.Prelude.{IsSome}
 use Rattle.std.proofs.Common.{◌≡◌, ◌≢◌, ◌⊎◌, inl, inr, ℕ, suc, ◌+◌, ◌<◌, Bool, true, false, cond, eqb, if◌then◌else◌, List, [], ◌∷◌, length, Option, None, Some, set, get_or, refl, ap, sym, ◌∙◌, subst, arith, eq-eqb, length-set, take, drop, slice_set}
 use Rattle.std.proofs.lemmas.Bool.{ne_eqb, cases_eq}
 use Rattle.std.proofs.lemmas.List.{get_or-set_same, get_or-set_other, set-get_or}
-use Rattle.atomic_table.specs.Table.{Me, Act as TableAct, keeps as keeps_slots, takes, gives, rest, Valid, homes_after, carried_after, Allows}
+use Rattle.ns_gate.specs.Prelude.{Me, takes, gives, rest, Valid, homes_after, carried_after, Allows, GateView, Views, Homes, Shows, AtHome, Shown, IsRuled, Holds, the, IsOne, walk_by, act_by, MayBegin, CanStep, Did, Stepped, IsLoad, IsStoreOf, IsExchange, MayLoad, MayStore, MayExchange, carried_by, lists_scanned, next_owed, number_by, word_at, standing_after, Truths, QuietKeeps, Event, Read, Write, Mode, Lists, woken_of, seats_of, view_in, number_of, word_of, found_of, exchanged, scanned, owes_more, row_in, before_in, SectionFits, has_some, bits_of, ActFits, CanLeave, CanWait, HasMode, OwesOne, Part, part_of, Effect, newly_held, section_of, exit_for, changed, moves, owed_after, change_found, change_commits, waited_in, meets_at, flags_with, mode_for, want_of, judge_of, has_queues, word_acquired, word_taken, word_returned, word_released, word_released_returning, mode_released, releasing_of, LoadWord, Acquire, TakeQueues, ReturnQueues, Release, ReleaseReturning, WaitReturning, LoadCell, JudgeQuiet, JudgeMet, StoreCell, ArmFlag, PayWake, LoadFlag, Act, QueueSelf, LeaveSelf, WakeWaiters, Change, Saw, Made, Cell, Quiet, Tested, Flag, Paid, Found, Queue, GetLoad, TryLoad, ScanAndRelease, WakeAndReturn, Leave, QueueToWait, TestLast, InQueuing, InLeaving, Subject, OnCondition, OnVariable, Wait, Held, InTry, InAcquire, InRelease, InCells, InWait, InSignal, Walk, Arrival, Writer, QuietWriter, Reader, Releasing, ToChange, ToQueue, Taking, Word}
+use Rattle.atomic_table.specs.Table.{Act as TableAct, keeps as keeps_slots}
 use Rattle.ns_gate.proofs.Keeps.{none_takes, its_fit, between, lawful_between, stands_between, walk_in, now, later, did, did_from, ruled}
 use Rattle.ns_gate.proofs.Tells.{meant_by, walk_is}
-use Rattle.ns_gate.specs.Law.{GateView, Views, Homes, Shows, AtHome, Shown, IsRuled, Holds}
-use Rattle.ns_gate.specs.Steps.{the, IsOne, walk_by, act_by, MayBegin, CanStep, Did, Stepped, IsLoad, IsStoreOf, IsExchange, MayLoad, MayStore, MayExchange, carried_by, lists_scanned, next_owed, number_by, word_at}
-use Rattle.ns_model.specs.Histories.{standing_after}
-use Rattle.ns_model.specs.Truths.{Truths, QuietKeeps}
-use Rattle.ns_model.specs.declared.event.Event.{Event}
 use Rattle.ns_model.specs.declared.event.Exit.TheVariants as TheExit
-use Rattle.ns_model.specs.declared.event.Mode.TheVariants.{Read, Write}
-use Rattle.ns_model.specs.declared.event.Mode.{Mode}
-use Rattle.ns_queue.specs.Queues.{Lists}
-use Rattle.ns_queue.specs.Scans.{woken_of}
-use Rattle.ns_queue.specs.Waiters.{seats_of}
 use Rattle.ns_word.proofs.Acts.{act_fits, view_fits}
 use Rattle.ns_word.proofs.Codes.{decoded, encoded}
 use Rattle.ns_word.proofs.Numbers.{split_at}
-use Rattle.ns_word.specs.Begins.{view_in}
-use Rattle.ns_word.specs.Codec.{number_of, word_of}
-use Rattle.ns_word.specs.Finds.{found_of, exchanged, scanned, owes_more, row_in, before_in}
-use Rattle.ns_word.specs.Lawful.{SectionFits}
-use Rattle.ns_word.specs.Lists.{has_some, bits_of}
-use Rattle.ns_word.specs.Places.{ActFits, CanLeave, CanWait, HasMode, OwesOne}
-use Rattle.ns_word.specs.Steps.{Part, part_of, Effect, newly_held, section_of, exit_for, changed, moves, owed_after, change_found, change_commits, waited_in, meets_at, flags_with}
-use Rattle.ns_word.specs.Waits.{mode_for}
-use Rattle.ns_word.specs.Walks.{want_of, judge_of, has_queues}
-use Rattle.ns_word.specs.Words.{word_acquired, word_taken, word_returned, word_released, word_released_returning, mode_released, releasing_of}
-use Rattle.ns_word.specs.declared.act.Act.TheVariants.{LoadWord, Acquire, TakeQueues, ReturnQueues, Release, ReleaseReturning, WaitReturning, LoadCell, JudgeQuiet, JudgeMet, StoreCell, ArmFlag, PayWake, LoadFlag}
-use Rattle.ns_word.specs.declared.act.Act.{Act}
-use Rattle.ns_word.specs.declared.act.Change.TheVariants.{QueueSelf, LeaveSelf, WakeWaiters}
-use Rattle.ns_word.specs.declared.act.Change.{Change}
-use Rattle.ns_word.specs.declared.act.Found.TheVariants.{Saw, Made, Cell, Quiet, Tested, Flag, Paid}
-use Rattle.ns_word.specs.declared.act.Found.{Found}
-use Rattle.ns_word.specs.declared.acquire_walk.AcquirePlace.TheVariants.{Queue}
-use Rattle.ns_word.specs.declared.cell_walk.CellPlace.TheVariants.{GetLoad}
-use Rattle.ns_word.specs.declared.try_walk.TryPlace.TheVariants.{TryLoad}
-use Rattle.ns_word.specs.declared.release_walk.ReleasePlace.TheVariants.{ScanAndRelease}
-use Rattle.ns_word.specs.declared.signal_walk.SignalPlace.TheVariants.{WakeAndReturn}
-use Rattle.ns_word.specs.declared.wait.LeavePlace.TheVariants.{Leave}
-use Rattle.ns_word.specs.declared.wait.QueuePlace.TheVariants.{QueueToWait}
-use Rattle.ns_word.specs.declared.wait.WaitPlace.TheVariants.{TestLast, InQueuing, InLeaving}
-use Rattle.ns_word.specs.declared.wait.Subject.{Subject}
-use Rattle.ns_word.specs.declared.wait.Subject.TheVariants.{OnCondition, OnVariable}
-use Rattle.ns_word.specs.declared.wait.Wait.{Wait}
-use Rattle.ns_word.specs.declared.view.Held.{Held}
-use Rattle.ns_word.specs.declared.walk.Walk.TheVariants.{InTry, InAcquire, InRelease, InCells, InWait, InSignal}
-use Rattle.ns_word.specs.declared.walk.Walk.{Walk}
-use Rattle.ns_word.specs.declared.word.Arrival.{Arrival}
-use Rattle.ns_word.specs.declared.word.Releasing.TheVariants.{Writer, QuietWriter, Reader}
-use Rattle.ns_word.specs.declared.word.Releasing.{Releasing}
-use Rattle.ns_word.specs.declared.word.Taking.TheVariants.{ToChange, ToQueue}
-use Rattle.ns_word.specs.declared.word.Taking.{Taking}
-use Rattle.ns_word.specs.declared.word.Word.{Word}
 use lib.ListN.{get_elem?}
 use mathlib.Core.Option.{some, none}
 use prog.Atomic.{either}

@@ -1,8 +1,7 @@
 //! The steps on the seats' flags, and sleeping on them, which is no step.
 
 ghost use Rattle.std.specs.Prelude.{◌≡◌, ◌+◌, ◌<◌};
-ghost use Rattle.ns_word.specs.Finds.{owes_more};
-ghost use Rattle.ns_gate.specs.Steps.{CanStep, HasUseFor, IsOwedNext, Performed, the};
+ghost use Rattle.ns_gate.specs.Prelude.{owes_more, CanStep, HasUseFor, IsOwedNext, Performed, the};
 
 use crate::gate::{Gate, GateSeat};
 use crate::room::Gated;

@@ -1,14 +1,7 @@
 //! The gate: a lock word, a row and flags, shared by threads.
 
 ghost use Rattle.std.specs.Prelude.{◌≡◌, ◌+◌, ◌<◌, ◌≤◌, [], ◌∷◌, replicate, None, Some, IfErr, IfOk, MatchResult, slice_index};
-ghost use Rattle.ns_word.specs.Codec.{word_of, IsPackable};
-ghost use Rattle.ns_word.specs.Finds.{before_in, exchanged, row_in};
-ghost use Rattle.ns_word.specs.Steps.{MayShow};
-ghost use Rattle.ns_gate.specs.Calls.{IsAtRest};
-ghost use Rattle.ns_gate.specs.Endings.{EndsAs};
-ghost use Rattle.ns_gate.specs.Law.{first_of, fresh, no_lists, rest_of, NewFault};
-ghost use Rattle.ns_gate.specs.Meetings.{HaveMet};
-ghost use Rattle.ns_gate.specs.Steps.{CanStep, IsOne, MayExchange, MayLoad, MayStore, Performed, Stepped, made_by, the, tried, tried_for};
+ghost use Rattle.ns_gate.specs.Prelude.{word_of, IsPackable, before_in, exchanged, row_in, MayShow, IsAtRest, EndsAs, first_of, fresh, no_lists, rest_of, NewFault, HaveMet, CanStep, IsOne, MayExchange, MayLoad, MayStore, Performed, Stepped, made_by, the, tried, tried_for};
 
 use crate::closed::{Closed, cells};
 use crate::fault::Fault;

@@ -1,9 +1,7 @@
 //! The rule of the table, and what each step on it tells.
 
 ghost use Rattle.std.specs.Prelude.{◌++◌, [], None};
-ghost use Rattle.ns_gate.specs.Law.{Holds, first_of, fresh, rest_of};
-ghost use Rattle.ns_gate.specs.Meetings.{HaveLearned};
-ghost use Rattle.ns_gate.specs.Steps.{HasLooked, Stepped, act_by, first_said, the};
+ghost use Rattle.ns_gate.specs.Prelude.{Holds, first_of, fresh, rest_of, HaveLearned, HasLooked, Stepped, act_by, first_said, the};
 
 use crate::saying::Telling;
 use crate::view::View;

@@ -1,15 +1,7 @@
 //! The steps on the waiter queues, and what is done to the queues in a hand between them.
 
 ghost use Rattle.std.specs.Prelude.{◌≡◌, ◌<◌, ⊤, nat_lt, IfErr};
-ghost use Rattle.ns_queue.specs.Queues.{IsList, times, waiters_of};
-ghost use Rattle.ns_queue.specs.Scans.{woken_of, tests_of};
-ghost use Rattle.ns_queue.specs.Waiters.{seats_of, times_in};
-ghost use Rattle.ns_word.specs.Codec.{IsPackable};
-ghost use Rattle.ns_word.specs.Finds.{row_in};
-ghost use Rattle.ns_word.specs.Lists.{bits_of};
-ghost use Rattle.ns_word.specs.Places.{IsInRange};
-ghost use Rattle.ns_word.specs.Steps.{changed, meets_at, waited_in};
-ghost use Rattle.ns_gate.specs.Steps.{CanStep, Carries, HasTaken, Performed, act_returning, found_returned, lists_returned, lists_scanned, some_returned, the, tried, tried_for, word_returning};
+ghost use Rattle.ns_gate.specs.Prelude.{IsList, times, waiters_of, woken_of, tests_of, seats_of, times_in, IsPackable, row_in, bits_of, IsInRange, changed, meets_at, waited_in, CanStep, Carries, HasTaken, Performed, act_returning, found_returned, lists_returned, lists_scanned, some_returned, the, tried, tried_for, word_returning};
 
 use crate::gate::{Gate, GateSeat};
 use crate::room::Gated;

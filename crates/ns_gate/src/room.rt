@@ -1,6 +1,6 @@
 //! Code over any condition owes that the values that it passes on fit in memory.
 
-ghost use Rattle.ns_gate.specs.Room.{QueuesFit, queues_fit};
+ghost use Rattle.ns_gate.specs.Prelude.{QueuesFit, queues_fit};
 
 use ns_model::condition::Condition;
 use ns_queue::room::Queueable;

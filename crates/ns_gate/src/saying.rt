@@ -5,7 +5,8 @@
 
 ghost use Rattle.std.specs.Prelude.{◌≡◌, ◌<◌, ℕ, List, [], ◌∷◌};
 ghost use mathlib.Core.Option.{none};
-ghost use Rattle.atomic_table.specs.Table.{Me, Step, Allows, step};
+ghost use Rattle.ns_gate.specs.Prelude.{Me, Allows, step};
+ghost use Rattle.atomic_table.specs.Table.{Step};
 
 use atomic_table::{Play, Seat, Shared, TableRule};
 use std::marker::{Brand, PhantomData};

@@ -1,31 +1,13 @@
 -- What a call of the gate's seat tells its caller.
-use Rattle.std.proofs.Common.{◌≡◌, ℕ, Bool, true, false, cond, [], ◌++◌, None, Some, Result, Ok, Err, refl, ap, sym, ◌∙◌, subst}
+use Rattle.std.proofs.Common.{◌≡◌, ℕ, Bool, Option, true, false, cond, [], ◌∷◌, ◌++◌, None, Some, Result, Ok, Err, refl, ap, sym, ◌∙◌, subst}
 use Rattle.std.proofs.lemmas.List.{append-nil}
-use Rattle.atomic_table.specs.Seated.{TableId}
+use Rattle.ns_gate.specs.Prelude.{TableId, InHand, Releasing, asked_of, section_of, SeatOf, HasSince, IsAt, IsAtRest, HasAnswered, Leads, the, Performed, tried, Mode, Truths, Unchanged, row_after, got_of, may_acquire, Acquire, LoadCell, StoreCell, Saw, Made, Cell, SetStore, TryLock, Get, Set, TryAcquire, ForLock, On, Done, Busy, Succeeded, Number, Walk, InTry, InCells, AsFresh, Word}
 use Rattle.ns_gate.proofs.Calls.{begins, goes, since, since_then}
-use Rattle.ns_gate.specs.Calls.{SeatOf, HasSince, IsAt, IsAtRest, HasAnswered, Leads}
-use Rattle.ns_gate.specs.Steps.{the, Performed, tried}
-use Rattle.ns_model.specs.declared.event.Mode.{Mode}
-use Rattle.ns_model.specs.Truths.{Truths}
+use Rattle.ns_model.specs.declared.event.Exit.TheVariants as TheExit
 use Rattle.ns_monitor.specs.Known.{Known, known_of, Grows, HasLocked, HasSeenMore}
-use Rattle.ns_monitor.specs.Walks.{trying, getting, setting}
-use Rattle.ns_word.specs.Meanings.{Unchanged}
+use Rattle.ns_monitor.specs.Standing.{WentAtOnce, gone_to}
+use Rattle.ns_monitor.specs.Walks.{getting, setting, trying}
 use Rattle.ns_word.specs.Meanings as TheMeanings
-use Rattle.ns_model.specs.Histories.{row_after}
-use Rattle.ns_word.specs.Walks.{got_of}
-use Rattle.ns_word.specs.Words.{may_acquire}
-use Rattle.ns_word.specs.declared.act.Act.TheVariants.{Acquire, LoadCell, StoreCell}
-use Rattle.ns_word.specs.declared.act.Found.TheVariants.{Saw, Made, Cell}
-use Rattle.ns_word.specs.declared.cell_walk.CellPlace.TheVariants.{SetStore}
-use Rattle.ns_word.specs.declared.request.Request.TheVariants.{TryLock, Get, Set}
-use Rattle.ns_word.specs.declared.try_walk.TryPlace.TheVariants.{TryAcquire}
-use Rattle.ns_word.specs.declared.wait.Aim.TheVariants.{ForLock}
-use Rattle.ns_word.specs.declared.walk.Next.TheVariants.{On, Done}
-use Rattle.ns_word.specs.declared.walk.Reply.TheVariants.{Busy, Succeeded, Number}
-use Rattle.ns_word.specs.declared.walk.Walk.{Walk}
-use Rattle.ns_word.specs.declared.walk.Walk.TheVariants.{InTry, InCells}
-use Rattle.ns_word.specs.declared.word.Arrival.TheVariants.{AsFresh}
-use Rattle.ns_word.specs.declared.word.Word.{Word}
 
 -- where a try goes by the word that it loaded
 by_word : {C : Type 0} (N : ℕ) (b : Bool) (mode : Mode) (word : Word) → may_acquire mode AsFresh word ≡ b → got_of {C = C} N (trying mode) (Saw word) ≡ cond b (On (InTry mode (TryAcquire word))) (Done Busy)
@@ -51,6 +33,18 @@ module _ {C : Type 0} {N : ℕ} (truths : Truths C) where
   -- one that has locked has a new section
   pub locked : (first : Walk C) (mode : Mode) (old : Known C N) (was is : TableId) (me now : SeatOf C N) → known_of was me ≡ old → is ≡ old.monitor → IsAtRest truths now → HasSince (Some first) (the me.0) (the now.0) → TheMeanings.HasLocked (row_after (the now.0).told.seen) mode (the now.0).course (the now.0).at.held → HasLocked truths first mode old (known_of is now)
   locked first mode old was is me now view same rest s h = record { grows = grew first old was is me now view same rest s; mine = silent first old was me now view s h.silent; section = h.section }
+
+  -- one that has released has committed its section
+  pub released : (first : Walk C) (releasing : Releasing) (old : Known C N) (was is : TableId) (me now : SeatOf C N) → known_of was me ≡ old → HasSince (Some first) (the me.0) (the now.0) → TheMeanings.HasReleased truths (the now.0).at.seat releasing (the now.0).course (the now.0).at.held → InHand old.held (λ section. (known_of is now).mine ≡ old.mine ++ section_of truths.holds old.seat section TheExit.Plain ∷ [])
+  released first releasing old was is me now view s r = subst (λ (k : Known C N). InHand k.held (λ section. (the now.0).told.mine ≡ k.mine ++ section_of truths.holds k.seat section TheExit.Plain ∷ [])) view
+      (subst (λ o. InHand o (λ section. (the now.0).told.mine ≡ (the me.0).told.mine ++ section_of truths.holds (the me.0).at.seat section TheExit.Plain ∷ [])) (sym r.began ∙ s.began)
+          (s.mine ∙ ap (λ es. (the me.0).told.mine ++ es) (sym s.committed ∙ (r.committed ∙ (λ i. section_of truths.holds (s.seat i) r.was TheExit.Plain ∷ [])))))
+
+  -- ---- calls that go at once
+
+  -- one that has gone so is over, or has acquired
+  pub went_so : (first walk : Walk C) (left : Option ℕ) (now : SeatOf C N) → walk ≡ first → left ≡ None → WentAtOnce truths walk left now → Leads truths (asked_of first) (gone_to N first) now
+  went_so first walk left now is none went = (subst (λ (x : Walk C × Option ℕ). WentAtOnce truths x.0 x.1 now) (λ i. (is i, none i)) went).1
 
   -- ---- tries
 

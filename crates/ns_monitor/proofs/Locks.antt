@@ -2,18 +2,7 @@
 use Rattle.std.proofs.Common.{◌≡◌, ℕ, true, false, None, refl, subst}
 use Rattle.ns_gate.proofs.Calls.{goes_on}
 use Rattle.ns_gate.proofs.Stays.{counts_on}
-use Rattle.ns_gate.specs.Calls.{SeatOf, IsAt}
-use Rattle.ns_gate.specs.Steps.{the, Performed}
-use Rattle.ns_model.specs.Truths.{Truths}
-use Rattle.ns_queue.specs.Queues.{Lists, times}
-use Rattle.ns_word.specs.declared.acquire_walk.AcquirePlace.TheVariants.{Arm, Queue}
-use Rattle.ns_word.specs.declared.act.Act.TheVariants.{ArmFlag}
-use Rattle.ns_word.specs.declared.act.Found.TheVariants.{Made}
-use Rattle.ns_word.specs.declared.wait.Aim.{Aim}
-use Rattle.ns_word.specs.declared.walk.Next.TheVariants.{On}
-use Rattle.ns_word.specs.declared.walk.Walk.TheVariants.{InAcquire}
-use Rattle.ns_word.specs.declared.word.Arrival.{Arrival}
-use Rattle.ns_word.specs.declared.word.Word.{Word}
+use Rattle.ns_gate.specs.Prelude.{SeatOf, IsAt, the, Performed, Truths, Lists, times, Arm, Queue, ArmFlag, Made, Aim, On, InAcquire, Arrival, Word}
 
 module _ {C : Type 0} {N : ℕ} (truths : Truths C) where
   pub armed : (aim : Aim C) (arrival : Arrival) (last : Word) (me now : SeatOf C N) → IsAt truths (InAcquire aim (Arm arrival last)) me → Performed truths None ArmFlag Made me now → IsAt truths (InAcquire aim (Queue arrival last)) now

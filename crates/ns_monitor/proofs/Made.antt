@@ -2,11 +2,7 @@
 use Rattle.std.proofs.Common.{◌≡◌, ℕ, suc, ◌+◌, List, [], ◌∷◌, ◌++◌, length, ap, refl, sym, subst, ◌∙◌, arith, None}
 use Rattle.std.specs.List.{All}
 use Rattle.std.proofs.lemmas.List.Elements.{All-nil, All-cons}
-use Rattle.atomic_table.specs.Seated.{TableId}
-use Rattle.ns_gate.specs.Calls.{SeatOf, IsAtRest}
-use Rattle.ns_gate.specs.Law.{fresh_seat}
-use Rattle.ns_gate.specs.Steps.{the}
-use Rattle.ns_model.specs.Truths.{Truths}
+use Rattle.ns_gate.specs.Prelude.{TableId, SeatOf, IsAtRest, fresh_seat, the, Truths}
 use Rattle.ns_monitor.specs.Known.{Known, known_of, AreNew}
 
 module _ (C : Type 0) (N : ℕ) where

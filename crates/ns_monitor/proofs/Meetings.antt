@@ -1,12 +1,8 @@
 -- Two callers that meet.
 use Rattle.std.proofs.Common.{◌≡◌, ℕ, ap, subst}
-use Rattle.atomic_table.specs.Seated.{TableId}
-use Rattle.ns_model.specs.Truths.{Truths}
-use Rattle.ns_gate.specs.Calls.{SeatOf, IsAtRest}
+use Rattle.ns_gate.specs.Prelude.{TableId, Truths, SeatOf, IsAtRest, the, SeatView}
 use Rattle.ns_gate.specs.Meetings.{HasLearned as SeatHasLearned}
-use Rattle.ns_gate.specs.Steps.{the}
 use Rattle.ns_monitor.specs.Known.{Known, known_of, HasLearned}
-use Rattle.ns_word.specs.declared.view.SeatView.{SeatView}
 
 module _ {C : Type 0} {N : ℕ} (truths : Truths C) where
   -- what a seat has learned that rests, as its caller sees it

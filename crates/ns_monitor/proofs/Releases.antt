@@ -1,22 +1,10 @@
 -- A scan of the lock list with the queues in hand, by a release or by a wait: what it takes and leaves.
 use Rattle.std.proofs.Common.{◌≡◌, ℕ, ◌==◌, Bool, true, false, not, ◌&&◌, ◌||◌, cond, List, [], ◌∷◌, length, filter, Option, None, Some, is_some, refl, ap, sym, ◌∙◌, ne_eqb, arith}
 use Rattle.std.specs.List.{list_any}
-use Rattle.ns_gate.specs.Calls.{SeatOf, HasSince, IsAt}
-use Rattle.ns_gate.specs.Steps.{the, Carries, HasTaken, lists_returned, some_returned}
+use Rattle.ns_gate.specs.Prelude.{SeatOf, HasSince, IsAt, the, Carries, HasTaken, lists_returned, some_returned, Truths, Lists, is_eligible, is_satisfied, left_of, woken_of, has_condition, reads, seats_of, writes, Waiter, row_in, bits_of, has_some, meets_at, waits_at, with_lock, Walk, Bits, Word}
 use Rattle.ns_gate.specs.declared.queues.Returning.{Returning}
 use Rattle.ns_gate.specs.declared.queues.Returning.TheVariants.{Changed, Released, Waited}
-use Rattle.ns_model.specs.Truths.{Truths}
 use Rattle.ns_monitor.specs.Standing.{HasInHand}
-use Rattle.ns_queue.specs.Queues.{Lists}
-use Rattle.ns_queue.specs.Scans.{is_eligible, is_satisfied, left_of, woken_of}
-use Rattle.ns_queue.specs.Waiters.{has_condition, reads, seats_of, writes}
-use Rattle.ns_queue.specs.declared.waiter.Waiter.{Waiter}
-use Rattle.ns_word.specs.Finds.{row_in}
-use Rattle.ns_word.specs.Lists.{bits_of, has_some}
-use Rattle.ns_word.specs.Steps.{meets_at, waits_at, with_lock}
-use Rattle.ns_word.specs.declared.walk.Walk.{Walk}
-use Rattle.ns_word.specs.declared.word.Bits.{Bits}
-use Rattle.ns_word.specs.declared.word.Word.{Word}
 
 -- ---- the scan
 

@@ -2,52 +2,16 @@
 use Rattle.std.proofs.Common.{◌≡◌, ℕ, ◌-◌, Bool, true, false, cond, List, [], ◌∷◌, ◌++◌, append-nil, ◌⊎◌, inl, inr, option_map, Option, None, Some, refl, ap, sym, ◌∙◌, subst}
 use Rattle.ns_gate.proofs.Calls.{goes}
 use Rattle.ns_gate.proofs.Tells.{does}
-use Rattle.ns_gate.specs.Calls.{SeatOf, HasAnswered, HasSince, IsAt, IsWide, Leads}
-use Rattle.ns_gate.specs.Steps.{the, Performed}
-use Rattle.ns_model.specs.Truths.{Truths}
-use Rattle.ns_model.specs.declared.event.Answer.{Answer}
-use Rattle.ns_model.specs.declared.event.Answer.TheVariants.{Met, TimedOut, Canceled}
-use Rattle.ns_model.specs.declared.event.Mode.{Mode}
+use Rattle.ns_gate.specs.Prelude.{SeatOf, HasAnswered, HasSince, IsAt, IsWide, Leads, the, Performed, Truths, Answer, Met, TimedOut, Canceled, Mode, TableId, row_after, EnvEvent, Event, CondWait, Course, ConditionWaitMeans, HasWaited, InHand, Unchanged, WaitMeans, Walk, HasMode, IsForCondition, PlaceFits, Tests, held_after, held_by, section_of, Part, answer_of, is_limited, back_with, got_queuing, look_or_queue, test_place, unmet_by, Look, Looked, Cause, Expired, Notified, Limits, Await, Held, SeatView, ForWait, Outcome, Load, LookIn, Subject, OnCondition, Visit, OnReturn, Wait, InQueuing, TestCells, TestLast, On, Answered, InWait}
 use Rattle.ns_monitor.specs.Saved.{IsFresh, IsFreshIn}
 use Rattle.ns_monitor.specs.Standing.{HasAcquired}
 use Rattle.ns_monitor.specs.Tests.{tested_by, HasTested}
 use Rattle.ns_monitor.specs.Waits.{EndedBy, HadLooked, HasComeBack, HasStayed, HasWaitedFor, IfAnswered, QueuesOrEnds, WaitTells}
-use Rattle.atomic_table.specs.Seated.{TableId}
-use Rattle.ns_model.specs.Histories.{row_after}
-use Rattle.ns_model.specs.declared.environment.EnvEvent.{EnvEvent}
-use Rattle.ns_model.specs.declared.event.Event.{Event}
-use Rattle.ns_model.specs.declared.event.Exit.TheVariants.{CondWait}
 use Rattle.ns_monitor.specs.Known.{Known, known_of}
 use Rattle.ns_monitor.specs.Limits.{LookShows}
 use Rattle.ns_monitor.specs.Walks.{limits_of}
 use Rattle.ns_note.specs.Known.{EnvKnown}
 use Rattle.ns_note.specs.declared.note.Note.{Note}
-use Rattle.ns_word.specs.Meanings.{Course, ConditionWaitMeans, HasWaited, InHand, Unchanged, WaitMeans}
-use Rattle.ns_word.specs.declared.walk.Walk.{Walk}
-use Rattle.ns_word.specs.Places.{HasMode, IsForCondition, PlaceFits, Tests}
-use Rattle.ns_word.specs.Steps.{held_after, held_by, section_of, Part}
-use Rattle.ns_word.specs.Waits.{answer_of, is_limited}
-use Rattle.ns_word.specs.Walks.{back_with, got_queuing, look_or_queue, test_place, unmet_by}
-use Rattle.ns_word.specs.declared.act.Act.TheVariants.{Look}
-use Rattle.ns_word.specs.declared.act.Found.TheVariants.{Looked}
-use Rattle.ns_word.specs.declared.limits.Cause.{Cause}
-use Rattle.ns_word.specs.declared.limits.Cause.TheVariants.{Expired, Notified}
-use Rattle.ns_word.specs.declared.limits.Limits.{Limits}
-use Rattle.ns_word.specs.declared.request.Request.TheVariants.{Await}
-use Rattle.ns_word.specs.declared.view.Held.{Held}
-use Rattle.ns_word.specs.declared.view.SeatView.{SeatView}
-use Rattle.ns_word.specs.declared.wait.Aim.TheVariants.{ForWait}
-use Rattle.ns_word.specs.declared.wait.Outcome.{Outcome}
-use Rattle.ns_word.specs.declared.wait.QueuePlace.TheVariants.{Load, LookIn}
-use Rattle.ns_word.specs.declared.wait.Subject.{Subject}
-use Rattle.ns_word.specs.declared.wait.Subject.TheVariants.{OnCondition}
-use Rattle.ns_word.specs.declared.wait.Visit.{Visit}
-use Rattle.ns_word.specs.declared.wait.Visit.TheVariants.{OnReturn}
-use Rattle.ns_word.specs.declared.wait.Wait.{Wait}
-use Rattle.ns_word.specs.declared.wait.WaitPlace.TheVariants.{InQueuing, TestCells, TestLast}
-use Rattle.ns_word.specs.declared.walk.Next.TheVariants.{On}
-use Rattle.ns_word.specs.declared.walk.Reply.TheVariants.{Answered}
-use Rattle.ns_word.specs.declared.walk.Walk.TheVariants.{InWait}
 
 -- a wait for a condition is one
 pub is_for_condition : {C : Type 0} (on : Subject C) (c : C) → on ≡ OnCondition c → IsForCondition on

@@ -2,61 +2,16 @@
 use Rattle.std.proofs.Common.{◌≡◌, ℕ, ◌<◌, Bool, true, false, cond, List, [], ◌++◌, append-nil, ◌∷◌, Option, None, Some, refl, ap, sym, ◌∙◌, subst}
 use Rattle.ns_gate.proofs.Calls.{begins, can_go, goes, goes_on, since}
 use Rattle.ns_gate.proofs.Tells.{does}
-use Rattle.ns_gate.specs.Calls.{SeatOf, HasSince, IsAt, IsAtRest, Leads, OwesBelow}
-use Rattle.ns_gate.specs.Law.{GateView, rest_of}
-use Rattle.atomic_table.specs.Table.{rest}
-use Rattle.ns_gate.proofs.Stays.{HasKeptItsQueues, stays_by}
+use Rattle.ns_gate.specs.Prelude.{SeatOf, HasSince, IsAt, IsAtRest, Leads, OwesBelow, GateView, rest_of, rest, the, act_returning, carried_by, Carries, found_returned, lists_returned, some_returned, CanStep, Did, IsOwedNext, Performed, standing_after, woken_of, seats_of, row_in, SectionFits, changed, meets_at, moves, Change, Bits, Request, Held, Queue, Leave, QueueToWait, Truths, Event, Lists, asked_of, IsPackable, number_of, word_of, owes_more, bits_of, has_some, Effect, State, Part, part_of, Told, got_of, has_queues, want_of, release_has_queues, scan_place, word_taken, Act, LoadWord, LoadFlag, PayWake, TakeQueues, Acquire, Release, ReturnQueues, ReleaseReturning, WaitReturning, Found, Saw, Made, Flag, Paid, AcquireLoad, ReleaseLoad, ScanCells, ScanAndRelease, SignalLoad, SeatView, ForLock, ForWait, LeaveLoad, Load, InQueuing, InLeaving, On, Idle, Walk, InTry, InAcquire, InRelease, InCells, InWait, InSignal, Taking, ToChange, ToQueue, Word}
 use Rattle.ns_gate.specs.declared.queues.Returning.{Returning}
 use Rattle.ns_gate.specs.declared.queues.Returning.TheVariants.{Changed, Released, Waited}
 use Rattle.ns_gate.specs.declared.queues.Turned.{Turned}
-use Rattle.ns_gate.specs.Steps.{the, act_returning, carried_by, Carries, found_returned, lists_returned, some_returned, CanStep, Did, IsOwedNext, Performed}
-use Rattle.ns_model.specs.Histories.{standing_after}
-use Rattle.ns_queue.specs.Scans.{woken_of}
-use Rattle.ns_queue.specs.Waiters.{seats_of}
+use Rattle.ns_gate.proofs.Stays.{HasKeptItsQueues, stays_by}
 use Rattle.ns_word.proofs.Acts.{view_fits}
-use Rattle.ns_word.specs.Finds.{row_in}
-use Rattle.ns_word.specs.Lawful.{SectionFits}
-use Rattle.ns_word.specs.Steps.{changed, meets_at, moves}
-use Rattle.ns_word.specs.declared.act.Change.{Change}
-use Rattle.ns_word.specs.declared.word.Bits.{Bits}
-use Rattle.ns_word.specs.declared.request.Request.{Request}
-use Rattle.ns_word.specs.declared.view.Held.{Held}
-use Rattle.ns_word.specs.declared.acquire_walk.AcquirePlace.TheVariants.{Queue}
-use Rattle.ns_word.specs.declared.wait.LeavePlace.TheVariants.{Leave}
-use Rattle.ns_word.specs.declared.wait.QueuePlace.TheVariants.{QueueToWait}
 use Rattle.ns_monitor.specs.declared.going.Going.{Going}
 use Rattle.ns_monitor.specs.declared.going.Going.TheVariants.{Acquiring, Leaving, Changing}
-use Rattle.ns_model.specs.Truths.{Truths}
-use Rattle.ns_model.specs.declared.event.Event.{Event}
 use Rattle.ns_monitor.specs.Standing.{Decides, HasInHand, HasTakenAt, MayGoAlone, IsNumberOf, OwesTheWoken, Pays, PutsBack, Sleeps, found_back, going_act, going_at, going_of, gone_to, may_go, returning_at, returning_of, scanning_at, taken_at, taking_at, taking_for}
-use Rattle.ns_queue.specs.Queues.{Lists}
-use Rattle.ns_word.specs.Asked.{asked_of}
-use Rattle.ns_word.specs.Codec.{IsPackable, number_of, word_of}
 use Rattle.ns_word.proofs.Codes.{decoded}
-use Rattle.ns_word.specs.Finds.{owes_more}
-use Rattle.ns_word.specs.Lists.{bits_of, has_some}
-use Rattle.ns_word.specs.Steps.{Effect, State, Part, part_of}
-use Rattle.ns_word.specs.Told.{Told}
-use Rattle.ns_word.specs.Walks.{got_of, has_queues, want_of, release_has_queues, scan_place}
-use Rattle.ns_word.specs.Words.{word_taken}
-use Rattle.ns_word.specs.declared.act.Act.{Act}
-use Rattle.ns_word.specs.declared.act.Act.TheVariants.{LoadWord, LoadFlag, PayWake, TakeQueues, Acquire, Release, ReturnQueues, ReleaseReturning, WaitReturning}
-use Rattle.ns_word.specs.declared.act.Found.{Found}
-use Rattle.ns_word.specs.declared.act.Found.TheVariants.{Saw, Made, Flag, Paid}
-use Rattle.ns_word.specs.declared.acquire_walk.AcquirePlace.TheVariants.{AcquireLoad}
-use Rattle.ns_word.specs.declared.release_walk.ReleasePlace.TheVariants.{ReleaseLoad, ScanCells, ScanAndRelease}
-use Rattle.ns_word.specs.declared.signal_walk.SignalPlace.TheVariants.{SignalLoad}
-use Rattle.ns_word.specs.declared.view.SeatView.{SeatView}
-use Rattle.ns_word.specs.declared.wait.Aim.TheVariants.{ForLock, ForWait}
-use Rattle.ns_word.specs.declared.wait.LeavePlace.TheVariants.{LeaveLoad}
-use Rattle.ns_word.specs.declared.wait.QueuePlace.TheVariants.{Load}
-use Rattle.ns_word.specs.declared.wait.WaitPlace.TheVariants.{InQueuing, InLeaving}
-use Rattle.ns_word.specs.declared.walk.Next.TheVariants.{On, Idle}
-use Rattle.ns_word.specs.declared.walk.Walk.{Walk}
-use Rattle.ns_word.specs.declared.walk.Walk.TheVariants.{InTry, InAcquire, InRelease, InCells, InWait, InSignal}
-use Rattle.ns_word.specs.declared.word.Taking.{Taking}
-use Rattle.ns_word.specs.declared.word.Taking.TheVariants.{ToChange, ToQueue}
-use Rattle.ns_word.specs.declared.word.Word.{Word}
 
 -- a word that was taken has a number, if the word before has
 pub taken_packs : (taking : Taking) (word : Word) → IsPackable word → IsPackable (word_taken taking word)

@@ -6,41 +6,9 @@ use Rattle.std.proofs.lemmas.List.{get_or-set_same, get_or-set_other}
 use Rattle.ns_monitor.proofs.Standing.{commits_none}
 use Rattle.ns_gate.proofs.Calls.{begins, goes_on, since, since_itself, since_then}
 use Rattle.ns_gate.proofs.Tells.{cell_in_hand, does}
-use Rattle.ns_gate.specs.Calls.{SeatOf, HasAnswered, HasSince, IsAt, IsAtRest, IsWide, Leads}
-use Rattle.ns_gate.specs.Law.{GateView}
-use Rattle.ns_gate.specs.Steps.{the, carried_by, CanStep, HasTaken, Performed}
-use Rattle.ns_model.specs.Truths.{Truths}
-use Rattle.ns_model.specs.declared.event.Mode.TheVariants.{Write}
+use Rattle.ns_gate.specs.Prelude.{SeatOf, HasAnswered, HasSince, IsAt, IsAtRest, IsWide, Leads, GateView, the, carried_by, CanStep, HasTaken, Performed, Truths, Write, Lists, asked_of, IsFirst, view_in, before_in, row_in, HasMode, IsForCondition, IsSettled, PlaceFits, Tests, Part, State, first_for, got_of, has_queues, release_has_queues, test_place, wait_has_queues, walk_after, want_of, Act, JudgeMet, JudgeQuiet, LoadCell, Found, Cell, Quiet, Tested, QuietCells, QuietLast, ToTell, ScanCells, ScanAndRelease, Await, IsQuiet, Held, SeatView, LoadToScan, QueueToWait, OnCondition, Visit, OnEntry, Wait, TestCells, TestLast, InQueuing, Next, On, Is, Walk, InRelease, InCells, InWait}
 use Rattle.ns_monitor.specs.Tests.{AreRead, HasGone, HasLoaded, HasTested, MayTest, StandsAt, loading, loading_at, tested_by}
 use Rattle.ns_monitor.specs.Walks.{judging}
-use Rattle.ns_queue.specs.Queues.{Lists}
-use Rattle.ns_word.specs.Asked.{asked_of}
-use Rattle.ns_word.specs.Begins.{IsFirst, view_in}
-use Rattle.ns_word.specs.Finds.{before_in, row_in}
-use Rattle.ns_word.specs.Places.{HasMode, IsForCondition, IsSettled, PlaceFits, Tests}
-use Rattle.ns_word.specs.Steps.{Part, State}
-use Rattle.ns_word.specs.Walks.{first_for, got_of, has_queues, release_has_queues, test_place, wait_has_queues, walk_after, want_of}
-use Rattle.ns_word.specs.declared.act.Act.{Act}
-use Rattle.ns_word.specs.declared.act.Act.TheVariants.{JudgeMet, JudgeQuiet, LoadCell}
-use Rattle.ns_word.specs.declared.act.Found.{Found}
-use Rattle.ns_word.specs.declared.act.Found.TheVariants.{Cell, Quiet, Tested}
-use Rattle.ns_word.specs.declared.cell_walk.CellPlace.TheVariants.{QuietCells, QuietLast}
-use Rattle.ns_word.specs.declared.cell_walk.Judging.TheVariants.{ToTell}
-use Rattle.ns_word.specs.declared.release_walk.ReleasePlace.TheVariants.{ScanCells, ScanAndRelease}
-use Rattle.ns_word.specs.declared.request.Request.TheVariants.{Await, IsQuiet}
-use Rattle.ns_word.specs.declared.view.Held.{Held}
-use Rattle.ns_word.specs.declared.view.SeatView.{SeatView}
-use Rattle.ns_word.specs.declared.wait.QueuePlace.TheVariants.{LoadToScan, QueueToWait}
-use Rattle.ns_word.specs.declared.wait.Subject.TheVariants.{OnCondition}
-use Rattle.ns_word.specs.declared.wait.Visit.{Visit}
-use Rattle.ns_word.specs.declared.wait.Visit.TheVariants.{OnEntry}
-use Rattle.ns_word.specs.declared.wait.Wait.{Wait}
-use Rattle.ns_word.specs.declared.wait.WaitPlace.TheVariants.{TestCells, TestLast, InQueuing}
-use Rattle.ns_word.specs.declared.walk.Next.{Next}
-use Rattle.ns_word.specs.declared.walk.Next.TheVariants.{On}
-use Rattle.ns_word.specs.declared.walk.Reply.TheVariants.{Is}
-use Rattle.ns_word.specs.declared.walk.Walk.{Walk}
-use Rattle.ns_word.specs.declared.walk.Walk.TheVariants.{InRelease, InCells, InWait}
 
 -- ---- the row
 

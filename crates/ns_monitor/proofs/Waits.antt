@@ -2,40 +2,10 @@
 use Rattle.std.proofs.Common.{◌≡◌, ◌≢◌, ℕ, Bool, true, false, cond, nat_lt, ne_eqb, List, Option, None, Some, refl, ap, sym, ◌∙◌, subst}
 use Rattle.ns_gate.proofs.Calls.{goes, goes_on, since, since_then}
 use Rattle.ns_gate.proofs.Stays.{counts_on, stays_arming, still_carries}
-use Rattle.ns_gate.specs.Calls.{SeatOf, HasSince, IsAt, Leads}
-use Rattle.ns_gate.specs.Law.{GateView}
-use Rattle.ns_gate.specs.Steps.{the, Performed}
+use Rattle.ns_gate.specs.Prelude.{SeatOf, HasSince, IsAt, Leads, GateView, the, Performed, Truths, IsList, Lists, times, waiters_of, times_in, Which, row_in, IsForCondition, IsInRange, arrival_of, home_of, is_limited, outcome_taken, woken_by, armed_place, got_of, has_queues, rest_or_look, AcquireLoad, ArmFlag, LoadFlag, Look, LeaveSelf, Flag, Looked, Made, Cause, Await, ForWait, AwaitWakeToLeave, Leave, LeaveLoad, Outcome, Ended, ArmToWait, Load, QueueToWait, Subject, OnCondition, OnVariable, Wait, AwaitWakeInWait, InLeaving, InQueuing, LookOut, Idle, On, InAcquire, InWait, Arrival, AsFresh, Word}
 use Rattle.ns_gate.specs.declared.queues.Returning.TheVariants.{Changed}
-use Rattle.ns_model.specs.Truths.{Truths}
 use Rattle.ns_monitor.proofs.Releases.{scans_row, IsReady}
 use Rattle.ns_monitor.specs.Standing.{found_back, HasTakenAt, Sleeps}
-use Rattle.ns_queue.specs.Queues.{IsList, Lists, times, waiters_of}
-use Rattle.ns_queue.specs.Waiters.{times_in}
-use Rattle.ns_queue.specs.declared.waiter.Which.{Which}
-use Rattle.ns_word.specs.Finds.{row_in}
-use Rattle.ns_word.specs.Places.{IsForCondition, IsInRange}
-use Rattle.ns_word.specs.Waits.{arrival_of, home_of, is_limited, outcome_taken, woken_by}
-use Rattle.ns_word.specs.Walks.{armed_place, got_of, has_queues, rest_or_look}
-use Rattle.ns_word.specs.declared.acquire_walk.AcquirePlace.TheVariants.{AcquireLoad}
-use Rattle.ns_word.specs.declared.act.Act.TheVariants.{ArmFlag, LoadFlag, Look}
-use Rattle.ns_word.specs.declared.act.Change.TheVariants.{LeaveSelf}
-use Rattle.ns_word.specs.declared.act.Found.TheVariants.{Flag, Looked, Made}
-use Rattle.ns_word.specs.declared.limits.Cause.{Cause}
-use Rattle.ns_word.specs.declared.request.Request.TheVariants.{Await}
-use Rattle.ns_word.specs.declared.wait.Aim.TheVariants.{ForWait}
-use Rattle.ns_word.specs.declared.wait.LeavePlace.TheVariants.{AwaitWakeToLeave, Leave, LeaveLoad}
-use Rattle.ns_word.specs.declared.wait.Outcome.{Outcome}
-use Rattle.ns_word.specs.declared.wait.Outcome.TheVariants.{Ended}
-use Rattle.ns_word.specs.declared.wait.QueuePlace.TheVariants.{ArmToWait, Load, QueueToWait}
-use Rattle.ns_word.specs.declared.wait.Subject.{Subject}
-use Rattle.ns_word.specs.declared.wait.Subject.TheVariants.{OnCondition, OnVariable}
-use Rattle.ns_word.specs.declared.wait.Wait.{Wait}
-use Rattle.ns_word.specs.declared.wait.WaitPlace.TheVariants.{AwaitWakeInWait, InLeaving, InQueuing, LookOut}
-use Rattle.ns_word.specs.declared.walk.Next.TheVariants.{Idle, On}
-use Rattle.ns_word.specs.declared.walk.Walk.TheVariants.{InAcquire, InWait}
-use Rattle.ns_word.specs.declared.word.Arrival.{Arrival}
-use Rattle.ns_word.specs.declared.word.Arrival.TheVariants.{AsFresh}
-use Rattle.ns_word.specs.declared.word.Word.{Word}
 
 module _ {C : Type 0} where
   -- a wait for a condition has its row when it queues, and stands in a list that there is

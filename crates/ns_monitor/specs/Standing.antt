@@ -16,14 +16,14 @@ use Rattle.ns_word.specs.declared.act.Found.{Found}
 use Rattle.ns_monitor.specs.declared.going.Going.{Going}
 use Rattle.ns_monitor.specs.declared.going.Going.TheVariants.{Acquiring, Leaving, Changing}
 use Rattle.ns_word.specs.Asked.{asked_of, request_for}
-use Rattle.ns_word.specs.Codec.{IsPackable}
+use Rattle.ns_word.specs.Codec.{IsPackable, word_of}
 use Rattle.ns_word.specs.Lists.{bits_of}
 use Rattle.ns_word.specs.Waits.{home_of, mode_for}
 use Rattle.ns_word.specs.Walks.{want_of, got_of, has_queues, acquire_by, acquired_for, release_by, scan_place}
 use Rattle.ns_word.specs.Words.{may_acquire, needs_scan}
 use Rattle.ns_word.specs.declared.act.Act.{Act}
 use Rattle.ns_word.specs.declared.act.Act.TheVariants.{LoadWord, LoadFlag, PayWake, Acquire, Release}
-use Rattle.ns_word.specs.declared.act.Found.TheVariants.{Flag, Paid}
+use Rattle.ns_word.specs.declared.act.Found.TheVariants.{Flag, Paid, Saw}
 use Rattle.ns_word.specs.declared.acquire_walk.AcquirePlace.TheVariants.{AcquireLoad, AcquireExchange, TakeToQueue, Arm, Queue}
 use Rattle.ns_word.specs.declared.release_walk.ReleasePlace.{ReleasePlace}
 use Rattle.ns_word.specs.declared.release_walk.ReleasePlace.TheVariants.{ReleaseLoad, ReleaseExchange, TakeToScan, ScanAndRelease}
@@ -148,6 +148,11 @@ MayGoAlone going = Unit {0}
 abbrev pub WentOrTook : {C : Type 0} {N : ℕ} → Truths C → Walk C → Option Word → SeatOf C N → SeatOf C N → Type 0
 WentOrTook {C} {N} truths walk None me now = MayGoAlone (going_of walk) × Leads truths (asked_of walk) (gone_to N walk) now
 WentOrTook truths walk (Some word) me now = HasTakenAt truths walk word me now
+
+-- A call that has begun, and has loaded the word, has gone by it; or it has seen a word with this number last, and stands where its decision leads.
+abbrev pub WentAtOnce : {C : Type 0} {N : ℕ} → Truths C → Walk C → Option ℕ → SeatOf C N → Type 0
+WentAtOnce {C} {N} truths walk None now = MayGoAlone (going_of walk) × Leads truths (asked_of walk) (gone_to N walk) now
+WentAtOnce {C} {N} truths walk (Some last) now = IsPackable (word_of last) × Leads truths (asked_of walk) (got_of N walk (Saw (word_of last))) now
 
 -- ---- with the queues in hand
 

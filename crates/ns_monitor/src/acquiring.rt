@@ -1,15 +1,8 @@
 //! An acquire that may have to wait: in the lock list, for its flag.
 
-ghost use Rattle.std.specs.Prelude.{◌≡◌, None, Some};
-ghost use Rattle.ns_word.specs.Codec.{IsPackable, word_of};
-ghost use Rattle.ns_word.specs.declared.acquire_walk.AcquirePlace.TheVariants.{AcquireLoad, Arm};
-ghost use Rattle.ns_word.specs.declared.request.Request.TheVariants.{Lock};
-ghost use Rattle.ns_word.specs.declared.walk.Reply.TheVariants.{Succeeded};
-ghost use Rattle.ns_word.specs.declared.walk.Walk.TheVariants.{InAcquire};
-ghost use Rattle.ns_gate.specs.Calls.{HasAnswered, HasSince, IsAt, IsAtRest};
-ghost use Rattle.ns_gate.specs.Steps.{HasTaken, the};
+ghost use Rattle.std.specs.Prelude.{◌≡◌, None};
+ghost use Rattle.ns_gate.specs.Prelude.{IsPackable, word_of, AcquireLoad, Arm, InAcquire, HasSince, IsAt, HasTaken, the};
 ghost use Rattle.ns_monitor.specs.Standing.{AcquiresBy, HasAcquired, IsNumberOf};
-ghost use Rattle.ns_monitor.specs.Walks.{locking};
 
 use crate::going::Going;
 use crate::monitor::Monitor;
@@ -19,50 +12,17 @@ use ns_gate::room::Gated;
 use ns_model::event::Mode;
 use ns_word::acquire_walk::AcquirePlace;
 use ns_word::act::Change;
-use ns_word::codec::{encode, unpacked};
+use ns_word::codec::unpacked;
 use ns_word::wait::{Aim, arrival_of};
 use ns_word::walk::Walk;
 use ns_word::word::{Arrival, Word};
 use std::sync::Wait;
 
 impl<C: Gated<N>, const N: usize> Monitor<C, N> {
-    /// Acquires the lock in this mode. One load and one exchange do where nobody is in the way; else it
-    /// goes on by the word found, and waits in the lock list as often as it has to.
-    #[inline(always)]
-    pub(crate) fn acquire_first<R: Wait>(
-        &self,
-        rt: &R,
-        seat: &mut GateSeat<C, N>,
-        number: u8,
-        mode: Mode,
-    )
-        requires of { seat.old.table_id ≡ self.now }
-        requires rest { IsAtRest C.means seat.old.me }
-        requires number { IsNumberOf number seat.old.me }
-        requires free { (the seat.old.me.0).at.held ≡ None }
-        ensures seat { seat.new.table_id ≡ self.now }
-        ensures since { HasSince (Some (locking mode)) (the seat.old.me.0) (the seat.new.me.0) }
-        ensures locked { HasAnswered C.means (Lock mode) Succeeded seat.new.me }
-    {
-        let aim = Aim::ForLock(mode);
-        let word = self.gate.load(seat, Some(Walk::lock(mode)));
-        let last = encode(word);
-        if !word.may_acquire(mode, Arrival::AsFresh) {
-            return self.acquire_by(rt, seat, number, mode, last);
-        }
-        match self
-            .gate
-            .exchange_to_acquire(seat, aim, Arrival::AsFresh, word)
-        {
-            Ok(()) => (),
-            Err(other) => self.acquire_by(rt, seat, number, mode, encode(other)),
-        }
-    }
-
     /// Acquires the lock in this mode, by the word last seen, and waits in the lock list as often as it
-    /// has to. It is told the word's number, as `release_by` is.
+    /// has to. It is told the word's number ([`Monitor::go_at_once`]).
     #[cold]
-    fn acquire_by<R: Wait>(
+    pub(crate) fn acquire_by<R: Wait>(
         &self,
         rt: &R,
         seat: &mut GateSeat<C, N>,

@@ -1,10 +1,7 @@
 //! A seat of a monitor, and the sections that it may have in hand.
 
 ghost use Rattle.std.specs.Prelude.{◌≡◌, ◌<◌, ℕ, Option, None, Some, length, slice_index, slice_index_or};
-ghost use Rattle.ns_model.specs.declared.event.Mode.{Mode};
-ghost use Rattle.ns_model.specs.declared.event.Mode.TheVariants.{Read, Write};
-ghost use Rattle.ns_word.specs.declared.view.Held.{Held};
-ghost use Rattle.ns_word.specs.Places.{HasMode};
+ghost use Rattle.ns_gate.specs.Prelude.{Mode, Read, Write, Held, HasMode};
 ghost use Rattle.ns_monitor.specs.Saved.{HasSaved, IsFresh, saved_after, value_before};
 
 use ns_gate::gate::GateSeat;

@@ -2,14 +2,7 @@
 //! whether the section is quiet, and a scan.
 
 ghost use Rattle.std.specs.Prelude.{◌≡◌, ◌≤◌, None, Some};
-ghost use Rattle.ns_model.specs.declared.event.Mode.TheVariants.{Write};
-ghost use Rattle.ns_word.specs.Finds.{before_in, row_in};
-ghost use Rattle.ns_word.specs.Places.{HasMode};
-ghost use Rattle.ns_word.specs.declared.request.Request.TheVariants.{IsQuiet};
-ghost use Rattle.ns_word.specs.declared.wait.Subject.TheVariants.{OnCondition};
-ghost use Rattle.ns_word.specs.declared.walk.Reply.TheVariants.{Is};
-ghost use Rattle.ns_gate.specs.Calls.{HasAnswered, HasSince, IsAt, IsAtRest};
-ghost use Rattle.ns_gate.specs.Steps.{HasTaken, the};
+ghost use Rattle.ns_gate.specs.Prelude.{Write, before_in, row_in, HasMode, IsQuiet, OnCondition, Is, HasAnswered, HasSince, IsAt, IsAtRest, HasTaken, the};
 ghost use Rattle.ns_monitor.specs.Tests.{HasLoaded, HasTested, MayTest, StandsAt, loading, loading_at};
 ghost use Rattle.ns_monitor.specs.Walks.{judging};
 

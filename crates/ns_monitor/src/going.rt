@@ -1,9 +1,15 @@
 //! What a call does by the lock word that it has seen last, as long as it hasn't the waiter queues.
 
-ghost use Rattle.std.specs.Prelude.{◌≡◌, ⊤};
-ghost use Rattle.ns_monitor.specs.Standing.{may_go, taking_for};
+ghost use Rattle.std.specs.Prelude.{◌≡◌, ⊤, None, Some, true, IfErr};
+ghost use Rattle.ns_gate.specs.Prelude.{HasSince, IsAtRest, CanStep, Performed, the, tried, IsFirst, IsPackable, PlaceFits};
+ghost use Rattle.ns_monitor.specs.Standing.{Decides, WentAtOnce, going_act, going_of, may_go, taking_for};
 
+use crate::monitor::Monitor;
+use ns_gate::gate::GateSeat;
+use ns_gate::room::Gated;
+use ns_word::codec::encode;
 use ns_word::wait::Aim;
+use ns_word::walk::Walk;
 use ns_word::word::{Arrival, Releasing, Taking, Word};
 use std::alloc::AllocError;
 
@@ -30,6 +36,7 @@ impl<C: Copy> Clone for Going<C> {
 
 impl<C: Copy> Going<C> {
     /// Whether this word lets it.
+    #[inline(always)]
     pub fn may_go(self, word: Word) -> bool
         ensures { result ≡ may_go self word }
     {
@@ -47,6 +54,66 @@ impl<C: Copy> Going<C> {
         match self {
             Going::Acquiring(aim, arrival) => Taking::ToQueue(aim.mode(), arrival),
             Going::Leaving(_) | Going::Changing => Taking::ToChange,
+        }
+    }
+}
+
+impl<C: Gated<N>, const N: usize> Monitor<C, N> {
+    /// Makes the exchange by which a call goes without the waiter queues, where the word is still the
+    /// one last seen; else tells the word.
+    #[inline(always)]
+    pub(crate) fn exchange_to_go(
+        &self,
+        seat: &mut GateSeat<C, N>,
+        going: Going<C>,
+        last: Word,
+    ) -> Result<(), Word>
+        requires of { seat.old.table_id ≡ self.now }
+        requires last { IsPackable last }
+        requires may { may_go going last ≡ true }
+        requires can { CanStep C.means None (going_act going last) seat.old.me }
+        ensures seat { seat.new.table_id ≡ self.now }
+        ensures word { IfErr result IsPackable }
+        ensures did { Performed C.means None (going_act going last) (tried result) seat.old.me seat.new.me }
+    {
+        match going {
+            Going::Acquiring(aim, arrival) => {
+                self.gate.exchange_to_acquire(seat, aim, arrival, last)
+            }
+            Going::Leaving(releasing) => self.gate.exchange_to_release(seat, releasing, last),
+            Going::Changing => unreachable!(),
+        }
+    }
+
+    /// Begins a call that loads the word first, and goes by one exchange where the word lets it and no
+    /// other step comes between. Else answers the number of the word that it saw last, with which a
+    /// call goes on that may have to wait: parts of a word that a call may be passed are kept in memory
+    /// by its caller, which this way would pay for.
+    #[inline(always)]
+    pub(crate) fn go_at_once(
+        &self,
+        seat: &mut GateSeat<C, N>,
+        going: Going<C>,
+        walk: Walk<C>,
+    ) -> Option<u64>
+        requires of { seat.old.table_id ≡ self.now }
+        requires rest { IsAtRest C.means seat.old.me }
+        requires decides { Decides walk }
+        requires first { IsFirst N walk }
+        requires fits { PlaceFits C.means (Some walk) (the seat.old.me.0).at.held }
+        requires going { going ≡ going_of walk }
+        ensures seat { seat.new.table_id ≡ self.now }
+        ensures since { HasSince (Some walk) (the seat.old.me.0) (the seat.new.me.0) }
+        ensures went { WentAtOnce C.means walk result seat.new.me }
+    {
+        let word = self.gate.load(seat, Some(walk));
+        let last = encode(word);
+        if !going.may_go(word) {
+            return Some(last);
+        }
+        match self.exchange_to_go(seat, going, word) {
+            Ok(()) => None,
+            Err(other) => Some(encode(other)),
         }
     }
 }

@@ -1,15 +1,10 @@
 //! The loops that a call may go round in, each once. Each is told the place at which its call stands,
 //! which is for the proof alone: no code reads it.
 
-ghost use Rattle.std.specs.Prelude.{◌≡◌, ◌≢◌, None, Some, true, false, IfErr};
-ghost use Rattle.ns_gate.specs.Calls.{HasSince, IsAt, Leads};
-ghost use Rattle.ns_gate.specs.Steps.{CanStep, Performed, the, tried};
-ghost use Rattle.ns_monitor.specs.Standing.{Decides, HasInHand, HasTakenAt, IsNumberOf, OwesTheWoken, Pays, PutsBack, Sleeps, WentOrTook, found_back, going_act, going_of, may_go, returning_at, returning_of};
+ghost use Rattle.std.specs.Prelude.{◌≡◌, ◌≢◌, None, Some, false};
+ghost use Rattle.ns_gate.specs.Prelude.{HasSince, IsAt, Leads, the, asked_of, IsPackable, has_some, got_of};
+ghost use Rattle.ns_monitor.specs.Standing.{Decides, HasInHand, HasTakenAt, IsNumberOf, OwesTheWoken, Pays, PutsBack, Sleeps, WentOrTook, found_back, going_of, returning_at, returning_of};
 ghost use Rattle.ns_monitor.specs.declared.going.Going.TheVariants.{Changing};
-ghost use Rattle.ns_word.specs.Asked.{asked_of};
-ghost use Rattle.ns_word.specs.Codec.{IsPackable};
-ghost use Rattle.ns_word.specs.Lists.{has_some};
-ghost use Rattle.ns_word.specs.Walks.{got_of};
 
 use crate::going::Going;
 use crate::monitor::Monitor;
@@ -24,31 +19,6 @@ use ns_word::word::Word;
 use std::sync::Wait;
 
 impl<C: Gated<N>, const N: usize> Monitor<C, N> {
-    /// Makes the exchange by which a call goes without the waiter queues, where the word is still the
-    /// one last seen; else tells the word.
-    fn exchange_to_go(
-        &self,
-        seat: &mut GateSeat<C, N>,
-        going: Going<C>,
-        last: Word,
-    ) -> Result<(), Word>
-        requires of { seat.old.table_id ≡ self.now }
-        requires last { IsPackable last }
-        requires may { may_go going last ≡ true }
-        requires can { CanStep C.means None (going_act going last) seat.old.me }
-        ensures seat { seat.new.table_id ≡ self.now }
-        ensures word { IfErr result IsPackable }
-        ensures did { Performed C.means None (going_act going last) (tried result) seat.old.me seat.new.me }
-    {
-        match going {
-            Going::Acquiring(aim, arrival) => {
-                self.gate.exchange_to_acquire(seat, aim, arrival, last)
-            }
-            Going::Leaving(releasing) => self.gate.exchange_to_release(seat, releasing, last),
-            Going::Changing => unreachable!(),
-        }
-    }
-
     /// Goes on by the word last seen, as the call does that loads the word at this place: acquires or
     /// releases, where the word lets it, or takes the queues; then this is the word. Goes round while
     /// another has the queues.

@@ -2,24 +2,14 @@
 
 ghost use Rattle.std.specs.Prelude.{◌≡◌, ◌<◌, ◌≤◌, ◌++◌, [], ◌∷◌, if◌then◌else◌, None, Some, true, All, IfErr, IfOk, OnOk, length, slice_index, slice_set};
 ghost use Rattle.ns_model.specs.declared.event.Exit.TheVariants as TheExit;
-ghost use Rattle.ns_model.specs.declared.event.Mode.TheVariants.{Read, Write};
-ghost use Rattle.ns_word.specs.declared.request.Request.TheVariants.{TryLock};
-ghost use Rattle.ns_word.specs.declared.walk.Reply.TheVariants.{Busy, Succeeded};
-ghost use Rattle.ns_word.specs.declared.word.Releasing.TheVariants.{QuietWriter, Reader, Writer};
-ghost use Rattle.ns_word.specs.Meanings.{InHand};
-ghost use Rattle.ns_word.specs.Places.{HasMode};
-ghost use Rattle.ns_word.specs.Steps.{section_of};
-ghost use Rattle.ns_word.specs.Words.{mode_released};
-ghost use Rattle.ns_gate.specs.Calls.{HasAnswered, HasSince, IsAtRest};
-ghost use Rattle.ns_gate.specs.Law.{NewFault};
-ghost use Rattle.ns_gate.specs.Meetings.{ShareTheLock};
-ghost use Rattle.ns_gate.specs.Steps.{the};
+ghost use Rattle.ns_gate.specs.Prelude.{Read, Write, TryLock, Busy, Succeeded, QuietWriter, Reader, Writer, InHand, HasMode, section_of, mode_released, HasAnswered, HasSince, IsAtRest, NewFault, ShareTheLock, the};
 ghost use Rattle.ns_monitor.specs.Known.{AreNew, AreOfOneHistory, EndsAs, Grows, HasLearned, HasLocked, HasSeenMore, known_of};
 ghost use Rattle.ns_monitor.specs.Saved.{IsQuietFor};
 ghost use Rattle.ns_monitor.specs.Standing.{IsNumberOf};
 ghost use Rattle.ns_monitor.specs.Walks.{getting, judging, locking, releasing_by, setting, trying};
 
 use crate::caller::{Caller, Free, Hand, ReadHeld, Renewed, Seat, Section, WriteHeld};
+use crate::going::Going;
 use crate::{Closed, Fault};
 use ns_gate::gate::{Gate, GateSeat};
 use ns_gate::room::Gated;
@@ -166,7 +156,12 @@ impl<C: Gated<N>, const N: usize> Monitor<C, N> {
             number,
             hand: _,
         } = seat;
-        self.acquire_first(rt, &mut seat, number, H::mode());
+        let mode = H::mode();
+        let going = Going::Acquiring(Aim::ForLock(mode), Arrival::AsFresh);
+        match self.go_at_once(&mut seat, going, Walk::lock(mode)) {
+            None => (),
+            Some(last) => self.acquire_by(rt, &mut seat, number, mode, last),
+        }
         Caller {
             seat,
             number,
@@ -326,7 +321,11 @@ impl<C: Gated<N>, const N: usize> Monitor<C, N> {
             number,
             hand: _,
         } = held;
-        self.release(rt, &mut seat, releasing);
+        let going = Going::Leaving(releasing);
+        match self.go_at_once(&mut seat, going, Walk::release(releasing)) {
+            None => (),
+            Some(last) => self.release_by(rt, &mut seat, releasing, last),
+        }
         seated(seat, number)
     }
 

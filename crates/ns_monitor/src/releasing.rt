@@ -1,56 +1,27 @@
 //! A release, and the scan of the lock list where somebody may have to be woken.
 
-ghost use Rattle.std.specs.Prelude.{◌≡◌, None, Some};
-ghost use Rattle.ns_word.specs.Codec.{IsPackable, word_of};
-ghost use Rattle.ns_word.specs.Lists.{bits_of};
-ghost use Rattle.ns_word.specs.Places.{CanLeave};
+ghost use Rattle.std.specs.Prelude.{◌≡◌, None};
+ghost use Rattle.ns_gate.specs.Prelude.{IsPackable, word_of, bits_of, Succeeded, InRelease, HasAnswered, HasSince, IsAt, HasTaken, the};
 ghost use Rattle.ns_word.specs.declared.request.Request.TheVariants as TheRequest;
-ghost use Rattle.ns_word.specs.declared.walk.Reply.TheVariants.{Succeeded};
-ghost use Rattle.ns_word.specs.declared.walk.Walk.TheVariants.{InRelease};
-ghost use Rattle.ns_gate.specs.Calls.{HasAnswered, HasSince, IsAt, IsAtRest};
-ghost use Rattle.ns_gate.specs.Steps.{HasTaken, the};
 ghost use Rattle.ns_monitor.specs.Standing.{ReleasesBy, scanning_at};
-ghost use Rattle.ns_monitor.specs.Walks.{releasing_by};
 
 use crate::going::Going;
 use crate::monitor::Monitor;
 use ns_gate::gate::GateSeat;
 use ns_gate::queues::{Returning, Turned};
 use ns_gate::room::Gated;
-use ns_word::codec::{encode, unpacked};
+use ns_word::codec::unpacked;
 use ns_word::release_walk::ReleasePlace;
 use ns_word::walk::Walk;
 use ns_word::word::{Releasing, Word};
 use std::sync::Wait;
 
 impl<C: Gated<N>, const N: usize> Monitor<C, N> {
-    /// Releases the section in hand, and wakes those waiters who can go on.
-    #[inline(always)]
-    pub(crate) fn release<R: Wait>(&self, rt: &R, seat: &mut GateSeat<C, N>, releasing: Releasing)
-        requires of { seat.old.table_id ≡ self.now }
-        requires rest { IsAtRest C.means seat.old.me }
-        requires can { CanLeave C.means releasing (the seat.old.me.0).at.held }
-        ensures seat { seat.new.table_id ≡ self.now }
-        ensures since { HasSince (Some (releasing_by releasing)) (the seat.old.me.0) (the seat.new.me.0) }
-        ensures released { HasAnswered C.means (TheRequest.Release releasing) Succeeded seat.new.me }
-    {
-        let word = self.gate.load(seat, Some(Walk::release(releasing)));
-        let last = encode(word);
-        if word.needs_scan(releasing) {
-            return self.release_by(rt, seat, releasing, last);
-        }
-        match self.gate.exchange_to_release(seat, releasing, word) {
-            Ok(()) => (),
-            Err(other) => self.release_by(rt, seat, releasing, encode(other)),
-        }
-    }
-
     /// Releases the section in hand by the word last seen, and wakes those waiters who can go on.
     ///
-    /// It is told the word's number: parts of a word that a call may be passed are kept in memory by
-    /// its caller, which the fast path would pay for.
+    /// It is told the word's number ([`Monitor::go_at_once`]).
     #[cold]
-    fn release_by<R: Wait>(
+    pub(crate) fn release_by<R: Wait>(
         &self,
         rt: &R,
         seat: &mut GateSeat<C, N>,

@@ -2,19 +2,8 @@
 //! and tests.
 
 ghost use Rattle.std.specs.Prelude.{◌≡◌, ◌⊎◌, None, Some, IfSome, false, true};
-ghost use Rattle.ns_model.specs.Environments.{IsMade};
+ghost use Rattle.ns_gate.specs.Prelude.{IsMade, row_in, is_limited, look_or_queue, wait_first, Await, Load, OnCondition, InQueuing, Answered, InWait, HasAnswered, HasSince, IsAt, Leads, the};
 ghost use Rattle.ns_note.specs.Known.{Grows as EnvGrows};
-ghost use Rattle.ns_word.specs.Finds.{row_in};
-ghost use Rattle.ns_word.specs.Waits.{is_limited};
-ghost use Rattle.ns_word.specs.Walks.{look_or_queue, wait_first};
-ghost use Rattle.ns_word.specs.declared.request.Request.TheVariants.{Await};
-ghost use Rattle.ns_word.specs.declared.wait.QueuePlace.TheVariants.{Load};
-ghost use Rattle.ns_word.specs.declared.wait.Subject.TheVariants.{OnCondition};
-ghost use Rattle.ns_word.specs.declared.wait.WaitPlace.TheVariants.{InQueuing};
-ghost use Rattle.ns_word.specs.declared.walk.Reply.TheVariants.{Answered};
-ghost use Rattle.ns_word.specs.declared.walk.Walk.TheVariants.{InWait};
-ghost use Rattle.ns_gate.specs.Calls.{HasAnswered, HasSince, IsAt, Leads};
-ghost use Rattle.ns_gate.specs.Steps.{the};
 ghost use Rattle.ns_monitor.specs.Known.{Grows};
 ghost use Rattle.ns_monitor.specs.Saved.{IsFreshIn};
 ghost use Rattle.ns_monitor.specs.Standing.{IsNumberOf};

@@ -1,17 +1,7 @@
 //! A wait outside: it leaves its section and queues, waits to be woken or ended, and may leave its list.
 
 ghost use Rattle.std.specs.Prelude.{◌≡◌, ◌≢◌, None, Some, IfErr, IfSome, true};
-ghost use Rattle.ns_word.specs.Finds.{row_in};
-ghost use Rattle.ns_word.specs.Places.{IsForCondition, IsInRange};
-ghost use Rattle.ns_word.specs.Waits.{is_limited};
-ghost use Rattle.ns_word.specs.declared.acquire_walk.AcquirePlace.TheVariants.{AcquireLoad};
-ghost use Rattle.ns_word.specs.declared.wait.Aim.TheVariants.{ForWait};
-ghost use Rattle.ns_word.specs.declared.wait.LeavePlace.TheVariants.{LeaveLoad};
-ghost use Rattle.ns_word.specs.declared.wait.QueuePlace.TheVariants.{Load};
-ghost use Rattle.ns_word.specs.declared.wait.WaitPlace.TheVariants.{AwaitWakeInWait, InLeaving, InQueuing};
-ghost use Rattle.ns_word.specs.declared.walk.Walk.TheVariants.{InAcquire, InWait};
-ghost use Rattle.ns_gate.specs.Calls.{HasSince, IsAt};
-ghost use Rattle.ns_gate.specs.Steps.{the};
+ghost use Rattle.ns_gate.specs.Prelude.{row_in, IsForCondition, IsInRange, is_limited, AcquireLoad, ForWait, LeaveLoad, Load, AwaitWakeInWait, InLeaving, InQueuing, InAcquire, InWait, HasSince, IsAt, the};
 ghost use Rattle.ns_monitor.specs.Standing.{IsNumberOf};
 ghost use Rattle.ns_monitor.specs.Waits.{IfEnded, WokenOrEnded};
 

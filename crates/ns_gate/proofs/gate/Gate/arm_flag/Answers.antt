@@ -1,4 +1,4 @@
-use Rattle.ns_word.specs.declared.act.Act.TheVariants.{ArmFlag}
+use Rattle.ns_gate.specs.Prelude.{ArmFlag}
 use Rattle.ns_gate.proofs.gate.Gate.arm_flag.Goals as goal
 
 pub returns-clause-did : goal.returns-clause-did

@@ -1,5 +1,5 @@
 use Rattle.std.proofs.Common.{arith}
-use Rattle.ns_word.specs.declared.act.Act.TheVariants.{Acquire}
+use Rattle.ns_gate.specs.Prelude.{Acquire}
 use Rattle.ns_gate.proofs.gate.Gate.exchange_to_acquire.Goals as goal
 
 pub acquired-requires : goal.acquired-requires

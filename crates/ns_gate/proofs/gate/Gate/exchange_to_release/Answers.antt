@@ -1,4 +1,4 @@
-use Rattle.ns_word.specs.declared.act.Act.TheVariants.{Release}
+use Rattle.ns_gate.specs.Prelude.{Release}
 use Rattle.ns_gate.proofs.gate.Gate.exchange_to_release.Goals as goal
 
 pub returns-clause-did : goal.returns-clause-did

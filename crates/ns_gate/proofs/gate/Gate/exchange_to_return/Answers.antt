@@ -1,4 +1,4 @@
-use Rattle.ns_gate.specs.Steps.{act_returning}
+use Rattle.ns_gate.specs.Prelude.{act_returning}
 use Rattle.ns_gate.proofs.Tells.{returned_so}
 use Rattle.ns_gate.proofs.gate.Gate.exchange_to_return.Goals as goal
 

@@ -1,4 +1,4 @@
-use Rattle.ns_word.specs.declared.act.Act.TheVariants.{TakeQueues}
+use Rattle.ns_gate.specs.Prelude.{TakeQueues}
 use Rattle.ns_gate.proofs.gate.Gate.exchange_to_take.Goals as goal
 
 pub returns-clause-did : goal.returns-clause-did

@@ -1,4 +1,4 @@
-use Rattle.ns_word.specs.declared.act.Act.TheVariants.{JudgeMet}
+use Rattle.ns_gate.specs.Prelude.{JudgeMet}
 use Rattle.ns_gate.proofs.Tells.{met_cell}
 use Rattle.ns_gate.proofs.gate.Gate.judge_met.Goals as goal
 

@@ -1,4 +1,4 @@
-use Rattle.ns_word.specs.declared.act.Act.TheVariants.{JudgeQuiet}
+use Rattle.ns_gate.specs.Prelude.{JudgeQuiet}
 use Rattle.ns_gate.proofs.Tells.{quiet_cell}
 use Rattle.ns_gate.proofs.gate.Gate.judge_quiet.Goals as goal
 

@@ -1,6 +1,5 @@
 use Rattle.std.proofs.Common.{sym, subst}
-use Rattle.ns_word.specs.Codec.{IsPackable}
-use Rattle.ns_word.specs.declared.act.Act.TheVariants.{LoadWord}
+use Rattle.ns_gate.specs.Prelude.{IsPackable, LoadWord}
 use Rattle.ns_gate.proofs.Tells.{saw_word, word_packs}
 use Rattle.ns_gate.proofs.gate.Gate.load.Goals as goal
 

@@ -1,4 +1,4 @@
-use Rattle.ns_word.specs.declared.act.Act.TheVariants.{LoadCell}
+use Rattle.ns_gate.specs.Prelude.{LoadCell}
 use Rattle.ns_gate.proofs.gate.Gate.load_cell.Goals as goal
 
 pub returns-clause-did : goal.returns-clause-did

@@ -1,5 +1,5 @@
 use Rattle.std.proofs.Common.{arith}
-use Rattle.ns_word.specs.declared.act.Act.TheVariants.{LoadFlag}
+use Rattle.ns_gate.specs.Prelude.{LoadFlag}
 use Rattle.ns_gate.proofs.Tells.{small_flag}
 use Rattle.ns_gate.proofs.gate.Gate.load_flag.Goals as goal
 

@@ -1,5 +1,5 @@
 use Rattle.std.proofs.Common.{rules, ap, ◌∙◌}
-use Rattle.ns_gate.specs.Calls.{SeatOf}
+use Rattle.ns_gate.specs.Prelude.{SeatOf}
 use Rattle.ns_gate.proofs.Starts.{cuts}
 use Rattle.ns_gate.proofs.Meets.{glues, learns, pair_of, met_at}
 use Rattle.ns_gate.proofs.gate.Gate.meet.Goals as goal

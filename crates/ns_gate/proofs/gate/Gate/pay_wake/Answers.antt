@@ -1,5 +1,5 @@
 use Rattle.std.proofs.Common.{rules, arith, refl, ap, ◌+◌, ◌∙◌}
-use Rattle.ns_word.specs.declared.act.Act.TheVariants.{PayWake}
+use Rattle.ns_gate.specs.Prelude.{PayWake}
 use Rattle.ns_gate.proofs.Tells.{owed_next}
 use Rattle.ns_gate.proofs.gate.Gate.pay_wake.Goals as goal
 

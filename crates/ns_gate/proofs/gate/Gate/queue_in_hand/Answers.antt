@@ -1,8 +1,5 @@
 use Rattle.std.proofs.Common.{rules, ap, ◌∙◌}
-use Rattle.ns_word.specs.Steps.{changed}
-use Rattle.ns_word.specs.Lists.{bits_of}
-use Rattle.ns_word.specs.declared.act.Change.TheVariants.{QueueSelf}
-use Rattle.ns_gate.specs.Steps.{the}
+use Rattle.ns_gate.specs.Prelude.{changed, bits_of, QueueSelf, the}
 use Rattle.ns_gate.proofs.Tells.{has_slot, was_in_hand, now_in_hand}
 use Rattle.ns_gate.proofs.gate.Gate.queue_in_hand.Goals as goal
 

@@ -1,4 +1,4 @@
-use Rattle.ns_word.specs.declared.act.Act.TheVariants.{StoreCell}
+use Rattle.ns_gate.specs.Prelude.{StoreCell}
 use Rattle.ns_gate.proofs.gate.Gate.store_cell.Goals as goal
 
 pub returns-clause-did : goal.returns-clause-did

@@ -1,13 +1,7 @@
 use Rattle.std.proofs.Common.{◌∙◌, sym, arith, None}
-use Rattle.atomic_table.specs.Seated.{TableId}
+use Rattle.ns_gate.specs.Prelude.{TableId, HasSince, the, AcquireLoad, LoadWord, Saw, InAcquire}
 use Rattle.ns_gate.proofs.Calls.{since, since_then}
-use Rattle.ns_gate.specs.Calls.{HasSince}
-use Rattle.ns_gate.specs.Steps.{the}
 use Rattle.ns_monitor.proofs.Standing.{can_load, loads, same_number}
-use Rattle.ns_word.specs.declared.acquire_walk.AcquirePlace.TheVariants.{AcquireLoad}
-use Rattle.ns_word.specs.declared.act.Act.TheVariants.{LoadWord}
-use Rattle.ns_word.specs.declared.act.Found.TheVariants.{Saw}
-use Rattle.ns_word.specs.declared.walk.Walk.TheVariants.{InAcquire}
 use Rattle.ns_monitor.proofs.monitor.Monitor.acquire.Given.{Over}
 use Rattle.ns_monitor.proofs.monitor.Monitor.acquire.Goals.{After-load-word}
 use Rattle.ns_monitor.proofs.monitor.Monitor.acquire.Goals as goal

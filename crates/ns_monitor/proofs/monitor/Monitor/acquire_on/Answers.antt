@@ -1,12 +1,7 @@
 use Rattle.std.proofs.Common.{◌∙◌, sym, refl, None}
-use Rattle.atomic_table.specs.Seated.{TableId}
+use Rattle.ns_gate.specs.Prelude.{TableId, the, AcquireLoad, LoadWord, Saw, InAcquire}
 use Rattle.ns_gate.proofs.Calls.{since, since_itself, since_then}
-use Rattle.ns_gate.specs.Steps.{the}
 use Rattle.ns_monitor.proofs.Standing.{loads}
-use Rattle.ns_word.specs.declared.acquire_walk.AcquirePlace.TheVariants.{AcquireLoad}
-use Rattle.ns_word.specs.declared.act.Act.TheVariants.{LoadWord}
-use Rattle.ns_word.specs.declared.act.Found.TheVariants.{Saw}
-use Rattle.ns_word.specs.declared.walk.Walk.TheVariants.{InAcquire}
 use Rattle.ns_monitor.proofs.monitor.Monitor.acquire_on.Goals as goal
 
 pub loop-init : goal.loop-init

@@ -1,8 +1,6 @@
 use Rattle.std.proofs.Common.{◌≡◌, None}
-use Rattle.ns_gate.specs.Calls.{HasSince}
-use Rattle.ns_gate.specs.Steps.{the}
+use Rattle.ns_gate.specs.Prelude.{HasSince, the, IsPackable}
 use Rattle.ns_monitor.specs.Standing.{AcquiresBy}
-use Rattle.ns_word.specs.Codec.{IsPackable}
 use Rattle.ns_monitor.proofs.monitor.Monitor.acquire_on.Given as goal
 
 abbrev pub invariant-loop : goal.invariant-loop

@@ -1,11 +1,7 @@
 use Rattle.std.proofs.Common.{◌∙◌, sym, refl, arith, None}
-use Rattle.atomic_table.specs.Seated.{TableId}
+use Rattle.ns_gate.specs.Prelude.{TableId, HasSince, the, LoadFlag, Flag}
 use Rattle.ns_gate.proofs.Calls.{can_go, since, since_itself, since_then}
-use Rattle.ns_gate.specs.Calls.{HasSince}
-use Rattle.ns_gate.specs.Steps.{the}
 use Rattle.ns_monitor.proofs.Standing.{is_woken, same_number, sleeps_on}
-use Rattle.ns_word.specs.declared.act.Act.TheVariants.{LoadFlag}
-use Rattle.ns_word.specs.declared.act.Found.TheVariants.{Flag}
 use Rattle.ns_monitor.proofs.monitor.Monitor.await_flag.Given.{Over}
 use Rattle.ns_monitor.proofs.monitor.Monitor.await_flag.Goals.{After-load_flag-flag}
 use Rattle.ns_monitor.proofs.monitor.Monitor.await_flag.Goals as goal

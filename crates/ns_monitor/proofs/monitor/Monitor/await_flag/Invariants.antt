@@ -1,6 +1,5 @@
 use Rattle.std.proofs.Common.{◌≡◌, None}
-use Rattle.ns_gate.specs.Calls.{HasSince, IsAt}
-use Rattle.ns_gate.specs.Steps.{the}
+use Rattle.ns_gate.specs.Prelude.{HasSince, IsAt, the}
 use Rattle.ns_monitor.proofs.monitor.Monitor.await_flag.Given as goal
 
 abbrev pub invariant-loop : goal.invariant-loop

@@ -1,14 +1,8 @@
 use Rattle.std.proofs.Common.{◌≡◌, ◌∙◌, sym, subst, refl, arith, None, Some, false}
-use Rattle.atomic_table.specs.Seated.{TableId}
+use Rattle.ns_gate.specs.Prelude.{TableId, HasSince, IsAt, the, LoadFlag, Look, Flag, Looked, AwaitWakeInWait, LookOut, InWait}
 use Rattle.ns_gate.proofs.Calls.{can_go, goes, since, since_itself, since_then}
-use Rattle.ns_gate.specs.Calls.{HasSince, IsAt}
-use Rattle.ns_gate.specs.Steps.{the}
 use Rattle.ns_monitor.proofs.Standing.{same_number}
 use Rattle.ns_monitor.proofs.Waits.{goes_to_leave, looks_out, waits_on}
-use Rattle.ns_word.specs.declared.act.Act.TheVariants.{LoadFlag, Look}
-use Rattle.ns_word.specs.declared.act.Found.TheVariants.{Flag, Looked}
-use Rattle.ns_word.specs.declared.wait.WaitPlace.TheVariants.{AwaitWakeInWait, LookOut}
-use Rattle.ns_word.specs.declared.walk.Walk.TheVariants.{InWait}
 use Rattle.ns_monitor.proofs.monitor.Monitor.await_or_end.Given.{Over}
 use Rattle.ns_monitor.proofs.monitor.Monitor.await_or_end.Goals.{After-load_flag-flag}
 use Rattle.ns_monitor.proofs.monitor.Monitor.await_or_end.Goals as goal

@@ -1,8 +1,5 @@
 use Rattle.std.proofs.Common.{◌≡◌, None}
-use Rattle.ns_gate.specs.Calls.{HasSince, IsAt}
-use Rattle.ns_gate.specs.Steps.{the}
-use Rattle.ns_word.specs.declared.wait.WaitPlace.TheVariants.{AwaitWakeInWait}
-use Rattle.ns_word.specs.declared.walk.Walk.TheVariants.{InWait}
+use Rattle.ns_gate.specs.Prelude.{HasSince, IsAt, the, AwaitWakeInWait, InWait}
 use Rattle.ns_monitor.proofs.monitor.Monitor.await_or_end.Given as goal
 
 abbrev pub invariant-loop : goal.invariant-loop

@@ -1,5 +1,5 @@
 use Rattle.std.proofs.Common.{◌∙◌, ap}
-use Rattle.atomic_table.specs.Seated.{TableId}
+use Rattle.ns_gate.specs.Prelude.{TableId}
 use Rattle.ns_monitor.proofs.Callers.{is_got, saw_more}
 use Rattle.ns_monitor.specs.Known.{Known}
 use Rattle.ns_monitor.specs.Walks.{getting}

@@ -1,12 +1,8 @@
 use Rattle.std.proofs.Common.{◌∙◌, sym, subst, ap, refl, arith, None, true, false}
-use Rattle.atomic_table.specs.Seated.{TableId}
+use Rattle.ns_gate.specs.Prelude.{TableId, the, CanStep, Performed, word_taken, LoadWord, TakeQueues, Made, Saw}
 use Rattle.ns_gate.proofs.Calls.{since, since_itself, since_then}
-use Rattle.ns_gate.specs.Steps.{the, CanStep, Performed}
 use Rattle.ns_monitor.proofs.Standing.{can_go_by, can_load, may_by, can_take, goes_alone, goes_by, loads, may_now, misses, misses_taking, saw_held, spins_now, takes_now, took}
 use Rattle.ns_monitor.specs.Standing.{going_act, taking_for, HasTakenAt}
-use Rattle.ns_word.specs.Words.{word_taken}
-use Rattle.ns_word.specs.declared.act.Act.TheVariants.{LoadWord, TakeQueues}
-use Rattle.ns_word.specs.declared.act.Found.TheVariants.{Made, Saw}
 use Rattle.ns_monitor.proofs.monitor.Monitor.go_or_take.Goals as goal
 
 pub loop-init : goal.loop-init

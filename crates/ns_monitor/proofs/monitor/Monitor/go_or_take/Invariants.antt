@@ -1,10 +1,5 @@
 use Rattle.std.proofs.Common.{◌≡◌, None}
-use Rattle.ns_gate.specs.Calls.{HasSince, Leads}
-use Rattle.ns_gate.specs.Steps.{the}
-use Rattle.ns_word.specs.Asked.{asked_of}
-use Rattle.ns_word.specs.Codec.{IsPackable}
-use Rattle.ns_word.specs.Walks.{got_of}
-use Rattle.ns_word.specs.declared.act.Found.TheVariants.{Saw}
+use Rattle.ns_gate.specs.Prelude.{HasSince, Leads, the, asked_of, IsPackable, got_of, Saw}
 use Rattle.ns_monitor.proofs.monitor.Monitor.go_or_take.Given as goal
 
 abbrev pub invariant-loop : goal.invariant-loop

@@ -1,17 +1,9 @@
 use Rattle.std.proofs.Common.{◌∙◌, ap, sym, subst, refl, arith, None, true, false}
-use Rattle.atomic_table.specs.Seated.{TableId}
-use Rattle.ns_gate.proofs.Calls.{since_then, works}
-use Rattle.ns_gate.specs.Calls.{HasSince, IsAt, Leads}
-use Rattle.ns_gate.specs.Steps.{the}
+use Rattle.ns_gate.specs.Prelude.{TableId, HasSince, IsAt, Leads, the, LeaveSelf, Await, AwaitWakeToLeave, Leave, InLeaving, InWait, IsList}
 use Rattle.ns_gate.specs.declared.queues.Returning.TheVariants.{Changed}
+use Rattle.ns_gate.proofs.Calls.{since_then, works}
 use Rattle.ns_monitor.proofs.Standing.{hand_by, same_number, still_since}
 use Rattle.ns_monitor.proofs.Waits.{home_there, left_next, taken_next}
-use Rattle.ns_word.specs.declared.act.Change.TheVariants.{LeaveSelf}
-use Rattle.ns_word.specs.declared.request.Request.TheVariants.{Await}
-use Rattle.ns_word.specs.declared.wait.LeavePlace.TheVariants.{AwaitWakeToLeave, Leave}
-use Rattle.ns_word.specs.declared.wait.WaitPlace.TheVariants.{InLeaving}
-use Rattle.ns_word.specs.declared.walk.Walk.TheVariants.{InWait}
-use Rattle.ns_queue.specs.Queues.{IsList}
 use Rattle.ns_monitor.proofs.monitor.Monitor.leave.Given.{Over}
 use Rattle.ns_monitor.proofs.monitor.Monitor.leave.Goals.{After-put_back}
 use Rattle.ns_monitor.proofs.monitor.Monitor.leave.Goals as goal

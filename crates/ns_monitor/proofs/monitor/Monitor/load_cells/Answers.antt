@@ -1,5 +1,5 @@
 use Rattle.std.proofs.Common.{◌≡◌, ◌∙◌, ◌<◌, sym, subst, arith, refl}
-use Rattle.atomic_table.specs.Seated.{TableId}
+use Rattle.ns_gate.specs.Prelude.{TableId}
 use Rattle.ns_monitor.proofs.Tests.{can_load_cell, loads_cell, loads_none}
 use Rattle.ns_monitor.specs.Tests.{HasLoaded}
 use Rattle.ns_monitor.proofs.monitor.Monitor.load_cells.Goals as goal

@@ -1,5 +1,5 @@
 use Rattle.std.proofs.Common.{◌∙◌, sym, arith, refl}
-use Rattle.atomic_table.specs.Seated.{TableId}
+use Rattle.ns_gate.specs.Prelude.{TableId}
 use Rattle.ns_monitor.proofs.Tests.{can_tell, is_judged}
 use Rattle.ns_monitor.proofs.monitor.Monitor.load_to_judge.Goals as goal
 

@@ -1,15 +1,9 @@
 use Rattle.std.proofs.Common.{◌∙◌, sym, refl, arith, None, true, false}
-use Rattle.atomic_table.specs.Seated.{TableId}
+use Rattle.ns_gate.specs.Prelude.{TableId, the, Look, Looked, LookIn, InQueuing, InWait}
 use Rattle.ns_gate.proofs.Calls.{can_go, since, since_itself}
-use Rattle.ns_gate.specs.Steps.{the}
 use Rattle.ns_gate.proofs.Tells.{does}
 use Rattle.ns_monitor.proofs.Standing.{commits_none}
 use Rattle.ns_monitor.proofs.Returns.{by_limits, look_fresh, looks_in}
-use Rattle.ns_word.specs.declared.act.Act.TheVariants.{Look}
-use Rattle.ns_word.specs.declared.act.Found.TheVariants.{Looked}
-use Rattle.ns_word.specs.declared.wait.QueuePlace.TheVariants.{LookIn}
-use Rattle.ns_word.specs.declared.wait.WaitPlace.TheVariants.{InQueuing}
-use Rattle.ns_word.specs.declared.walk.Walk.TheVariants.{InWait}
 use Rattle.ns_monitor.proofs.monitor.Monitor.look_before.Goals as goal
 
 pub returns-then-not-is_some-clause-since : goal.returns-then-not-is_some-clause-since

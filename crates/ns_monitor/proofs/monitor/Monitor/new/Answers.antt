@@ -1,9 +1,6 @@
 use Rattle.std.proofs.Common.{rules, arith, ap, sym, subst, ◌∙◌, ◌≡◌, ◌+◌, ◌<◌, ℕ, List, [], ◌∷◌, length, length-append}
-use Rattle.atomic_table.specs.Seated.{TableId}
+use Rattle.ns_gate.specs.Prelude.{TableId, SeatOf, GateView, first_of, fresh_seat, rest_of, the}
 use Rattle.ns_gate.proofs.Starts.{fresh_first, fresh_rest}
-use Rattle.ns_gate.specs.Calls.{SeatOf}
-use Rattle.ns_gate.specs.Law.{GateView, first_of, fresh_seat, rest_of}
-use Rattle.ns_gate.specs.Steps.{the}
 use Rattle.ns_monitor.proofs.Made.{all_of, new_more, new_rests}
 use Rattle.ns_monitor.specs.Known.{AreNew, known_of}
 use Rattle.ns_monitor.specs.Standing.{IsNumberOf}

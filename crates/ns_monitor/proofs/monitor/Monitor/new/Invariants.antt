@@ -1,5 +1,5 @@
 use Rattle.std.proofs.Common.{◌≡◌, ◌-◌, length}
-use Rattle.ns_gate.specs.Law.{fresh}
+use Rattle.ns_gate.specs.Prelude.{fresh}
 use Rattle.ns_monitor.specs.Known.{AreNew}
 use Rattle.ns_monitor.proofs.monitor.Monitor.new.Given as goal
 

@@ -1,11 +1,8 @@
 use Rattle.std.proofs.Common.{◌∙◌, ◌+◌, arith, drop, get_or, refl, sym, None}
 use Rattle.std.proofs.lemmas.List.{drop_all, drop_more}
-use Rattle.atomic_table.specs.Seated.{TableId}
+use Rattle.ns_gate.specs.Prelude.{TableId, the, owes_more, PayWake}
 use Rattle.ns_gate.proofs.Calls.{can_go, since, since_itself, since_then}
-use Rattle.ns_gate.specs.Steps.{the}
 use Rattle.ns_monitor.proofs.Standing.{all_paid, can_pay, is_paid, owes_next}
-use Rattle.ns_word.specs.Finds.{owes_more}
-use Rattle.ns_word.specs.declared.act.Act.TheVariants.{PayWake}
 use Rattle.ns_monitor.proofs.monitor.Monitor.pay.Goals as goal
 
 pub loop-number-init : goal.loop-number-init

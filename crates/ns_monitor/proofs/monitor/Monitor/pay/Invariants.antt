@@ -1,10 +1,5 @@
 use Rattle.std.proofs.Common.{◌≡◌, drop, None}
-use Rattle.ns_gate.specs.Calls.{HasSince, Leads}
-use Rattle.ns_gate.specs.Steps.{the}
-use Rattle.ns_word.specs.Asked.{asked_of}
-use Rattle.ns_word.specs.Lists.{has_some}
-use Rattle.ns_word.specs.Walks.{got_of}
-use Rattle.ns_word.specs.declared.act.Found.TheVariants.{Paid}
+use Rattle.ns_gate.specs.Prelude.{HasSince, Leads, the, asked_of, has_some, got_of, Paid}
 use Rattle.ns_monitor.proofs.monitor.Monitor.pay.Given as goal
 
 abbrev pub invariant-loop-number : goal.invariant-loop-number

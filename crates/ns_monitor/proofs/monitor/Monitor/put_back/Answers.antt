@@ -1,11 +1,9 @@
 use Rattle.std.proofs.Common.{◌∙◌, sym, subst, refl, arith, None}
-use Rattle.atomic_table.specs.Seated.{TableId}
+use Rattle.ns_gate.specs.Prelude.{TableId, the, act_returning, CanStep, Performed, Saw}
 use Rattle.ns_gate.proofs.Calls.{since, since_itself, since_then}
 use Rattle.ns_gate.proofs.Stays.{stays_itself, stays_through}
-use Rattle.ns_gate.specs.Steps.{the, act_returning, CanStep, Performed}
 use Rattle.ns_monitor.proofs.Standing.{can_put_back, hand_stays, is_back_for, misses_back}
 use Rattle.ns_monitor.specs.Standing.{found_back}
-use Rattle.ns_word.specs.declared.act.Found.TheVariants.{Saw}
 use Rattle.ns_monitor.proofs.monitor.Monitor.put_back.Goals as goal
 
 pub loop-init : goal.loop-init

@@ -1,9 +1,7 @@
 use Rattle.std.proofs.Common.{◌≡◌, None}
 use Rattle.ns_gate.proofs.Stays.{HasKeptItsQueues}
-use Rattle.ns_gate.specs.Calls.{HasSince, IsAt}
-use Rattle.ns_gate.specs.Steps.{the}
+use Rattle.ns_gate.specs.Prelude.{HasSince, IsAt, the, IsPackable}
 use Rattle.ns_monitor.specs.Standing.{returning_at}
-use Rattle.ns_word.specs.Codec.{IsPackable}
 use Rattle.ns_monitor.proofs.monitor.Monitor.put_back.Given as goal
 
 abbrev pub invariant-loop : goal.invariant-loop

@@ -1,20 +1,10 @@
 use Rattle.std.proofs.Common.{◌≡◌, ◌∙◌, sym, subst, ap, refl, arith, None}
-use Rattle.atomic_table.specs.Seated.{TableId}
+use Rattle.ns_gate.specs.Prelude.{TableId, HasSince, IsAt, GateView, the, times, has_queues, Queue, ArmFlag, QueueSelf, Made, InAcquire}
+use Rattle.ns_gate.specs.declared.queues.Returning.TheVariants.{Changed}
 use Rattle.ns_gate.proofs.Calls.{since, since_then, works}
 use Rattle.ns_gate.proofs.Stays.{stays_arming, still_carries}
-use Rattle.ns_gate.specs.Calls.{HasSince, IsAt}
-use Rattle.ns_gate.specs.Law.{GateView}
-use Rattle.ns_gate.specs.Steps.{the}
-use Rattle.ns_gate.specs.declared.queues.Returning.TheVariants.{Changed}
 use Rattle.ns_monitor.proofs.Locks.{armed, stands_nowhere}
 use Rattle.ns_monitor.proofs.Standing.{hand_by, still_since}
-use Rattle.ns_queue.specs.Queues.{times}
-use Rattle.ns_word.specs.Walks.{has_queues}
-use Rattle.ns_word.specs.declared.acquire_walk.AcquirePlace.TheVariants.{Queue}
-use Rattle.ns_word.specs.declared.act.Act.TheVariants.{ArmFlag}
-use Rattle.ns_word.specs.declared.act.Change.TheVariants.{QueueSelf}
-use Rattle.ns_word.specs.declared.act.Found.TheVariants.{Made}
-use Rattle.ns_word.specs.declared.walk.Walk.TheVariants.{InAcquire}
 use Rattle.ns_monitor.proofs.monitor.Monitor.queue.Given.{Over}
 use Rattle.ns_monitor.proofs.monitor.Monitor.queue.Goals.{After-arm_flag}
 use Rattle.ns_monitor.proofs.monitor.Monitor.queue.Goals as goal

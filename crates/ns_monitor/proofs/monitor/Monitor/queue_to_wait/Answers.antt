@@ -1,21 +1,10 @@
 use Rattle.std.proofs.Common.{◌≡◌, ◌∙◌, ap, not, sym, subst, refl, arith, None}
-use Rattle.atomic_table.specs.Seated.{TableId}
-use Rattle.ns_gate.proofs.Calls.{since_then, works}
-use Rattle.ns_gate.specs.Calls.{Leads}
-use Rattle.ns_gate.specs.Steps.{the}
+use Rattle.ns_gate.specs.Prelude.{TableId, Leads, the, times, woken_of, has_some, meets_at, pay_waiting, Await, QueueToWait, InQueuing, InWait}
 use Rattle.ns_gate.specs.declared.queues.Returning.TheVariants.{Waited}
+use Rattle.ns_gate.proofs.Calls.{since_then, works}
 use Rattle.ns_monitor.proofs.Releases.{hand_scanned, took_some, woken_is, IsReady}
 use Rattle.ns_monitor.proofs.Standing.{still_since}
 use Rattle.ns_monitor.proofs.Waits.{arms, in_range}
-use Rattle.ns_queue.specs.Queues.{times}
-use Rattle.ns_queue.specs.Scans.{woken_of}
-use Rattle.ns_word.specs.Lists.{has_some}
-use Rattle.ns_word.specs.Steps.{meets_at}
-use Rattle.ns_word.specs.Walks.{pay_waiting}
-use Rattle.ns_word.specs.declared.request.Request.TheVariants.{Await}
-use Rattle.ns_word.specs.declared.wait.QueuePlace.TheVariants.{QueueToWait}
-use Rattle.ns_word.specs.declared.wait.WaitPlace.TheVariants.{InQueuing}
-use Rattle.ns_word.specs.declared.walk.Walk.TheVariants.{InWait}
 use Rattle.ns_monitor.proofs.monitor.Monitor.queue_to_wait.Given.{Over}
 use Rattle.ns_monitor.proofs.monitor.Monitor.queue_to_wait.Goals.{After-arm_flag}
 use Rattle.ns_monitor.proofs.monitor.Monitor.queue_to_wait.Goals as goal

@@ -1,19 +1,10 @@
 use Rattle.std.proofs.Common.{◌≡◌, ◌∙◌, ap, cond, not, sym, subst, refl, arith, None}
-use Rattle.atomic_table.specs.Seated.{TableId}
-use Rattle.ns_gate.proofs.Calls.{since_itself, since_then, works}
-use Rattle.ns_gate.specs.Calls.{IsAt, Leads}
-use Rattle.ns_gate.specs.Steps.{the}
+use Rattle.ns_gate.specs.Prelude.{TableId, IsAt, Leads, the, woken_of, row_in, has_some, meets_at, pay_releasing, scan_place, ScanAndRelease, InRelease}
 use Rattle.ns_gate.specs.declared.queues.Returning.TheVariants.{Released}
+use Rattle.ns_gate.proofs.Calls.{since_itself, since_then, works}
 use Rattle.ns_monitor.proofs.Releases.{hand_scanned, ready_by_row, ready_plain, took_some, woken_is, IsReady}
 use Rattle.ns_monitor.proofs.Standing.{still_since}
-use Rattle.ns_queue.specs.Scans.{woken_of}
-use Rattle.ns_word.specs.Finds.{row_in}
-use Rattle.ns_word.specs.Lists.{has_some}
-use Rattle.ns_word.specs.Steps.{meets_at}
-use Rattle.ns_word.specs.Walks.{pay_releasing, scan_place}
 use Rattle.ns_word.specs.declared.request.Request.TheVariants as TheRequest
-use Rattle.ns_word.specs.declared.release_walk.ReleasePlace.TheVariants.{ScanAndRelease}
-use Rattle.ns_word.specs.declared.walk.Walk.TheVariants.{InRelease}
 use Rattle.ns_monitor.proofs.monitor.Monitor.scan_and_release.Given.{Over}
 use Rattle.ns_monitor.proofs.monitor.Monitor.scan_and_release.Goals.{After-scan_in_hand-scan, then-word, else-word}
 use Rattle.ns_monitor.proofs.monitor.Monitor.scan_and_release.Goals as goal

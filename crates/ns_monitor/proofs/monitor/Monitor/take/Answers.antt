@@ -1,5 +1,5 @@
 use Rattle.std.proofs.Common.{◌∙◌, sym, subst, arith}
-use Rattle.atomic_table.specs.Seated.{TableId}
+use Rattle.ns_gate.specs.Prelude.{TableId}
 use Rattle.ns_monitor.proofs.Standing.{can_load, loads}
 use Rattle.ns_monitor.specs.Standing.{MayGoAlone}
 use Rattle.ns_monitor.proofs.monitor.Monitor.take.Goals as goal

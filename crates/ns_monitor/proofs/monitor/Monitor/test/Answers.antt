@@ -1,7 +1,6 @@
 use Rattle.std.proofs.Common.{◌∙◌, ◌-◌, ap, sym, arith}
-use Rattle.atomic_table.specs.Seated.{TableId}
+use Rattle.ns_gate.specs.Prelude.{TableId, judge_of}
 use Rattle.ns_monitor.proofs.Tests.{can_tell, is_tested}
-use Rattle.ns_word.specs.Walks.{judge_of}
 use Rattle.ns_monitor.proofs.monitor.Monitor.test.Goals as goal
 
 pub judge_met-requires : goal.judge_met-requires

@@ -2,10 +2,7 @@ use Rattle.std.proofs.Common.{◌∙◌, sym}
 use Rattle.ns_monitor.proofs.Callers.{is_busy, is_tried, tries_next}
 use Rattle.ns_monitor.proofs.Standing.{loads_first}
 use Rattle.ns_monitor.specs.Walks.{trying}
-use Rattle.ns_gate.specs.Calls.{Leads}
-use Rattle.ns_word.specs.Walks.{got_of}
-use Rattle.ns_word.specs.declared.act.Found.TheVariants.{Saw}
-use Rattle.ns_word.specs.declared.request.Request.TheVariants.{TryLock}
+use Rattle.ns_gate.specs.Prelude.{Leads, got_of, Saw, TryLock}
 use Rattle.ns_monitor.proofs.monitor.Monitor.try_acquire.Given.{Over}
 use Rattle.ns_monitor.proofs.monitor.Monitor.try_acquire.Goals.{After-load-word}
 use Rattle.ns_monitor.proofs.monitor.Monitor.try_acquire.Goals as goal

@@ -1,11 +1,8 @@
 use Rattle.std.proofs.Common.{◌∙◌, cond, sym, subst}
-use Rattle.atomic_table.specs.Seated.{TableId}
-use Rattle.ns_gate.specs.Calls.{HasAnswered}
+use Rattle.ns_gate.specs.Prelude.{TableId, HasAnswered, TryLock, Busy, Succeeded}
 use Rattle.ns_monitor.proofs.Callers.{locked, saw_more}
 use Rattle.ns_monitor.specs.Known.{HasLocked, HasSeenMore, known_of}
 use Rattle.ns_monitor.specs.Walks.{trying}
-use Rattle.ns_word.specs.declared.request.Request.TheVariants.{TryLock}
-use Rattle.ns_word.specs.declared.walk.Reply.TheVariants.{Busy, Succeeded}
 use Rattle.ns_monitor.proofs.monitor.Monitor.try_lock_as.Goals as goal
 
 pub returns-then-try_acquire-clause-locked : goal.returns-then-try_acquire-clause-locked

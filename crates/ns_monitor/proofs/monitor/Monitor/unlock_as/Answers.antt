@@ -1,11 +1,38 @@
-use Rattle.std.proofs.Common.{◌∙◌, subst, sym}
-use Rattle.atomic_table.specs.Seated.{TableId}
-use Rattle.ns_monitor.proofs.Callers.{grew}
+use Rattle.std.proofs.Common.{◌≡◌, ◌∙◌, ◌++◌, ◌∷◌, [], Some, arith, subst, sym}
+use Rattle.ns_gate.proofs.Calls.{since_then}
+use Rattle.ns_gate.specs.Prelude.{HasAnswered, HasSince, InHand, SeatOf, section_of, Succeeded, TableId, the}
+use Rattle.ns_monitor.proofs.Callers.{grew, released, went_so}
+use Rattle.ns_monitor.proofs.Standing.{same_number}
 use Rattle.ns_monitor.specs.Known.{Grows, Known}
 use Rattle.ns_monitor.specs.Walks.{releasing_by}
+use Rattle.ns_model.specs.declared.event.Exit.TheVariants as TheExit
+use Rattle.ns_word.specs.declared.request.Request.TheVariants as TheRequest
+use Rattle.ns_monitor.proofs.monitor.Monitor.unlock_as.Given.{Over}
+use Rattle.ns_monitor.proofs.monitor.Monitor.unlock_as.Goals.{Joined-go_at_once, in-None, in-Some}
 use Rattle.ns_monitor.proofs.monitor.Monitor.unlock_as.Goals as goal
 
+-- the section was released, at once or later
+left : (g : Over) (c : Joined-go_at_once g) → (c.match-go_at_once.seat.table_id ≡ c.args.held.monitor) × HasSince (Some (releasing_by c.args.releasing)) (the c.held.inside.seat.me.0) (the c.match-go_at_once.seat.me.0) × HasAnswered g.C.Condition.means (TheRequest.Release c.args.releasing) Succeeded c.match-go_at_once.seat.me
+left g c = let t = g.C.Condition.means in let first = releasing_by c.args.releasing in let old = c.held.inside.seat in let at = c.go_at_once.new.seat in let went = c.go_at_once.ensures in
+    let since = subst (λ w. HasSince (Some w) (the old.me.0) (the at.me.0)) c.release.ensures.first went.since in
+    let so = λ (x : TableId × SeatOf g.row.C.Denot g.row.N). (x.0 ≡ c.args.held.monitor) × HasSince (Some first) (the old.me.0) (the x.1.0) × HasAnswered t (TheRequest.Release c.args.releasing) Succeeded x.1 in
+    elim c.match-go_at_once.branch [
+      | in-None w ↦ subst so (λ i. ((sym w.seat-is i).table_id, (sym w.seat-is i).me)) (◌∙◌ {A = TableId} went.seat (sym c.requires.of), since, went_so t first c.release.result c.go_at_once.result at.me c.release.ensures.first w.in-None.is went.went)
+      | in-Some w ↦ let came = w.release_by.ensures in
+          subst so (λ i. ((sym w.seat-is i).table_id, (sym w.seat-is i).me)) (◌∙◌ {A = TableId} came.seat (sym c.requires.of), since_then (Some first) _ _ _ since came.since, came.released)
+    ]
+
+pub seated-requires : goal.seated-requires
+seated-requires g c = let first = releasing_by c.args.releasing in let over = left g c in
+    let fit = g.met.C.Gated.queues_fit in
+    (fit, (omega arith, (omega arith, (over.2.rest, same_number g.C.Condition.means (Some first) c.held.inside.number c.held.inside.seat.me c.match-go_at_once.seat.me c.held.invariant.1 over.1, over.2.means.left))))
+
 pub returns-clause-grows : goal.returns-clause-grows
-returns-clause-grows g c = let r = c.release in let first = releasing_by c.args.releasing in
-    subst (λ (k : Known g.row.C.Denot g.row.N). Grows g.C.Condition.means first c.args.held k) (sym c.seated.ensures)
-    (grew g.C.Condition.means first c.args.held c.held.inside.seat.table_id r.new.seat.table_id c.held.inside.seat.me r.new.seat.me c.held.view_is (◌∙◌ {A = TableId} r.ensures.seat (sym c.requires.of)) r.ensures.released.rest r.ensures.since)
+returns-clause-grows g c = let over = left g (goal.at.returns-clause-grows g c).Joined-go_at_once in
+    subst (λ (k : Known g.row.C.Denot g.row.N). Grows g.C.Condition.means (releasing_by c.args.releasing) c.args.held k) (sym c.seated.ensures)
+    (grew g.C.Condition.means (releasing_by c.args.releasing) c.args.held c.held.inside.seat.table_id c.match-go_at_once.seat.table_id c.held.inside.seat.me c.match-go_at_once.seat.me c.held.view_is over.0 over.2.rest over.1)
+
+pub returns-clause-mine : goal.returns-clause-mine
+returns-clause-mine g c = let over = left g (goal.at.returns-clause-mine g c).Joined-go_at_once in
+    subst (λ (k : Known g.row.C.Denot g.row.N). InHand c.args.held.held (λ section. k.mine ≡ c.args.held.mine ++ section_of g.C.Condition.means.holds c.args.held.seat section TheExit.Plain ∷ [])) (sym c.seated.ensures)
+    (released g.C.Condition.means (releasing_by c.args.releasing) c.args.releasing c.args.held c.held.inside.seat.table_id c.match-go_at_once.seat.table_id c.held.inside.seat.me c.match-go_at_once.seat.me c.held.view_is over.1 over.2.means)

@@ -1,10 +1,6 @@
 use Rattle.std.proofs.Common.{◌≡◌, ◌∙◌, inl, inr, sym, subst, ap, refl, arith, Some, IfSome, true, false}
-use Rattle.atomic_table.specs.Seated.{TableId}
+use Rattle.ns_gate.specs.Prelude.{TableId, HasAnswered, HasSince, IsAtRest, SeatOf, the, Answer, Met, row_in, HasMode, answer_of, is_limited, wait_first, Cause, Await, OnEntry, Answered}
 use Rattle.ns_gate.proofs.Calls.{since_then}
-use Rattle.ns_gate.specs.Calls.{HasAnswered, HasSince, IsAtRest, SeatOf}
-use Rattle.ns_gate.specs.Steps.{the}
-use Rattle.ns_model.specs.declared.event.Answer.{Answer}
-use Rattle.ns_model.specs.declared.event.Answer.TheVariants.{Met}
 use Rattle.ns_monitor.proofs.Callers.{grew}
 use Rattle.ns_monitor.proofs.Returns.{ended_as, ended_since, fits_fresh, met_now, wait_tells}
 use Rattle.ns_monitor.proofs.Standing.{same_number}
@@ -12,14 +8,6 @@ use Rattle.ns_monitor.specs.Known.{known_of, Grows, Known}
 use Rattle.ns_monitor.specs.Saved.{IsFreshIn}
 use Rattle.ns_monitor.specs.Waits.{HasWaitedFor, QueuesOrEnds}
 use Rattle.ns_monitor.specs.Walks.{waits_by}
-use Rattle.ns_word.specs.Finds.{row_in}
-use Rattle.ns_word.specs.Places.{HasMode}
-use Rattle.ns_word.specs.Waits.{answer_of, is_limited}
-use Rattle.ns_word.specs.Walks.{wait_first}
-use Rattle.ns_word.specs.declared.limits.Cause.{Cause}
-use Rattle.ns_word.specs.declared.request.Request.TheVariants.{Await}
-use Rattle.ns_word.specs.declared.wait.Visit.TheVariants.{OnEntry}
-use Rattle.ns_word.specs.declared.walk.Reply.TheVariants.{Answered}
 use Rattle.ns_monitor.proofs.monitor.Monitor.wait_by.Given.{Over}
 use Rattle.ns_monitor.proofs.monitor.Monitor.wait_by.Goals.{After-wait, After-test, After-look_before, After-wait_on-answer}
 use Rattle.ns_monitor.proofs.monitor.Monitor.wait_by.Goals as goal

@@ -1,20 +1,11 @@
 use Rattle.std.proofs.Common.{◌≡◌, ◌∙◌, sym, subst, ap, refl, arith, None, Some, IfSome, true, false}
-use Rattle.atomic_table.specs.Seated.{TableId}
+use Rattle.ns_gate.specs.Prelude.{TableId, HasAnswered, HasSince, Leads, the, row_in, is_limited, unmet_by, Cause, Await, OnReturn, Answered}
 use Rattle.ns_gate.proofs.Calls.{since_itself, since_then}
-use Rattle.ns_gate.specs.Calls.{HasAnswered, HasSince, Leads}
-use Rattle.ns_gate.specs.Steps.{the}
 use Rattle.ns_monitor.proofs.Returns.{back_to_test, comes_fresh, ended_as, is_for_condition, met_now, unmet_now}
 use Rattle.ns_monitor.proofs.Standing.{same_number}
 use Rattle.ns_monitor.proofs.Waits.{in_range}
 use Rattle.ns_monitor.specs.Saved.{IsFreshIn}
 use Rattle.ns_monitor.specs.Waits.{IfEnded, QueuesOrEnds}
-use Rattle.ns_word.specs.Finds.{row_in}
-use Rattle.ns_word.specs.Waits.{is_limited}
-use Rattle.ns_word.specs.Walks.{unmet_by}
-use Rattle.ns_word.specs.declared.limits.Cause.{Cause}
-use Rattle.ns_word.specs.declared.request.Request.TheVariants.{Await}
-use Rattle.ns_word.specs.declared.wait.Visit.TheVariants.{OnReturn}
-use Rattle.ns_word.specs.declared.walk.Reply.TheVariants.{Answered}
 use Rattle.ns_monitor.proofs.monitor.Monitor.wait_on.Given.{Over}
 use Rattle.ns_monitor.proofs.monitor.Monitor.wait_on.Goals.{After-look_before, After-test}
 use Rattle.ns_monitor.proofs.monitor.Monitor.wait_on.Goals as goal

@@ -1,10 +1,5 @@
 use Rattle.std.proofs.Common.{◌≡◌, None}
-use Rattle.ns_gate.specs.Calls.{HasSince, IsAt}
-use Rattle.ns_gate.specs.Steps.{the}
-use Rattle.ns_word.specs.Finds.{row_in}
-use Rattle.ns_word.specs.declared.wait.QueuePlace.TheVariants.{Load}
-use Rattle.ns_word.specs.declared.wait.WaitPlace.TheVariants.{InQueuing}
-use Rattle.ns_word.specs.declared.walk.Walk.TheVariants.{InWait}
+use Rattle.ns_gate.specs.Prelude.{HasSince, IsAt, the, row_in, Load, InQueuing, InWait}
 use Rattle.ns_monitor.proofs.monitor.Monitor.wait_on.Given as goal
 
 abbrev pub invariant-loop : goal.invariant-loop
