@@ -100,10 +100,6 @@ module _ {C : Type 0} {N : ℕ} (truths : Truths C) where
       by_next (Idle at) empty e g = record { one = one; empty = empty; walks = e; so_far = g.so_far; owes = owes_below b found u w d; fits = subst (λ x. PlaceFits truths x w.at.held) e d.fits.place; wide = is_wide }
       by_next (Done reply) empty e g = record { rest = at_rest (empty refl) e; means = g }
 
-  -- A seat at rest may begin a call whose first place fits what it has in hand.
-  pub can_begin : (first : Walk C) (me : SeatOf C N) → IsAtRest truths me → IsFirst N first → PlaceFits truths (Some first) (the me.0).at.held → CanStep truths (Some first) (want_of first) me
-  can_begin first me rest is fits = record { one = rest.one; may = (rest.over, is, fits); walk = first; walks = refl; wants = refl }
-
   -- A call may go on from its place.
   pub can_go : (walk : Walk C) (act : Act C) (me : SeatOf C N) → want_of walk ≡ act → IsAt truths walk me → CanStep truths None act me
   can_go walk act me wants at = record { one = at.one; may = tt; walk = walk; walks = at.walks; wants = wants }

@@ -21,9 +21,6 @@ module _ {C : Type 0} {N : ℕ} where
   pub still_carries : (made : GateView C N → Lists C) (me now : SeatOf C N) → made (the now.0) ≡ made (the me.0) → HasKeptItsQueues me now → Carries (made (the me.0)) me → Carries (made (the now.0)) now
   still_carries made me now same s carries = s.slots ∙ (carries ∙ ap (λ lists. (0, lists) ∷ []) (sym same))
 
-  pub same_change : (change : Change) (last : Word) (me now : SeatOf C N) → HasKeptItsQueues me now → changed (the now.0).at.seat change last (the now.0).stood ≡ changed (the me.0).at.seat change last (the me.0).stood
-  same_change change last me now s = λ i. changed (s.seat i) change last (s.stood i)
-
 module _ {C : Type 0} {N : ℕ} (truths : Truths C) where
   -- what a step of a call in progress does to the state that it found
   effect_of : (act : Act C) (found : Found) (me now : SeatOf C N) (p : Performed truths None act found me now) → Effect truths (the me.0).at.seat act (part_of p.did.old (the me.0).at.held (the me.0).at.owed) found (part_of p.did.new p.did.made.step.held p.did.made.step.owed) p.did.commits
@@ -39,27 +36,10 @@ module _ {C : Type 0} {N : ℕ} (truths : Truths C) where
     seat = ap (λ (x : SeatView C N). x.seat) p.did.becomes;
   }
 
-  -- an exchange that found another word
-  pub missed_return : (change : Change) (last word : Word) (me now : SeatOf C N) → Performed truths None (ReturnQueues change last) (Saw word) me now → has_queues (the me.0).at.walk ≡ true → HasKeptItsQueues me now
-  missed_return change last word me now p has = let e = effect_of (ReturnQueues change last) (Saw word) me now p in
-      stays_by (ReturnQueues change last) (Saw word) me now p has p.carried (ap (λ (q : Part C N). q.lists) e.2) (ap (λ (q : Part C N). q.held) e.2)
-
-  pub missed_release : (releasing : Releasing) (last word : Word) (me now : SeatOf C N) → Performed truths None (ReleaseReturning releasing last) (Saw word) me now → has_queues (the me.0).at.walk ≡ true → HasKeptItsQueues me now
-  missed_release releasing last word me now p has = let e = effect_of (ReleaseReturning releasing last) (Saw word) me now p in
-      stays_by (ReleaseReturning releasing last) (Saw word) me now p has p.carried (ap (λ (q : Part C N). q.lists) e.2) (ap (λ (q : Part C N). q.held) e.2)
-
-  pub missed_wait : (wait : Wait C) (again : Bool) (last word : Word) (me now : SeatOf C N) → Performed truths None (WaitReturning wait again last) (Saw word) me now → has_queues (the me.0).at.walk ≡ true → HasKeptItsQueues me now
-  missed_wait wait again last word me now p has = let e = effect_of (WaitReturning wait again last) (Saw word) me now p in
-      stays_by (WaitReturning wait again last) (Saw word) me now p has p.carried (ap (λ (q : Part C N). q.lists) e.2) (ap (λ (q : Part C N). q.held) e.2)
-
   -- a flag that is set
   pub stays_arming : (me now : SeatOf C N) → Performed truths None ArmFlag Made me now → has_queues (the me.0).at.walk ≡ true → HasKeptItsQueues me now
   stays_arming me now p has = let e = effect_of ArmFlag Made me now p in
       stays_by ArmFlag Made me now p has p.carried (ap (λ (q : Part C N). q.lists) e.0) (ap (λ (q : Part C N). q.held) e.0)
-
-  -- a cell that is loaded leaves the section in hand
-  pub cell_leaves : (i value : ℕ) (me now : SeatOf C N) → Performed truths None (LoadCell i) (Cell value) me now → (the now.0).at.held ≡ (the me.0).at.held
-  cell_leaves i value me now p = let e = effect_of (LoadCell i) (Cell value) me now p in ap (λ (x : SeatView C N). x.held) p.did.becomes ∙ ap (λ (q : Part C N). q.held) e.1
 
   -- what the act of the place may count on, of the lists as the seat knows them to stand
   pub counts_on : (act : Act C) (found : Found) (me now : SeatOf C N) (walk : Walk C) → Performed truths None act found me now → (the now.0).at.walk ≡ Some walk

@@ -48,12 +48,6 @@ module _ {C : Type 0} {N : ℕ} (truths : Truths C) where
     | inr ne ↦ packs b (word_of k) v w (subst (λ (x : Found). Did truths b x v w) (ap (λ (c : Bool). cond c made (Saw (word_of k))) (ne_eqb (number_of last) k ne)) d)
   ]
 
-  -- queues that are put back so are put back by an exchange
-  pub returns_so : (returning : Returning C) (last new : Word) (me : Me (Lists C) (List (GateView C N))) → CanStep truths None (act_returning returning last) me → PutsBack truths returning last new (the me.0) me.1 → MayExchange truths last new me
-  returns_so (Changed change) last new me can back = record { act = ReturnQueues change last; can = can; exchanges = (refl, back) }
-  returns_so (Released releasing) last new me can back = record { act = ReleaseReturning releasing last; can = can; exchanges = (refl, back) }
-  returns_so (Waited wait again) last new me can back = record { act = WaitReturning wait again last; can = can; exchanges = (refl, back) }
-
   pub returned_so : (returning : Returning C) (last : Word) (result : Result Unit Word) (me now : Me (Lists C) (List (GateView C N))) → Performed truths None (act_returning returning last) (tried_for (made_by truths (act_returning returning last) (the me.0)) result) me now
       → Performed truths None (act_returning returning last) (tried_for (found_returned truths (the me.0).at.seat returning last (row_in (the me.0).at.held) (the me.0).stood) result) me now
   returned_so (Changed change) last result me now p = p

@@ -120,18 +120,6 @@ pub fits_fresh : {C : Type 0} (N : ℕ) (mode : Mode) (held : Option (Held C N))
 fits_fresh N mode None fits each h = absurd h
 fits_fresh N mode (Some section) fits each h = each section h
 
--- nothing was committed, or the events are those of before
-pub ended_by : (note : Option Note) (deadline : Option ℕ) (old new : EnvKnown) (answer : Answer) → IfAnswered answer (λ cause. LookShows note (limits_of deadline note) old new (Some cause)) → EndedBy note deadline old.seen new.seen answer
-ended_by given deadline old new Met shown = tt
-ended_by given deadline old new TimedOut shown = shown
-ended_by given deadline old new Canceled shown = shown
-
--- what nothing can end early answers that its condition is met
-pub only_met : (answer : Answer) → IfAnswered answer (λ cause. ⊥) → answer ≡ Met
-only_met Met none = refl
-only_met TimedOut none = absurd none
-only_met Canceled none = absurd none
-
 -- it was told the note's number, and left its section only once a look had shown nothing, to a seat that has seen this
 pub looked_by : (P : Type 0) (note : Option Note) (deadline number : Option ℕ) (old new : EnvKnown) (seen : List EnvEvent) → seen ≡ new.seen → number ≡ option_map (λ n. n.index) note → (is_limited (record { deadline = deadline; note = number }) ≡ true → P ⊎ LookShows note (record { deadline = deadline; note = number }) old new None) → is_limited (limits_of deadline note) ≡ true → P ⊎ HadLooked note deadline old.seen seen
 looked_by P given deadline number old new seen same is before limited = by_case (before (ap (λ o. is_limited (record { deadline = deadline; note = o })) is ∙ limited)) where

@@ -272,10 +272,6 @@ module _ {C : Type 0} {N : ℕ} (truths : Truths C) where
         tells = taken_tells taking last ∙ cond_tells taking last me now p;
       }
 
-  -- nothing was done before to the section
-  pub taken_since : (walk : Walk C) (word : Word) (start me now : SeatOf C N) → (the me.0).at.held ≡ (the start.0).at.held → HasTakenAt truths walk word me now → HasTakenAt truths walk word start now
-  taken_since walk word start me now same t = record { at = t.at; taken = t.taken; packs = t.packs; held = t.held ∙ same; tells = t.tells }
-
   -- ---- it puts them back
 
   -- the row of the section in hand is the lock's

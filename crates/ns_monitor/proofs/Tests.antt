@@ -172,17 +172,6 @@ module _ {C : Type 0} {N : ℕ} (truths : Truths C) where
   tests_first wait None mode settled = absurd mode
   tests_first wait (Some section) mode settled = (mode, settled)
 
-  -- a wait that begins with its test may
-  pub may_test : (b : Option (Walk C)) (wait : Wait C) (c : C) (visit : Visit) (me : SeatOf C N) → 1 ≤ N → wait.on ≡ OnCondition c → MayTest truths b wait visit me → StandsAt truths b (test_place N wait visit 0) me
-  may_test None wait c visit me some on may = may
-  may_test (Some first) wait c visit me some on may =
-      let for = subst IsForCondition (sym on) tt in let tests = tests_first wait (the me.0).at.held may.3 may.2.settled in
-      let is : first ≡ test_place N wait OnEntry 0 = may.0 ∙ ap (λ subject. first_for N subject wait) on in
-      let begins = cond_both _ (InWait wait (TestCells OnEntry 0)) (InWait wait (TestLast OnEntry (N - 1))) (λ w. IsFirst N w × PlaceFits truths (Some w) (the me.0).at.held)
-      (λ more. let low = ltb-true 0 (N - 1) more in (refl, ((tests, omega (arith, low), for), tt))) (λ most. let few = ltb-false 0 (N - 1) most in (omega (arith, few), ((tests, omega (arith, some), for), tt))) in
-      let entry = subst (λ w. IsFirst N w × PlaceFits truths (Some w) (the me.0).at.held) (sym is) begins in
-      (is ∙ ap (λ v. test_place N wait v 0) (sym may.1), may.2, entry.0, entry.1)
-
   pub is_tested : (b left : Option (Walk C)) (wait : Wait C) (visit : Visit) (c : C) (row : List ℕ) (value : ℕ) (met : Bool) (start me now : SeatOf C N) → 1 ≤ N → HasLoaded truths b left (InWait wait (TestCells visit 0)) (N - 1) row start me
       → value ≡ slice_index (row_in (the me.0).at.held) (N - 1) → Performed truths left (JudgeMet (N - 1) c) (Tested (truths.holds c (row_in (the me.0).at.held))) me now → met ≡ truths.holds c (set row (N - 1) value)
       → HasSince b (the start.0) (the now.0) × HasTested truths wait visit c met (set row (N - 1) value) start now
@@ -200,13 +189,6 @@ module _ {C : Type 0} {N : ℕ} (truths : Truths C) where
       )
 
   -- ---- a section is judged
-
-  pub may_judge : (first : Walk C) (me : SeatOf C N) → 1 ≤ N → first ≡ judging N → IsAtRest truths me → HasMode Write (the me.0).at.held → StandsAt truths (Some first) (judging N) me
-  may_judge first me some is rest writes =
-      let begins = cond_both _ (QuietCells ToTell 0) (QuietLast ToTell (N - 1)) (λ place. IsFirst {C = C} N (InCells place) × PlaceFits truths (Some (InCells place)) (the me.0).at.held)
-      (λ more. let low = ltb-true 0 (N - 1) more in (refl, ((writes, omega (arith, low)), rest.settled))) (λ most. let few = ltb-false 0 (N - 1) most in (omega (arith, few), ((writes, omega (arith, some)), rest.settled))) in
-      let entry = subst (λ w. IsFirst N w × PlaceFits truths (Some w) (the me.0).at.held) (sym is) begins in
-      (is, rest, entry.0, entry.1)
 
   -- the answer tells of the section that was in hand as the call began, and the row is that section's
   pub is_judged : (left : Option (Walk C)) (first : Walk C) (row : List ℕ) (value : ℕ) (start me now : SeatOf C N) → 1 ≤ N → first ≡ judging N → HasLoaded truths (Some first) left (InCells (QuietCells ToTell 0)) (N - 1) row start me

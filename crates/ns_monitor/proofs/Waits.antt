@@ -21,10 +21,6 @@ module _ {C : Type 0} where
   home_there (OnCondition c) is = tt
   home_there (OnVariable k) is = is
 
-  -- one that nothing may end early sleeps until it is woken
-  pub sleeps_in_wait : (N : ℕ) (wait : Wait C) → is_limited wait.limits ≡ false → Sleeps N (InWait wait AwaitWakeInWait)
-  sleeps_in_wait N wait free = record { loads = refl; free = refl; rests = ap (λ (b : Bool). cond b (On (InWait wait LookOut)) (Idle (InWait wait AwaitWakeInWait))) free }
-
   -- where a wait goes that was woken, by its flag
   pub woken_next : (N : ℕ) (wait : Wait C) (value : ℕ) → value ≢ 1 → got_of N (InWait wait AwaitWakeInWait) (Flag value) ≡ On (InAcquire (ForWait wait (woken_by wait.on value)) (AcquireLoad (arrival_of 0 value)))
   woken_next N wait value clear = ap (λ (b : Bool). cond b (rest_or_look wait) (On (InAcquire (ForWait wait (woken_by wait.on value)) (AcquireLoad (arrival_of 0 value))))) (ne_eqb value 1 clear)
@@ -63,12 +59,6 @@ module _ {C : Type 0} {N : ℕ} (truths : Truths C) where
   taken_next wait cause flag outcome arrival me clear is how led =
       subst (λ (x : Outcome × Arrival). IsAt truths (InAcquire (ForWait wait x.0) (AcquireLoad x.1)) me) (λ i. (sym is i, sym how i))
       (subst (λ (b : Bool). Leads truths (Await wait) (cond b (Idle (InWait wait (InLeaving cause AwaitWakeToLeave))) (On (InAcquire (ForWait wait (outcome_taken wait.on cause flag)) (AcquireLoad (arrival_of 0 flag))))) me) (ne_eqb flag 1 clear) led)
-
-  -- and so does one that was woken
-  pub woken_comes : (wait : Wait C) (flag : ℕ) (outcome : Outcome) (arrival : Arrival) (me : SeatOf C N) → flag ≢ 1 → outcome ≡ woken_by wait.on flag → arrival ≡ arrival_of 0 flag → Leads truths (Await wait) (got_of N (InWait wait AwaitWakeInWait) (Flag flag)) me
-      → IsAt truths (InAcquire (ForWait wait outcome) (AcquireLoad arrival)) me
-  woken_comes wait flag outcome arrival me clear is how led =
-      subst (λ (x : Outcome × Arrival). IsAt truths (InAcquire (ForWait wait x.0) (AcquireLoad x.1)) me) (λ i. (sym is i, sym how i)) (subst (λ next. Leads truths (Await wait) next me) (woken_next N wait flag clear) led)
 
   -- ---- it looks out
 
