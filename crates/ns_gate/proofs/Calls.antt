@@ -1,7 +1,7 @@
 -- A step takes its call on, as its caller follows it.
 use Rattle.std.proofs.Common.{◌≡◌, ℕ, ◌≤◌, true, false, arith, List, [], ◌∷◌, ◌++◌, length, Option, None, Some, refl, ap, sym, ◌∙◌, subst}
 use Rattle.std.proofs.lemmas.List.{append_assoc, append-nil}
-use Rattle.ns_gate.specs.Prelude.{SeatOf, IsTrueToHistory, IsWide, IsAtRest, OwesBelow, HasSince, IsAt, Leads, GateView, the, IsOne, walk_by, course_by, carried_by, CanStep, Did, Performed, Standing, row_after, standing_after, Truths, asked_of, CallGoes, SectionFits, has_some, Course, PlaceFits, ActFits, OwesOne, part_of, PayWake, Pay, PayTheWoken, PayInWait, InTry, InAcquire, InRelease, InCells, InWait, InSignal, Told, IsTold, want_of, got_of, walk_after, pays, has_queues, Act, Found, IsFirst, Held, SeatView, On, Idle, Done, Next, Walk}
+use Rattle.ns_gate.specs.Prelude.{SeatOf, IsTrueToHistory, IsWide, IsAtRest, OwesBelow, HasSince, IsAt, Leads, GateView, the, IsOne, walk_by, course_by, carried_by, CanStep, Did, Performed, Standing, row_after, standing_after, Truths, asked_of, CallGoes, SectionFits, has_some, Course, PlaceFits, ActFits, OwesOne, part_of, PayWake, Pay, PayTheWoken, PayInWait, InTry, InAcquire, InRelease, InCells, InWait, InSignal, Told, IsTold, want_of, got_of, walk_after, pays, has_queues, Act, Found, Held, SeatView, On, Idle, Done, Next, Walk}
 use Rattle.ns_gate.proofs.Tells.{fits_now}
 use Rattle.ns_model.proofs.Beginnings.{begins_itself, begins_through}
 

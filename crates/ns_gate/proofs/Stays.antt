@@ -1,7 +1,9 @@
 -- What stays as it is where a step changes nothing, or nothing but a flag.
-use Rattle.std.proofs.Common.{◌≡◌, ◌≤◌, ℕ, Bool, true, [], ◌∷◌, None, Some, refl, ap, sym, ◌∙◌, subst}
-use Rattle.ns_gate.specs.Prelude.{SeatOf, GateView, the, Performed, Carries, Truths, Lists, ActFits, Part, part_of, Effect, changed, want_of, has_queues, ReturnQueues, ReleaseReturning, WaitReturning, LoadCell, ArmFlag, Act, Change, Saw, Cell, Made, Found, SeatView, Wait, Walk, Releasing, Word}
-use Rattle.ns_gate.proofs.Tells.{does, fits_now}
+use Rattle.std.proofs.Common.{◌≡◌, ℕ, true, false, [], ◌++◌, ◌∷◌, None, refl, ap, sym, ◌∙◌, subst}
+use Rattle.ns_gate.specs.Prelude.{SeatOf, GateView, the, Performed, Carries, Truths, Lists, times, Part, part_of, Effect, has_queues, ArmFlag, Act, Made, Found, SeatView}
+use Rattle.ns_gate.proofs.Tells.{does}
+use Rattle.ns_word.proofs.Acts.{stands_nowhere}
+use Rattle.ns_word.specs.Walks.{awaits}
 
 -- the seat has the same slots, the same section in hand, and knows the lists to stand as they did
 pub record HasKeptItsQueues {C : Type 0} {N : ℕ} (me now : SeatOf C N) : Type 0 where
@@ -41,10 +43,9 @@ module _ {C : Type 0} {N : ℕ} (truths : Truths C) where
   stays_arming me now p has = let e = effect_of ArmFlag Made me now p in
       stays_by ArmFlag Made me now p has p.carried (ap (λ (q : Part C N). q.lists) e.0) (ap (λ (q : Part C N). q.held) e.0)
 
-  -- what the act of the place may count on, of the lists as the seat knows them to stand
-  pub counts_on : (act : Act C) (found : Found) (me now : SeatOf C N) (walk : Walk C) → Performed truths None act found me now → (the now.0).at.walk ≡ Some walk
-      → (part : Part C N) × (part.lists ≡ (the now.0).stood) × (part.held ≡ (the now.0).at.held) × ((the now.0).limit ≤ 64) × ActFits truths (the now.0).limit (the now.0).at.seat (want_of walk) part
-  counts_on act found me now walk p walks =
-      let d = p.did in
-      let f = fits_now truths None found (the me.0) (the now.0) walk d walks in
-      (part_of d.new (the now.0).at.held (the now.0).at.owed, sym d.stood_now, refl, subst (λ n. n ≤ 64) (sym d.limit) d.few, subst (λ n. ActFits truths n (the now.0).at.seat (want_of walk) (part_of d.new (the now.0).at.held (the now.0).at.owed)) (sym d.limit) f)
+  -- a seat whose call doesn't wait to be woken stands in no list
+  pub nowhere_now : (act : Act C) (found : Found) (me now : SeatOf C N) → Performed truths None act found me now → awaits (the now.0).at.walk ≡ false → times (the now.0).at.seat (the now.0).stood ≡ 0
+  nowhere_now act found me now p waits =
+      let d = p.did in let s = d.made.step in
+      let stands : d.new.views ≡ s.front ++ (the now.0).at ∷ s.back = s.becomes ∙ ap (λ (x : SeatView C N). s.front ++ x ∷ s.back) (sym d.becomes) in
+      subst (λ (lists : Lists C). times (the now.0).at.seat lists ≡ 0) (sym d.stood_now) (stands_nowhere truths (the me.0).limit d.few (d.history ++ d.commits) d.new s.front (the now.0).at s.back stands d.lawful_now waits)

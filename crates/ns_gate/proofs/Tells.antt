@@ -2,7 +2,7 @@
 use Rattle.std.specs.Prelude.{slice_index}
 use Rattle.std.proofs.Common.{◌≡◌, ℕ, Bool, cond, inl, inr, ◌≤◌, List, [], ◌++◌, ◌∷◌, Option, None, Some, Result, refl, ap, sym, ◌∙◌, subst}
 use Rattle.std.proofs.lemmas.Bool.{ne_eqb, cases_eq}
-use Rattle.ns_gate.specs.Prelude.{Me, rest, GateView, the, walk_by, CanStep, Did, Performed, Stepped, IsExchange, IsOwedNext, MayExchange, PutsBack, act_by, act_of, act_returning, found_returned, made_by, next_owed, tried_for, standing_after, Truths, Lists, BeginsIf, view_in, number_of, word_of, IsPackable, found_of, exchanged, row_in, scanned, SectionFits, ActFits, State, Part, part_of, Effect, change_found, want_of, got_of, walk_after, LoadWord, LoadCell, JudgeQuiet, JudgeMet, LoadFlag, Acquire, TakeQueues, ReturnQueues, Release, ReleaseReturning, WaitReturning, Act, Saw, Made, Cell, Flag, Found, Held, SeatView, Walk, Word}
+use Rattle.ns_gate.specs.Prelude.{Me, rest, GateView, the, walk_by, CanStep, Did, Performed, Stepped, IsExchange, IsOwedNext, MayExchange, act_by, act_of, act_returning, found_returned, made_by, next_owed, tried_for, standing_after, Truths, Lists, BeginsIf, view_in, number_of, word_of, IsPackable, found_of, exchanged, row_in, scanned, SectionFits, ActFits, State, Part, part_of, Effect, change_found, want_of, got_of, walk_after, LoadWord, LoadCell, JudgeQuiet, JudgeMet, LoadFlag, Acquire, TakeQueues, ReturnQueues, Release, ReleaseReturning, WaitReturning, Act, Saw, Made, Cell, Flag, Found, Held, SeatView, Walk, Word}
 use Rattle.ns_gate.specs.declared.queues.Returning.{Returning}
 use Rattle.ns_gate.specs.declared.queues.Returning.TheVariants.{Changed, Released, Waited}
 use Rattle.ns_word.proofs.Codes.{decoded}

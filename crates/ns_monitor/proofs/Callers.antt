@@ -38,7 +38,7 @@ module _ {C : Type 0} {N : ℕ} (truths : Truths C) where
   pub released : (first : Walk C) (releasing : Releasing) (old : Known C N) (was is : TableId) (me now : SeatOf C N) → known_of was me ≡ old → HasSince (Some first) (the me.0) (the now.0) → TheMeanings.HasReleased truths (the now.0).at.seat releasing (the now.0).course (the now.0).at.held → InHand old.held (λ section. (known_of is now).mine ≡ old.mine ++ section_of truths.holds old.seat section TheExit.Plain ∷ [])
   released first releasing old was is me now view s r = subst (λ (k : Known C N). InHand k.held (λ section. (the now.0).told.mine ≡ k.mine ++ section_of truths.holds k.seat section TheExit.Plain ∷ [])) view
       (subst (λ o. InHand o (λ section. (the now.0).told.mine ≡ (the me.0).told.mine ++ section_of truths.holds (the me.0).at.seat section TheExit.Plain ∷ [])) (sym r.began ∙ s.began)
-          (s.mine ∙ ap (λ es. (the me.0).told.mine ++ es) (sym s.committed ∙ (r.committed ∙ (λ i. section_of truths.holds (s.seat i) r.was TheExit.Plain ∷ [])))))
+      (s.mine ∙ ap (λ es. (the me.0).told.mine ++ es) (sym s.committed ∙ (r.committed ∙ (λ i. section_of truths.holds (s.seat i) r.was TheExit.Plain ∷ [])))))
 
   -- ---- calls that go at once
 

@@ -1,13 +1,20 @@
--- An acquire that queues, step by step.
-use Rattle.std.proofs.Common.{◌≡◌, ℕ, true, false, None, refl, subst}
-use Rattle.ns_gate.proofs.Calls.{goes_on}
-use Rattle.ns_gate.proofs.Stays.{counts_on}
-use Rattle.ns_gate.specs.Prelude.{SeatOf, IsAt, the, Performed, Truths, Lists, times, Arm, Queue, ArmFlag, Made, Aim, On, InAcquire, Arrival, Word}
+-- A seat sets its own flag, before it queues.
+use Rattle.std.proofs.Common.{◌≡◌, ℕ, true, false, None, Some, ap, sym, ◌∙◌}
+use Rattle.ns_gate.proofs.Calls.{goes_on, since}
+use Rattle.ns_gate.proofs.Stays.{HasKeptItsQueues, nowhere_now, stays_arming, still_carries}
+use Rattle.ns_gate.specs.Prelude.{SeatOf, GateView, HasSince, HasTaken, IsAt, the, Performed, Truths, times, got_of, has_queues, ArmFlag, Made, On, Walk}
+use Rattle.ns_word.specs.Walks.{awaits}
 
-module _ {C : Type 0} {N : ℕ} (truths : Truths C) where
-  pub armed : (aim : Aim C) (arrival : Arrival) (last : Word) (me now : SeatOf C N) → IsAt truths (InAcquire aim (Arm arrival last)) me → Performed truths None ArmFlag Made me now → IsAt truths (InAcquire aim (Queue arrival last)) now
-  armed aim arrival last me now at p = goes_on truths (InAcquire aim (Arm arrival last)) ArmFlag Made (On (InAcquire aim (Queue arrival last))) me now at refl (λ e. absurd (let f : true ≡ false = e in cc)) p
+-- It has done so with the queues in hand, goes on to this place, and stands in no list.
+pub record HasArmed {C : Type 0} {N : ℕ} (truths : Truths C) (place : Walk C) (me now : SeatOf C N) : Type 0 where
+  pub at : IsAt truths place now
+  pub taken : HasTaken now
+  pub kept : HasKeptItsQueues me now
+  pub nowhere : times (the now.0).at.seat (the now.0).stood ≡ 0
+  pub since : HasSince None (the me.0) (the now.0)
 
-  -- a seat that has set its flag stands in no list
-  pub stands_nowhere : (aim : Aim C) (arrival : Arrival) (last : Word) (me now : SeatOf C N) → IsAt truths (InAcquire aim (Queue arrival last)) now → Performed truths None ArmFlag Made me now → times (the now.0).at.seat (the now.0).stood ≡ 0
-  stands_nowhere aim arrival last me now at p = let f = counts_on truths ArmFlag Made me now (InAcquire aim (Queue arrival last)) p at.walks in subst (λ (lists : Lists C). times (the now.0).at.seat lists ≡ 0) f.1 f.4.1
+pub arms : {C : Type 0} {N : ℕ} (truths : Truths C) (walk place : Walk C) (me now : SeatOf C N) → got_of N walk Made ≡ On place → has_queues (Some walk) ≡ true → has_queues (Some place) ≡ true → awaits (Some place) ≡ false → IsAt truths walk me → HasTaken me → Performed truths None ArmFlag Made me now → HasArmed truths place me now
+arms {C} {N} truths walk place me now goes has stays waits at taken p =
+    let s = stays_arming truths me now p (ap has_queues at.walks ∙ has) in
+    let there = goes_on truths walk ArmFlag Made (On place) me now at goes (λ e. absurd (let f : true ≡ false = sym stays ∙ e in cc)) p in
+    record { at = there; taken = still_carries (λ (v : GateView C N). v.stood) me now s.stood s taken; kept = s; nowhere = nowhere_now truths ArmFlag Made me now p (ap awaits there.walks ∙ waits); since = since truths None ArmFlag Made me now p }

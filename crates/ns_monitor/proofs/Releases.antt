@@ -1,10 +1,11 @@
 -- A scan of the lock list with the queues in hand, by a release or by a wait: what it takes and leaves.
 use Rattle.std.proofs.Common.{◌≡◌, ℕ, ◌==◌, Bool, true, false, not, ◌&&◌, ◌||◌, cond, List, [], ◌∷◌, length, filter, Option, None, Some, is_some, refl, ap, sym, ◌∙◌, ne_eqb, arith}
 use Rattle.std.specs.List.{list_any}
-use Rattle.ns_gate.specs.Prelude.{SeatOf, HasSince, IsAt, the, Carries, HasTaken, lists_returned, some_returned, Truths, Lists, is_eligible, is_satisfied, left_of, woken_of, has_condition, reads, seats_of, writes, Waiter, row_in, bits_of, has_some, meets_at, waits_at, with_lock, Walk, Bits, Word}
+use Rattle.ns_gate.specs.Prelude.{SeatOf, the, Carries, lists_returned, Subject, OnCondition, OnVariable, some_returned, Truths, Lists, is_eligible, is_satisfied, left_of, woken_of, has_condition, reads, seats_of, writes, Waiter, row_in, bits_of, has_some, meets_at, waits_at, with_lock, Walk, Bits, Word}
 use Rattle.ns_gate.specs.declared.queues.Returning.{Returning}
 use Rattle.ns_gate.specs.declared.queues.Returning.TheVariants.{Changed, Released, Waited}
 use Rattle.ns_monitor.specs.Standing.{HasInHand}
+use Rattle.ns_monitor.specs.Tests.{HasRow, IsReady, ScansAs, lacks_row}
 
 -- ---- the scan
 
@@ -50,16 +51,17 @@ module _ {C : Type 0} (meets other : C → Bool) where
       let first = as_eligible w n.0 in let rest = others_same ws n.1 in let others = left_same ws n.1 in
       λ i. cond (first i) (cond (writes w) ws (rest i)) (w ∷ others i)
 
--- a scan at this row takes and leaves the same as one at that
-pub record ScansAs {C : Type 0} (truths : Truths C) (row held : List ℕ) (lock : List (Waiter C)) : Type 0 where
-  pub woken : woken_of (meets_at truths row) lock ≡ woken_of (meets_at truths held) lock
-  pub left : left_of (meets_at truths row) lock ≡ left_of (meets_at truths held) lock
-
+-- where no waiter has a condition, and where the row is the same
 pub scans_plain : {C : Type 0} (truths : Truths C) (row held : List ℕ) (lock : List (Waiter C)) → list_any has_condition lock ≡ false → ScansAs truths row held lock
 scans_plain truths row held lock none = record { woken = woken_same (meets_at truths row) (meets_at truths held) lock none; left = left_same (meets_at truths row) (meets_at truths held) lock none }
 
 pub scans_row : {C : Type 0} (truths : Truths C) (row held : List ℕ) (lock : List (Waiter C)) → row ≡ held → ScansAs truths row held lock
 scans_row truths row held lock is = record { woken = ap (λ r. woken_of (meets_at truths r) lock) is; left = ap (λ r. left_of (meets_at truths r) lock) is }
+
+-- a wait with its row at hand needs no other where it lacks none
+pub scans_at_hand : {C : Type 0} (truths : Truths C) (on : Subject C) (word : Word) (row held : List ℕ) (lock : List (Waiter C)) → HasRow on row held → word.cond ≡ list_any has_condition lock → lacks_row on word ≡ false → ScansAs truths row held lock
+scans_at_hand truths (OnCondition c) word row held lock has tells full = scans_row truths row held lock has
+scans_at_hand truths (OnVariable k) word row held lock has tells full = scans_plain truths row held lock (sym tells ∙ full)
 
 -- somebody was taken where seats of such were told
 pub took_some : {C : Type 0} (ws : List (Waiter C)) (items : List ℕ) → items ≡ seats_of ws → not (length items == 0) ≡ has_some ws
@@ -67,13 +69,6 @@ took_some [] items is = ap (λ (ns : List ℕ). not (length ns == 0)) is
 took_some (w ∷ ws) items is = ap (λ (ns : List ℕ). not (length ns == 0)) is ∙ ap not (ne_eqb (length (seats_of (w ∷ ws))) 0 (λ e. omega (arith, e)))
 
 -- ---- in a call
-
--- A call has the queues in hand as they stood, and a row at which a scan takes and leaves the same as at its section's.
-pub record IsReady {C : Type 0} {N : ℕ} (truths : Truths C) (walk : Walk C) (row : List ℕ) (start me : SeatOf C N) : Type 0 where
-  pub at : IsAt truths walk me
-  pub taken : HasTaken me
-  pub scans : ScansAs truths row (row_in (the me.0).at.held) (the me.0).stood.lock
-  pub since : HasSince None (the start.0) (the me.0)
 
 -- what a scan at one row leaves in hand is what one at the other does
 same_hand : {C : Type 0} (truths : Truths C) (returning : Returning C) (seat : ℕ) (last : Word) (row held : List ℕ) (stood : Lists C) → ScansAs truths row held stood.lock
@@ -84,10 +79,10 @@ same_hand truths (Waited wait again) seat last row held stood scans = (ap (λ lo
 
 module _ {C : Type 0} {N : ℕ} (truths : Truths C) where
   -- what a scan at this row has made of the queues in hand is what is put back
-  pub hand_scanned : (returning : Returning C) (walk : Walk C) (row : List ℕ) (number : ℕ) (some : Bool) (bits : Bits) (start me now : SeatOf C N) → IsReady truths walk row start me → number ≡ (the me.0).at.seat → now.0 ≡ me.0
+  pub hand_scanned : (returning : Returning C) (walk : Walk C) (row : List ℕ) (number : ℕ) (some : Bool) (bits : Bits) (me now : SeatOf C N) → IsReady truths walk row me → number ≡ (the me.0).at.seat → now.0 ≡ me.0
       → ((last : Word) → Carries (lists_returned truths number returning last row (the me.0).stood) now) → ((last : Word) → some ≡ some_returned truths returning last row (the me.0).stood) → ((last : Word) → bits ≡ bits_of (lists_returned truths number returning last row (the me.0).stood).lock)
       → HasInHand truths returning (record { some = some; bits = bits }) now
-  hand_scanned returning walk row number some bits start me now ready is same carries took tells = record {
+  hand_scanned returning walk row number some bits me now ready is same carries took tells = record {
     carries = λ last. carries last ∙ ap (λ lists. (0, lists) ∷ []) (left last);
     some = λ last. took last ∙ ((same_hand truths returning number last row (row_in (the me.0).at.held) (the me.0).stood ready.scans).1 ∙ (λ i. some_returned truths returning last (row_in (the (sym same i)).at.held) (the (sym same i)).stood));
     bits = λ last. tells last ∙ ap (λ (lists : Lists C). bits_of lists.lock) (left last);
@@ -96,11 +91,5 @@ module _ {C : Type 0} {N : ℕ} (truths : Truths C) where
     left last = (same_hand truths returning number last row (row_in (the me.0).at.held) (the me.0).stood ready.scans).0 ∙ ((λ i. lists_returned truths (is i) returning last (row_in (the me.0).at.held) (the me.0).stood) ∙ (λ i. lists_returned truths (the (sym same i)).at.seat returning last (row_in (the (sym same i)).at.held) (the (sym same i)).stood))
 
   -- and it took those whom it told
-  pub woken_is : (walk : Walk C) (row items : List ℕ) (start me now : SeatOf C N) → IsReady truths walk row start me → now.0 ≡ me.0 → items ≡ seats_of (woken_of (meets_at truths row) (the me.0).stood.lock) → items ≡ seats_of (woken_of (meets_at truths (row_in (the now.0).at.held)) (the now.0).stood.lock)
-  woken_is walk row items start me now ready same is = is ∙ (ap seats_of ready.scans.woken ∙ (λ i. seats_of (woken_of (meets_at truths (row_in (the (sym same i)).at.held)) (the (sym same i)).stood.lock)))
-
-  pub ready_plain : (walk : Walk C) (row : List ℕ) (cond : Bool) (start me : SeatOf C N) → cond ≡ false → HasSince None (the start.0) (the me.0) → IsAt truths walk me → HasTaken me → cond ≡ (bits_of (the me.0).stood.lock).conditional → IsReady truths walk row start me
-  ready_plain walk row cond start me none since at taken tells = record { at = at; taken = taken; scans = scans_plain truths row (row_in (the me.0).at.held) (the me.0).stood.lock (sym tells ∙ none); since = since }
-
-  pub ready_by_row : (walk : Walk C) (row : List ℕ) (start me : SeatOf C N) → row ≡ row_in (the me.0).at.held → HasSince None (the start.0) (the me.0) → IsAt truths walk me → HasTaken me → IsReady truths walk row start me
-  ready_by_row walk row start me is since at taken = record { at = at; taken = taken; scans = scans_row truths row (row_in (the me.0).at.held) (the me.0).stood.lock is; since = since }
+  pub woken_is : (walk : Walk C) (row items : List ℕ) (me now : SeatOf C N) → IsReady truths walk row me → now.0 ≡ me.0 → items ≡ seats_of (woken_of (meets_at truths row) (the me.0).stood.lock) → items ≡ seats_of (woken_of (meets_at truths (row_in (the now.0).at.held)) (the now.0).stood.lock)
+  woken_is walk row items me now ready same is = is ∙ (ap seats_of ready.scans.woken ∙ (λ i. seats_of (woken_of (meets_at truths (row_in (the (sym same i)).at.held)) (the (sym same i)).stood.lock)))

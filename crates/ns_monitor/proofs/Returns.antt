@@ -2,20 +2,24 @@
 use Rattle.std.proofs.Common.{◌≡◌, ℕ, ◌-◌, Bool, true, false, cond, List, [], ◌∷◌, ◌++◌, append-nil, ◌⊎◌, inl, inr, option_map, Option, None, Some, refl, ap, sym, ◌∙◌, subst}
 use Rattle.ns_gate.proofs.Calls.{goes}
 use Rattle.ns_gate.proofs.Tells.{does}
-use Rattle.ns_gate.specs.Prelude.{SeatOf, HasAnswered, HasSince, IsAt, IsWide, Leads, the, Performed, Truths, Answer, Met, TimedOut, Canceled, Mode, TableId, row_after, EnvEvent, Event, CondWait, Course, ConditionWaitMeans, HasWaited, InHand, Unchanged, WaitMeans, Walk, HasMode, IsForCondition, PlaceFits, Tests, held_after, held_by, section_of, Part, answer_of, is_limited, back_with, got_queuing, look_or_queue, test_place, unmet_by, Look, Looked, Cause, Expired, Notified, Limits, Await, Held, SeatView, ForWait, Outcome, Load, LookIn, Subject, OnCondition, Visit, OnReturn, Wait, InQueuing, TestCells, TestLast, On, Answered, InWait}
+use Rattle.ns_gate.specs.Prelude.{SeatOf, HasAnswered, HasSince, IsAt, IsWide, Leads, the, Performed, Truths, Answer, Met, TimedOut, Canceled, Mode, TableId, row_after, EnvEvent, Event, CondWait, Course, ConditionWaitMeans, HasWaited, InHand, Unchanged, WaitMeans, Walk, HasMode, PlaceFits, Tests, held_after, held_by, section_of, Part, answer_of, is_limited, back_with, got_queuing, look_or_queue, test_place, unmet_by, Look, Looked, Cause, Expired, Notified, Limits, Await, Held, SeatView, ForWait, Outcome, Load, LookIn, Subject, OnCondition, Visit, OnReturn, Wait, InQueuing, TestCells, TestLast, On, Answered, InWait, IsInRange}
 use Rattle.ns_monitor.specs.Saved.{IsFresh, IsFreshIn}
 use Rattle.ns_monitor.specs.Standing.{HasAcquired}
-use Rattle.ns_monitor.specs.Tests.{tested_by, HasTested}
-use Rattle.ns_monitor.specs.Waits.{EndedBy, HadLooked, HasComeBack, HasStayed, HasWaitedFor, IfAnswered, QueuesOrEnds, WaitTells}
+use Rattle.ns_monitor.specs.Tests.{tested_by, HasRow, HasTested}
+use Rattle.ns_monitor.specs.Waits.{HadLooked, HasComeBack, HasStayed, HasWaitedFor, IfAnswered, QueuesOrEnds, WaitTells}
 use Rattle.ns_monitor.specs.Known.{Known, known_of}
 use Rattle.ns_monitor.specs.Limits.{LookShows}
 use Rattle.ns_monitor.specs.Walks.{limits_of}
 use Rattle.ns_note.specs.Known.{EnvKnown}
 use Rattle.ns_note.specs.declared.note.Note.{Note}
 
--- a wait for a condition is one
-pub is_for_condition : {C : Type 0} (on : Subject C) (c : C) → on ≡ OnCondition c → IsForCondition on
-is_for_condition on c is = subst IsForCondition (sym is) tt
+-- a wait for a condition is for something that there is
+pub in_range : {C : Type 0} (on : Subject C) (c : C) → on ≡ OnCondition c → IsInRange on
+in_range on c is = subst IsInRange (sym is) tt
+
+-- and has its row at hand
+pub has_row : {C : Type 0} (on : Subject C) (c : C) (row held : List ℕ) → on ≡ OnCondition c → row ≡ held → HasRow on row held
+has_row on c row held is same = subst (λ o. HasRow o row held) (sym is) same
 
 -- what is so of a cause is so of the answer that it makes
 pub ended_as : (so : Cause → Type 0) (cause : Cause) (answer : Answer) → answer ≡ answer_of cause → so cause → IfAnswered answer so

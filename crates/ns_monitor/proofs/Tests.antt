@@ -1,13 +1,13 @@
 -- The cells of the row are loaded one after another, step by step, and the test of a wait tells.
 use Rattle.std.proofs.Common.{◌≡◌, ℕ, ◌+◌, ◌-◌, ◌<◌, ◌≤◌, Bool, true, false, cond, List, [], ◌∷◌, length, length-set, set, get_or, Option, None, Some, refl, ap, sym, ◌∙◌, subst, arith, inl, inr, nat_lt, slice_index}
-use Rattle.std.proofs.lemmas.Bool.{cases_Bool, cases_eq, cond-false, cond-true, cond_both, le-ltb, lt-ltb, ltb-false, ltb-true}
+use Rattle.std.proofs.lemmas.Bool.{cases_Bool, cases_eq, cond-false, cond-true, cond_both, le-ltb, lt-ltb}
 use Rattle.std.proofs.lemmas.Grind.{same_number_lists}
 use Rattle.std.proofs.lemmas.List.{get_or-set_same, get_or-set_other}
 use Rattle.ns_monitor.proofs.Standing.{commits_none}
 use Rattle.ns_gate.proofs.Calls.{begins, goes_on, since, since_itself, since_then}
 use Rattle.ns_gate.proofs.Tells.{cell_in_hand, does}
-use Rattle.ns_gate.specs.Prelude.{SeatOf, HasAnswered, HasSince, IsAt, IsAtRest, IsWide, Leads, GateView, the, carried_by, CanStep, HasTaken, Performed, Truths, Write, Lists, asked_of, IsFirst, view_in, before_in, row_in, HasMode, IsForCondition, IsSettled, PlaceFits, Tests, Part, State, first_for, got_of, has_queues, release_has_queues, test_place, wait_has_queues, walk_after, want_of, Act, JudgeMet, JudgeQuiet, LoadCell, Found, Cell, Quiet, Tested, QuietCells, QuietLast, ToTell, ScanCells, ScanAndRelease, Await, IsQuiet, Held, SeatView, LoadToScan, QueueToWait, OnCondition, Visit, OnEntry, Wait, TestCells, TestLast, InQueuing, Next, On, Is, Walk, InRelease, InCells, InWait}
-use Rattle.ns_monitor.specs.Tests.{AreRead, HasGone, HasLoaded, HasTested, MayTest, StandsAt, loading, loading_at, tested_by}
+use Rattle.ns_gate.specs.Prelude.{SeatOf, HasAnswered, HasSince, IsAt, IsWide, Leads, GateView, the, carried_by, CanStep, HasTaken, Performed, Truths, Lists, asked_of, view_in, before_in, row_in, HasMode, IsSettled, PlaceFits, Tests, Part, State, got_of, has_queues, release_has_queues, wait_has_queues, walk_after, want_of, Act, JudgeMet, JudgeQuiet, LoadCell, Found, Cell, Quiet, Tested, QuietCells, QuietLast, ToTell, ScanCells, ScanAndRelease, Await, IsQuiet, Held, SeatView, LoadToScan, QueueToWait, Visit, OnEntry, Wait, TestCells, InQueuing, Next, On, Is, Walk, InRelease, InCells, InWait}
+use Rattle.ns_monitor.specs.Tests.{AreRead, HasGone, HasLoaded, HasTested, StandsAt, loading, loading_at, tested_by}
 use Rattle.ns_monitor.specs.Walks.{judging}
 
 -- ---- the row
@@ -29,9 +29,9 @@ all_read N row read wide are = let width = are.width in same_number_lists read r
 -- ---- the places
 
 -- what is made of one of two things is one of what is made of them
-moves : {A B : Type 0} (f : A → B) (b : Bool) (x y : A) → f (cond b x y) ≡ cond b (f x) (f y)
-moves f true x y = refl
-moves f false x y = refl
+pub moves_in : {A B : Type 0} (f : A → B) (b : Bool) (x y : A) → f (cond b x y) ≡ cond b (f x) (f y)
+moves_in f true x y = refl
+moves_in f false x y = refl
 
 -- about to load a cell it wants that, and then stands where it has loaded one more, with the queues or without them as before
 record LoadsAt {C : Type 0} (N : ℕ) (walk : Walk C) (i : ℕ) : Type 0 where
@@ -50,10 +50,10 @@ module _ {C : Type 0} (N : ℕ) where
 
   placed : (walk : Walk C) (k : ℕ) → loading_at N walk k ≡ cond (nat_lt k (loading N walk).count) ((loading N walk).at k) (loading N walk).last
   placed (InWait wait (TestCells visit i)) k = refl
-  placed (InCells (QuietCells judges i)) k = moves (λ place. InCells place) _ (QuietCells judges k) (QuietLast judges (N - 1))
-  placed (InRelease releasing (ScanCells word i)) k = moves (λ place. InRelease releasing place) _ (ScanCells word k) (ScanAndRelease word)
-  placed (InWait wait (InQueuing again (LoadToScan word i))) k = moves (λ place. InWait wait (InQueuing again place)) _ (LoadToScan word k) (QueueToWait word)
-  placed walk k = moves (λ (b : Bool). walk) _ true false
+  placed (InCells (QuietCells judges i)) k = moves_in (λ place. InCells place) _ (QuietCells judges k) (QuietLast judges (N - 1))
+  placed (InRelease releasing (ScanCells word i)) k = moves_in (λ place. InRelease releasing place) _ (ScanCells word k) (ScanAndRelease word)
+  placed (InWait wait (InQueuing again (LoadToScan word i))) k = moves_in (λ place. InWait wait (InQueuing again place)) _ (LoadToScan word k) (QueueToWait word)
+  placed walk k = moves_in (λ (b : Bool). walk) _ true false
 
   at_cell : (walk : Walk C) (i : ℕ) → i < (loading N walk).count → loading_at N walk i ≡ (loading N walk).at i
   at_cell walk i low = placed walk i ∙ cond-true _ _ _ (lt-ltb i (loading N walk).count low)

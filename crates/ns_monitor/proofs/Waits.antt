@@ -1,22 +1,27 @@
 -- A wait outside, step by step: it queues, waits to be woken or ended, and may leave its list.
-use Rattle.std.proofs.Common.{◌≡◌, ◌≢◌, ℕ, Bool, true, false, cond, nat_lt, ne_eqb, List, Option, None, Some, refl, ap, sym, ◌∙◌, subst}
-use Rattle.ns_gate.proofs.Calls.{goes, goes_on, since, since_then}
-use Rattle.ns_gate.proofs.Stays.{counts_on, stays_arming, still_carries}
-use Rattle.ns_gate.specs.Prelude.{SeatOf, HasSince, IsAt, Leads, GateView, the, Performed, Truths, IsList, Lists, times, waiters_of, times_in, Which, row_in, IsForCondition, IsInRange, arrival_of, home_of, is_limited, outcome_taken, woken_by, armed_place, got_of, has_queues, rest_or_look, AcquireLoad, ArmFlag, LoadFlag, Look, LeaveSelf, Flag, Looked, Made, Cause, Await, ForWait, AwaitWakeToLeave, Leave, LeaveLoad, Outcome, Ended, ArmToWait, Load, QueueToWait, Subject, OnCondition, OnVariable, Wait, AwaitWakeInWait, InLeaving, InQueuing, LookOut, Idle, On, InAcquire, InWait, Arrival, AsFresh, Word}
+use Rattle.std.proofs.Common.{◌≡◌, ◌≢◌, ℕ, Bool, true, false, cond, nat_lt, ne_eqb, Option, None, Some, refl, ap, sym, ◌∙◌, subst}
+use Rattle.std.proofs.lemmas.Bool.{cond_both}
+use Rattle.ns_gate.proofs.Calls.{goes}
+use Rattle.ns_gate.specs.Prelude.{SeatOf, IsAt, Leads, the, Performed, Truths, IsList, waiters_of, times_in, Which, IsInRange, arrival_of, home_of, is_limited, outcome_taken, woken_by, armed_place, got_of, rest_or_look, AcquireLoad, ArmFlag, LoadFlag, Look, LeaveSelf, Flag, Looked, Made, Cause, Await, ForWait, AwaitWakeToLeave, Leave, LeaveLoad, Outcome, Ended, ArmToWait, Load, QueueToWait, Subject, OnCondition, OnVariable, Wait, AwaitWakeInWait, InLeaving, InQueuing, LookOut, Idle, On, InAcquire, InWait, Arrival, AsFresh, Word, LoadToScan, wait_has_queues}
 use Rattle.ns_gate.specs.declared.queues.Returning.TheVariants.{Changed}
-use Rattle.ns_monitor.proofs.Releases.{scans_row, IsReady}
-use Rattle.ns_monitor.specs.Standing.{found_back, HasTakenAt, Sleeps}
+use Rattle.ns_word.specs.Walks.{load_place}
+use Rattle.ns_monitor.proofs.Locks.{HasArmed, arms}
+use Rattle.ns_monitor.proofs.Tests.{moves_in}
+use Rattle.ns_monitor.specs.Tests.{lacks_row}
+use Rattle.ns_monitor.specs.Standing.{found_back, HasTakenAt}
 
 module _ {C : Type 0} where
-  -- a wait for a condition has its row when it queues, and stands in a list that there is
-  armed_to_queue : (N : ℕ) (on : Subject C) (last : Word) → IsForCondition on → armed_place N on last ≡ QueueToWait last
-  armed_to_queue N (OnCondition c) last is = refl
-  armed_to_queue N (OnVariable k) last is = absurd is
+  -- where a wait goes that has set its flag: to load the row, where it lacks it
+  armed_at : (N : ℕ) (on : Subject C) (last : Word) → armed_place N on last ≡ cond (lacks_row on last) (load_place N last 0) (QueueToWait last)
+  armed_at N (OnCondition c) last = refl
+  armed_at N (OnVariable k) last = refl
 
-  pub in_range : (on : Subject C) → IsForCondition on → IsInRange on
-  in_range (OnCondition c) is = tt
-  in_range (OnVariable k) is = absurd is
+  -- with the queues in hand, in either case
+  armed_has : (N : ℕ) (again : Bool) (on : Subject C) (last : Word) → wait_has_queues (InQueuing again (armed_place N on last)) ≡ true
+  armed_has N again (OnCondition c) last = refl
+  armed_has N again (OnVariable k) last = cond_both _ (load_place N last 0) (QueueToWait last) (λ place. wait_has_queues (InQueuing again place) ≡ true) (λ _. cond_both _ (LoadToScan last 0) (QueueToWait last) (λ place. wait_has_queues (InQueuing again place) ≡ true) (λ _. refl) (λ _. refl)) (λ _. refl)
 
+  -- it stands in a list that there is
   pub home_there : (on : Subject C) → IsInRange on → IsList (home_of on)
   home_there (OnCondition c) is = tt
   home_there (OnVariable k) is = is
@@ -28,21 +33,12 @@ module _ {C : Type 0} where
 module _ {C : Type 0} {N : ℕ} (truths : Truths C) where
   -- ---- it queues
 
-  -- it has set its flag: it stands in no list, and its row is at hand for the scan
-  pub arms : (wait : Wait C) (again : Bool) (last : Word) (row : List ℕ) (start me now : SeatOf C N) → IsForCondition wait.on → row ≡ row_in (the start.0).at.held → HasSince None (the start.0) (the me.0) → HasTakenAt truths (InWait wait (InQueuing again Load)) last start me → Performed truths None ArmFlag Made me now
-      → IsReady truths (InWait wait (InQueuing again (QueueToWait last))) row start now × (times (the now.0).at.seat (the now.0).stood ≡ 0)
-  arms wait again last row start me now on row_is before took p =
-      let s = stays_arming truths me now p (ap has_queues took.at.walks) in
-      let at = goes_on truths (InWait wait (InQueuing again (ArmToWait last))) ArmFlag Made (On (InWait wait (InQueuing again (QueueToWait last)))) me now took.at (ap (λ place. On (InWait wait (InQueuing again place))) (armed_to_queue N wait.on last on)) (λ e. absurd (let f : true ≡ false = e in cc)) p in
-      let f = counts_on truths ArmFlag Made me now (InWait wait (InQueuing again (QueueToWait last))) p at.walks in (
-        record {
-          at = at;
-          taken = still_carries (λ (w : GateView C N). w.stood) me now s.stood s took.taken;
-          scans = scans_row truths row (row_in (the now.0).at.held) (the now.0).stood.lock (row_is ∙ ap row_in (sym (s.held ∙ took.held)));
-          since = since_then None _ _ _ before (since truths None ArmFlag Made me now p);
-        },
-        subst (λ (lists : Lists C). times (the now.0).at.seat lists ≡ 0) f.1 f.4.3,
-      )
+  -- it has set its flag, and is about to load the row, or has it
+  pub arms_to_wait : (wait : Wait C) (again : Bool) (last : Word) (start me now : SeatOf C N) → HasTakenAt truths (InWait wait (InQueuing again Load)) last start me → Performed truths None ArmFlag Made me now → HasArmed truths (InWait wait (InQueuing again (armed_place N wait.on last))) me now
+  arms_to_wait wait again last start me now took p = arms truths (InWait wait (InQueuing again (ArmToWait last))) (InWait wait (InQueuing again (armed_place N wait.on last))) me now refl refl (armed_has N again wait.on last) refl took.at took.taken p
+
+  pub loads_or_queues : (wait : Wait C) (again : Bool) (last : Word) (lacks : Bool) (me : SeatOf C N) → lacks ≡ lacks_row wait.on last → IsAt truths (InWait wait (InQueuing again (armed_place N wait.on last))) me → IsAt truths (cond lacks (InWait wait (InQueuing again (load_place N last 0))) (InWait wait (InQueuing again (QueueToWait last)))) me
+  loads_or_queues wait again last lacks me is at = subst (λ w. IsAt truths w me) (ap (λ place. InWait wait (InQueuing again place)) (armed_at N wait.on last ∙ ap (λ b. cond b (load_place N last 0) (QueueToWait last)) (sym is)) ∙ moves_in (λ place. InWait wait (InQueuing again place)) lacks (load_place N last 0) (QueueToWait last)) at
 
   -- ---- it leaves its list
 

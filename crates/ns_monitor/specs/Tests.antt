@@ -1,11 +1,17 @@
 -- How a call loads the cells of the row one after another, and what the test of a wait tells.
-use Rattle.std.specs.Prelude.{◌≡◌, ℕ, ◌-◌, ◌<◌, if◌then◌else◌, List, length, slice_index, Bool, Option, None, Some}
+use Rattle.std.specs.Prelude.{◌≡◌, ℕ, ◌-◌, ◌<◌, if◌then◌else◌, List, length, slice_index, Bool, false, Option, None, Some}
 use Rattle.ns_gate.specs.Calls.{SeatOf, HasSince, IsAt, IsAtRest, Leads}
 use Rattle.ns_gate.specs.Law.{GateView}
 use Rattle.ns_gate.specs.Steps.{the, HasTaken}
 use Rattle.ns_model.specs.Truths.{Truths}
 use Rattle.ns_model.specs.declared.event.Answer.TheVariants.{Met}
+use Rattle.ns_queue.specs.Scans.{left_of, woken_of}
+use Rattle.ns_queue.specs.declared.waiter.Waiter.{Waiter}
 use Rattle.ns_word.specs.Begins.{IsFirst}
+use Rattle.ns_word.specs.Steps.{meets_at}
+use Rattle.ns_word.specs.declared.wait.Subject.{Subject}
+use Rattle.ns_word.specs.declared.wait.Subject.TheVariants.{OnCondition, OnVariable}
+use Rattle.ns_word.specs.declared.word.Word.{Word}
 use Rattle.ns_word.specs.Finds.{row_in}
 use Rattle.ns_word.specs.Places.{HasMode, PlaceFits}
 use Rattle.ns_word.specs.Walks.{load_place, quiet_place, scan_place, test_place, unmet_by, wait_first}
@@ -90,3 +96,26 @@ pub record HasTested {C : Type 0} {N : ℕ} (truths : Truths C) (wait : Wait C) 
   pub mine : (the now.0).told.mine ≡ (the me.0).told.mine
   pub row_is : row ≡ row_in (the me.0).at.held
   pub is : met ≡ truths.holds c row
+
+-- ---- the row of a scan
+
+-- a scan of the lock list at this row takes and leaves the same as one at that
+pub record ScansAs {C : Type 0} (truths : Truths C) (row held : List ℕ) (lock : List (Waiter C)) : Type 0 where
+  pub woken : woken_of (meets_at truths row) lock ≡ woken_of (meets_at truths held) lock
+  pub left : left_of (meets_at truths row) lock ≡ left_of (meets_at truths held) lock
+
+-- A call has the queues in hand as they stood, and a row at which a scan takes and leaves the same as at its section's.
+pub record IsReady {C : Type 0} {N : ℕ} (truths : Truths C) (walk : Walk C) (row : List ℕ) (me : SeatOf C N) : Type 0 where
+  pub at : IsAt truths walk me
+  pub taken : HasTaken me
+  pub scans : ScansAs truths row (row_in (the me.0).at.held) (the me.0).stood.lock
+
+-- a wait for a condition has this row at hand, since it has tested it; one for a variable has none
+abbrev pub HasRow : {C : Type 0} → Subject C → List ℕ → List ℕ → Type 0
+HasRow (OnCondition c) row held = row ≡ held
+HasRow (OnVariable k) row held = Unit {0}
+
+-- so it has to load it where some waiter has a condition, as the word tells
+abbrev pub lacks_row : {C : Type 0} → Subject C → Word → Bool
+lacks_row (OnCondition c) word = false
+lacks_row (OnVariable k) word = word.cond

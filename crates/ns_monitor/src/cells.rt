@@ -1,9 +1,9 @@
 //! Calls that load the cells of the row one after another: a wait that tests its condition, a question
 //! whether the section is quiet, and a scan.
 
-ghost use Rattle.std.specs.Prelude.{◌≡◌, ◌≤◌, None, Some};
+ghost use Rattle.std.specs.Prelude.{◌≡◌, ◌≤◌, None, Some, false, if◌then◌else◌};
 ghost use Rattle.ns_gate.specs.Prelude.{Write, before_in, row_in, HasMode, IsQuiet, OnCondition, Is, HasAnswered, HasSince, IsAt, IsAtRest, HasTaken, the};
-ghost use Rattle.ns_monitor.specs.Tests.{HasLoaded, HasTested, MayTest, StandsAt, loading, loading_at};
+ghost use Rattle.ns_monitor.specs.Tests.{HasLoaded, HasTested, IsReady, MayTest, ScansAs, StandsAt, loading, loading_at};
 ghost use Rattle.ns_monitor.specs.Walks.{judging};
 
 use crate::monitor::Monitor;
@@ -80,18 +80,28 @@ impl<C: Gated<N>, const N: usize> Monitor<C, N> {
         row
     }
 
-    /// Loads the whole row for a scan, with the queues in hand. No code reads the place.
-    pub(crate) fn load_to_scan(&self, seat: &mut GateSeat<C, N>, walk: Walk<C>, row: &mut [u64; N])
+    /// Makes a row ready for a scan, with the queues in hand: loads it whole, where that is needed, and
+    /// leaves it as it is where a scan takes and leaves the same at it. No code reads the place.
+    pub(crate) fn load_to_scan(
+        &self,
+        seat: &mut GateSeat<C, N>,
+        needed: bool,
+        walk: Walk<C>,
+        row: &mut [u64; N],
+    )
         requires of { seat.old.table_id ≡ self.now }
         requires scans { (loading N walk).count ≡ N }
-        requires at { IsAt C.means (loading_at N walk 0) seat.old.me }
+        requires at { IsAt C.means (if needed then loading_at N walk 0 else (loading N walk).last) seat.old.me }
         requires taken { HasTaken seat.old.me }
+        requires ready { needed ≡ false → ScansAs C.means row.old (row_in (the seat.old.me.0).at.held) (the seat.old.me.0).stood.lock }
         ensures seat { seat.new.table_id ≡ self.now }
         ensures since { HasSince None (the seat.old.me.0) (the seat.new.me.0) }
-        ensures at { IsAt C.means (loading N walk).last seat.new.me }
-        ensures taken { HasTaken seat.new.me × ((the seat.new.me.0).stood ≡ (the seat.old.me.0).stood) }
-        ensures row { (row.new ≡ row_in (the seat.old.me.0).at.held) × ((the seat.new.me.0).at.held ≡ (the seat.old.me.0).at.held) }
+        ensures ready { IsReady C.means (loading N walk).last row.new seat.new.me }
+        ensures stood { (the seat.new.me.0).stood ≡ (the seat.old.me.0).stood }
     {
+        if !needed {
+            return;
+        }
         self.load_cells(seat, None, walk, row, N);
     }
 }

@@ -61,10 +61,8 @@ impl<C: Gated<N>, const N: usize> Monitor<C, N> {
         ensures released { HasAnswered C.means (TheRequest.Release releasing) Succeeded seat.new.me }
     {
         let mut row = [0; N];
-        if word.cond {
-            let place = Walk::InRelease(releasing, ReleasePlace::ScanCells(word, 0));
-            self.load_to_scan(seat, place, &mut row);
-        }
+        let place = Walk::InRelease(releasing, ReleasePlace::ScanCells(word, 0));
+        self.load_to_scan(seat, word.cond, place, &mut row);
         let (scan, bits) = self.gate.scan_in_hand(seat, &row);
         let some = !scan.woken.is_empty();
         let returning = Returning::Released(releasing);

@@ -1,8 +1,9 @@
 //! A wait outside: it leaves its section and queues, waits to be woken or ended, and may leave its list.
 
 ghost use Rattle.std.specs.Prelude.{◌≡◌, ◌≢◌, None, Some, IfErr, IfSome, true};
-ghost use Rattle.ns_gate.specs.Prelude.{row_in, IsForCondition, IsInRange, is_limited, AcquireLoad, ForWait, LeaveLoad, Load, AwaitWakeInWait, InLeaving, InQueuing, InAcquire, InWait, HasSince, IsAt, the};
+ghost use Rattle.ns_gate.specs.Prelude.{row_in, IsInRange, is_limited, AcquireLoad, ForWait, LeaveLoad, Load, AwaitWakeInWait, InLeaving, InQueuing, InAcquire, InWait, HasSince, IsAt, the};
 ghost use Rattle.ns_monitor.specs.Standing.{IsNumberOf};
+ghost use Rattle.ns_monitor.specs.Tests.{HasRow, lacks_row};
 ghost use Rattle.ns_monitor.specs.Waits.{IfEnded, WokenOrEnded};
 
 use crate::monitor::Monitor;
@@ -13,14 +14,27 @@ use ns_gate::queues::{Returning, Turned};
 use ns_gate::room::Gated;
 use ns_word::act::Change;
 use ns_word::limits::Cause;
-use ns_word::wait::{LeavePlace, Outcome, QueuePlace, Wait as Waiting, WaitPlace, arrival_of};
+use ns_word::wait::{
+    LeavePlace, Outcome, QueuePlace, Subject, Wait as Waiting, WaitPlace, arrival_of,
+};
 use ns_word::walk::Walk;
-use ns_word::word::Arrival;
+use ns_word::word::{Arrival, Word};
 use std::sync::Wait;
 
+/// Whether a wait for this has no row at hand and needs it, since some waiter has a condition: one for a
+/// condition has loaded the row before.
+fn lacks_row<C: Copy>(on: Subject<C>, word: Word) -> bool
+    ensures { result ≡ lacks_row on word }
+{
+    match on {
+        Subject::OnCondition(_) => false,
+        Subject::OnVariable(_) => word.cond,
+    }
+}
+
 impl<C: Gated<N>, const N: usize> Monitor<C, N> {
-    /// Leaves the section in hand for a wait, whose condition is false of this row of it, and wakes
-    /// those waiters who can go on.
+    /// Leaves the section in hand for a wait, and wakes those waiters who can go on. Where it is for a
+    /// condition, this is the section's row; else the row is loaded into it where a scan needs it.
     pub(crate) fn queue_to_wait<R: Wait>(
         &self,
         rt: &R,
@@ -28,13 +42,13 @@ impl<C: Gated<N>, const N: usize> Monitor<C, N> {
         number: u8,
         wait: Waiting<C>,
         again: bool,
-        row: &[u64; N],
+        row: &mut [u64; N],
     )
         requires of { seat.old.table_id ≡ self.now }
         requires number { IsNumberOf number seat.old.me }
-        requires on { IsForCondition wait.on }
+        requires range { IsInRange wait.on }
         requires at { IsAt C.means (InWait wait (InQueuing again Load)) seat.old.me }
-        requires row { row.now ≡ row_in (the seat.old.me.0).at.held }
+        requires row { HasRow wait.on row.old (row_in (the seat.old.me.0).at.held) }
         ensures seat { seat.new.table_id ≡ self.now }
         ensures since { HasSince None (the seat.old.me.0) (the seat.new.me.0) }
         ensures waits { IsAt C.means (InWait wait AwaitWakeInWait) seat.new.me }
@@ -42,6 +56,9 @@ impl<C: Gated<N>, const N: usize> Monitor<C, N> {
         let place = Walk::InWait(wait, WaitPlace::InQueuing(again, QueuePlace::Load));
         let word = self.take(rt, seat, place);
         self.gate.arm_flag(seat, number);
+        let loads = QueuePlace::LoadToScan(word, 0);
+        let place = Walk::InWait(wait, WaitPlace::InQueuing(again, loads));
+        self.load_to_scan(seat, lacks_row(wait.on, word), place, row);
         let (scan, bits) = self
             .gate
             .scan_and_queue_in_hand(seat, row, number, wait, again);

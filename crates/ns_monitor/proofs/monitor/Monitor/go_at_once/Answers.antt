@@ -1,4 +1,4 @@
-use Rattle.std.proofs.Common.{◌≡◌, ◌∙◌, ap, not, refl, subst, sym, arith, None, Some, true}
+use Rattle.std.proofs.Common.{◌≡◌, ◌∙◌, refl, subst, sym, arith, None, Some, true}
 use Rattle.ns_gate.specs.Prelude.{TableId, HasSince, IsAt, Leads, the, CanStep, Performed, asked_of, IsPackable, got_of, Made, Saw, Word}
 use Rattle.ns_gate.proofs.Calls.{since, since_then}
 use Rattle.ns_monitor.proofs.Standing.{can_go_by, goes_alone, goes_by, loads_first, may_by, may_now, misses, same_word}
@@ -40,4 +40,4 @@ pub returns-in-Err-clause-went : goal.returns-in-Err-clause-went
 returns-in-Err-clause-went g c = let t = g.C.Condition.means in let walk = c.args.walk in let word = c.load-word.result in let other = c.in-Err.other in let me = c.load-word.new.seat.me in let now = c.exchange_to_go.new.seat.me in let is = c.requires.going in
     let may = (may_by c.args.going walk word c.may_go.result true is c.may_go.ensures c.if-not-may_go.false).1 in
     subst (λ (w : Word). IsPackable w × Leads t (asked_of walk) (got_of g.row.N walk (Saw w)) now) (same_word other c.encode.result c.encode.ensures)
-        (c.in-Err.ensures.word, misses t walk word other me now c.requires.decides may (at g (goal.at.returns-in-Err-clause-went g c).After-load-word may) (subst (λ x. Performed t None (going_act x word) (Saw other) me now) is c.in-Err.ensures.did))
+    (c.in-Err.ensures.word, misses t walk word other me now c.requires.decides may (at g (goal.at.returns-in-Err-clause-went g c).After-load-word may) (subst (λ x. Performed t None (going_act x word) (Saw other) me now) is c.in-Err.ensures.did))

@@ -1,9 +1,8 @@
 use Rattle.std.proofs.Common.{◌≡◌, ◌∙◌, sym, subst, ap, refl, arith, None, Some, IfSome, true, false}
 use Rattle.ns_gate.specs.Prelude.{TableId, HasAnswered, HasSince, Leads, the, row_in, is_limited, unmet_by, Cause, Await, OnReturn, Answered}
 use Rattle.ns_gate.proofs.Calls.{since_itself, since_then}
-use Rattle.ns_monitor.proofs.Returns.{back_to_test, comes_fresh, ended_as, is_for_condition, met_now, unmet_now}
+use Rattle.ns_monitor.proofs.Returns.{back_to_test, comes_fresh, ended_as, has_row, in_range, met_now, unmet_now}
 use Rattle.ns_monitor.proofs.Standing.{same_number}
-use Rattle.ns_monitor.proofs.Waits.{in_range}
 use Rattle.ns_monitor.specs.Saved.{IsFreshIn}
 use Rattle.ns_monitor.specs.Waits.{IfEnded, QueuesOrEnds}
 use Rattle.ns_monitor.proofs.monitor.Monitor.wait_on.Given.{Over}
@@ -15,11 +14,11 @@ loop-init g c = (tt, tt, refl, since_itself (the c.args.seat.now.me.0), g.W.Watc
 
 pub queue_to_wait-requires : goal.queue_to_wait-requires
 queue_to_wait-requires g c = let inv = c.loop.invariant in
-    (omega arith, (g.met.C.Gated.queues_fit, (omega arith, (omega (arith, g.met.C.Condition.has_cells), (◌∙◌ {A = TableId} inv.2 c.requires.of, (same_number g.C.Condition.means None c.args.number c.args.seat.now.me c.loop.seat.me c.requires.number inv.3, (is_for_condition c.args.wait.on c.args.condition c.requires.on, (inv.5, inv.6))))))))
+    (omega arith, (g.met.C.Gated.queues_fit, (omega arith, (omega (arith, g.met.C.Condition.has_cells), (◌∙◌ {A = TableId} inv.2 c.requires.of, (same_number g.C.Condition.means None c.args.number c.args.seat.now.me c.loop.seat.me c.requires.number inv.3, (in_range c.args.wait.on c.args.condition c.requires.on, (inv.5, has_row c.args.wait.on c.args.condition c.loop.row _ c.requires.on inv.6))))))))
 
 pub await_in-arrival-requires : goal.await_in-arrival-requires
 await_in-arrival-requires g c = let inv = c.loop.invariant in let me = c.queue_to_wait.new.seat.me in
-    (omega arith, (g.met.C.Gated.queues_fit, (omega arith, (c.queue_to_wait.ensures.seat, (same_number g.C.Condition.means None c.args.number c.args.seat.now.me me c.requires.number (since_then None _ _ _ inv.3 c.queue_to_wait.ensures.since), (in_range c.args.wait.on (is_for_condition c.args.wait.on c.args.condition c.requires.on), (g.W.Watch.still c.args.watch.now c.loop.watch c.args.wait.limits inv.4 c.requires.watches, c.queue_to_wait.ensures.waits)))))))
+    (omega arith, (g.met.C.Gated.queues_fit, (omega arith, (c.queue_to_wait.ensures.seat, (same_number g.C.Condition.means None c.args.number c.args.seat.now.me me c.requires.number (since_then None _ _ _ inv.3 c.queue_to_wait.ensures.since), (in_range c.args.wait.on c.args.condition c.requires.on, (g.W.Watch.still c.args.watch.now c.loop.watch c.args.wait.limits inv.4 c.requires.watches, c.queue_to_wait.ensures.waits)))))))
 
 pub test-requires : goal.test-requires
 test-requires g c = (omega arith, (g.met.C.Gated.queues_fit, (omega arith, (omega (arith, g.met.C.Condition.has_cells), (c.acquire.ensures.seat, (c.requires.on, back_to_test g.C.Condition.means c.args.wait c.args.condition c.await_in-arrival.result.1 c.acquire.new.seat.me c.requires.on c.acquire.ensures.acquired))))))
