@@ -8,8 +8,7 @@ ghost use Rattle.ns_live.specs.Places.{AreSeated, IsSeated};
 use crate::crew::{Crew, Job, crew_of, work};
 use crate::fault::LiveFault;
 use crate::place::Place;
-use crate::ring::{RingMonitor, RingSeat};
-use ns_monitor::monitor::Monitor;
+use crate::ring::RingMonitor;
 use ns_note::env::Env;
 use ns_note::note::Note;
 use ns_note::seat::EnvSeat;
@@ -17,26 +16,6 @@ use std::alloc::Global;
 use std::sync::Wait;
 use std::thread;
 use std::thread::{JoinHandle, Scope, Threads};
-
-/// A lock round an empty ring, and a seat for each thread; nothing where memory is refused.
-fn new_monitor(alloc: Global) -> Option<(RingMonitor, Vec<RingSeat>)>
-    ensures { IfSome result (λ r. All (λ seat. seat.monitor ≡ r.0) r.1.items) }
-{
-    let Ok((monitor, seats)) = Monitor::new(alloc, 4) else {
-        return None;
-    };
-    Some((monitor, seats))
-}
-
-/// An environment, and a seat for each thread and one for the caller; nothing where memory is refused.
-fn new_env(alloc: Global) -> Option<(Env, Vec<EnvSeat>)>
-    ensures { IfSome result (λ r. All (λ seat. seat.env ≡ r.0) r.1.items) }
-{
-    let Ok((env, seats)) = Env::new(alloc, 5) else {
-        return None;
-    };
-    Some((env, seats))
-}
 
 /// The caller's own seat, and a note that it has made.
 fn new_note(env: &Env, env_seats: &mut Vec<EnvSeat>) -> Option<(EnvSeat, Note)>
@@ -122,10 +101,10 @@ fn played<R: Threads + Wait + Sync>(
 /// Refuses where memory is refused (`OutOfMemory`) or a thread can't be made (`NoThread`); the threads
 /// that were made have ended then.
 pub fn live<R: Threads + Wait + Sync>(rt: &R, alloc: Global, items: u64) -> Result<u64, LiveFault> {
-    let Some((monitor, seats)) = new_monitor(alloc) else {
+    let Ok((monitor, seats)) = RingMonitor::new(alloc, 4) else {
         return Err(LiveFault::OutOfMemory);
     };
-    let Some((env, mut env_seats)) = new_env(alloc) else {
+    let Ok((env, mut env_seats)) = Env::new(alloc, 5) else {
         return Err(LiveFault::OutOfMemory);
     };
     // Never refused from here on: the environment is new, and there are as many seats as are asked for.

@@ -159,41 +159,6 @@ fn work<R: Wait>(rt: &R, place: Place<'_>, job: Job) -> Outcome
     }
 }
 
-/// A monitor, and so many seats of it; nothing where memory is refused.
-///
-/// Needs one seat.
-fn new_monitor(alloc: Global, seats: usize) -> Option<(Monitor<Wish, 4>, Vec<Seat<Wish, 4>>)>
-    requires { 0 < seats }
-    ensures { IfSome result (λ r. All (λ seat. seat.monitor ≡ r.0) r.1.items) }
-{
-    let Ok((monitor, seats)) = Monitor::new(alloc, seats) else {
-        return None;
-    };
-    Some((monitor, seats))
-}
-
-/// An environment, and so many seats of it; nothing where memory is refused.
-///
-/// Needs one seat.
-fn new_env(alloc: Global, seats: usize) -> Option<(Env, Vec<EnvSeat>)>
-    requires { 0 < seats }
-    ensures { IfSome result (λ r. All (λ seat. seat.env ≡ r.0) r.1.items) }
-{
-    let Ok((env, seats)) = Env::new(alloc, seats) else {
-        return None;
-    };
-    Some((env, seats))
-}
-
-/// Takes the last seat, as long as there is one.
-fn next_seat(monitor: &Monitor<Wish, 4>, seats: &mut Vec<Seat<Wish, 4>>) -> Option<Seat<Wish, 4>>
-    requires { All (λ seat. seat.monitor ≡ monitor.now) seats.old.items }
-    ensures rest { All (λ seat. seat.monitor ≡ monitor.now) seats.new.items }
-    ensures taken { IfSome result (λ seat. seat.monitor ≡ monitor.now) }
-{
-    seats.pop()
-}
-
 /// Sets the cells with which a round begins.
 fn begin<R: Wait>(
     rt: &R,
@@ -292,13 +257,13 @@ pub fn run<R: Threads + Wait + Sync>(rt: &R, alloc: Global, seed: u64, round: u6
     let mut draws = Pcg32::new(seed, round);
     let plan = Plan::drawn(&mut draws);
     let threads = plan.threads as usize;
-    let Some((monitor, mut seats)) = new_monitor(alloc, threads + 1) else {
+    let Ok((monitor, mut seats)) = Monitor::new(alloc, threads + 1) else {
         return Verdict::NoMemory;
     };
-    let Some((env, env_seats)) = new_env(alloc, threads) else {
+    let Ok((env, env_seats)) = Env::new(alloc, threads) else {
         return Verdict::NoMemory;
     };
-    let Some(last) = next_seat(&monitor, &mut seats) else {
+    let Some(last) = seats.pop() else {
         return Verdict::NoMemory;
     };
     let last = begin(rt, &monitor, last, plan);
