@@ -7,7 +7,7 @@ pub use Rattle.ns_gate.specs.Law.{AtHome, Fits, GateView, HasCome, Holds, Homes,
 pub use Rattle.ns_gate.specs.Meetings.{AreOfOneHistory, ArePair, HasLearned, HaveLearned, HaveMet, SawAllOf, ShareTheLock, the_second}
 pub use Rattle.ns_gate.specs.Performing.{IsOnWord, IsTurned, Needs}
 pub use Rattle.ns_gate.specs.Room.{QueuesFit, queues_fit}
-pub use Rattle.ns_gate.specs.Steps.{CanStep, Carries, Did, HasLooked, HasTaken, HasUseFor, IsExchange, IsLoad, IsOne, IsOwedNext, IsStoreOf, MayBegin, MayExchange, MayLoad, MayStore, Performed, PutsBack, Stepped, act_by, act_of, act_returning, carried_by, course_by, first_said, found_returned, lists_returned, lists_scanned, made_by, next_owed, number_by, some_returned, the, tried, tried_for, walk_by, word_at, word_returning}
+pub use Rattle.ns_gate.specs.Steps.{CanStep, Carries, Did, HasLooked, HasTaken, HasUseFor, IsExchange, IsLoad, IsOne, IsOwedNext, IsStoreOf, MayBegin, MayExchange, MayLoad, MayStore, Performed, Stepped, act_by, act_of, act_returning, carried_by, course_by, first_said, found_returned, lists_returned, lists_scanned, made_by, next_owed, number_by, some_returned, the, tried, tried_for, walk_by, word_at, word_returning}
 pub use Rattle.ns_model.specs.Beginnings.{BeginsWith}
 pub use Rattle.ns_model.specs.Environments.{IsMade}
 pub use Rattle.ns_model.specs.Histories.{IsBySeats, Standing, row_after, standing_after}
@@ -35,12 +35,12 @@ pub use Rattle.ns_word.specs.Finds.{before_in, exchanged, found_of, owes_more, r
 pub use Rattle.ns_word.specs.Lawful.{IsLawful, OneWriter, SectionFits, ViewFits}
 pub use Rattle.ns_word.specs.Lists.{bits_of, has_some}
 pub use Rattle.ns_word.specs.Meanings.{ConditionWaitMeans, Course, HasWaited, InHand, Unchanged, WaitMeans, course_from}
-pub use Rattle.ns_word.specs.Places.{ActFits, CanLeave, CanWait, HasMode, IsForCondition, IsInRange, IsSettled, OwesOne, PlaceFits, Tests}
+pub use Rattle.ns_word.specs.Places.{ActFits, CanLeave, CanWait, HasMode, IsInRange, IsSettled, OwesOne, PlaceFits, Tests}
 pub use Rattle.ns_word.specs.Steps.{Effect, MayShow, Part, State, Step, change_commits, change_found, changed, exit_for, flags_with, held_after, held_by, meets_at, moves, newly_held, owed_after, part_of, section_of, waited_in, waits_at, with_lock}
 pub use Rattle.ns_word.specs.Told.{IsTold, Told, calls_of, told_after}
 pub use Rattle.ns_word.specs.Views.{is_reading, is_writing, readers, takers, writers}
 pub use Rattle.ns_word.specs.Waits.{answer_of, arrival_of, home_of, is_limited, mode_for, outcome_taken, woken_by}
-pub use Rattle.ns_word.specs.Walks.{armed_place, back_with, first_for, got_of, got_queuing, has_queues, judge_of, look_or_queue, pay_releasing, pay_waiting, pays, release_has_queues, rest_or_look, scan_place, test_place, unmet_by, wait_first, wait_has_queues, walk_after, want_of}
+pub use Rattle.ns_word.specs.Walks.{armed_place, back_with, got_of, got_queuing, has_queues, judge_of, look_or_queue, pay_releasing, pay_waiting, pays, release_has_queues, rest_or_look, scan_place, test_place, unmet_by, wait_first, wait_has_queues, walk_after, want_of}
 pub use Rattle.ns_word.specs.Words.{is_held, may_acquire, mode_released, releasing_of, word_acquired, word_released, word_released_returning, word_returned, word_taken}
 pub use Rattle.ns_word.specs.declared.acquire_walk.AcquirePlace.TheVariants.{AcquireLoad, Arm, Queue}
 pub use Rattle.ns_word.specs.declared.act.Act.{Act}
@@ -61,7 +61,6 @@ pub use Rattle.ns_word.specs.declared.signal_walk.SignalPlace.TheVariants.{PayTh
 pub use Rattle.ns_word.specs.declared.try_walk.TryPlace.TheVariants.{TryAcquire, TryLoad}
 pub use Rattle.ns_word.specs.declared.view.Held.{Held}
 pub use Rattle.ns_word.specs.declared.view.SeatView.{SeatView}
-pub use Rattle.ns_word.specs.declared.wait.Aim.{Aim}
 pub use Rattle.ns_word.specs.declared.wait.Aim.TheVariants.{ForLock, ForWait}
 pub use Rattle.ns_word.specs.declared.wait.LeavePlace.TheVariants.{AwaitWakeToLeave, Leave, LeaveLoad}
 pub use Rattle.ns_word.specs.declared.wait.Outcome.{Outcome}

@@ -30,6 +30,6 @@ mod running;
 mod wish;
 
 pub use fault::LiveFault;
-pub use ring::{LENGTH, ROW, RingHeld, RingMonitor, RingSeat, put, take};
+pub use ring::{RingHeld, RingMonitor, RingSeat, put, take};
 pub use running::live;
 pub use wish::Wish;
