@@ -19,7 +19,7 @@ use std::thread::{Threads, join};
 
 /// What ends each wait.
 #[derive(Clone, Copy)]
-pub enum Limit {
+pub enum EarlyEnd {
     /// A deadline that has come.
     Deadline,
     /// A note that is notified.
@@ -118,13 +118,13 @@ fn count_waits<R: Wait>(
     seat: Seat<Never, 1>,
     env: &Env,
     env_seat: &mut EnvSeat,
-    limit: Limit,
+    early_end: EarlyEnd,
     times: u64,
 ) -> (Seat<Never, 1>, u64)
     requires { (seat.monitor ≡ monitor.now) × (env_seat.old.env ≡ env.now) }
     ensures { result.0.monitor ≡ monitor.now }
 {
-    if matches!(limit, Limit::Deadline) {
+    if matches!(early_end, EarlyEnd::Deadline) {
         return time_out(rt, monitor, seat, env, env_seat, times);
     }
     let Some(note) = notified(env, env_seat) else {
@@ -143,7 +143,7 @@ fn count_in_thread<R: Threads + Wait + Sync>(
     seat: Seat<Never, 1>,
     env: &Env,
     mut env_seat: EnvSeat,
-    limit: Limit,
+    early_end: EarlyEnd,
     times: u64,
 ) -> (Seat<Never, 1>, u64)
     requires { (seat.monitor ≡ monitor.now) × (env_seat.env ≡ env.now) }
@@ -154,7 +154,7 @@ fn count_in_thread<R: Threads + Wait + Sync>(
         move || -> (Seat<Never, 1>, u64)
             requires { IsSync R.row × (seat.monitor ≡ monitor.now) × (env_seat.env ≡ env.now) }
             ensures { result.0.monitor ≡ monitor.entry.now }
-        { count_waits(rt, monitor, seat, env, &mut env_seat, limit, times) },
+        { count_waits(rt, monitor, seat, env, &mut env_seat, early_end, times) },
         || (),
     );
     counted
@@ -165,12 +165,12 @@ fn count_in_thread<R: Threads + Wait + Sync>(
 pub fn run<R: Threads + Wait + Sync>(
     rt: &R,
     alloc: Global,
-    limit: Limit,
+    early_end: EarlyEnd,
     times: u64,
 ) -> Option<bool> {
     let (monitor, seat) = alone(alloc)?;
     let (env, env_seat) = alone_at_notes(alloc)?;
-    let (seat, count) = count_in_thread(rt, &monitor, seat, &env, env_seat, limit, times);
+    let (seat, count) = count_in_thread(rt, &monitor, seat, &env, env_seat, early_end, times);
     let closed = monitor.close(seat);
     Some(closed.free && count == times)
 }

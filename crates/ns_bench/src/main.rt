@@ -46,7 +46,7 @@ mod waiting;
 use crate::amount::Amount;
 use crate::asked::{Asked, parsed};
 use crate::contending::Contending;
-use crate::limits::Limit;
+use crate::limits::EarlyEnd;
 use crate::notes::Looks;
 use crate::pairs::{ByLock, ByTry, Medians};
 use crate::waiting::{Beside, Marked, Waiting};
@@ -149,10 +149,10 @@ fn at_notes(workload: &str) -> Option<Looks> {
 }
 
 /// What ends the waits in the workload of this name.
-fn at_limits(workload: &str) -> Option<Limit> {
+fn at_limits(workload: &str) -> Option<EarlyEnd> {
     match workload {
-        "to0_mu" => Some(Limit::Deadline),
-        "cancel0" => Some(Limit::Note),
+        "to0_mu" => Some(EarlyEnd::Deadline),
+        "cancel0" => Some(EarlyEnd::Note),
         _ => None,
     }
 }
@@ -166,8 +166,8 @@ fn run_alone<R: AllocGlobal + Print + Clock + Threads + Wait + Sync>(
     if let Some(looks) = at_notes(asked.workload) {
         return Ok(Ended::of(notes::run(rt, rt.alloc(), looks, times)));
     }
-    if let Some(limit) = at_limits(asked.workload) {
-        return Ok(Ended::of(limits::run(rt, rt.alloc(), limit, times)));
+    if let Some(early_end) = at_limits(asked.workload) {
+        return Ok(Ended::of(limits::run(rt, rt.alloc(), early_end, times)));
     }
     compare(rt, asked)
 }

@@ -15,9 +15,9 @@ use Rattle.clap.specs.declared.error.kind.ErrorKind.{ErrorKind}
 use Rattle.clap.specs.declared.error.kind.ErrorKind.TheVariants as kind
 use Rattle.ns_replay.specs.declared.fault.Fault.TheVariants.{OutOfMemory, NotJson, BadScript, TooMany, StepLimit, Read, Write}
 use Rattle.ns_command.specs.declared.ending.Ending.{Ending}
-use Rattle.ns_command.specs.declared.ending.Ending.TheVariants.{Replayed, LiveAsked, Lived, NoThread, Failed, Shown, Misused}
+use Rattle.ns_command.specs.declared.ending.Ending.TheVariants.{Replayed, LiveAsked, Lived, NoThread, Failed, HelpShown, Misused}
 use Rattle.ns_command.specs.Printing.{is_mistake, is_request}
-use Rattle.ns_command.specs.Endings.{Heeds, Tells}
+use Rattle.ns_command.specs.Endings.{EndsForOneOf, EndsFor}
 use Rattle.ns_command.specs.Words.{application, kinds_of}
 use Rattle.ns_command.specs.Asked.{asked_by, asked_in, options_in}
 use Rattle.ns_command.specs.declared.wanted.Wanted.TheVariants.{Replay}
@@ -74,17 +74,17 @@ may_say : (test : ErrorKind → Bool) (kinds : Kinds) (what : ErrorKind) → tes
 may_say test kinds what rules_out (inl is) passes = absurd (true≢false (sym passes ∙ ap test is ∙ rules_out))
 may_say test kinds what rules_out (inr h) passes = any_among test kinds what h passes
 
-pub heeds : (kinds : Kinds) (what : ErrorKind) (ending : Ending) → (what ≡ kind.OutOfMemory) ⊎ IsAmong what kinds → Tells what ending → Heeds kinds ending
+pub heeds : (kinds : Kinds) (what : ErrorKind) (ending : Ending) → (what ≡ kind.OutOfMemory) ⊎ IsAmong what kinds → EndsFor what ending → EndsForOneOf kinds ending
 heeds kinds what Replayed h told = absurd told
 heeds kinds what (LiveAsked items) h told = absurd told
 heeds kinds what Lived h told = absurd told
 heeds kinds what NoThread h told = absurd told
 heeds kinds what (Failed OutOfMemory) h told = tt
 heeds kinds what (Failed NotJson) h told = absurd told
-heeds kinds what (Failed (BadScript place)) h told = absurd told
-heeds kinds what (Failed (TooMany place)) h told = absurd told
+heeds kinds what (Failed (BadScript path)) h told = absurd told
+heeds kinds what (Failed (TooMany path)) h told = absurd told
 heeds kinds what (Failed StepLimit) h told = absurd told
 heeds kinds what (Failed Read) h told = absurd told
 heeds kinds what (Failed Write) h told = inr (may_say is_request kinds what refl h told)
-heeds kinds what Shown h told = may_say is_request kinds what refl h told
+heeds kinds what HelpShown h told = may_say is_request kinds what refl h told
 heeds kinds what Misused h told = may_say is_mistake kinds what refl h told

@@ -9,15 +9,15 @@ use Rattle.ns_replay.specs.declared.fault.Fault.{Fault}
 use Rattle.ns_replay.specs.declared.fault.Fault.TheVariants.{OutOfMemory, NotJson, BadScript, TooMany, StepLimit, Read, Write}
 use Rattle.ns_replay.specs.Faults.{fault_text}
 use Rattle.ns_command.specs.declared.ending.Ending.{Ending}
-use Rattle.ns_command.specs.declared.ending.Ending.TheVariants.{Replayed, LiveAsked, Lived, NoThread, Failed, Shown, Misused}
+use Rattle.ns_command.specs.declared.ending.Ending.TheVariants.{Replayed, LiveAsked, Lived, NoThread, Failed, HelpShown, Misused}
 use Rattle.ns_command.specs.Printing.{PrintsSome, is_mistake, is_request}
 
 -- 4 where a stream is at fault, and else 3
 abbrev pub fault_status : Fault → ℕ
 fault_status OutOfMemory = 3
 fault_status NotJson = 3
-fault_status (BadScript place) = 3
-fault_status (TooMany place) = 3
+fault_status (BadScript path) = 3
+fault_status (TooMany path) = 3
 fault_status StepLimit = 3
 fault_status Read = 4
 fault_status Write = 4
@@ -29,7 +29,7 @@ status_of (LiveAsked items) = 0
 status_of Lived = 0
 status_of NoThread = 3
 status_of (Failed fault) = fault_status fault
-status_of Shown = 0
+status_of HelpShown = 0
 status_of Misused = 2
 
 -- the ending by what a replay answered
@@ -54,7 +54,7 @@ Says false old new (LiveAsked items) = Keeps old new
 Says false old new Lived = Keeps old new
 Says false old new NoThread = Appends old new no_thread_line
 Says false old new (Failed fault) = Appends old new (fault_line fault)
-Says false old new Shown = Keeps old new
+Says false old new HelpShown = Keeps old new
 Says false old new Misused = PrintsSome old new
 
 -- What was printed on the output side, beside the text of a run: help or the version, or some of
@@ -66,33 +66,33 @@ Shows old new Lived = Keeps old new
 Shows old new NoThread = Keeps old new
 Shows old new (Failed Write) = PrintsSome old new
 Shows old new (Failed fault) = Keeps old new
-Shows old new Shown = PrintsSome old new
+Shows old new HelpShown = PrintsSome old new
 Shows old new Misused = Keeps old new
 
 -- the ending where clap says this of the words
-abbrev pub Tells : ErrorKind → Ending → Type 0
-Tells what Replayed = ⊥
-Tells what (LiveAsked items) = ⊥
-Tells what Lived = ⊥
-Tells what NoThread = ⊥
-Tells what (Failed OutOfMemory) = what ≡ kind.OutOfMemory
-Tells what (Failed Write) = is_request what ≡ true
-Tells what (Failed fault) = ⊥
-Tells what Shown = is_request what ≡ true
-Tells what Misused = is_mistake what ≡ true
+abbrev pub EndsFor : ErrorKind → Ending → Type 0
+EndsFor what Replayed = ⊥
+EndsFor what (LiveAsked items) = ⊥
+EndsFor what Lived = ⊥
+EndsFor what NoThread = ⊥
+EndsFor what (Failed OutOfMemory) = what ≡ kind.OutOfMemory
+EndsFor what (Failed Write) = is_request what ≡ true
+EndsFor what (Failed fault) = ⊥
+EndsFor what HelpShown = is_request what ≡ true
+EndsFor what Misused = is_mistake what ≡ true
 
 -- The ending where clap has one of these to say of the words, or none, if they are right. No run by
 -- the words alone has made threads.
-abbrev pub Heeds : Kinds → Ending → Type 0
-Heeds kinds Replayed = kinds ≡ []
-Heeds kinds (LiveAsked items) = kinds ≡ []
-Heeds kinds Lived = ⊥
-Heeds kinds NoThread = ⊥
-Heeds kinds (Failed OutOfMemory) = Unit {0}
-Heeds kinds (Failed Write) = (kinds ≡ []) ⊎ (list_any is_request kinds ≡ true)
-Heeds kinds (Failed fault) = kinds ≡ []
-Heeds kinds Shown = list_any is_request kinds ≡ true
-Heeds kinds Misused = list_any is_mistake kinds ≡ true
+abbrev pub EndsForOneOf : Kinds → Ending → Type 0
+EndsForOneOf kinds Replayed = kinds ≡ []
+EndsForOneOf kinds (LiveAsked items) = kinds ≡ []
+EndsForOneOf kinds Lived = ⊥
+EndsForOneOf kinds NoThread = ⊥
+EndsForOneOf kinds (Failed OutOfMemory) = Unit {0}
+EndsForOneOf kinds (Failed Write) = (kinds ≡ []) ⊎ (list_any is_request kinds ≡ true)
+EndsForOneOf kinds (Failed fault) = kinds ≡ []
+EndsForOneOf kinds HelpShown = list_any is_request kinds ≡ true
+EndsForOneOf kinds Misused = list_any is_mistake kinds ≡ true
 
 -- what a replay answered, where there was one
 abbrev pub outcome_of : Ending → Result ⊤ Fault

@@ -17,7 +17,7 @@ pub enum Ending {
     /// There was a fault, and its line stands on the error side.
     Failed(Fault),
     /// Help or the version was asked for, and stands on the output side.
-    Shown,
+    HelpShown,
     /// The words are wrong, and a text on the error side says how.
     Misused,
 }
@@ -32,7 +32,7 @@ impl Ending {
         ensures { result ≡ status_of self }
     {
         match self {
-            Ending::Replayed | Ending::LiveAsked(_) | Ending::Lived | Ending::Shown => 0,
+            Ending::Replayed | Ending::LiveAsked(_) | Ending::Lived | Ending::HelpShown => 0,
             Ending::Misused => 2,
             Ending::Failed(Fault::Read | Fault::Write) => 4,
             Ending::NoThread | Ending::Failed(_) => 3,

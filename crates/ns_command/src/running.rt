@@ -9,7 +9,7 @@ ghost use Rattle.ns_command.specs.Words.{kinds_of};
 ghost use Rattle.ns_command.specs.Asked.{asked_by};
 ghost use Rattle.ns_replay.specs.declared.options.Options.{Options};
 ghost use Rattle.ns_command.specs.declared.wanted.Wanted.TheVariants as TheWanted;
-ghost use Rattle.ns_command.specs.Endings.{Says, Shows, Tells, Heeds, outcome_of};
+ghost use Rattle.ns_command.specs.Endings.{Says, Shows, EndsFor, EndsForOneOf, outcome_of};
 
 use crate::command::asked;
 use crate::ending::Ending;
@@ -24,7 +24,7 @@ use std::alloc::Global;
 
 /// Ends a run whose words ask for nothing else, by what clap says of them.
 fn answered<P: Prints>(printer: &mut P, answer: Error) -> Ending
-    ensures told { Tells (kind_of answer) result }
+    ensures told { EndsFor (kind_of answer) result }
     ensures said { let failed = P.has_failed printer.new in
         Says failed (P.errors printer.old) (P.errors printer.new) result }
     ensures shown { Shows (P.output printer.old) (P.output printer.new) result }
@@ -38,7 +38,7 @@ fn answered<P: Prints>(printer: &mut P, answer: Error) -> Ending
     if answer.use_stderr() {
         Ending::Misused
     } else if is_done {
-        Ending::Shown
+        Ending::HelpShown
     } else {
         finish(printer, Err(Fault::Write))
     }
@@ -64,7 +64,7 @@ pub fn run<S: Source, W: Sink, P: Prints>(
     requires source { S.has_failed source.old ≡ false }
     requires sink { W.has_failed sink.old ≡ false }
     // The words decide whether there is a replay, and else what is said.
-    ensures heeded { Heeds (kinds_of (map string_bytes words.now)) result }
+    ensures heeded { EndsForOneOf (kinds_of (map string_bytes words.now)) result }
     ensures unread { kinds_of (map string_bytes words.now) ≢ [] → source.new ≡ source.old }
     ensures unwritten { kinds_of (map string_bytes words.now) ≢ [] → sink.new ≡ sink.old }
     // A replay is made by the options that the words give.

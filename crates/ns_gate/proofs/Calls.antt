@@ -1,8 +1,8 @@
 -- A step takes its call on, as its caller follows it.
 use Rattle.std.proofs.Common.{◌≡◌, ℕ, ◌≤◌, true, false, arith, List, [], ◌∷◌, ◌++◌, length, Option, None, Some, refl, ap, sym, ◌∙◌, subst}
 use Rattle.std.proofs.lemmas.List.{append_assoc, append-nil}
-use Rattle.ns_gate.specs.Prelude.{SeatOf, IsTrueToHistory, IsWide, IsAtRest, OwesBelow, HasSince, IsAt, Leads, GateView, the, IsOne, walk_by, course_by, carried_by, CanStep, Did, Performed, Standing, row_after, standing_after, Truths, asked_of, CallGoes, SectionFits, has_some, Course, PlaceFits, ActFits, OwesOne, part_of, PayWake, Pay, PayTheWoken, PayInWait, InTry, InAcquire, InRelease, InCells, InWait, InSignal, Told, IsTold, want_of, got_of, walk_after, pays, has_queues, Act, Found, Held, SeatView, On, Idle, Done, Next, Walk}
-use Rattle.ns_gate.proofs.Tells.{fits_now}
+use Rattle.ns_gate.specs.Prelude.{Event, SeatOf, IsTrueToHistory, IsWide, IsAtRest, OwesBelow, HasSince, IsAtPlace, HasReached, GateView, the, IsOne, walk_by, course_by, carried_by, CanStep, HasStepped, Performed, Standing, row_after, standing_after, Truths, asked_of, CallGoes, SectionFits, has_some, Course, PlaceFits, ActFits, OwesOne, part_of, PayWake, Pay, PayTheWoken, PayInWait, InTry, InAcquire, InRelease, InCells, InWait, InSignal, Told, IsTold, want_of, got_of, walk_after, pays, has_queues, Act, Found, Held, SeatView, On, Idle, Done, Next, Walk}
+use Rattle.ns_gate.proofs.Findings.{fits_now, walk_is}
 use Rattle.ns_model.proofs.Beginnings.{begins_itself, begins_through}
 
 none_of : {A : Type 0} (xs : List A) → has_some xs ≡ false → xs ≡ []
@@ -25,29 +25,29 @@ pays_wants (InTry mode place) e = absurd (cc)
 pays_wants (InAcquire aim place) e = absurd (cc)
 pays_wants (InCells place) e = absurd (cc)
 
-below_by : (limit : ℕ) (owed : List ℕ) → limit ≤ 64 → (has_some owed ≡ true → OwesOne limit owed) → OwesBelow owed
-below_by limit [] few one = tt
-below_by limit (woken ∷ others) few one = let below = one refl in omega (arith, few, below)
+below_by : (seat_count : ℕ) (owed : List ℕ) → seat_count ≤ 64 → (has_some owed ≡ true → OwesOne seat_count owed) → OwesBelow owed
+below_by seat_count [] few one = tt
+below_by seat_count (woken ∷ others) few one = let below = one refl in omega (arith, few, below)
 
 module _ {C : Type 0} {N : ℕ} (truths : Truths C) where
   -- who is owed the next wake is one of the seats
-  owes_below : (b : Option (Walk C)) (found : Found) (v w : GateView C N) → Did truths b found v w → OwesBelow w.at.owed
-  owes_below b found v w d = below_by v.limit w.at.owed d.few (λ some. at_walk w.at.walk refl (sym d.fits.owes ∙ some)) where
-    at_walk : (o : Option (Walk C)) → w.at.walk ≡ o → pays w.at.walk ≡ true → OwesOne v.limit w.at.owed
+  owes_below : (b : Option (Walk C)) (found : Found) (v w : GateView C N) → HasStepped truths b found v w → OwesBelow w.at.owed
+  owes_below b found v w d = below_by v.seat_count w.at.owed d.few (λ some. at_walk w.at.walk refl (sym d.fits.owes ∙ some)) where
+    at_walk : (o : Option (Walk C)) → w.at.walk ≡ o → pays w.at.walk ≡ true → OwesOne v.seat_count w.at.owed
     at_walk None is e = absurd (let n : pays w.at.walk ≡ false = ap pays is in cc)
     at_walk (Some walk) is e =
         let wants = pays_wants walk (ap pays (sym is) ∙ e) in
-        subst (λ act. ActFits truths v.limit w.at.seat act (part_of d.new w.at.held w.at.owed)) wants.1 (fits_now truths b found v w walk d is)
+        subst (λ act. ActFits truths v.seat_count w.at.seat act (part_of d.new w.at.held w.at.owed)) wants.1 (fits_now truths b found v w walk d is)
 
-  true_after : (found : Found) (b : Option (Walk C)) (v w : GateView C N) → Did truths b found v w → IsTrueToHistory truths w.limit w.at.seat w.told.seen w.told.mine
+  true_after : (found : Found) (b : Option (Walk C)) (v w : GateView C N) → HasStepped truths b found v w → IsTrueToHistory truths w.seat_count w.at.seat w.told.seen w.told.mine
   true_after found b v w d =
-      let told = subst (λ n. IsTold truths.holds n (d.history ++ d.commits) w.at.seat w.at.walk w.told) (sym d.limit) d.told_now in
+      let told = subst (λ n. IsTold truths.holds n (d.history ++ d.commits) w.at.seat w.at.walk w.told) (sym d.seat_count) d.told_now in
       record { legal = told.legal; by_seats = told.by_seats; own = sym told.own_seen }
 
   -- A step begins the call, or goes on in it.
   pub since : (b : Option (Walk C)) (act : Act C) (found : Found) (me now : SeatOf C N) → Performed truths b act found me now → HasSince b (the me.0) (the now.0)
   since b act found me now p = let d = p.did in record {
-    limit = d.limit;
+    seat_count = d.seat_count;
     seat = ap (λ (x : SeatView C N). x.seat) d.becomes;
     begins = d.grows;
     commits = d.commits;
@@ -59,13 +59,10 @@ module _ {C : Type 0} {N : ℕ} (truths : Truths C) where
 
   -- where the step leads
   leads : (b : Option (Walk C)) (walk : Walk C) (found : Found) (next : Next C) (u : GateView C N) (now : SeatOf C N) → IsOne now.0 → (has_queues (walk_after next) ≡ false → now.1 ≡ []) → walk_by b u.at.walk ≡ Some walk → got_of N walk found ≡ next
-      → (d : Did truths b found u (the now.0)) → Leads truths (asked_of walk) next now
+      → (d : HasStepped truths b found u (the now.0)) → HasReached truths (asked_of walk) next now
   leads b walk found next u now one empty walks is d = goes next is empty (subst (λ w. CallGoes truths u.at.seat (row_after (d.history ++ d.commits)) (asked_of w) (the now.0).course (got_of N w found) (the now.0).at.held) same d.goes) where
     same : d.made.step.walk ≡ walk
-    same = stepped b d walks where
-      stepped : (b : Option (Walk C)) (d : Did truths b found u (the now.0)) → walk_by b u.at.walk ≡ Some walk → d.made.step.walk ≡ walk
-      stepped None d walks = let w = d.made.step.walks in cc
-      stepped (Some other) d walks = let w = d.made.step.walks in cc
+    same = walk_is truths b found walk u (the now.0) d walks
 
     w : GateView C N
     w = the now.0
@@ -75,9 +72,7 @@ module _ {C : Type 0} {N : ℕ} (truths : Truths C) where
 
     -- the seat that the course speaks of, and the row
     as_now : (next : Next C) → CallGoes truths u.at.seat (row_after (d.history ++ d.commits)) (asked_of walk) w.course next w.at.held → CallGoes truths w.at.seat (row_after w.told.seen) (asked_of walk) w.course next w.at.held
-    as_now next g =
-        let at_seat = subst (λ n. CallGoes truths n (row_after (d.history ++ d.commits)) (asked_of walk) w.course next w.at.held) (sym (ap (λ (x : SeatView C N). x.seat) d.becomes)) g in
-        subst (λ h. CallGoes truths w.at.seat (row_after h) (asked_of walk) w.course next w.at.held) (sym (ap (λ (t : Told C N). t.seen) d.tells)) at_seat
+    as_now next g = subst (λ (z : ℕ × List (Event C N)). CallGoes truths z.0 (row_after z.1) (asked_of walk) w.course next w.at.held) (λ i. (sym (ap (λ (x : SeatView C N). x.seat) d.becomes) i, sym (ap (λ (t : Told C N). t.seen) d.tells) i)) g
 
     is_wide : IsWide w.at.held
     is_wide = wide_by (standing_after (d.history ++ d.commits)) d.new.row w.at.seat w.at.walk w.at.held d.fits.section d.lawful_now.one_history.cells d.lawful_now.one_history.cells_after
@@ -93,39 +88,39 @@ module _ {C : Type 0} {N : ℕ} (truths : Truths C) where
       true_to = true_after found b u w d;
     }
 
-    goes : (next : Next C) → got_of N walk found ≡ next → (has_queues (walk_after next) ≡ false → now.1 ≡ []) → CallGoes truths u.at.seat (row_after (d.history ++ d.commits)) (asked_of walk) w.course (got_of N walk found) w.at.held → Leads truths (asked_of walk) next now
+    goes : (next : Next C) → got_of N walk found ≡ next → (has_queues (walk_after next) ≡ false → now.1 ≡ []) → CallGoes truths u.at.seat (row_after (d.history ++ d.commits)) (asked_of walk) w.course (got_of N walk found) w.at.held → HasReached truths (asked_of walk) next now
     goes next is empty g = by_next next empty (walks_now ∙ ap walk_after is) (as_now next (subst (λ x. CallGoes truths u.at.seat (row_after (d.history ++ d.commits)) (asked_of walk) w.course x w.at.held) is g)) where
-      by_next : (next : Next C) → (has_queues (walk_after next) ≡ false → now.1 ≡ []) → w.at.walk ≡ walk_after next → CallGoes truths w.at.seat (row_after w.told.seen) (asked_of walk) w.course next w.at.held → Leads truths (asked_of walk) next now
+      by_next : (next : Next C) → (has_queues (walk_after next) ≡ false → now.1 ≡ []) → w.at.walk ≡ walk_after next → CallGoes truths w.at.seat (row_after w.told.seen) (asked_of walk) w.course next w.at.held → HasReached truths (asked_of walk) next now
       by_next (On at) empty e g = record { one = one; empty = empty; walks = e; so_far = g.so_far; owes = owes_below b found u w d; fits = subst (λ x. PlaceFits truths x w.at.held) e d.fits.place; wide = is_wide }
       by_next (Idle at) empty e g = record { one = one; empty = empty; walks = e; so_far = g.so_far; owes = owes_below b found u w d; fits = subst (λ x. PlaceFits truths x w.at.held) e d.fits.place; wide = is_wide }
       by_next (Done reply) empty e g = record { rest = at_rest (empty refl) e; means = g }
 
   -- A call may go on from its place.
-  pub can_go : (walk : Walk C) (act : Act C) (me : SeatOf C N) → want_of walk ≡ act → IsAt truths walk me → CanStep truths None act me
+  pub can_go : (walk : Walk C) (act : Act C) (me : SeatOf C N) → want_of walk ≡ act → IsAtPlace truths walk me → CanStep truths None act me
   can_go walk act me wants at = record { one = at.one; may = tt; walk = walk; walks = at.walks; wants = wants }
 
   -- The first step of a call leads it on.
-  pub begins : (first : Walk C) (act : Act C) (found : Found) (next : Next C) (me now : SeatOf C N) → got_of N first found ≡ next → (has_queues (walk_after next) ≡ false → now.1 ≡ []) → Performed truths (Some first) act found me now → Leads truths (asked_of first) next now
+  pub begins : (first : Walk C) (act : Act C) (found : Found) (next : Next C) (me now : SeatOf C N) → got_of N first found ≡ next → (has_queues (walk_after next) ≡ false → now.1 ≡ []) → Performed truths (Some first) act found me now → HasReached truths (asked_of first) next now
   begins first act found next me now is empty p = leads (Some first) first found next (the me.0) now p.one empty refl is p.did
 
   -- Each further step does.
-  pub goes_on : (walk : Walk C) (act : Act C) (found : Found) (next : Next C) (me now : SeatOf C N) → IsAt truths walk me → got_of N walk found ≡ next → (has_queues (walk_after next) ≡ false → now.1 ≡ []) → Performed truths None act found me now → Leads truths (asked_of walk) next now
+  pub goes_on : (walk : Walk C) (act : Act C) (found : Found) (next : Next C) (me now : SeatOf C N) → IsAtPlace truths walk me → got_of N walk found ≡ next → (has_queues (walk_after next) ≡ false → now.1 ≡ []) → Performed truths None act found me now → HasReached truths (asked_of walk) next now
   goes_on walk act found next me now at is empty p = leads None walk found next (the me.0) now p.one empty at.walks is p.did
 
   -- one that takes and puts back nothing does without the queues
-  pub goes : (walk : Walk C) (act : Act C) (found : Found) (next : Next C) (me now : SeatOf C N) → IsAt truths walk me → has_queues (Some walk) ≡ false → got_of N walk found ≡ next → carried_by act found (the now.0).stood me.1 ≡ me.1 → Performed truths None act found me now → Leads truths (asked_of walk) next now
+  pub goes : (walk : Walk C) (act : Act C) (found : Found) (next : Next C) (me now : SeatOf C N) → IsAtPlace truths walk me → has_queues (Some walk) ≡ false → got_of N walk found ≡ next → carried_by act found (the now.0).stood me.1 ≡ me.1 → Performed truths None act found me now → HasReached truths (asked_of walk) next now
   goes walk act found next me now at free is keeps p = goes_on walk act found next me now at is (λ _. p.carried ∙ (keeps ∙ at.empty free)) p
 
 module _ {C : Type 0} {N : ℕ} where
   -- ---- the steps of one call, part by part
 
   pub since_itself : (v : GateView C N) → HasSince None v v
-  since_itself v = record { limit = refl; seat = refl; begins = begins_itself v.told.seen; commits = []; mine = sym (append-nil v.told.mine); committed = sym (append-nil v.course.committed); began = refl; calls = sym (append-nil v.told.begun) }
+  since_itself v = record { seat_count = refl; seat = refl; begins = begins_itself v.told.seen; commits = []; mine = sym (append-nil v.told.mine); committed = sym (append-nil v.course.committed); began = refl; calls = sym (append-nil v.told.begun) }
 
   -- the steps of one call, and further steps of it
   pub since_then : (b : Option (Walk C)) (v u w : GateView C N) → HasSince b v u → HasSince None u w → HasSince b v w
   since_then b v u w s t = record {
-    limit = t.limit ∙ s.limit;
+    seat_count = t.seat_count ∙ s.seat_count;
     seat = t.seat ∙ s.seat;
     begins = begins_through w.told.seen u.told.seen v.told.seen t.begins s.begins;
     commits = s.commits ++ t.commits;
@@ -136,5 +131,5 @@ module _ {C : Type 0} {N : ℕ} where
   }
 
   -- a call stands where it is whatever its seat makes of the queues in hand
-  pub works : (truths : Truths C) (walk : Walk C) (me now : SeatOf C N) → IsAt truths walk me → has_queues (Some walk) ≡ true → now.0 ≡ me.0 → IsAt truths walk now
-  works truths walk me now at has same = subst (λ (vs : List (GateView C N)). IsAt truths walk (vs, now.1)) (sym same) (record { one = at.one; empty = λ e. absurd (let f : true ≡ false = sym has ∙ e in cc); walks = at.walks; so_far = at.so_far; owes = at.owes; fits = at.fits; wide = at.wide })
+  pub works : (truths : Truths C) (walk : Walk C) (me now : SeatOf C N) → IsAtPlace truths walk me → has_queues (Some walk) ≡ true → now.0 ≡ me.0 → IsAtPlace truths walk now
+  works truths walk me now at has same = subst (λ (vs : List (GateView C N)). IsAtPlace truths walk (vs, now.1)) (sym same) (record { one = at.one; empty = λ e. absurd (let f : true ≡ false = sym has ∙ e in cc); walks = at.walks; so_far = at.so_far; owes = at.owes; fits = at.fits; wide = at.wide })

@@ -2,7 +2,8 @@
 use Rattle.std.specs.Prelude.{not, nat_lt, ◌||◌}
 use Rattle.std.proofs.Common.{◌≡◌, ℕ, zero, suc, ◌+◌, ◌<◌, ◌≤◌, Bool, true, false, List, [], ◌∷◌, length, get_or, refl, ap, sym, ◌∙◌, subst, arith}
 use Rattle.std.proofs.lemmas.List.{ext_get_or}
-use Rattle.ns_gate.specs.Prelude.{Final, Seen, EndsAs, GateView, Views, Homes, Fits, Shown, IsRuled, Holds, the, IsOne, Every, Truths, Lists, word_of, IsPackable, IsLawful, IsTold, is_held, Word}
+use Rattle.ns_gate.specs.Prelude.{Final, Seen, EndsAs, GateView, Views, Homes, Fits, Underlying, IsRuled, Holds, the, IsOne, Every, Truths, Lists, word_of, IsPackable, IsLawful, IsTold, is_held, Word}
+use Rattle.ns_gate.proofs.Keeps.{one_is}
 use Rattle.ns_model.proofs.Tallies.{every_at}
 use Rattle.ns_word.proofs.Codes.{decoded}
 use Rattle.ns_word.proofs.Seen.{packable}
@@ -24,14 +25,12 @@ no_writer word e = by_bit word.write (nat_lt 0 word.readers) e where
   by_bit false reading e = refl
   by_bit true reading e = absurd (cc)
 
-module _ {C : Type 0} {N : ℕ} (truths : Truths C) (limit id : ℕ) where
+module _ {C : Type 0} {N : ℕ} (truths : Truths C) (seat_count id : ℕ) where
   -- what the rule says of one of the seats
-  its_fit : (g : Shown C N) (vs : List (GateView C N)) → IsOne vs → Every (Fits truths limit g.history g.state) vs → Fits truths limit g.history g.state (the vs)
-  its_fit g [] one f = absurd one
-  its_fit g (v ∷ []) one f = f.0
-  its_fit g (v ∷ x ∷ vs) one f = absurd one
+  its_fit : (g : Underlying C N) (vs : List (GateView C N)) → IsOne vs → Every (Fits truths seat_count g.history g.state) vs → Fits truths seat_count g.history g.state (the vs)
+  its_fit g vs one f = let v = one_is vs one in subst (λ us. Every (Fits truths seat_count g.history g.state) us → Fits truths seat_count g.history g.state (the us)) (sym v.1) (λ own. own.0) f
 
-  module _ (words : List ℕ) (homes : Homes C) (views : Views C N) (g : Shown C N) (r : IsRuled truths limit words homes views g) where
+  module _ (words : List ℕ) (homes : Homes C) (views : Views C N) (g : Underlying C N) (r : IsRuled truths seat_count words homes views g) where
     -- the number of the word, and the word
     shows_word : (n : ℕ) → get_elem? words 0 ≡ some n → word_of n ≡ g.state.word
     shows_word n at = ap word_of (sym (read_at words 0 n at) ∙ r.shows.word_is) ∙ decoded g.state.word
@@ -43,7 +42,7 @@ module _ {C : Type 0} {N : ℕ} (truths : Truths C) (limit id : ℕ) where
 
     ends_so : (vs : List (GateView C N)) (row : List ℕ) (free : Bool) (n : ℕ) → get_elem? views id ≡ some vs → IsOne vs → get_elem? words 0 ≡ some n → length row ≡ N → ((k : ℕ) → k < N → get_elem? words (k + 1) ≡ some (get_or row k 0)) → free ≡ not (is_held (word_of n)) → EndsAs truths (the vs) row free
     ends_so vs row free n at one word wide each is =
-        let fit = its_fit g vs one (every_at (Every (Fits truths limit g.history g.state)) views id vs r.each at) in
+        let fit = its_fit g vs one (every_at (Every (Fits truths seat_count g.history g.state)) views id vs r.each at) in
         let limited = sym fit.limited in
         record {
           state = g.state;
@@ -58,15 +57,15 @@ module _ {C : Type 0} {N : ℕ} (truths : Truths C) (limit id : ℕ) where
         }
 
   -- the lock's word has a number
-  pub last_packs : (vs : List (GateView C N)) (words : List ℕ) (slots : List (Lists C)) (n : ℕ) → Final (Seen (Holds truths limit) id vs) words slots → get_elem? words 0 ≡ some n → IsPackable (word_of n)
+  pub last_packs : (vs : List (GateView C N)) (words : List ℕ) (slots : List (Lists C)) (n : ℕ) → Final (Seen (Holds truths seat_count) id vs) words slots → get_elem? words 0 ≡ some n → IsPackable (word_of n)
   last_packs vs words slots n f word =
       let s = f.0 in
       let g = f.1.0.0 in
       let r = f.1.0.1 in
-      subst IsPackable (sym (shows_word s.words s.homes s.views g r n (subst (λ ws. get_elem? ws 0 ≡ some n) (sym f.2) word))) (packable truths limit g.history g.state r.few r.lawful)
+      subst IsPackable (sym (shows_word s.words s.homes s.views g r n (subst (λ ws. get_elem? ws 0 ≡ some n) (sym f.2) word))) (packable truths seat_count g.history g.state r.few r.lawful)
 
   -- what a closed table shows
-  pub ends : (vs : List (GateView C N)) (words : List ℕ) (slots : List (Lists C)) (row : List ℕ) (free : Bool) (n : ℕ) → Final (Seen (Holds truths limit) id vs) words slots → IsOne vs → get_elem? words 0 ≡ some n → length row ≡ N
+  pub ends : (vs : List (GateView C N)) (words : List ℕ) (slots : List (Lists C)) (row : List ℕ) (free : Bool) (n : ℕ) → Final (Seen (Holds truths seat_count) id vs) words slots → IsOne vs → get_elem? words 0 ≡ some n → length row ≡ N
       → ((k : ℕ) → k < N → get_elem? words (k + 1) ≡ some (get_or row k 0)) → free ≡ not (is_held (word_of n)) → EndsAs truths (the vs) row free
   ends vs words slots row free n f one word wide each is =
       let s = f.0 in

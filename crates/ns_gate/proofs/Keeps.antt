@@ -2,13 +2,13 @@
 use Rattle.std.specs.Prelude.{nat_lt, slice_get}
 use Rattle.std.proofs.Common.{◌≡◌, ◌≢◌, ◌⊎◌, inl, inr, ℕ, zero, suc, ◌<◌, ◌≤◌, Bool, true, false, cond, eqb, List, [], ◌∷◌, ◌++◌, Option, None, Some, IfSome, set, slice_set, take, drop, refl, ap, sym, ◌∙◌, subst, arith, eq-eqb}
 use Rattle.std.proofs.lemmas.Option.{slice_get_within}
-use Rattle.ns_gate.specs.Prelude.{GateView, Views, Homes, is_seat, HasCome, Fits, Shows, AtHome, Shown, IsRuled, walk_by, course_by, MayBegin, Did, BeginsWith, row_after, standing_after, total, one_if, Every, Truths, QuietKeeps, Event, asked_of, BeginsIf, SeatStep, view_in, CallGoes, SoFar, course_after, IsLawful, ViewFits, Course, course_from, State, Part, part_of, Effect, Step, IsTold, told_after, calls_of, takers, want_of, got_of, walk_after, has_queues, Found, Request, Held, SeatView, On, Idle, Done, Next, Walk}
+use Rattle.ns_gate.specs.Prelude.{IsOne, GateView, Views, Homes, is_seat, HasCome, Fits, Shows, AtHome, Underlying, IsRuled, walk_by, course_by, MayBegin, HasStepped, BeginsWith, row_after, standing_after, total, one_if, Every, Truths, QuietKeeps, Event, asked_of, BeginsIf, SeatStep, view_in, CallGoes, SoFar, course_after, IsLawful, ViewFits, Course, course_from, LockState, Part, part_of, Effect, Step, IsTold, told_after, calls_of, takers, want_of, got_of, walk_after, has_queues, Found, Request, Held, SeatView, On, Idle, Done, Next, Walk}
 use Rattle.ns_model.proofs.Tallies.{total_set, total_none, Others, every_at, others_of, others_both, others_map, others_none, every_both, every_put}
 use Rattle.ns_word.proofs.Acts.{view_fits}
 use Rattle.ns_word.proofs.Courses.{takes_on, begins_unchanged}
 use Rattle.ns_word.proofs.EnvKeeps.{set_here, set_there}
 use Rattle.ns_word.proofs.Numbers.{step_at, begin_at, set_same, split_at}
-use Rattle.ns_word.proofs.Tells.{begins_if, seat_steps_keep, seat_step_tells, seat_step_by, told_there, seat_in}
+use Rattle.ns_word.proofs.ToldAfter.{begins_if, seat_steps_keep, seat_step_tells, seat_step_by, told_there, seat_in}
 use lib.ListN.{get_elem?}
 use mathlib.Core.Option.{some}
 
@@ -20,13 +20,24 @@ none_takes (x ∷ xs) zero view none e q =
     let one : one_if (has_queues x.walk) ≡ 1 = ap one_if (ap (λ (y : SeatView _ _). has_queues y.walk) is ∙ q) in omega (arith, one, none)
 none_takes (x ∷ xs) (suc n) view none e q = none_takes xs n view (omega (arith, none)) e q
 
+-- one thing in a list is all of it
+pub one_is : {A : Type 0} (vs : List A) → IsOne vs → (v : A) × (vs ≡ v ∷ [])
+one_is [] one = absurd one
+one_is (v ∷ []) one = (v, refl)
+one_is (v ∷ x ∷ xs) one = absurd one
+
+-- what is so of a section in hand, but not of none
+pub hand_of : {A : Type 0} (Q : Option A → Type 0) (o : Option A) → (Q None → ⊥) → Q o → (held : A) × (o ≡ Some held) × Q (Some held)
+hand_of Q None never so = absurd (never so)
+hand_of Q (Some held) never so = (held, refl, so)
+
 -- a seat stands in one view at most
 one_at_most : (b : Bool) → one_if b ≤ 1
 one_at_most true = omega arith
 one_at_most false = omega arith
 
-pub once : {C : Type 0} {N : ℕ} (truths : Truths C) (limit : ℕ) (words : List ℕ) (homes : Homes C) (views : Views C N) (shown : Shown C N) → IsRuled truths limit words homes views shown → (seat : ℕ) → total (total (is_seat seat)) views ≤ 1
-once truths limit words homes views shown r seat = subst (λ n. n ≤ 1) (sym (r.seats seat)) (one_at_most (nat_lt seat limit))
+pub once : {C : Type 0} {N : ℕ} (truths : Truths C) (seat_count : ℕ) (words : List ℕ) (homes : Homes C) (views : Views C N) (shown : Underlying C N) → IsRuled truths seat_count words homes views shown → (seat : ℕ) → total (total (is_seat seat)) views ≤ 1
+once truths seat_count words homes views shown r seat = subst (λ n. n ≤ 1) (sym (r.seats seat)) (one_at_most (nat_lt seat seat_count))
 
 module _ {C : Type 0} {N : ℕ} where
   -- the view in the call that it begins stands at the place where the step is made
@@ -44,29 +55,29 @@ module _ {C : Type 0} {N : ℕ} where
   has_come truths seat row request course (Idle walk) held owed goes = goes.so_far
   has_come truths seat row request course (Done reply) held owed goes = tt
 
-module _ {C : Type 0} {N : ℕ} (truths : Truths C) (cells : 0 < N) (quiet : QuietKeeps N truths) (limit : ℕ) (words : List ℕ) (homes : Homes C) (views : Views C N) (shown : Shown C N) (r : IsRuled truths limit words homes views shown)
+module _ {C : Type 0} {N : ℕ} (truths : Truths C) (cells : 0 < N) (quiet : QuietKeeps N truths) (seat_count : ℕ) (words : List ℕ) (homes : Homes C) (views : Views C N) (shown : Underlying C N) (r : IsRuled truths seat_count words homes views shown)
     (id : ℕ) (v : GateView C N) (at : get_elem? views id ≡ some (v ∷ [])) (begun : Option (Walk C)) (may : MayBegin truths begun v.at) where
   -- what the rule says of the seat
-  pub its_fit : Fits truths limit shown.history shown.state v
-  its_fit = (every_at (Every (Fits truths limit shown.history shown.state)) views id (v ∷ []) r.each at).0
+  pub its_fit : Fits truths seat_count shown.history shown.state v
+  its_fit = (every_at (Every (Fits truths seat_count shown.history shown.state)) views id (v ∷ []) r.each at).0
 
   -- the state as the seat makes its step
-  abbrev pub between : State C N
+  abbrev pub between : LockState C N
   between = record shown.state { views = slice_set shown.state.views v.at.seat (view_in v.at begun) }
 
   begins_so : (begun : Option (Walk C)) → MayBegin truths begun v.at → BeginsIf truths shown.state v.at begun (record shown.state { views = slice_set shown.state.views v.at.seat (view_in v.at begun) })
   begins_so None may = ap (λ vs. record shown.state { views = vs }) (set_same shown.state.views v.at.seat v.at its_fit.stands)
   begins_so (Some walk) may = begin_at truths shown.state v.at.seat v.at its_fit.stands walk (record shown.state { views = slice_set shown.state.views v.at.seat (record v.at { walk = Some walk }) }) may.0 may.1 may.2 refl
 
-  pub lawful_between : IsLawful truths limit shown.history between
-  lawful_between = begins_if truths cells quiet limit shown.history r.few shown.state v.at begun between (begins_so begun may) r.lawful
+  pub lawful_between : IsLawful truths seat_count shown.history between
+  lawful_between = begins_if truths cells quiet seat_count shown.history r.few shown.state v.at begun between (begins_so begun may) r.lawful
 
   pub stands_between : slice_get between.views v.at.seat ≡ Some (view_in v.at begun)
   stands_between = set_here shown.state.views v.at.seat (view_in v.at begun) (slice_get_within shown.state.views v.at.seat v.at its_fit.stands)
 
   -- no other seat has its number
   others_apart : Others (Every (λ (x : GateView C N). is_seat v.at.seat x ≡ 0)) id views
-  others_apart = let one : one_if (eqb v.at.seat v.at.seat) ≡ 1 = ap one_if (eq-eqb v.at.seat v.at.seat refl) in let most = once truths limit words homes views shown r v.at.seat in
+  others_apart = let one : one_if (eqb v.at.seat v.at.seat) ≡ 1 = ap one_if (eq-eqb v.at.seat v.at.seat refl) in let most = once truths seat_count words homes views shown r v.at.seat in
       others_map (λ xs. total (is_seat v.at.seat) xs ≡ 0) (Every (λ x. is_seat v.at.seat x ≡ 0)) (λ xs e. total_none (is_seat v.at.seat) xs e) views id (others_none (total (is_seat v.at.seat)) views id (v ∷ []) at (omega (arith, one, most)))
 
   apart : (x : GateView C N) → is_seat v.at.seat x ≡ 0 → v.at.seat ≢ x.at.seat
@@ -80,17 +91,17 @@ module _ {C : Type 0} {N : ℕ} (truths : Truths C) (cells : 0 < N) (quiet : Qui
     abbrev pub course : Course C N
     course = course_after found commits (course_by begun v)
 
-    abbrev pub after : State C N
+    abbrev pub after : LockState C N
     after = record { word = part.word; row = part.row; lists = part.lists; flags = part.flags; views = slice_set between.views v.at.seat next }
 
-    abbrev pub later : Shown C N
+    abbrev pub later : Underlying C N
     later = record { state = after; history = shown.history ++ commits }
 
     abbrev pub now : GateView C N
-    now = record { limit = v.limit; at = next; told = told_after shown.history commits (calls_of begun) v.told; course = course; stood = part.lists }
+    now = record { seat_count = v.seat_count; at = next; told = told_after shown.history commits (calls_of begun) v.told; course = course; stood = part.lists }
 
     -- the machine's step
-    step_by_effect : (begun : Option (Walk C)) (between : State C N) → between ≡ record shown.state { views = slice_set shown.state.views v.at.seat (view_in v.at begun) } → slice_get between.views v.at.seat ≡ Some (view_in v.at begun) → walk_by begun v.at.walk ≡ Some walk →
+    step_by_effect : (begun : Option (Walk C)) (between : LockState C N) → between ≡ record shown.state { views = slice_set shown.state.views v.at.seat (view_in v.at begun) } → slice_get between.views v.at.seat ≡ Some (view_in v.at begun) → walk_by begun v.at.walk ≡ Some walk →
         (step : Step truths between (view_in v.at begun) found (record { word = part.word; row = part.row; lists = part.lists; flags = part.flags; views = slice_set between.views v.at.seat next }) commits) × (step.walk ≡ walk) × (step.held ≡ part.held) × (step.owed ≡ part.owed)
     step_by_effect None between is stands walks = (
       step_at truths between v.at.seat v.at stands walk found (record { word = part.word; row = part.row; lists = part.lists; flags = part.flags; views = slice_set between.views v.at.seat next }) part.held part.owed commits walks refl
@@ -113,21 +124,21 @@ module _ {C : Type 0} {N : ℕ} (truths : Truths C) (cells : 0 < N) (quiet : Qui
     pub made : SeatStep truths shown.state v.at begun found after commits
     made = record { between = between; begins = begins_so begun may; step = made_all.0 }
 
-    pub lawful_after : IsLawful truths limit (shown.history ++ commits) after
-    lawful_after = seat_steps_keep truths cells quiet limit shown.history r.few shown.state v.at begun found after commits made r.lawful
+    pub lawful_after : IsLawful truths seat_count (shown.history ++ commits) after
+    lawful_after = seat_steps_keep truths cells quiet seat_count shown.history r.few shown.state v.at begun found after commits made r.lawful
 
     stands_after : slice_get after.views v.at.seat ≡ Some next
     stands_after = set_here (slice_set shown.state.views v.at.seat (view_in v.at begun)) v.at.seat next (slice_get_within (slice_set shown.state.views v.at.seat (view_in v.at begun)) v.at.seat (view_in v.at begun) stands_between)
 
     -- what the law says of the seat then
-    fits_after : ViewFits truths limit (standing_after (shown.history ++ commits)) part.row next
-    fits_after = view_fits truths limit r.few (shown.history ++ commits) after (take v.at.seat after.views) next (drop (suc v.at.seat) after.views) (split_at after.views v.at.seat next stands_after) lawful_after
+    fits_after : ViewFits truths seat_count (standing_after (shown.history ++ commits)) part.row next
+    fits_after = view_fits truths seat_count r.few (shown.history ++ commits) after (take v.at.seat after.views) next (drop (suc v.at.seat) after.views) (split_at after.views v.at.seat next stands_after) lawful_after
 
     -- what the seat is told
-    told_all : IsTold truths.holds limit (shown.history ++ commits) v.at.seat (walk_after (got_of N walk found)) (told_after shown.history commits (calls_of begun) v.told) × BeginsWith (shown.history ++ commits) v.told.seen
+    told_all : IsTold truths.holds seat_count (shown.history ++ commits) v.at.seat (walk_after (got_of N walk found)) (told_after shown.history commits (calls_of begun) v.told) × BeginsWith (shown.history ++ commits) v.told.seen
     unfolding made_all made
-    told_all = subst (λ w. IsTold truths.holds limit (shown.history ++ commits) v.at.seat (walk_after (got_of N w found)) (told_after shown.history commits (calls_of begun) v.told) × BeginsWith (shown.history ++ commits) v.told.seen) made_all.1
-        (seat_step_tells truths cells quiet limit shown.history r.few shown.state v.at begun found after commits made r.lawful v.told its_fit.told)
+    told_all = subst (λ w. IsTold truths.holds seat_count (shown.history ++ commits) v.at.seat (walk_after (got_of N w found)) (told_after shown.history commits (calls_of begun) v.told) × BeginsWith (shown.history ++ commits) v.told.seen) made_all.1
+        (seat_step_tells truths cells quiet seat_count shown.history r.few shown.state v.at begun found after commits made r.lawful v.told its_fit.told)
 
     -- how far the call has come before the step
     come_before : (begun : Option (Walk C)) → MayBegin truths begun v.at → walk_by begun v.at.walk ≡ Some walk → SoFar truths (view_in v.at begun).seat (course_by begun v) walk (view_in v.at begun).held
@@ -138,13 +149,13 @@ module _ {C : Type 0} {N : ℕ} (truths : Truths C) (cells : 0 < N) (quiet : Qui
     goes_on : CallGoes truths v.at.seat (row_after (shown.history ++ commits)) (asked_of walk) course (got_of N walk found) part.held
     goes_on =
         let so_far = subst (λ w. SoFar truths (view_in v.at begun).seat (course_by begun v) w (view_in v.at begun).held) (sym made_all.1) (come_before begun may walks) in
-        let goes = takes_on C N truths limit shown.history between after (view_in v.at begun) found commits (course_by begun v) made_all.0 lawful_between so_far in
+        let goes = takes_on C N truths seat_count shown.history between after (view_in v.at begun) found commits (course_by begun v) made_all.0 lawful_between so_far in
         let at_seat = subst (λ n. CallGoes truths n (row_after (shown.history ++ commits)) (asked_of made_all.0.walk) course (got_of N made_all.0.walk found) made_all.0.held) (seat_in truths v.at begun) goes in
         let at_walk = subst (λ w. CallGoes truths v.at.seat (row_after (shown.history ++ commits)) (asked_of w) course (got_of N w found) made_all.0.held) made_all.1 at_seat in
         subst (λ held. CallGoes truths v.at.seat (row_after (shown.history ++ commits)) (asked_of walk) course (got_of N walk found) held) made_all.2 at_walk
 
     -- the step, as its caller sees it
-    pub did : Did truths begun found v now
+    pub did : HasStepped truths begun found v now
     unfolding made_all made
     did =
         let limited = sym its_fit.limited in
@@ -157,7 +168,7 @@ module _ {C : Type 0} {N : ℕ} (truths : Truths C) (cells : 0 < N) (quiet : Qui
           lawful = subst (λ n. IsLawful truths n shown.history shown.state) limited r.lawful;
           lawful_now = subst (λ n. IsLawful truths n (shown.history ++ commits) after) limited lawful_after;
           made = made;
-          limit = refl;
+          seat_count = refl;
           becomes = λ i. record { seat = v.at.seat; walk = walk_after (got_of N (sym made_all.1 i) found); held = sym made_all.2 i; owed = sym made_all.3 i };
           tells = refl;
           told_was = subst (λ n. IsTold truths.holds n shown.history v.at.seat v.at.walk v.told) limited its_fit.told;
@@ -176,7 +187,7 @@ module _ {C : Type 0} {N : ℕ} (truths : Truths C) (cells : 0 < N) (quiet : Qui
     did_from = refl
 
     -- another seat's view
-    others_fit : (part.lists ≡ shown.state.lists) ⊎ (part.word.spin ≡ false) → (x : GateView C N) → is_seat v.at.seat x ≡ 0 → Fits truths limit shown.history shown.state x → Fits truths limit (shown.history ++ commits) after x
+    others_fit : (part.lists ≡ shown.state.lists) ⊎ (part.word.spin ≡ false) → (x : GateView C N) → is_seat v.at.seat x ≡ 0 → Fits truths seat_count shown.history shown.state x → Fits truths seat_count (shown.history ++ commits) after x
     unfolding made_all made
     others_fit kept x z fits =
         let ne = apart x z in
@@ -184,7 +195,7 @@ module _ {C : Type 0} {N : ℕ} (truths : Truths C) (cells : 0 < N) (quiet : Qui
         record {
           limited = fits.limited;
           stands = stands;
-          told = told_there truths.holds limit shown.history v.at.seat x.at.seat x.at.walk commits x.told (seat_step_by truths shown.state v.at begun found after commits made) ne fits.told;
+          told = told_there truths.holds seat_count shown.history v.at.seat x.at.seat x.at.walk commits x.told (seat_step_by truths shown.state v.at begun found after commits made) ne fits.told;
           come = fits.come;
           stood = by_lists kept stands;
         }
@@ -194,17 +205,17 @@ module _ {C : Type 0} {N : ℕ} (truths : Truths C) (cells : 0 < N) (quiet : Qui
         by_lists (inr clear) stands has = absurd (none_takes after.views x.at.seat x.at (lawful_after.spin_held_once ∙ ap (λ b. cond b 1 0) clear) stands has)
 
     -- the rule, where the table's words show what the step leaves
-    pub ruled : (words' : List ℕ) (homes' : Homes C) → Shows N words' part.word part.row part.flags → AtHome part.word.spin part.lists homes' → (part.lists ≡ shown.state.lists) ⊎ (part.word.spin ≡ false) → IsRuled truths limit words' homes' (set views id (now ∷ [])) later
+    pub ruled : (words' : List ℕ) (homes' : Homes C) → Shows N words' part.word part.row part.flags → AtHome part.word.spin part.lists homes' → (part.lists ≡ shown.state.lists) ⊎ (part.word.spin ≡ false) → IsRuled truths seat_count words' homes' (set views id (now ∷ [])) later
     ruled words' homes' shows home kept = record {
       few = r.few;
       lawful = lawful_after;
       shows = shows;
       home = home;
       seats = λ x. let s = total_set (total (is_seat x)) views id (v ∷ []) (now ∷ []) at in let was = r.seats x in omega (arith, s, was);
-      each = every_put (Every (Fits truths limit (shown.history ++ commits) after)) views id (now ∷ [])
-          (others_both (Every (λ (x : GateView C N). is_seat v.at.seat x ≡ 0)) (Every (Fits truths limit shown.history shown.state)) (Every (Fits truths limit (shown.history ++ commits) after))
-          (λ xs p q. every_both (λ (x : GateView C N). is_seat v.at.seat x ≡ 0) (Fits truths limit shown.history shown.state) (Fits truths limit (shown.history ++ commits) after) (λ x a c. others_fit kept x a c) xs p q) views id
-          others_apart (others_of (Every (Fits truths limit shown.history shown.state)) views id r.each)) (
+      each = every_put (Every (Fits truths seat_count (shown.history ++ commits) after)) views id (now ∷ [])
+          (others_both (Every (λ (x : GateView C N). is_seat v.at.seat x ≡ 0)) (Every (Fits truths seat_count shown.history shown.state)) (Every (Fits truths seat_count (shown.history ++ commits) after))
+          (λ xs p q. every_both (λ (x : GateView C N). is_seat v.at.seat x ≡ 0) (Fits truths seat_count shown.history shown.state) (Fits truths seat_count (shown.history ++ commits) after) (λ x a c. others_fit kept x a c) xs p q) views id
+          others_apart (others_of (Every (Fits truths seat_count shown.history shown.state)) views id r.each)) (
             record {
               limited = its_fit.limited;
               stands = stands_after;

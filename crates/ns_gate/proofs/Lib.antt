@@ -5,5 +5,5 @@ pub mod Looks
 pub mod Meets
 pub mod Starts
 pub mod Stays
-pub mod Tells
-pub mod Turns
+pub mod Findings
+pub mod Allowed

@@ -6,7 +6,7 @@ use Rattle.std.proofs.lemmas.List.{length-replicate, get_or-replicate}
 use Rattle.ns_gate.specs.Prelude.{Splits, opening, GateView, is_seat, Fits, Holds, no_lists, fresh_seat, fresh, first_of, rest_of, total, one_if, Every, Truths, Lists, fresh_state, fresh_views}
 use Rattle.ns_model.proofs.Tallies.{total_set, total-append, every_at, others_of, every_put, every-append}
 use Rattle.ns_word.proofs.Starts.{lawful_fresh}
-use Rattle.ns_word.proofs.Tells.{told_first}
+use Rattle.ns_word.proofs.ToldAfter.{told_first}
 use mathlib.Core.Option.{some}
 
 module _ (C : Type 0) (N : ℕ) where
@@ -19,11 +19,11 @@ module _ (C : Type 0) (N : ℕ) where
   cut_every P (v ∷ vs) h = (h.1, (h.0, tt))
 
   -- the first seat of a view may go to a seat of its own
-  pub cuts : (truths : Truths C) (limit id : ℕ) (vs : List (GateView C N)) → Splits (Holds truths limit) id vs (rest_of vs) (first_of vs)
-  cuts truths limit id vs s h at =
+  pub cuts : (truths : Truths C) (seat_count id : ℕ) (vs : List (GateView C N)) → Splits (Holds truths seat_count) id vs (rest_of vs) (first_of vs)
+  cuts truths seat_count id vs s h at =
       let g = h.0 in
       let l = h.1 in
-      let P = Fits truths limit g.history g.state in
+      let P = Fits truths seat_count g.history g.state in
       let own = cut_every P vs (every_at (Every P) s.views id vs l.each at) in (
         g,
         record {
@@ -31,27 +31,27 @@ module _ (C : Type 0) (N : ℕ) where
           lawful = l.lawful;
           shows = l.shows;
           home = l.home;
-          seats = λ who.
-              let f : GateView C N → ℕ = is_seat who in
+          seats = λ seat.
+              let f : GateView C N → ℕ = is_seat seat in
               let a = total-append (total f) (set s.views id (rest_of vs)) (first_of vs ∷ []) in
               let b = total_set (total f) s.views id vs (rest_of vs) at in
               let d = cut_total f vs in
-              let was = l.seats who in omega (arith, a, b, d, was);
+              let was = l.seats seat in omega (arith, a, b, d, was);
           each = every-append (Every P) (set s.views id (rest_of vs)) (first_of vs ∷ []) (every_put (Every P) s.views id (rest_of vs) (others_of (Every P) s.views id l.each) own.0) (own.1, tt);
         },
       )
 
   -- ---- a new gate
 
-  none_before : (limit from n who : ℕ) → who < from → total (is_seat who) (fresh {C = C} {N = N} limit from n) ≡ 0
-  none_before limit from zero who low = refl
-  none_before limit from (suc n) who low = let r = none_before limit (suc from) n who (omega (arith, low)) in let z : one_if (eqb from who) ≡ 0 = ap one_if (ne_eqb from who (λ e. omega (arith, e, low))) in omega (arith, r, z)
+  none_before : (seat_count from n seat : ℕ) → seat < from → total (is_seat seat) (fresh {C = C} {N = N} seat_count from n) ≡ 0
+  none_before seat_count from zero seat low = refl
+  none_before seat_count from (suc n) seat low = let r = none_before seat_count (suc from) n seat (omega (arith, low)) in let z : one_if (eqb from seat) ≡ 0 = ap one_if (ne_eqb from seat (λ e. omega (arith, e, low))) in omega (arith, r, z)
 
-  one_of_each : (limit from n who : ℕ) → from ≤ who → total (is_seat who) (fresh {C = C} {N = N} limit from n) ≡ one_if (nat_lt who (from + n))
-  one_of_each limit from zero who low = sym (ap one_if (le-ltb who (from + zero) (omega (arith, low))))
-  one_of_each limit from (suc n) who low = elim (cases_eq from who) [
-    | inl e ↦ (let r = none_before limit (suc from) n who (omega (arith, e)) in let o : one_if (eqb from who) ≡ 1 = ap one_if (eq-eqb from who e) in let is : one_if (nat_lt who (from + suc n)) ≡ 1 = ap one_if (lt-ltb who (from + suc n) (omega (arith, e))) in omega (arith, r, o, is))
-    | inr ne ↦ (let r = one_of_each limit (suc from) n who (above from who low ne) in let z : one_if (eqb from who) ≡ 0 = ap one_if (ne_eqb from who ne) in let same : one_if (nat_lt who (suc from + n)) ≡ one_if (nat_lt who (from + suc n)) = ap (λ k. one_if (nat_lt who k)) (omega arith) in omega (arith, r, z, same))
+  one_of_each : (seat_count from n seat : ℕ) → from ≤ seat → total (is_seat seat) (fresh {C = C} {N = N} seat_count from n) ≡ one_if (nat_lt seat (from + n))
+  one_of_each seat_count from zero seat low = sym (ap one_if (le-ltb seat (from + zero) (omega (arith, low))))
+  one_of_each seat_count from (suc n) seat low = elim (cases_eq from seat) [
+    | inl e ↦ (let r = none_before seat_count (suc from) n seat (omega (arith, e)) in let o : one_if (eqb from seat) ≡ 1 = ap one_if (eq-eqb from seat e) in let is : one_if (nat_lt seat (from + suc n)) ≡ 1 = ap one_if (lt-ltb seat (from + suc n) (omega (arith, e))) in omega (arith, r, o, is))
+    | inr ne ↦ (let r = one_of_each seat_count (suc from) n seat (above from seat low ne) in let z : one_if (eqb from seat) ≡ 0 = ap one_if (ne_eqb from seat ne) in let same : one_if (nat_lt seat (suc from + n)) ≡ one_if (nat_lt seat (from + suc n)) = ap (λ k. one_if (nat_lt seat k)) (omega arith) in omega (arith, r, z, same))
   ] where
     above : (a b : ℕ) → a ≤ b → a ≢ b → suc a ≤ b
     above a b low ne = omega (arith, low, ne)
@@ -61,19 +61,19 @@ module _ (C : Type 0) (N : ℕ) where
   stands_there first (suc n) zero low = let e : first ≡ first + 0 = omega arith in ap (λ (k : ℕ). Some (fresh_seat {C = C} {N = N} 0 k).at) e
   stands_there first (suc n) (suc i) low = let e : (first + 1) + i ≡ first + suc i = omega arith in stands_there (first + 1) n i (omega (arith, low)) ∙ ap (λ (k : ℕ). Some (fresh_seat {C = C} {N = N} 0 k).at) e
 
-  fits_fresh : (truths : Truths C) (limit from n : ℕ) → from + n ≡ limit → Every (Fits truths limit [] (fresh_state {C = C} {N = N} limit)) (fresh limit from n)
-  fits_fresh truths limit from zero e = tt
-  fits_fresh truths limit from (suc n) e = (
-    record { limited = refl; stands = stands_there 0 limit from (omega (arith, e)) ∙ ap (λ (k : ℕ). Some (fresh_seat {C = C} {N = N} 0 k).at) (let z : 0 + from ≡ from = omega arith in z); told = told_first truths.holds limit from; come = tt; stood = λ q. absurd (cc) },
-    fits_fresh truths limit (suc from) n (omega (arith, e)),
+  fits_fresh : (truths : Truths C) (seat_count from n : ℕ) → from + n ≡ seat_count → Every (Fits truths seat_count [] (fresh_state {C = C} {N = N} seat_count)) (fresh seat_count from n)
+  fits_fresh truths seat_count from zero e = tt
+  fits_fresh truths seat_count from (suc n) e = (
+    record { limited = refl; stands = stands_there 0 seat_count from (omega (arith, e)) ∙ ap (λ (k : ℕ). Some (fresh_seat {C = C} {N = N} 0 k).at) (let z : 0 + from ≡ from = omega arith in z); told = told_first truths.holds seat_count from; come = tt; stood = λ q. absurd (cc) },
+    fits_fresh truths seat_count (suc from) n (omega (arith, e)),
   )
 
-  pub begins_with : (truths : Truths C) (limit : ℕ) (words : List ℕ) (slots : List (Lists C)) → limit ≤ 64 → words ≡ replicate (N + 65) 0 → slots ≡ no_lists ∷ [] → Holds truths limit (opening words slots (fresh {C = C} {N = N} limit 0 limit))
-  begins_with truths limit words slots few is home = let wide : length words ≡ N + 65 = ap length is ∙ length-replicate (N + 65) 0 in (
-    record { state = fresh_state {C = C} {N = N} limit; history = [] },
+  pub begins_with : (truths : Truths C) (seat_count : ℕ) (words : List ℕ) (slots : List (Lists C)) → seat_count ≤ 64 → words ≡ replicate (N + 65) 0 → slots ≡ no_lists ∷ [] → Holds truths seat_count (opening words slots (fresh {C = C} {N = N} seat_count 0 seat_count))
+  begins_with truths seat_count words slots few is home = let wide : length words ≡ N + 65 = ap length is ∙ length-replicate (N + 65) 0 in (
+    record { state = fresh_state {C = C} {N = N} seat_count; history = [] },
     record {
       few = few;
-      lawful = lawful_fresh C N truths limit few;
+      lawful = lawful_fresh C N truths seat_count few;
       shows = record {
         width = wide;
         word_is = ap (λ (ws : List ℕ). get_or ws 0 0) is ∙ (get_or-replicate (N + 65) 0 0 0 (omega arith) ∙ refl);
@@ -81,16 +81,16 @@ module _ (C : Type 0) (N : ℕ) where
         flags_are = λ seat low. ap (λ (ws : List ℕ). get_or ws (seat + (N + 1)) 0) is ∙ get_or-replicate (N + 65) (seat + (N + 1)) 0 0 (omega (arith, low));
       };
       home = ap (λ (xs : List (Lists C)). map some xs) home;
-      seats = λ who. let o = one_of_each limit 0 limit who (omega arith) in let same : one_if (nat_lt who (0 + limit)) ≡ one_if (nat_lt who limit) = ap (λ k. one_if (nat_lt who k)) (omega arith) in omega (arith, o, same);
-      each = (fits_fresh truths limit 0 limit (omega arith), tt);
+      seats = λ seat. let o = one_of_each seat_count 0 seat_count seat (omega arith) in let same : one_if (nat_lt seat (0 + seat_count)) ≡ one_if (nat_lt seat seat_count) = ap (λ k. one_if (nat_lt seat k)) (omega arith) in omega (arith, o, same);
+      each = (fits_fresh truths seat_count 0 seat_count (omega arith), tt);
     },
   )
 
-  more : (limit i : ℕ) → i < limit → limit - i ≡ suc (limit - (i + 1))
-  more limit i h = omega (arith, h)
+  more : (seat_count i : ℕ) → i < seat_count → seat_count - i ≡ suc (seat_count - (i + 1))
+  more seat_count i h = omega (arith, h)
 
-  pub fresh_first : (limit i : ℕ) → i < limit → first_of (fresh {C = C} {N = N} limit i (limit - i)) ≡ fresh_seat limit i ∷ []
-  fresh_first limit i h = ap (λ (k : ℕ). first_of (fresh {C = C} {N = N} limit i k)) (more limit i h)
+  pub fresh_first : (seat_count i : ℕ) → i < seat_count → first_of (fresh {C = C} {N = N} seat_count i (seat_count - i)) ≡ fresh_seat seat_count i ∷ []
+  fresh_first seat_count i h = ap (λ (k : ℕ). first_of (fresh {C = C} {N = N} seat_count i k)) (more seat_count i h)
 
-  pub fresh_rest : (limit i : ℕ) → i < limit → rest_of (fresh {C = C} {N = N} limit i (limit - i)) ≡ fresh limit (i + 1) (limit - (i + 1))
-  fresh_rest limit i h = ap (λ (k : ℕ). rest_of (fresh {C = C} {N = N} limit i k)) (more limit i h) ∙ ap (λ (k : ℕ). fresh limit k (limit - (i + 1))) (let e : suc i ≡ i + 1 = omega arith in e)
+  pub fresh_rest : (seat_count i : ℕ) → i < seat_count → rest_of (fresh {C = C} {N = N} seat_count i (seat_count - i)) ≡ fresh seat_count (i + 1) (seat_count - (i + 1))
+  fresh_rest seat_count i h = ap (λ (k : ℕ). rest_of (fresh {C = C} {N = N} seat_count i k)) (more seat_count i h) ∙ ap (λ (k : ℕ). fresh seat_count k (seat_count - (i + 1))) (let e : suc i ≡ i + 1 = omega arith in e)

@@ -1,7 +1,7 @@
 -- What stays as it is where a step changes nothing, or nothing but a flag.
 use Rattle.std.proofs.Common.{◌≡◌, ℕ, true, false, [], ◌++◌, ◌∷◌, None, refl, ap, sym, ◌∙◌, subst}
 use Rattle.ns_gate.specs.Prelude.{SeatOf, GateView, the, Performed, Carries, Truths, Lists, times, Part, part_of, Effect, has_queues, ArmFlag, Act, Made, Found, SeatView}
-use Rattle.ns_gate.proofs.Tells.{does}
+use Rattle.ns_gate.proofs.Findings.{does}
 use Rattle.ns_word.proofs.Acts.{stands_nowhere}
 use Rattle.ns_word.specs.Walks.{awaits}
 
@@ -48,4 +48,4 @@ module _ {C : Type 0} {N : ℕ} (truths : Truths C) where
   nowhere_now act found me now p waits =
       let d = p.did in let s = d.made.step in
       let stands : d.new.views ≡ s.front ++ (the now.0).at ∷ s.back = s.becomes ∙ ap (λ (x : SeatView C N). s.front ++ x ∷ s.back) (sym d.becomes) in
-      subst (λ (lists : Lists C). times (the now.0).at.seat lists ≡ 0) (sym d.stood_now) (stands_nowhere truths (the me.0).limit d.few (d.history ++ d.commits) d.new s.front (the now.0).at s.back stands d.lawful_now waits)
+      subst (λ (lists : Lists C). times (the now.0).at.seat lists ≡ 0) (sym d.stood_now) (stands_nowhere truths (the me.0).seat_count d.few (d.history ++ d.commits) d.new s.front (the now.0).at s.back stands d.lawful_now waits)

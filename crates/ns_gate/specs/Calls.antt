@@ -25,9 +25,9 @@ abbrev pub SeatOf : Type 0 → ℕ → Type 0
 SeatOf C N = Me (Lists C) (List (GateView C N))
 
 -- What a seat has seen is a legal history by the seats that there are, and the seat's own events in it are just its own.
-pub record IsTrueToHistory {C : Type 0} {N : ℕ} (truths : Truths C) (limit seat : ℕ) (seen mine : List (Event C N)) : Type 0 where
+pub record IsTrueToHistory {C : Type 0} {N : ℕ} (truths : Truths C) (seat_count seat : ℕ) (seen mine : List (Event C N)) : Type 0 where
   pub legal : IsLegal truths.holds seen
-  pub by_seats : IsBySeats limit seen
+  pub by_seats : IsBySeats seat_count seen
   pub own : own_of seen seat ≡ mine
 
 -- the rows of a section in hand have N cells
@@ -43,11 +43,11 @@ pub record IsAtRest {C : Type 0} {N : ℕ} (truths : Truths C) (me : SeatOf C N)
   pub owes : (the me.0).at.owed ≡ []
   pub settled : IsSettled truths (the me.0).at.held
   pub wide : IsWide (the me.0).at.held
-  pub true_to : IsTrueToHistory truths (the me.0).limit (the me.0).at.seat (the me.0).told.seen (the me.0).told.mine
+  pub true_to : IsTrueToHistory truths (the me.0).seat_count (the me.0).at.seat (the me.0).told.seen (the me.0).told.mine
 
 -- The same seat behind some steps of one call, the first of which began it, if the call is named, and else in the midst of it: it has seen more; what the call has committed since stands behind its own events, and behind what the call had committed; and it has begun that call and no other.
 pub record HasSince {C : Type 0} {N : ℕ} (begun : Option (Walk C)) (v w : GateView C N) : Type 0 where
-  pub limit : w.limit ≡ v.limit
+  pub seat_count : w.seat_count ≡ v.seat_count
   pub seat : w.at.seat ≡ v.at.seat
   pub begins : BeginsWith w.told.seen v.told.seen
   pub commits : List (Event C N)
@@ -62,7 +62,7 @@ OwesBelow [] = Unit {0}
 OwesBelow (woken ∷ others) = woken < 64
 
 -- A seat stands at this place of its call, which has come as far as the place tells, with what the place needs; the rows of its section, if it has one in hand, are as wide as the lock's; it carries nothing, but where the place has the queues.
-pub record IsAt {C : Type 0} {N : ℕ} (truths : Truths C) (walk : Walk C) (me : SeatOf C N) : Type 0 where
+pub record IsAtPlace {C : Type 0} {N : ℕ} (truths : Truths C) (walk : Walk C) (me : SeatOf C N) : Type 0 where
   pub one : IsOne me.0
   pub empty : has_queues (Some walk) ≡ false → me.1 ≡ []
   pub walks : (the me.0).at.walk ≡ Some walk
@@ -77,7 +77,7 @@ pub record HasAnswered {C : Type 0} {N : ℕ} (truths : Truths C) (request : Req
   pub means : Means truths (the me.0).at.seat (row_after (the me.0).told.seen) request (the me.0).course reply (the me.0).at.held
 
 -- where a step leads a call that was asked to do this: to a place, at once or after it has waited, or to its answer
-abbrev pub Leads : {C : Type 0} {N : ℕ} → Truths C → Request C → Next C → SeatOf C N → Type 0
-Leads truths request (On walk) me = IsAt truths walk me
-Leads truths request (Idle walk) me = IsAt truths walk me
-Leads truths request (Done reply) me = HasAnswered truths request reply me
+abbrev pub HasReached : {C : Type 0} {N : ℕ} → Truths C → Request C → Next C → SeatOf C N → Type 0
+HasReached truths request (On walk) me = IsAtPlace truths walk me
+HasReached truths request (Idle walk) me = IsAtPlace truths walk me
+HasReached truths request (Done reply) me = HasAnswered truths request reply me

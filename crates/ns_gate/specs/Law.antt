@@ -15,13 +15,13 @@ use Rattle.ns_word.specs.Codec.{number_of}
 use Rattle.ns_word.specs.Courses.{SoFar}
 use Rattle.ns_word.specs.Lawful.{IsLawful}
 use Rattle.ns_word.specs.Meanings.{Course, course_from}
-use Rattle.ns_word.specs.Steps.{State}
+use Rattle.ns_word.specs.Steps.{LockState}
 use Rattle.ns_word.specs.Told.{Told, IsTold, nothing_told}
 use Rattle.ns_word.specs.Walks.{has_queues}
 
 -- What one seat of a gate knows: how many seats there are, itself as the machine sees it, what it was told, how far the call in progress has come, and how the lists stood at home when it last made a step.
 pub record GateView (C : Type 0) (N : ℕ) : Type 0 where
-  pub limit : ℕ
+  pub seat_count : ℕ
   pub at : SeatView C N
   pub told : Told C N
   pub course : Course C N
@@ -48,10 +48,10 @@ abbrev pub HasCome : {C : Type 0} {N : ℕ} → Truths C → Course C N → Seat
 HasCome truths course view = IfSome view.walk (λ walk. SoFar truths view.seat course walk view.held)
 
 -- What one of so many seats knows fits the history and the state: it stands there at its number, was told of that history, and its call has come so far; who has the queues knows how they stood at home.
-pub record Fits {C : Type 0} {N : ℕ} (truths : Truths C) (limit : ℕ) (history : List (Event C N)) (s : State C N) (view : GateView C N) : Type 0 where
-  pub limited : view.limit ≡ limit
+pub record Fits {C : Type 0} {N : ℕ} (truths : Truths C) (seat_count : ℕ) (history : List (Event C N)) (s : LockState C N) (view : GateView C N) : Type 0 where
+  pub limited : view.seat_count ≡ seat_count
   pub stands : slice_get s.views view.at.seat ≡ Some view.at
-  pub told : IsTold truths.holds limit history view.at.seat view.at.walk view.told
+  pub told : IsTold truths.holds seat_count history view.at.seat view.at.walk view.told
   pub come : HasCome truths view.course view.at
   pub stood : has_queues view.at.walk ≡ true → view.stood ≡ s.lists
 
@@ -68,22 +68,22 @@ AtHome true lists homes = homes ≡ none ∷ []
 AtHome false lists homes = homes ≡ some lists ∷ []
 
 -- the state of the machine that a table shows, and the history
-pub record Shown (C : Type 0) (N : ℕ) : Type 0 where
-  pub state : State C N
+pub record Underlying (C : Type 0) (N : ℕ) : Type 0 where
+  pub state : LockState C N
   pub history : List (Event C N)
 
 -- The rule: the words, the slot and the views make up a state that is lawful with this history; each of the seats stands in just one view, and no other; and each was told what a seat is told.
-pub record IsRuled {C : Type 0} {N : ℕ} (truths : Truths C) (limit : ℕ) (words : List ℕ) (homes : Homes C) (views : Views C N) (shown : Shown C N) : Type 0 where
-  pub few : limit ≤ 64
-  pub lawful : IsLawful truths limit shown.history shown.state
+pub record IsRuled {C : Type 0} {N : ℕ} (truths : Truths C) (seat_count : ℕ) (words : List ℕ) (homes : Homes C) (views : Views C N) (shown : Underlying C N) : Type 0 where
+  pub few : seat_count ≤ 64
+  pub lawful : IsLawful truths seat_count shown.history shown.state
   pub shows : Shows N words shown.state.word shown.state.row shown.state.flags
   pub home : AtHome shown.state.word.spin shown.state.lists homes
-  pub seats : (seat : ℕ) → tally (is_seat seat) views ≡ one_if (nat_lt seat limit)
-  pub each : Every (Every (Fits truths limit shown.history shown.state)) views
+  pub seats : (seat : ℕ) → tally (is_seat seat) views ≡ one_if (nat_lt seat seat_count)
+  pub each : Every (Every (Fits truths seat_count shown.history shown.state)) views
 
 -- The rule of a table with so many seats: there is such a state, and a history.
 abbrev pub Holds : {C : Type 0} {N : ℕ} → Truths C → ℕ → TableState (Lists C) (List (GateView C N)) → Type 0
-Holds {C} {N} truths limit s = (shown : Shown C N) × IsRuled truths limit s.words s.homes s.views shown
+Holds {C} {N} truths seat_count s = (shown : Underlying C N) × IsRuled truths seat_count s.words s.homes s.views shown
 
 -- nobody waits
 abbrev pub no_lists : {C : Type 0} → Lists C
@@ -91,12 +91,12 @@ no_lists = record { lock = []; cvs = replicate 4 [] }
 
 -- a seat that has made no step
 abbrev pub fresh_seat : {C : Type 0} {N : ℕ} → ℕ → ℕ → GateView C N
-fresh_seat limit seat = record { limit = limit; at = record { seat = seat; walk = None; held = None; owed = [] }; told = nothing_told; course = course_from None; stood = no_lists }
+fresh_seat seat_count seat = record { seat_count = seat_count; at = record { seat = seat; walk = None; held = None; owed = [] }; told = nothing_told; course = course_from None; stood = no_lists }
 
 -- so many of them, from a number on
 abbrev pub fresh : {C : Type 0} {N : ℕ} → ℕ → ℕ → ℕ → List (GateView C N)
-fresh limit from zero = []
-fresh limit from (suc n) = fresh_seat limit from ∷ fresh limit (suc from) n
+fresh seat_count from zero = []
+fresh seat_count from (suc n) = fresh_seat seat_count from ∷ fresh seat_count (suc from) n
 
 -- the first seat of a view, alone, and the others
 abbrev pub first_of : {A : Type 0} → List A → List A
@@ -108,6 +108,6 @@ rest_of [] = []
 rest_of (v ∷ vs) = vs
 
 -- why no gate is made: more than 64 seats, or want of memory where there are no more
-abbrev pub NewFault : ℕ → Fault → Type 0
-NewFault seats TooManySeats = 64 < seats
-NewFault seats OutOfMemory = seats ≤ 64
+abbrev pub RefusesGate : ℕ → Fault → Type 0
+RefusesGate seats TooManySeats = 64 < seats
+RefusesGate seats OutOfMemory = seats ≤ 64

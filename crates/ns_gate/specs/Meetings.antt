@@ -21,12 +21,12 @@ ArePair (view ∷ views) = IsOne views
 
 -- Nothing of the seat has changed but what it has seen: a history that begins with what it had seen, is legal, is by the seats that there are, and has just the seat's own events as its own.
 pub record HasLearned {C : Type 0} {N : ℕ} (truths : Truths C) (v w : GateView C N) : Type 0 where
-  pub limit : w.limit ≡ v.limit
+  pub seat_count : w.seat_count ≡ v.seat_count
   pub at : w.at ≡ v.at
   pub mine : w.told.mine ≡ v.told.mine
   pub begun : w.told.begun ≡ v.told.begun
   pub begins : BeginsWith w.told.seen v.told.seen
-  pub true_to : IsTrueToHistory truths w.limit w.at.seat w.told.seen w.told.mine
+  pub true_to : IsTrueToHistory truths w.seat_count w.at.seat w.told.seen w.told.mine
 
 -- Of two seats, one has seen all that the other has: a history that begins with what the other has seen, in which the events of both are just their own.
 pub record SawAllOf {C : Type 0} {N : ℕ} (ahead behind : GateView C N) : Type 0 where

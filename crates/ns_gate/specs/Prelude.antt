@@ -1,13 +1,13 @@
 -- The names that contracts and proofs of calls between threads cite, passed on from one place. Declares nothing.
 pub use Rattle.atomic_table.specs.Seated.{TableId}
 pub use Rattle.atomic_table.specs.Table.{Allows, Final, Joins, Me, Seen, Splits, Valid, carried_after, gives, homes_after, opening, rest, step, takes}
-pub use Rattle.ns_gate.specs.Calls.{HasAnswered, HasSince, IsAt, IsAtRest, IsTrueToHistory, IsWide, Leads, OwesBelow, SeatOf}
+pub use Rattle.ns_gate.specs.Calls.{HasAnswered, HasReached, HasSince, IsAtPlace, IsAtRest, IsTrueToHistory, IsWide, OwesBelow, SeatOf}
 pub use Rattle.ns_gate.specs.Endings.{EndsAs}
-pub use Rattle.ns_gate.specs.Law.{AtHome, Fits, GateView, HasCome, Holds, Homes, IsRuled, NewFault, Shown, Shows, Views, first_of, fresh, fresh_seat, is_seat, no_lists, rest_of}
+pub use Rattle.ns_gate.specs.Law.{AtHome, Fits, GateView, HasCome, Holds, Homes, IsRuled, RefusesGate, Shows, Underlying, Views, first_of, fresh, fresh_seat, is_seat, no_lists, rest_of}
 pub use Rattle.ns_gate.specs.Meetings.{AreOfOneHistory, ArePair, HasLearned, HaveLearned, HaveMet, SawAllOf, ShareTheLock, the_second}
 pub use Rattle.ns_gate.specs.Performing.{IsOnWord, IsTurned, Needs}
 pub use Rattle.ns_gate.specs.Room.{QueuesFit, queues_fit}
-pub use Rattle.ns_gate.specs.Steps.{CanStep, Carries, Did, HasLooked, HasTaken, HasUseFor, IsExchange, IsLoad, IsOne, IsOwedNext, IsStoreOf, MayBegin, MayExchange, MayLoad, MayStore, Performed, Stepped, act_by, act_of, act_returning, carried_by, course_by, first_said, found_returned, lists_returned, lists_scanned, made_by, next_owed, number_by, some_returned, the, tried, tried_for, walk_by, word_at, word_returning}
+pub use Rattle.ns_gate.specs.Steps.{CanStep, Carries, HasLooked, HasStepped, HasUnchangedQueues, HasUseFor, IsExchange, IsLoad, IsOne, IsOwedNext, IsStoreOf, MayBegin, MayExchange, MayLoad, MayStore, Performed, PerformedWith, act_by, act_of, act_returning, carried_by, content_by, course_by, first_said, found_returned, lists_returned, lists_scanned, made_by, next_owed, some_returned, the, tried, tried_for, walk_by, word_at, word_returning}
 pub use Rattle.ns_model.specs.Beginnings.{BeginsWith}
 pub use Rattle.ns_model.specs.Environments.{IsMade}
 pub use Rattle.ns_model.specs.Histories.{IsBySeats, Standing, row_after, standing_after}
@@ -36,7 +36,7 @@ pub use Rattle.ns_word.specs.Lawful.{IsLawful, OneWriter, SectionFits, ViewFits}
 pub use Rattle.ns_word.specs.Lists.{bits_of, has_some}
 pub use Rattle.ns_word.specs.Meanings.{ConditionWaitMeans, Course, HasWaited, InHand, Unchanged, WaitMeans, course_from}
 pub use Rattle.ns_word.specs.Places.{ActFits, CanLeave, CanWait, HasMode, IsInRange, IsSettled, OwesOne, PlaceFits, Tests}
-pub use Rattle.ns_word.specs.Steps.{Effect, MayShow, Part, State, Step, change_commits, change_found, changed, exit_for, flags_with, held_after, held_by, meets_at, moves, newly_held, owed_after, part_of, section_of, waited_in, waits_at, with_lock}
+pub use Rattle.ns_word.specs.Steps.{Effect, LockState, MayShow, Part, Step, change_commits, change_found, changed, exit_for, flags_with, held_after, held_by, meets_at, moves, newly_held, owed_after, part_of, section_of, waited_in, waits_at, with_lock}
 pub use Rattle.ns_word.specs.Told.{IsTold, Told, calls_of, told_after}
 pub use Rattle.ns_word.specs.Views.{is_reading, is_writing, readers, takers, writers}
 pub use Rattle.ns_word.specs.Waits.{answer_of, arrival_of, home_of, is_limited, mode_for, outcome_taken, woken_by}

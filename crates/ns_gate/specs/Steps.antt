@@ -18,12 +18,12 @@ use Rattle.ns_word.specs.declared.act.Found.TheVariants.{Made, Saw, Scanned, Lef
 use Rattle.ns_word.specs.Asked.{asked_of}
 use Rattle.ns_word.specs.Begins.{IsFirst, SeatStep}
 use Rattle.ns_word.specs.Courses.{CallGoes, course_after}
-use Rattle.ns_word.specs.Finds.{found_of, number_at, row_in, scanned, IsLook}
+use Rattle.ns_word.specs.Finds.{found_of, content_at, row_in, scanned, IsLook}
 use Rattle.ns_word.specs.Lawful.{IsLawful, ViewFits}
 use Rattle.ns_word.specs.Meanings.{Course, course_from}
 use Rattle.ns_word.specs.Places.{PlaceFits}
 use Rattle.ns_word.specs.Lists.{has_some, bits_of}
-use Rattle.ns_word.specs.Steps.{State, change_found, changed, meets_at, moves, waited_in, with_lock}
+use Rattle.ns_word.specs.Steps.{LockState, change_found, changed, meets_at, moves, waited_in, with_lock}
 use Rattle.ns_word.specs.Waits.{mode_for}
 use Rattle.ns_word.specs.Words.{releasing_of, word_acquired, word_released, word_released_returning, word_returned, word_taken}
 use Rattle.ns_gate.specs.declared.queues.Returning.{Returning}
@@ -68,24 +68,24 @@ pub record CanStep {C : Type 0} {N : ℕ} (truths : Truths C) (begun : Option (W
   pub wants : want_of walk ≡ act
 
 -- A step of one seat, between two lawful states, and what its call has come to.
-pub record Did {C : Type 0} {N : ℕ} (truths : Truths C) (begun : Option (Walk C)) (found : Found) (v w : GateView C N) : Type 0 where
-  pub old : State C N
-  pub new : State C N
+pub record HasStepped {C : Type 0} {N : ℕ} (truths : Truths C) (begun : Option (Walk C)) (found : Found) (v w : GateView C N) : Type 0 where
+  pub old : LockState C N
+  pub new : LockState C N
   pub history : List (Event C N)
   pub commits : List (Event C N)
-  pub few : v.limit ≤ 64
-  pub lawful : IsLawful truths v.limit history old
-  pub lawful_now : IsLawful truths v.limit (history ++ commits) new
+  pub few : v.seat_count ≤ 64
+  pub lawful : IsLawful truths v.seat_count history old
+  pub lawful_now : IsLawful truths v.seat_count (history ++ commits) new
   pub made : SeatStep truths old v.at begun found new commits
-  pub limit : w.limit ≡ v.limit
+  pub seat_count : w.seat_count ≡ v.seat_count
   pub becomes : w.at ≡ record { seat = v.at.seat; walk = walk_after (got_of N made.step.walk found); held = made.step.held; owed = made.step.owed }
   pub tells : w.told ≡ told_after history commits (calls_of begun) v.told
-  pub told_was : IsTold truths.holds v.limit history v.at.seat v.at.walk v.told
-  pub told_now : IsTold truths.holds v.limit (history ++ commits) w.at.seat w.at.walk w.told
+  pub told_was : IsTold truths.holds v.seat_count history v.at.seat v.at.walk v.told
+  pub told_now : IsTold truths.holds v.seat_count (history ++ commits) w.at.seat w.at.walk w.told
   pub grows : BeginsWith w.told.seen v.told.seen
   pub course : w.course ≡ course_after found commits (course_by begun v)
   pub goes : CallGoes truths v.at.seat (row_after (history ++ commits)) (asked_of made.step.walk) w.course (got_of N made.step.walk found) w.at.held
-  pub fits : ViewFits truths v.limit (standing_after (history ++ commits)) new.row w.at
+  pub fits : ViewFits truths v.seat_count (standing_after (history ++ commits)) new.row w.at
   pub stood_was : has_queues v.at.walk ≡ true → v.stood ≡ old.lists
   pub stood_now : w.stood ≡ new.lists
 
@@ -104,30 +104,30 @@ abbrev pub Carries : {C : Type 0} {N : ℕ} → Lists C → Me (Lists C) (List (
 Carries lists me = me.1 ≡ (0, lists) ∷ []
 
 -- the lists in hand are as they stood at home
-abbrev pub HasTaken : {C : Type 0} {N : ℕ} → Me (Lists C) (List (GateView C N)) → Type 0
-HasTaken me = Carries (the me.0).stood me
+abbrev pub HasUnchangedQueues : {C : Type 0} {N : ℕ} → Me (Lists C) (List (GateView C N)) → Type 0
+HasUnchangedQueues me = Carries (the me.0).stood me
 
--- the number that an act loads, compares or stores in a state; one that judges loads the row's last cell
-abbrev pub number_by : {C : Type 0} {N : ℕ} → ℕ → Act C → State C N → ℕ
-number_by seat (JudgeQuiet i) s = slice_index s.row i
-number_by seat (JudgeMet i c) s = slice_index s.row i
-number_by seat (StoreCell i v) s = v
-number_by seat ArmFlag s = 1
-number_by seat (PayWake value) s = value
-number_by seat act s = number_at seat act s
+-- the content that an act loads, compares or stores in a state; one that judges loads the row's last cell
+abbrev pub content_by : {C : Type 0} {N : ℕ} → ℕ → Act C → LockState C N → ℕ
+content_by seat (JudgeQuiet i) s = slice_index s.row i
+content_by seat (JudgeMet i c) s = slice_index s.row i
+content_by seat (StoreCell i v) s = v
+content_by seat ArmFlag s = 1
+content_by seat (PayWake value) s = value
+content_by seat act s = content_at seat act s
 
--- The seat has made the act, and found this: what the number that the state has there tells, but for a look.
+-- The seat has made the act, and found this: what the content that the state has there tells, but for a look.
 pub record Performed {C : Type 0} {N : ℕ} (truths : Truths C) (begun : Option (Walk C)) (act : Act C) (found : Found) (me now : Me (Lists C) (List (GateView C N))) : Type 0 where
   pub one : IsOne now.0
   pub carried : now.1 ≡ carried_by act found (the now.0).stood me.1
-  pub did : Did truths begun found (the me.0) (the now.0)
+  pub did : HasStepped truths begun found (the me.0) (the now.0)
   pub act_is : want_of did.made.step.walk ≡ act
-  pub finds : (IsLook act → ⊥) → found ≡ found_of truths act (the me.0).at (the me.0).stood (number_by (the me.0).at.seat act did.old)
+  pub finds : (IsLook act → ⊥) → found ≡ found_of truths act (the me.0).at (the me.0).stood (content_by (the me.0).at.seat act did.old)
 
--- the same, where this is the number that the act loads, compares or stores
-pub record Stepped {C : Type 0} {N : ℕ} (truths : Truths C) (begun : Option (Walk C)) (act : Act C) (number : ℕ) (me now : Me (Lists C) (List (GateView C N))) : Type 0 where
-  pub made : Performed truths begun act (found_of truths act (the me.0).at (the me.0).stood number) me now
-  pub tells : number ≡ number_by (the me.0).at.seat act made.did.old
+-- the same, where this is the content that the act loads, compares or stores
+pub record PerformedWith {C : Type 0} {N : ℕ} (truths : Truths C) (begun : Option (Walk C)) (act : Act C) (content : ℕ) (me now : Me (Lists C) (List (GateView C N))) : Type 0 where
+  pub made : Performed truths begun act (found_of truths act (the me.0).at (the me.0).stood content) me now
+  pub tells : content ≡ content_by (the me.0).at.seat act made.did.old
 
 -- the act that a call wants
 abbrev pub act_of : {C : Type 0} → Option (Walk C) → Act C
@@ -168,12 +168,12 @@ IsLoad (JudgeMet i c) = Unit {0}
 IsLoad LoadFlag = Unit {0}
 IsLoad act = ⊥
 
--- the act stores this number
+-- the act stores this content
 abbrev pub IsStoreOf : {C : Type 0} → ℕ → Act C → Type 0
-IsStoreOf number (StoreCell i v) = number ≡ v
-IsStoreOf number ArmFlag = number ≡ 1
-IsStoreOf number (PayWake value) = number ≡ value
-IsStoreOf number act = ⊥
+IsStoreOf content (StoreCell i v) = content ≡ v
+IsStoreOf content ArmFlag = content ≡ 1
+IsStoreOf content (PayWake value) = content ≡ value
+IsStoreOf content act = ⊥
 
 -- the seat may load this word, for the act that its call wants next or begins with
 pub record MayLoad {C : Type 0} {N : ℕ} (truths : Truths C) (begun : Option (Walk C)) (word : ℕ) (me : Me (Lists C) (List (GateView C N))) : Type 0 where
@@ -182,11 +182,11 @@ pub record MayLoad {C : Type 0} {N : ℕ} (truths : Truths C) (begun : Option (W
   pub loads : IsLoad act
   pub there : word ≡ word_at act (the me.0)
 
--- the seat may store this number into this word, for the act that its call wants next
-pub record MayStore {C : Type 0} {N : ℕ} (truths : Truths C) (word number : ℕ) (me : Me (Lists C) (List (GateView C N))) : Type 0 where
+-- the seat may store this content into this word, for the act that its call wants next
+pub record MayStore {C : Type 0} {N : ℕ} (truths : Truths C) (word content : ℕ) (me : Me (Lists C) (List (GateView C N))) : Type 0 where
   pub act : Act C
   pub can : CanStep truths None act me
-  pub stores : IsStoreOf number act
+  pub stores : IsStoreOf content act
   pub there : word ≡ word_at act (the me.0)
 
 -- what an exchange came to, as the machine says it, where this is found if it is made

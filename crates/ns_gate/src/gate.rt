@@ -1,7 +1,7 @@
 //! The gate: a lock word, a row and flags, shared by threads.
 
 ghost use Rattle.std.specs.Prelude.{◌≡◌, ◌+◌, ◌<◌, ◌≤◌, [], ◌∷◌, replicate, None, Some, IfErr, IfOk, MatchResult, slice_index};
-ghost use Rattle.ns_gate.specs.Prelude.{word_of, IsPackable, before_in, exchanged, row_in, MayShow, IsAtRest, EndsAs, first_of, fresh, no_lists, rest_of, NewFault, HaveMet, CanStep, IsOne, MayExchange, MayLoad, MayStore, Performed, Stepped, made_by, the, tried, tried_for};
+ghost use Rattle.ns_gate.specs.Prelude.{word_of, IsPackable, before_in, exchanged, row_in, MayShow, IsAtRest, EndsAs, first_of, fresh, no_lists, rest_of, RefusesGate, HaveMet, CanStep, IsOne, MayExchange, MayLoad, MayStore, Performed, PerformedWith, made_by, the, tried, tried_for};
 
 use crate::closed::{Closed, cells};
 use crate::fault::Fault;
@@ -79,7 +79,7 @@ impl<C: Gated<N>, const N: usize> Gate<C, N> {
     /// and refuses where memory is refused (`OutOfMemory`).
     pub fn new(alloc: Global, seats: usize) -> Result<(Self, GateSeat<C, N>), Fault>
         requires { 0 < seats }
-        ensures { MatchResult result (λ r. (r.1.table_id ≡ r.0) × (r.1.me ≡ (fresh seats 0 seats, [])) × (seats ≤ 64)) (NewFault seats) }
+        ensures { MatchResult result (λ r. (r.1.table_id ≡ r.0) × (r.1.me ≡ (fresh seats 0 seats, [])) × (seats ≤ 64)) (RefusesGate seats) }
     {
         if seats > 64 {
             return Err(Fault::TooManySeats);
@@ -138,7 +138,7 @@ impl<C: Gated<N>, const N: usize> Gate<C, N> {
         requires below { word < N + 65 }
         requires may { MayLoad C.means begins word seat.old.me }
         ensures seat { seat.new.table_id ≡ seat.old.table_id }
-        ensures did { (act : Act C) → CanStep C.means begins act seat.old.me → Stepped C.means begins act result seat.old.me seat.new.me }
+        ensures did { (act : Act C) → CanStep C.means begins act seat.old.me → PerformedWith C.means begins act result seat.old.me seat.new.me }
     {
         let shared = &self.table.shared;
         load_saying::<Queues<C, N>, View<C, N>, u8, Law<C, N>, Option<Walk<C>>, Load<C, N>>(
@@ -146,16 +146,16 @@ impl<C: Gated<N>, const N: usize> Gate<C, N> {
         )
     }
 
-    /// Stores a number into a word of the table, for the act that the seat's call wants next.
+    /// Stores this content into a word of the table, for the act that the seat's call wants next.
     #[inline(always)]
-    pub(crate) fn store_at(&self, seat: &mut GateSeat<C, N>, word: usize, number: u64)
+    pub(crate) fn store_at(&self, seat: &mut GateSeat<C, N>, word: usize, content: u64)
         requires of { seat.old.table_id ≡ self.now }
         requires below { word < N + 65 }
-        requires may { MayStore C.means word number seat.old.me }
+        requires may { MayStore C.means word content seat.old.me }
         ensures seat { seat.new.table_id ≡ seat.old.table_id }
-        ensures did { (act : Act C) → CanStep C.means None act seat.old.me → Stepped C.means None act number seat.old.me seat.new.me }
+        ensures did { (act : Act C) → CanStep C.means None act seat.old.me → PerformedWith C.means None act content seat.old.me seat.new.me }
     {
-        self.table.shared.store::<Go<C, N>>(seat, word, number);
+        self.table.shared.store::<Go<C, N>>(seat, word, content);
     }
 
     /// Changes the lock word from the one last seen to another, for the act that the seat's call wants
@@ -175,8 +175,8 @@ impl<C: Gated<N>, const N: usize> Gate<C, N> {
         ensures did { (act : Act C) → CanStep C.means None act seat.old.me → Performed C.means None act (tried_for (made_by C.means act (the seat.old.me.0)) result) seat.old.me seat.new.me }
     {
         let shared = &self.table.shared;
-        let number = encode(last);
-        let found = shared.compare_exchange::<Go<C, N>>(seat, 0, number, encode(new));
+        let content = encode(last);
+        let found = shared.compare_exchange::<Go<C, N>>(seat, 0, content, encode(new));
         came_to(found, last)
     }
 

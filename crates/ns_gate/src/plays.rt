@@ -1,7 +1,7 @@
 //! The rule of the table, and what each step on it tells.
 
 ghost use Rattle.std.specs.Prelude.{◌++◌, [], None};
-ghost use Rattle.ns_gate.specs.Prelude.{Holds, first_of, fresh, rest_of, HaveLearned, HasLooked, Stepped, act_by, first_said, the};
+ghost use Rattle.ns_gate.specs.Prelude.{Holds, first_of, fresh, rest_of, HaveLearned, HasLooked, PerformedWith, act_by, first_said, the};
 
 use crate::saying::Telling;
 use crate::view::View;
@@ -18,9 +18,9 @@ pub struct Law<C, const N: usize> {
 }
 
 impl<C: Condition<N>, const N: usize> TableRule<Queues<C, N>, View<C, N>, u8> for Law<C, N> {
-    ghost holds = { λ limit s. Holds C.means limit s };
+    ghost holds = { λ seat_count s. Holds C.means seat_count s };
 
-    ghost first = { λ limit. fresh limit 0 limit };
+    ghost first = { λ seat_count. fresh seat_count 0 seat_count };
 }
 
 /// The step that the seat's call wants next.
@@ -29,7 +29,7 @@ pub struct Go<C, const N: usize> {
 }
 
 impl<C: Condition<N>, const N: usize> Play<Queues<C, N>, View<C, N>> for Go<C, N> {
-    ghost then = { λ st me found now. Stepped C.means None (act_by None (the me.0)) found me now };
+    ghost then = { λ st me found now. PerformedWith C.means None (act_by None (the me.0)) found me now };
 }
 
 /// The load that the seat's call wants next, or begins with where it is told a call.
@@ -39,7 +39,7 @@ pub struct Load<C, const N: usize> {
 
 impl<C: Condition<N>, const N: usize> Telling<Queues<C, N>, View<C, N>, Option<Walk<C>>>
     for Load<C, N> {
-    ghost after = { λ begins st me found now. Stepped C.means (first_said begins) (act_by (first_said begins) (the me.0)) found me now };
+    ghost after = { λ begins st me found now. PerformedWith C.means (first_said begins) (act_by (first_said begins) (the me.0)) found me now };
 }
 
 /// The look that the seat's call wants next, which has shown what it is told.

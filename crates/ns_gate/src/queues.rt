@@ -1,7 +1,7 @@
 //! The steps on the waiter queues, and what is done to the queues in a hand between them.
 
 ghost use Rattle.std.specs.Prelude.{◌≡◌, ◌<◌, ⊤, nat_lt, IfErr};
-ghost use Rattle.ns_gate.specs.Prelude.{IsList, times, waiters_of, woken_of, tests_of, seats_of, times_in, IsPackable, row_in, bits_of, IsInRange, changed, meets_at, waited_in, CanStep, Carries, HasTaken, Performed, act_returning, found_returned, lists_returned, lists_scanned, some_returned, the, tried, tried_for, word_returning};
+ghost use Rattle.ns_gate.specs.Prelude.{IsList, times, waiters_of, woken_of, tests_of, seats_of, times_in, IsPackable, row_in, bits_of, IsInRange, changed, meets_at, waited_in, CanStep, Carries, HasUnchangedQueues, Performed, act_returning, found_returned, lists_returned, lists_scanned, some_returned, the, tried, tried_for, word_returning};
 
 use crate::gate::{Gate, GateSeat};
 use crate::room::Gated;
@@ -124,7 +124,7 @@ impl<C: Gated<N>, const N: usize> Gate<C, N> {
         arrival: Arrival,
     ) -> Bits
         requires of { seat.old.table_id ≡ self.now }
-        requires has { HasTaken seat.old.me }
+        requires has { HasUnchangedQueues seat.old.me }
         requires below { number < 64 }
         requires free { times number (the seat.old.me.0).stood ≡ 0 }
         ensures seat { (seat.new.table_id ≡ seat.old.table_id) × (seat.new.me.0 ≡ seat.old.me.0) }
@@ -142,7 +142,7 @@ impl<C: Gated<N>, const N: usize> Gate<C, N> {
     /// Needs a seat of this gate, which has the queues in hand as they stood, and a list that there is.
     pub fn leave_in_hand(&self, seat: &mut GateSeat<C, N>, number: u8, which: Which) -> (bool, Bits)
         requires of { seat.old.table_id ≡ self.now }
-        requires has { HasTaken seat.old.me }
+        requires has { HasUnchangedQueues seat.old.me }
         requires list { IsList which }
         ensures seat { (seat.new.table_id ≡ seat.old.table_id) × (seat.new.me.0 ≡ seat.old.me.0) }
         ensures stood { result.0 ≡ nat_lt 0 (times_in number (waiters_of (the seat.old.me.0).stood which)) }
@@ -160,7 +160,7 @@ impl<C: Gated<N>, const N: usize> Gate<C, N> {
     /// Needs a seat of this gate, which has the queues in hand as they stood.
     pub fn scan_in_hand(&self, seat: &mut GateSeat<C, N>, row: &[u64; N]) -> (Scan, Bits)
         requires of { seat.old.table_id ≡ self.now }
-        requires has { HasTaken seat.old.me }
+        requires has { HasUnchangedQueues seat.old.me }
         ensures seat { (seat.new.table_id ≡ seat.old.table_id) × (seat.new.me.0 ≡ seat.old.me.0) }
         ensures woken { result.0.woken.items ≡ seats_of (woken_of (meets_at C.means row.now) (the seat.old.me.0).stood.lock) }
         ensures tests { result.0.tests ≡ tests_of C.means.same (meets_at C.means row.now) (the seat.old.me.0).stood.lock }
@@ -185,7 +185,7 @@ impl<C: Gated<N>, const N: usize> Gate<C, N> {
         again: bool,
     ) -> (Scan, Bits)
         requires of { seat.old.table_id ≡ self.now }
-        requires has { HasTaken seat.old.me }
+        requires has { HasUnchangedQueues seat.old.me }
         requires list { IsInRange wait.on }
         requires below { number < 64 }
         requires free { times number (the seat.old.me.0).stood ≡ 0 }

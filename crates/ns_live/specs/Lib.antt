@@ -1,5 +1,5 @@
 pub mod Faults
 pub mod Laws
-pub mod Places
+pub mod Crews
 pub mod Rings
 pub mod Wishes

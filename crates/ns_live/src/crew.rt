@@ -1,10 +1,10 @@
 //! The four threads: the seats that each has, and its work.
 
 ghost use Rattle.std.specs.Prelude.{◌≡◌, All, IfSome};
-ghost use Rattle.ns_live.specs.Places.{AreSeated, IsSeated};
+ghost use Rattle.ns_live.specs.Crews.{AreSeated, IsSeated};
 
+use crate::commons::{Commons, get_to_know};
 use crate::consuming::consume;
-use crate::place::{Place, get_to_know};
 use crate::producing::produce;
 use crate::ring::RingSeat;
 use ns_note::seat::EnvSeat;
@@ -44,16 +44,16 @@ pub struct Crew {
 
 /// The work of one more thread, as long as there are seats.
 fn next_job(
-    place: Place<'_>,
+    commons: Commons<'_>,
     seats: &mut Vec<RingSeat>,
     env_seats: &mut Vec<EnvSeat>,
     role: Role,
 ) -> Option<Job>
-    requires monitor { All (λ seat. seat.monitor ≡ place.monitor.now) seats.old.items }
-    requires env { All (λ seat. seat.env ≡ place.env.now) env_seats.old.items }
-    ensures monitor { All (λ seat. seat.monitor ≡ place.entry.monitor.now) seats.new.items }
-    ensures env { All (λ seat. seat.env ≡ place.entry.env.now) env_seats.new.items }
-    ensures job { IfSome result (IsSeated place.entry.monitor.now place.entry.env.now) }
+    requires monitor { All (λ seat. seat.monitor ≡ commons.monitor.now) seats.old.items }
+    requires env { All (λ seat. seat.env ≡ commons.env.now) env_seats.old.items }
+    ensures monitor { All (λ seat. seat.monitor ≡ commons.entry.monitor.now) seats.new.items }
+    ensures env { All (λ seat. seat.env ≡ commons.entry.env.now) env_seats.new.items }
+    ensures job { IfSome result (IsSeated commons.entry.monitor.now commons.entry.env.now) }
 {
     let seat = seats.pop()?;
     let env_seat = env_seats.pop()?;
@@ -65,17 +65,17 @@ fn next_job(
 }
 
 /// The work of all four, as long as there are seats.
-pub fn crew_of(place: Place<'_>, seats: Vec<RingSeat>, env_seats: Vec<EnvSeat>) -> Option<Crew>
-    requires monitor { All (λ seat. seat.monitor ≡ place.monitor.now) seats.items }
-    requires env { All (λ seat. seat.env ≡ place.env.now) env_seats.items }
-    ensures { IfSome result (AreSeated place.entry.monitor.now place.entry.env.now) }
+pub fn crew_of(commons: Commons<'_>, seats: Vec<RingSeat>, env_seats: Vec<EnvSeat>) -> Option<Crew>
+    requires monitor { All (λ seat. seat.monitor ≡ commons.monitor.now) seats.items }
+    requires env { All (λ seat. seat.env ≡ commons.env.now) env_seats.items }
+    ensures { IfSome result (AreSeated commons.entry.monitor.now commons.entry.env.now) }
 {
     let mut seats = seats;
     let mut env_seats = env_seats;
-    let odd = next_job(place, &mut seats, &mut env_seats, Role::Produces(1))?;
-    let even = next_job(place, &mut seats, &mut env_seats, Role::Produces(2))?;
-    let first = next_job(place, &mut seats, &mut env_seats, Role::Consumes)?;
-    let second = next_job(place, &mut seats, &mut env_seats, Role::Consumes)?;
+    let odd = next_job(commons, &mut seats, &mut env_seats, Role::Produces(1))?;
+    let even = next_job(commons, &mut seats, &mut env_seats, Role::Produces(2))?;
+    let first = next_job(commons, &mut seats, &mut env_seats, Role::Consumes)?;
+    let second = next_job(commons, &mut seats, &mut env_seats, Role::Consumes)?;
     Some(Crew {
         odd,
         even,
@@ -85,20 +85,20 @@ pub fn crew_of(place: Place<'_>, seats: Vec<RingSeat>, env_seats: Vec<EnvSeat>) 
 }
 
 /// Does a thread's work, and answers the sum of what it has taken.
-pub fn work<R: Wait>(rt: &R, place: Place<'_>, job: Job) -> u64
-    requires { IsSeated place.monitor.now place.env.now job }
+pub fn work<R: Wait>(rt: &R, commons: Commons<'_>, job: Job) -> u64
+    requires { IsSeated commons.monitor.now commons.env.now job }
 {
     let Job {
         seat,
         mut env_seat,
         role,
     } = job;
-    get_to_know(rt, place, &mut env_seat);
+    get_to_know(rt, commons, &mut env_seat);
     match role {
         Role::Produces(first) => {
-            produce(rt, place, seat, &mut env_seat, first);
+            produce(rt, commons, seat, &mut env_seat, first);
             0
         }
-        Role::Consumes => consume(rt, place, seat, &mut env_seat),
+        Role::Consumes => consume(rt, commons, seat, &mut env_seat),
     }
 }

@@ -20,10 +20,10 @@
 //! ```
 #![tactic(auto)]
 
+mod commons;
 mod consuming;
 mod crew;
 mod fault;
-mod place;
 mod producing;
 mod ring;
 mod running;

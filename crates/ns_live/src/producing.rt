@@ -3,7 +3,7 @@
 ghost use Rattle.std.specs.Prelude.{◌≡◌};
 ghost use Rattle.ns_model.specs.Environments.{IsMade};
 
-use crate::place::{Place, wait_for};
+use crate::commons::{Commons, wait_for};
 use crate::ring::{RingSeat, put};
 use crate::wish::Wish;
 use ns_note::seat::EnvSeat;
@@ -13,42 +13,42 @@ use std::sync::Wait;
 /// notified.
 fn put_one<R: Wait>(
     rt: &R,
-    place: Place<'_>,
+    commons: Commons<'_>,
     seat: RingSeat,
     env_seat: &mut EnvSeat,
     item: u64,
 ) -> (RingSeat, bool)
-    requires of { (seat.monitor ≡ place.monitor.now) × (env_seat.old.env ≡ place.env.now) }
-    requires made { IsMade env_seat.old.seen place.note.index }
-    ensures of { (result.0.monitor ≡ place.entry.monitor.now) × (env_seat.new.env ≡ env_seat.old.env) }
-    ensures made { IsMade env_seat.new.seen place.entry.note.index }
+    requires of { (seat.monitor ≡ commons.monitor.now) × (env_seat.old.env ≡ commons.env.now) }
+    requires made { IsMade env_seat.old.seen commons.note.index }
+    ensures of { (result.0.monitor ≡ commons.entry.monitor.now) × (env_seat.new.env ≡ env_seat.old.env) }
+    ensures made { IsMade env_seat.new.seen commons.entry.note.index }
 {
-    let held = place.monitor.lock(rt, seat);
-    let (mut held, has_room) = wait_for(rt, place, held, Wish::Room, env_seat);
+    let held = commons.monitor.lock(rt, seat);
+    let (mut held, has_room) = wait_for(rt, commons, held, Wish::Room, env_seat);
     if has_room {
-        put(place.monitor, &mut held, item);
+        put(commons.monitor, &mut held, item);
     }
-    (place.monitor.unlock(rt, held), has_room)
+    (commons.monitor.unlock(rt, held), has_room)
 }
 
 /// Puts every second number into the ring, from this one to the last that there is.
 pub fn produce<R: Wait>(
     rt: &R,
-    place: Place<'_>,
+    commons: Commons<'_>,
     seat: RingSeat,
     env_seat: &mut EnvSeat,
     first: u64,
 )
-    requires of { (seat.monitor ≡ place.monitor.now) × (env_seat.old.env ≡ place.env.now) }
-    requires made { IsMade env_seat.old.seen place.note.index }
+    requires of { (seat.monitor ≡ commons.monitor.now) × (env_seat.old.env ≡ commons.env.now) }
+    requires made { IsMade env_seat.old.seen commons.note.index }
 {
     let mut seat = seat;
     let mut item = first;
-    for _ in 0..place.items {
-        if place.items < item {
+    for _ in 0..commons.items {
+        if commons.items < item {
             return;
         }
-        let (back, is_put) = put_one(rt, place, seat, env_seat, item);
+        let (back, is_put) = put_one(rt, commons, seat, env_seat, item);
         if !is_put {
             return;
         }

@@ -3,11 +3,11 @@
 ghost use Rattle.std.specs.Prelude.{◌≡◌, All, IfSome};
 ghost use Rattle.std.specs.Thread.{IsSync};
 ghost use Rattle.ns_model.specs.Environments.{IsMade};
-ghost use Rattle.ns_live.specs.Places.{AreSeated, IsSeated};
+ghost use Rattle.ns_live.specs.Crews.{AreSeated, IsSeated};
 
+use crate::commons::Commons;
 use crate::crew::{Crew, Job, crew_of, work};
 use crate::fault::LiveFault;
-use crate::place::Place;
 use crate::ring::RingMonitor;
 use ns_note::env::Env;
 use ns_note::note::Note;
@@ -39,15 +39,15 @@ fn joined<R: Threads>(rt: &R, started: Option<JoinHandle<u64>>) -> Option<u64> {
 fn started<'s, E, R: Wait + Sync>(
     scope: &Scope<'s, E>,
     rt: &'s R,
-    place: Place<'s>,
+    commons: Commons<'s>,
     job: Job,
 ) -> Option<JoinHandle<u64>>
-    requires { IsSync R.row × IsSeated place.monitor.now place.env.now job }
+    requires { IsSync R.row × IsSeated commons.monitor.now commons.env.now job }
 {
     let handle = scope.spawn(
         move || -> u64
-            requires { IsSync R.row × IsSeated place.monitor.now place.env.now job }
-        { work(rt, place, job) },
+            requires { IsSync R.row × IsSeated commons.monitor.now commons.env.now job }
+        { work(rt, commons, job) },
     );
     handle.ok()
 }
@@ -56,12 +56,12 @@ fn started<'s, E, R: Wait + Sync>(
 /// others are told to end by the note.
 fn played<R: Threads + Wait + Sync>(
     rt: &R,
-    place: Place<'_>,
+    commons: Commons<'_>,
     crew: Crew,
     env_seat: EnvSeat,
 ) -> Option<u64>
-    requires crew { AreSeated place.monitor.now place.env.now crew }
-    requires made { (env_seat.env ≡ place.env.now) × IsMade env_seat.seen place.note.index }
+    requires crew { AreSeated commons.monitor.now commons.env.now crew }
+    requires made { (env_seat.env ≡ commons.env.now) × IsMade env_seat.seen commons.note.index }
 {
     let mut env_seat = env_seat;
     thread::scope(
@@ -69,9 +69,9 @@ fn played<R: Threads + Wait + Sync>(
         rt,
         move |scope| -> Option<u64>
             requires sync { IsSync R.row }
-            requires producers { IsSeated place.monitor.now place.env.now crew.odd × IsSeated place.monitor.now place.env.now crew.even }
-            requires consumers { IsSeated place.monitor.now place.env.now crew.first × IsSeated place.monitor.now place.env.now crew.second }
-            requires made { (env_seat.env ≡ place.env.now) × IsMade env_seat.seen place.note.index }
+            requires producers { IsSeated commons.monitor.now commons.env.now crew.odd × IsSeated commons.monitor.now commons.env.now crew.even }
+            requires consumers { IsSeated commons.monitor.now commons.env.now crew.first × IsSeated commons.monitor.now commons.env.now crew.second }
+            requires made { (env_seat.env ≡ commons.env.now) × IsMade env_seat.seen commons.note.index }
         {
             let Crew {
                 odd,
@@ -79,12 +79,12 @@ fn played<R: Threads + Wait + Sync>(
                 first,
                 second,
             } = crew;
-            let odd = started(scope, rt, place, odd);
-            let even = started(scope, rt, place, even);
-            let first = started(scope, rt, place, first);
-            let second = started(scope, rt, place, second);
+            let odd = started(scope, rt, commons, odd);
+            let even = started(scope, rt, commons, even);
+            let first = started(scope, rt, commons, first);
+            let second = started(scope, rt, commons, second);
             if odd.is_none() || even.is_none() || first.is_none() || second.is_none() {
-                place.env.notify(&mut env_seat, place.note);
+                commons.env.notify(&mut env_seat, commons.note);
             }
             let ended = (joined(rt, odd), joined(rt, even));
             match (ended, joined(rt, first), joined(rt, second)) {
@@ -111,14 +111,14 @@ pub fn live<R: Threads + Wait + Sync>(rt: &R, alloc: Global, items: u64) -> Resu
     let Some((env_seat, note)) = new_note(&env, &mut env_seats) else {
         return Err(LiveFault::OutOfMemory);
     };
-    let place = Place {
+    let commons = Commons {
         monitor: &monitor,
         env: &env,
         note,
         items,
     };
-    let Some(crew) = crew_of(place, seats, env_seats) else {
+    let Some(crew) = crew_of(commons, seats, env_seats) else {
         return Err(LiveFault::OutOfMemory);
     };
-    played(rt, place, crew, env_seat).ok_or(LiveFault::NoThread)
+    played(rt, commons, crew, env_seat).ok_or(LiveFault::NoThread)
 }

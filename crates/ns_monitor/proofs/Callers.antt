@@ -1,17 +1,11 @@
 -- What a call of the gate's seat tells its caller.
 use Rattle.std.proofs.Common.{◌≡◌, ℕ, Bool, Option, true, false, cond, [], ◌∷◌, ◌++◌, None, Some, Result, Ok, Err, refl, ap, sym, ◌∙◌, subst}
 use Rattle.std.proofs.lemmas.List.{append-nil}
-use Rattle.ns_gate.specs.Prelude.{TableId, InHand, Releasing, asked_of, section_of, SeatOf, HasSince, IsAt, IsAtRest, HasAnswered, Leads, the, Performed, tried, Mode, Truths, Unchanged, row_after, got_of, may_acquire, Acquire, LoadCell, StoreCell, Saw, Made, Cell, SetStore, TryLock, Get, Set, TryAcquire, ForLock, On, Done, Busy, Succeeded, Number, Walk, InTry, InCells, AsFresh, Word}
+use Rattle.ns_gate.specs.Prelude.{TableId, InHand, Releasing, asked_of, section_of, SeatOf, HasSince, IsAtPlace, IsAtRest, HasAnswered, HasReached, the, Performed, tried, Mode, Truths, Unchanged, row_after, got_of, may_acquire, Acquire, LoadCell, StoreCell, Saw, Made, Cell, SetStore, TryLock, Get, Set, TryAcquire, ForLock, On, Done, Busy, Succeeded, Number, Walk, InTry, InCells, AsFresh, Word}
 use Rattle.ns_gate.proofs.Calls.{begins, goes, since, since_then}
 use Rattle.ns_model.specs.declared.event.Exit.TheVariants as TheExit
-use Rattle.ns_monitor.specs.Known.{Known, known_of, Grows, HasLocked, HasSeenMore}
-use Rattle.ns_monitor.specs.Standing.{WentAtOnce, gone_to}
-use Rattle.ns_monitor.specs.Walks.{getting, setting, trying}
+use Rattle.ns_monitor.specs.Prelude.{Grows, HasLocked, HasSeenMore, Known, WentAtOnce, getting, gone_to, known_of, setting, trying}
 use Rattle.ns_word.specs.Meanings as TheMeanings
-
--- where a try goes by the word that it loaded
-by_word : {C : Type 0} (N : ℕ) (b : Bool) (mode : Mode) (word : Word) → may_acquire mode AsFresh word ≡ b → got_of {C = C} N (trying mode) (Saw word) ≡ cond b (On (InTry mode (TryAcquire word))) (Done Busy)
-by_word N b mode word e = ap (λ (x : Bool). cond x (On (InTry mode (TryAcquire word))) (Done Busy)) e
 
 abbrev made_of : {A B : Type 0} → Result A B → Bool
 made_of (Ok x) = true
@@ -20,7 +14,7 @@ made_of (Err e) = false
 module _ {C : Type 0} {N : ℕ} (truths : Truths C) where
   -- a call that is over has let its caller see more
   pub grew : (first : Walk C) (old : Known C N) (was is : TableId) (me now : SeatOf C N) → known_of was me ≡ old → is ≡ old.monitor → IsAtRest truths now → HasSince (Some first) (the me.0) (the now.0) → Grows truths first old (known_of is now)
-  grew first old was is me now view same rest s = subst (λ (k : Known C N). is ≡ k.monitor → Grows truths first k (known_of is now)) view (λ same. record { monitor = same; limit = s.limit; seat = s.seat; begins = s.begins; begun = s.calls; true_to = rest.true_to; over = rest.over; owes = rest.owes; empty = rest.empty }) same
+  grew first old was is me now view same rest s = subst (λ (k : Known C N). is ≡ k.monitor → Grows truths first k (known_of is now)) view (λ same. record { monitor = same; seat_count = s.seat_count; seat = s.seat; begins = s.begins; begun = s.calls; true_to = rest.true_to; over = rest.over; owes = rest.owes; empty = rest.empty }) same
 
   -- one that has committed nothing leaves its own events
   silent : (first : Walk C) (old : Known C N) (was : TableId) (me now : SeatOf C N) → known_of was me ≡ old → HasSince (Some first) (the me.0) (the now.0) → (the now.0).course.committed ≡ [] → (the now.0).told.mine ≡ old.mine
@@ -43,20 +37,17 @@ module _ {C : Type 0} {N : ℕ} (truths : Truths C) where
   -- ---- calls that go at once
 
   -- one that has gone so is over, or has acquired
-  pub went_so : (first walk : Walk C) (left : Option ℕ) (now : SeatOf C N) → walk ≡ first → left ≡ None → WentAtOnce truths walk left now → Leads truths (asked_of first) (gone_to N first) now
+  pub went_so : (first walk : Walk C) (left : Option ℕ) (now : SeatOf C N) → walk ≡ first → left ≡ None → WentAtOnce truths walk left now → HasReached truths (asked_of first) (gone_to N first) now
   went_so first walk left now is none went = (subst (λ (x : Walk C × Option ℕ). WentAtOnce truths x.0 x.1 now) (λ i. (is i, none i)) went).1
 
   -- ---- tries
 
   -- the word that was loaded decides
-  pub tries_next : (mode : Mode) (word : Word) (now : SeatOf C N) → may_acquire mode AsFresh word ≡ true → Leads truths (TryLock mode) (got_of N (trying mode) (Saw word)) now → IsAt truths (InTry mode (TryAcquire word)) now
-  tries_next mode word now may led = subst (λ n. Leads truths (TryLock mode) n now) (by_word N true mode word may) led
-
-  pub is_busy : (mode : Mode) (word : Word) (now : SeatOf C N) → may_acquire mode AsFresh word ≡ false → Leads truths (TryLock mode) (got_of N (trying mode) (Saw word)) now → HasAnswered truths (TryLock mode) Busy now
-  is_busy mode word now may led = subst (λ n. Leads truths (TryLock mode) n now) (by_word N false mode word may) led
+  pub tries_by : (mode : Mode) (word : Word) (b : Bool) (now : SeatOf C N) → may_acquire mode AsFresh word ≡ b → HasReached truths (TryLock mode) (got_of N (trying mode) (Saw word)) now → HasReached truths (TryLock mode) (cond b (On (InTry mode (TryAcquire word))) (Done Busy)) now
+  tries_by mode word b now may led = subst (λ (x : Bool). HasReached truths (TryLock mode) (cond x (On (InTry mode (TryAcquire word))) (Done Busy)) now) may led
 
   -- and then the exchange
-  pub is_tried : (mode : Mode) (last : Word) (r : Result Unit Word) (made : Bool) (me now : SeatOf C N) → made ≡ made_of r → IsAt truths (InTry mode (TryAcquire last)) me → Performed truths None (Acquire (ForLock mode) AsFresh last) (tried r) me now → HasAnswered truths (TryLock mode) (cond made Succeeded Busy) now
+  pub is_tried : (mode : Mode) (last : Word) (r : Result Unit Word) (made : Bool) (me now : SeatOf C N) → made ≡ made_of r → IsAtPlace truths (InTry mode (TryAcquire last)) me → Performed truths None (Acquire (ForLock mode) AsFresh last) (tried r) me now → HasAnswered truths (TryLock mode) (cond made Succeeded Busy) now
   is_tried mode last r made me now is at p = subst (λ b. HasAnswered truths (TryLock mode) (cond b Succeeded Busy) now) (sym is) (by_result r p) where
     by_result : (r : Result Unit Word) → Performed truths None (Acquire (ForLock mode) AsFresh last) (tried r) me now → HasAnswered truths (TryLock mode) (cond (made_of r) Succeeded Busy) now
     by_result (Ok x) p = goes truths (InTry mode (TryAcquire last)) (Acquire (ForLock mode) AsFresh last) Made (Done Succeeded) me now at refl refl refl p
@@ -68,9 +59,9 @@ module _ {C : Type 0} {N : ℕ} (truths : Truths C) where
   is_got i value walk me now is rest did = let p = subst (λ w. Performed truths (Some w) (LoadCell i) (Cell value) me now) is did in
       (begins truths (getting i) (LoadCell i) (Cell value) (Done (Number value)) me now refl (λ _. p.carried ∙ rest.empty) p, since truths (Some (getting i)) (LoadCell i) (Cell value) me now p)
 
-  pub sets_next : (i value old : ℕ) (walk : Walk C) (me now : SeatOf C N) → walk ≡ setting i value → IsAtRest truths me → Performed truths (Some walk) (LoadCell i) (Cell old) me now → IsAt truths (InCells (SetStore i value)) now × HasSince (Some (setting i value)) (the me.0) (the now.0)
+  pub sets_next : (i value old : ℕ) (walk : Walk C) (me now : SeatOf C N) → walk ≡ setting i value → IsAtRest truths me → Performed truths (Some walk) (LoadCell i) (Cell old) me now → IsAtPlace truths (InCells (SetStore i value)) now × HasSince (Some (setting i value)) (the me.0) (the now.0)
   sets_next i value old walk me now is rest did = let p = subst (λ w. Performed truths (Some w) (LoadCell i) (Cell old) me now) is did in
       (begins truths (setting i value) (LoadCell i) (Cell old) (On (InCells (SetStore i value))) me now refl (λ _. p.carried ∙ rest.empty) p, since truths (Some (setting i value)) (LoadCell i) (Cell old) me now p)
 
-  pub is_set : (i value : ℕ) (start me now : SeatOf C N) → IsAt truths (InCells (SetStore i value)) me × HasSince (Some (setting i value)) (the start.0) (the me.0) → Performed truths None (StoreCell i value) Made me now → HasAnswered truths (Set i value) Succeeded now × HasSince (Some (setting i value)) (the start.0) (the now.0)
+  pub is_set : (i value : ℕ) (start me now : SeatOf C N) → IsAtPlace truths (InCells (SetStore i value)) me × HasSince (Some (setting i value)) (the start.0) (the me.0) → Performed truths None (StoreCell i value) Made me now → HasAnswered truths (Set i value) Succeeded now × HasSince (Some (setting i value)) (the start.0) (the now.0)
   is_set i value start me now at p = (goes truths (InCells (SetStore i value)) (StoreCell i value) Made (Done Succeeded) me now at.0 refl refl refl p, since_then (Some (setting i value)) _ _ _ at.1 (since truths None (StoreCell i value) Made me now p))

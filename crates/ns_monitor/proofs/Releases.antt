@@ -4,8 +4,7 @@ use Rattle.std.specs.List.{list_any}
 use Rattle.ns_gate.specs.Prelude.{SeatOf, the, Carries, lists_returned, Subject, OnCondition, OnVariable, some_returned, Truths, Lists, is_eligible, is_satisfied, left_of, woken_of, has_condition, reads, seats_of, writes, Waiter, row_in, bits_of, has_some, meets_at, waits_at, with_lock, Walk, Bits, Word}
 use Rattle.ns_gate.specs.declared.queues.Returning.{Returning}
 use Rattle.ns_gate.specs.declared.queues.Returning.TheVariants.{Changed, Released, Waited}
-use Rattle.ns_monitor.specs.Standing.{HasInHand}
-use Rattle.ns_monitor.specs.Tests.{HasRow, IsReady, ScansAs, lacks_row}
+use Rattle.ns_monitor.specs.Prelude.{HasInHand, HasRow, IsReady, ScansAs, lacks_row}
 
 -- ---- the scan
 
@@ -19,41 +18,24 @@ module _ {C : Type 0} (meets other : C → Bool) where
   as_satisfied None e = refl
   as_satisfied (Some c) e = absurd (cc)
 
-  as_eligible : (w : Waiter C) → has_condition w ≡ false → is_eligible meets w ≡ is_eligible other w
-  as_eligible w e = as_satisfied w.cond e
-
-  readers_same : (ws : List (Waiter C)) → list_any has_condition ws ≡ false → filter (λ v. reads v && is_eligible meets v) ws ≡ filter (λ v. reads v && is_eligible other v) ws
-  readers_same [] e = refl
-  readers_same (w ∷ ws) e =
+  kept_same : (f : Bool → Bool) (ws : List (Waiter C)) → list_any has_condition ws ≡ false → filter (λ v. f (reads v && is_eligible meets v)) ws ≡ filter (λ v. f (reads v && is_eligible other v)) ws
+  kept_same f [] e = refl
+  kept_same f (w ∷ ws) e =
       let n = or_none (has_condition w) (list_any has_condition ws) e in
-      let first = as_eligible w n.0 in let others = readers_same ws n.1 in
-      λ i. cond (reads w && first i) (w ∷ others i) (others i)
-
-  others_same : (ws : List (Waiter C)) → list_any has_condition ws ≡ false → filter (λ v. not (reads v && is_eligible meets v)) ws ≡ filter (λ v. not (reads v && is_eligible other v)) ws
-  others_same [] e = refl
-  others_same (w ∷ ws) e =
-      let n = or_none (has_condition w) (list_any has_condition ws) e in
-      let first = as_eligible w n.0 in let others = others_same ws n.1 in
-      λ i. cond (not (reads w && first i)) (w ∷ others i) (others i)
+      let first = as_satisfied w.cond n.0 in let others = kept_same f ws n.1 in
+      λ i. cond (f (reads w && first i)) (w ∷ others i) (others i)
 
   -- Where no waiter has a condition, a scan takes and leaves the same whatever is true.
-  pub woken_same : (ws : List (Waiter C)) → list_any has_condition ws ≡ false → woken_of meets ws ≡ woken_of other ws
-  woken_same [] e = refl
-  woken_same (w ∷ ws) e =
+  pub scan_same : (ws : List (Waiter C)) → list_any has_condition ws ≡ false → (woken_of meets ws ≡ woken_of other ws) × (left_of meets ws ≡ left_of other ws)
+  scan_same [] e = (refl, refl)
+  scan_same (w ∷ ws) e =
       let n = or_none (has_condition w) (list_any has_condition ws) e in
-      let first = as_eligible w n.0 in let readers = readers_same ws n.1 in let others = woken_same ws n.1 in
-      λ i. cond (first i) (w ∷ cond (writes w) [] (readers i)) (others i)
-
-  pub left_same : (ws : List (Waiter C)) → list_any has_condition ws ≡ false → left_of meets ws ≡ left_of other ws
-  left_same [] e = refl
-  left_same (w ∷ ws) e =
-      let n = or_none (has_condition w) (list_any has_condition ws) e in
-      let first = as_eligible w n.0 in let rest = others_same ws n.1 in let others = left_same ws n.1 in
-      λ i. cond (first i) (cond (writes w) ws (rest i)) (w ∷ others i)
+      let first = as_satisfied w.cond n.0 in let others = scan_same ws n.1 in let readers = kept_same (λ b. b) ws n.1 in let rest = kept_same not ws n.1 in
+      ((λ i. cond (first i) (w ∷ cond (writes w) [] (readers i)) (others.0 i)), (λ i. cond (first i) (cond (writes w) ws (rest i)) (w ∷ others.1 i)))
 
 -- where no waiter has a condition, and where the row is the same
 pub scans_plain : {C : Type 0} (truths : Truths C) (row held : List ℕ) (lock : List (Waiter C)) → list_any has_condition lock ≡ false → ScansAs truths row held lock
-scans_plain truths row held lock none = record { woken = woken_same (meets_at truths row) (meets_at truths held) lock none; left = left_same (meets_at truths row) (meets_at truths held) lock none }
+scans_plain truths row held lock none = let same = scan_same (meets_at truths row) (meets_at truths held) lock none in record { woken = same.0; left = same.1 }
 
 pub scans_row : {C : Type 0} (truths : Truths C) (row held : List ℕ) (lock : List (Waiter C)) → row ≡ held → ScansAs truths row held lock
 scans_row truths row held lock is = record { woken = ap (λ r. woken_of (meets_at truths r) lock) is; left = ap (λ r. left_of (meets_at truths r) lock) is }

@@ -1,15 +1,10 @@
 -- The rounds of a wait for a condition: where it goes by what it tests and sees.
 use Rattle.std.proofs.Common.{◌≡◌, ℕ, ◌-◌, Bool, true, false, cond, List, [], ◌∷◌, ◌++◌, append-nil, ◌⊎◌, inl, inr, option_map, Option, None, Some, refl, ap, sym, ◌∙◌, subst}
 use Rattle.ns_gate.proofs.Calls.{goes}
-use Rattle.ns_gate.proofs.Tells.{does}
-use Rattle.ns_gate.specs.Prelude.{SeatOf, HasAnswered, HasSince, IsAt, IsWide, Leads, the, Performed, Truths, Answer, Met, TimedOut, Canceled, Mode, TableId, row_after, EnvEvent, Event, CondWait, Course, ConditionWaitMeans, HasWaited, InHand, Unchanged, WaitMeans, Walk, HasMode, PlaceFits, Tests, held_after, held_by, section_of, Part, answer_of, is_limited, back_with, got_queuing, look_or_queue, test_place, unmet_by, Look, Looked, Cause, Expired, Notified, Limits, Await, Held, SeatView, ForWait, Outcome, Load, LookIn, Subject, OnCondition, Visit, OnReturn, Wait, InQueuing, TestCells, TestLast, On, Answered, InWait, IsInRange}
-use Rattle.ns_monitor.specs.Saved.{IsFresh, IsFreshIn}
-use Rattle.ns_monitor.specs.Standing.{HasAcquired}
-use Rattle.ns_monitor.specs.Tests.{tested_by, HasRow, HasTested}
-use Rattle.ns_monitor.specs.Waits.{HadLooked, HasComeBack, HasStayed, HasWaitedFor, IfAnswered, QueuesOrEnds, WaitTells}
-use Rattle.ns_monitor.specs.Known.{Known, known_of}
-use Rattle.ns_monitor.specs.Limits.{LookShows}
-use Rattle.ns_monitor.specs.Walks.{limits_of}
+use Rattle.ns_gate.proofs.Findings.{does}
+use Rattle.ns_gate.proofs.Keeps.{hand_of}
+use Rattle.ns_gate.specs.Prelude.{SeatOf, HasAnswered, HasSince, IsAtPlace, IsWide, HasReached, the, Performed, Truths, Answer, Met, TimedOut, Canceled, Mode, TableId, row_after, EnvEvent, Event, CondWait, Course, ConditionWaitMeans, HasWaited, InHand, Unchanged, WaitMeans, Walk, HasMode, PlaceFits, Tests, held_after, held_by, section_of, Part, answer_of, is_limited, back_with, got_queuing, look_or_queue, test_place, unmet_by, Look, Looked, Cause, Expired, Notified, Limits, Await, Held, SeatView, ForWait, Outcome, Load, LookIn, Subject, OnCondition, Visit, OnReturn, Wait, InQueuing, TestCells, TestLast, On, Answered, InWait, IsInRange}
+use Rattle.ns_monitor.specs.Prelude.{HadLooked, HasAcquired, HasComeBack, HasRow, HasStayed, HasTested, HasWaitedFor, IfAnswered, IsFresh, IsFreshIn, Known, LookShows, QueuesOrEnds, WaitTells, known_of, limits_of, tested_by}
 use Rattle.ns_note.specs.Known.{EnvKnown}
 use Rattle.ns_note.specs.declared.note.Note.{Note}
 
@@ -44,32 +39,29 @@ module _ {C : Type 0} {N : ℕ} (truths : Truths C) where
   tests_at wait visit false i j held fits = fits.0.0
 
   -- has just begun
-  pub comes_fresh : (wait : Wait C) (outcome : Outcome) (me : SeatOf C N) → IsAt truths (test_place N wait (OnReturn outcome) 0) me → IsFreshIn N wait.mode (the me.0).at.held
+  pub comes_fresh : (wait : Wait C) (outcome : Outcome) (me : SeatOf C N) → IsAtPlace truths (test_place N wait (OnReturn outcome) 0) me → IsFreshIn N wait.mode (the me.0).at.held
   comes_fresh wait outcome me at = fresh_by wait outcome (the me.0).at.held (tests_at wait (OnReturn outcome) _ 0 (N - 1) (the me.0).at.held at.fits) at.wide
 
   -- ---- where a wait goes
 
   -- one that has acquired goes to test
-  pub back_to_test : (wait : Wait C) (c : C) (outcome : Outcome) (me : SeatOf C N) → wait.on ≡ OnCondition c → HasAcquired truths (ForWait wait outcome) me → IsAt truths (test_place N wait (OnReturn outcome) 0) me
-  back_to_test wait c outcome me is acquired = subst (λ next. Leads truths (Await wait) next me) (ap (λ on. back_with N on wait outcome) is) acquired
+  pub back_to_test : (wait : Wait C) (c : C) (outcome : Outcome) (me : SeatOf C N) → wait.on ≡ OnCondition c → HasAcquired truths (ForWait wait outcome) me → IsAtPlace truths (test_place N wait (OnReturn outcome) 0) me
+  back_to_test wait c outcome me is acquired = subst (λ next. HasReached truths (Await wait) next me) (ap (λ on. back_with N on wait outcome) is) acquired
 
   -- and by the truth of its condition
-  pub met_now : (wait : Wait C) (visit : Visit) (c : C) (met : Bool) (row : List ℕ) (me now : SeatOf C N) → met ≡ true → HasTested truths wait visit c met row me now → HasAnswered truths (Await wait) (Answered Met) now
-  met_now wait visit c met row me now true_now t = subst (λ b. Leads truths (Await wait) (tested_by wait visit b) now) true_now t.leads
-
-  pub unmet_now : (wait : Wait C) (visit : Visit) (c : C) (met : Bool) (row : List ℕ) (me now : SeatOf C N) → met ≡ false → HasTested truths wait visit c met row me now → Leads truths (Await wait) (unmet_by wait visit) now
-  unmet_now wait visit c met row me now false_now t = subst (λ b. Leads truths (Await wait) (tested_by wait visit b) now) false_now t.leads
+  pub tested_so : (wait : Wait C) (visit : Visit) (c : C) (met b : Bool) (row : List ℕ) (me now : SeatOf C N) → met ≡ b → HasTested truths wait visit c met row me now → HasReached truths (Await wait) (tested_by wait visit b) now
+  tested_so wait visit c met b row me now is t = subst (λ x. HasReached truths (Await wait) (tested_by wait visit x) now) is t.leads
 
   -- ---- a look before it queues
 
-  pub by_limits : (wait : Wait C) (again b : Bool) (me : SeatOf C N) → is_limited wait.limits ≡ b → Leads truths (Await wait) (look_or_queue wait again) me → Leads truths (Await wait) (cond b (On (InWait wait (InQueuing again LookIn))) (On (InWait wait (InQueuing again Load)))) me
-  by_limits wait again b me is led = subst (λ x. Leads truths (Await wait) (cond x (On (InWait wait (InQueuing again LookIn))) (On (InWait wait (InQueuing again Load)))) me) is led
+  pub by_limits : (wait : Wait C) (again b : Bool) (me : SeatOf C N) → is_limited wait.limits ≡ b → HasReached truths (Await wait) (look_or_queue wait again) me → HasReached truths (Await wait) (cond b (On (InWait wait (InQueuing again LookIn))) (On (InWait wait (InQueuing again Load)))) me
+  by_limits wait again b me is led = subst (λ x. HasReached truths (Await wait) (cond x (On (InWait wait (InQueuing again LookIn))) (On (InWait wait (InQueuing again Load)))) me) is led
 
   -- it leaves the section in hand, but for the cause that one which came back goes by
   held_looked : (limits : Limits) (again : Bool) (shown : Option Cause) (me now : SeatOf C N) → Performed truths None (Look limits again) (Looked shown) me now → (the now.0).at.held ≡ held_after again shown (the me.0).at.held
   held_looked limits again shown me now p = let e = does truths None (Look limits again) (Looked shown) me now p in ap (λ (x : SeatView C N). x.held) p.did.becomes ∙ ap (λ (q : Part C N). q.held) e.1
 
-  pub looks_in : (wait : Wait C) (again : Bool) (shown : Option Cause) (me now : SeatOf C N) → IsAt truths (InWait wait (InQueuing again LookIn)) me → Performed truths None (Look wait.limits again) (Looked shown) me now → QueuesOrEnds truths wait again shown me now
+  pub looks_in : (wait : Wait C) (again : Bool) (shown : Option Cause) (me now : SeatOf C N) → IsAtPlace truths (InWait wait (InQueuing again LookIn)) me → Performed truths None (Look wait.limits again) (Looked shown) me now → QueuesOrEnds truths wait again shown me now
   looks_in wait again None me now at p = (goes truths (InWait wait (InQueuing again LookIn)) (Look wait.limits again) (Looked None) (On (InWait wait (InQueuing again Load))) me now at refl refl refl p, held_looked wait.limits again None me now p)
   looks_in wait again (Some cause) me now at p = (
     goes truths (InWait wait (InQueuing again LookIn)) (Look wait.limits again) (Looked (Some cause)) (got_queuing N wait again LookIn (Looked (Some cause))) me now at refl refl refl p,
@@ -101,28 +93,19 @@ module _ {C : Type 0} {N : ℕ} (truths : Truths C) where
           entry = h.entry;
         })
 
-  mode_by : (mode : Mode) (held : Option (Held C N)) → HasMode mode held → (section : Held C N) × (held ≡ Some section) × (section.mode ≡ mode)
-  mode_by mode None h = absurd h
-  mode_by mode (Some section) h = (section, refl, h)
-
-  in_hand_by : (held : Option (Held C N)) (P : Held C N → Type 0) → InHand held P → (section : Held C N) × (held ≡ Some section) × P section
-  in_hand_by None P h = absurd h
-  in_hand_by (Some section) P h = (section, refl, h)
-
   -- A wait for a condition that is over has told what its caller sees.
   pub wait_tells : (first : Walk C) (wait : Wait C) (c : C) (answer : Answer) (old : Known C N) (was_table is : TableId) (me now : SeatOf C N) → known_of was_table me ≡ old → wait.on ≡ OnCondition c → HasMode wait.mode (the me.0).at.held → HasSince (Some first) (the me.0) (the now.0) → HasAnswered truths (Await wait) (Answered answer) now → HasWaitedFor truths c answer old (known_of is now)
   wait_tells first wait c answer old was_table is me now view on mode s a = subst (λ (k : Known C N). HasWaitedFor truths c answer k (known_of is now)) view (
       let v = the me.0 in let w = the now.0 in
-      let before = mode_by wait.mode v.at.held mode in
-      let back = in_hand_by w.at.held (λ back. WaitMeans truths w.at.seat (row_after w.told.seen) wait.mode wait.on wait.limits w.course answer back) a.means in
+      let before = hand_of (λ (o : Option (Held C N)). HasMode wait.mode o) v.at.held (λ e. e) mode in
+      let back = hand_of (λ (o : Option (Held C N)). InHand o (λ back. WaitMeans truths w.at.seat (row_after w.told.seen) wait.mode wait.on wait.limits w.course answer back)) w.at.held (λ e. e) a.means in
       let means = subst (λ on. WaitMeans truths w.at.seat (row_after w.told.seen) wait.mode on wait.limits w.course answer back.0) on back.2 in
       let tells = tells_by wait c answer (known_of was_table me) (known_of is now) before.0 back.0 w.course s.commits before.1 back.1 before.2 s.began s.committed s.mine s.seat means in
       subst (λ (x : Option (Held C N) × Option (Held C N)). InHand x.0 (λ was. InHand x.1 (λ back. WaitTells truths c answer was back (known_of was_table me) (known_of is now)))) (λ i. (sym before.1 i, sym back.1 i)) tells)
 
 -- what is so of each section that has just begun is so of the one in hand
 pub fits_fresh : {C : Type 0} (N : ℕ) (mode : Mode) (held : Option (Held C N)) (fits : Option (Held C N) → Type 0) → ((section : Held C N) → IsFresh N mode section → fits (Some section)) → IsFreshIn N mode held → fits held
-fits_fresh N mode None fits each h = absurd h
-fits_fresh N mode (Some section) fits each h = each section h
+fits_fresh N mode held fits each h = let section = hand_of (IsFreshIn N mode) held (λ e. e) h in subst fits (sym section.1) (each section.0 section.2)
 
 -- it was told the note's number, and left its section only once a look had shown nothing, to a seat that has seen this
 pub looked_by : (P : Type 0) (note : Option Note) (deadline number : Option ℕ) (old new : EnvKnown) (seen : List EnvEvent) → seen ≡ new.seen → number ≡ option_map (λ n. n.index) note → (is_limited (record { deadline = deadline; note = number }) ≡ true → P ⊎ LookShows note (record { deadline = deadline; note = number }) old new None) → is_limited (limits_of deadline note) ≡ true → P ⊎ HadLooked note deadline old.seen seen

@@ -1,6 +1,6 @@
 -- What a write section keeps of the row that it began at, as it sets a cell.
 use Rattle.std.proofs.Common.{◌≡◌, ℕ, ◌<◌, ◌≤◌, List, Option, None, get_or, length}
-use Rattle.ns_monitor.specs.Saved.{value_before}
+use Rattle.ns_monitor.specs.Prelude.{value_before}
 
 -- of so many cells the value as the section began stands in the row before, and of the others the one now
 pub record AreFound (N : ℕ) (saved : List (Option ℕ)) (row before : List ℕ) (i : ℕ) : Type 0 where

@@ -1,8 +1,8 @@
 -- The loops of a call, step by step, by the place at which it stands.
 use Rattle.std.proofs.Common.{◌≡◌, ℕ, ◌<◌, Bool, true, false, cond, List, [], ◌++◌, append-nil, ◌∷◌, Option, None, Some, refl, ap, sym, ◌∙◌, subst}
 use Rattle.ns_gate.proofs.Calls.{begins, can_go, goes, goes_on, since}
-use Rattle.ns_gate.proofs.Tells.{does}
-use Rattle.ns_gate.specs.Prelude.{SeatOf, HasSince, IsAt, IsAtRest, Leads, OwesBelow, GateView, rest_of, rest, the, act_returning, carried_by, Carries, found_returned, lists_returned, some_returned, CanStep, Did, IsOwedNext, Performed, standing_after, woken_of, seats_of, row_in, SectionFits, changed, meets_at, moves, Change, Bits, Request, Held, Queue, Leave, QueueToWait, Truths, Event, Lists, asked_of, IsPackable, number_of, word_of, owes_more, bits_of, has_some, Effect, State, Part, part_of, Told, got_of, has_queues, want_of, release_has_queues, scan_place, word_taken, Act, LoadWord, LoadFlag, PayWake, TakeQueues, Acquire, Release, ReturnQueues, ReleaseReturning, WaitReturning, Found, Saw, Made, Flag, Paid, AcquireLoad, ReleaseLoad, ScanCells, ScanAndRelease, SignalLoad, SeatView, ForLock, ForWait, LeaveLoad, Load, InQueuing, InLeaving, On, Idle, Walk, InTry, InAcquire, InRelease, InCells, InWait, InSignal, Taking, ToChange, ToQueue, Word}
+use Rattle.ns_gate.proofs.Findings.{does}
+use Rattle.ns_gate.specs.Prelude.{SeatOf, HasSince, IsAtPlace, IsAtRest, HasReached, OwesBelow, GateView, rest_of, rest, the, act_returning, carried_by, Carries, found_returned, lists_returned, some_returned, CanStep, HasStepped, IsOwedNext, Performed, standing_after, view_in, woken_of, seats_of, row_in, SectionFits, changed, meets_at, moves, Change, Bits, Request, Held, Queue, Leave, QueueToWait, Truths, Event, Lists, asked_of, IsPackable, number_of, word_of, owes_more, bits_of, has_some, Effect, LockState, Part, part_of, Told, got_of, has_queues, want_of, release_has_queues, scan_place, word_taken, Act, LoadWord, LoadFlag, PayWake, TakeQueues, Acquire, Release, ReturnQueues, ReleaseReturning, WaitReturning, Found, Saw, Made, Flag, Paid, AcquireLoad, ReleaseLoad, ScanCells, ScanAndRelease, SignalLoad, SeatView, ForLock, ForWait, LeaveLoad, Load, InQueuing, InLeaving, On, Idle, Walk, InTry, InAcquire, InRelease, InCells, InWait, InSignal, Taking, ToChange, ToQueue, Word}
 use Rattle.ns_gate.specs.declared.queues.Returning.{Returning}
 use Rattle.ns_gate.specs.declared.queues.Returning.TheVariants.{Changed, Released, Waited}
 use Rattle.ns_gate.specs.declared.queues.Turned.{Turned}
@@ -10,7 +10,7 @@ use Rattle.ns_gate.proofs.Stays.{HasKeptItsQueues, stays_by}
 use Rattle.ns_word.proofs.Acts.{view_fits}
 use Rattle.ns_monitor.specs.declared.going.Going.{Going}
 use Rattle.ns_monitor.specs.declared.going.Going.TheVariants.{Acquiring, Leaving, Changing}
-use Rattle.ns_monitor.specs.Standing.{Decides, HasInHand, HasTakenAt, MayGoAlone, IsNumberOf, OwesTheWoken, Pays, PutsBack, Sleeps, found_back, going_act, going_at, going_of, gone_to, may_go, returning_at, returning_of, scanning_at, taken_at, taking_at, taking_for}
+use Rattle.ns_monitor.specs.Prelude.{Decides, HasInHand, HasTakenAt, IsNumberOf, MayGoAlone, OwesTheWoken, Pays, PutsBack, Sleeps, found_back, going_act, going_at, going_of, gone_to, may_go, returning_at, returning_of, scanning_at, taken_at, taking_at, taking_for}
 use Rattle.ns_word.proofs.Codes.{decoded}
 
 -- a word that was taken has a number, if the word before has
@@ -44,35 +44,7 @@ scanning_has N word = by_cond word.cond where
 
 -- ---- where a call goes by the word last seen
 
-module _ {C : Type 0} (N : ℕ) where
-  by_word : (walk : Walk C) (word : Word) → Decides walk → got_of N walk (Saw word) ≡ cond (may_go (going_of walk) word) (On (going_at walk word)) (cond word.spin (Idle walk) (On (taking_at walk word)))
-  by_word (InAcquire aim (AcquireLoad arrival)) word d = refl
-  by_word (InAcquire aim place) word d = absurd d
-  by_word (InRelease releasing ReleaseLoad) word d = refl
-  by_word (InRelease releasing place) word d = absurd d
-  by_word (InWait wait (InQueuing again Load)) word d = refl
-  by_word (InWait wait (InLeaving cause LeaveLoad)) word d = refl
-  by_word (InWait wait place) word d = absurd d
-  by_word (InSignal waking k SignalLoad) word d = refl
-  by_word (InSignal waking k place) word d = absurd d
-  by_word (InTry mode place) word d = absurd d
-  by_word (InCells place) word d = absurd d
-
-module _ {C : Type 0} where
-  loads_word : (walk : Walk C) → Decides walk → (want_of walk ≡ LoadWord) × (has_queues (Some walk) ≡ false)
-  loads_word (InAcquire aim (AcquireLoad arrival)) d = (refl, refl)
-  loads_word (InAcquire aim place) d = absurd d
-  loads_word (InRelease releasing ReleaseLoad) d = (refl, refl)
-  loads_word (InRelease releasing place) d = absurd d
-  loads_word (InWait wait (InQueuing again Load)) d = (refl, refl)
-  loads_word (InWait wait (InLeaving cause LeaveLoad)) d = (refl, refl)
-  loads_word (InWait wait place) d = absurd d
-  loads_word (InSignal waking k SignalLoad) d = (refl, refl)
-  loads_word (InSignal waking k place) d = absurd d
-  loads_word (InTry mode place) d = absurd d
-  loads_word (InCells place) d = absurd d
-
--- about to go it wants the exchange, and about to take the queues it wants that; each is as a load where it fails
+-- about to go it wants the exchange, and is as at the load where that fails
 record GoesAt {C : Type 0} (N : ℕ) (walk : Walk C) (last : Word) : Type 0 where
   wants : want_of (going_at walk last) ≡ going_act (going_of walk) last
   free : has_queues (Some (going_at walk last)) ≡ false
@@ -80,6 +52,7 @@ record GoesAt {C : Type 0} (N : ℕ) (walk : Walk C) (last : Word) : Type 0 wher
   made : got_of N (going_at walk last) Made ≡ gone_to N walk
   asked : asked_of (going_at walk last) ≡ asked_of walk
 
+-- so it is about to take the queues
 record TakesAt {C : Type 0} (N : ℕ) (walk : Walk C) (last : Word) : Type 0 where
   wants : want_of (taking_at walk last) ≡ TakeQueues (taking_for (going_of walk)) last
   free : has_queues (Some (taking_at walk last)) ≡ false
@@ -88,31 +61,27 @@ record TakesAt {C : Type 0} (N : ℕ) (walk : Walk C) (last : Word) : Type 0 whe
   has : has_queues (Some (taken_at N walk (word_taken (taking_for (going_of walk)) last))) ≡ true
   asked : asked_of (taking_at walk last) ≡ asked_of walk
 
-module _ {C : Type 0} (N : ℕ) where
-  goes_at : (walk : Walk C) (last : Word) → Decides walk → may_go (going_of walk) last ≡ true → GoesAt N walk last
-  goes_at (InAcquire (ForLock mode) (AcquireLoad arrival)) last d may = record { wants = refl; free = refl; missed = λ word. refl; made = refl; asked = refl }
-  goes_at (InAcquire (ForWait wait outcome) (AcquireLoad arrival)) last d may = record { wants = refl; free = refl; missed = λ word. refl; made = refl; asked = refl }
-  goes_at (InAcquire aim place) last d may = absurd d
-  goes_at (InRelease releasing ReleaseLoad) last d may = record { wants = refl; free = refl; missed = λ word. refl; made = refl; asked = refl }
-  goes_at (InRelease releasing place) last d may = absurd d
-  goes_at (InWait wait place) last d may = absurd (cc)
-  goes_at (InSignal waking k place) last d may = absurd (cc)
-  goes_at (InTry mode place) last d may = absurd d
-  goes_at (InCells place) last d may = absurd d
+-- a call loads the word without the queues, and goes on by what it saw
+record DecidesAt {C : Type 0} (N : ℕ) (walk : Walk C) : Type 0 where
+  wants : want_of walk ≡ LoadWord
+  free : has_queues (Some walk) ≡ false
+  by_word : (word : Word) → got_of N walk (Saw word) ≡ cond (may_go (going_of walk) word) (On (going_at walk word)) (cond word.spin (Idle walk) (On (taking_at walk word)))
+  goes : (last : Word) → may_go (going_of walk) last ≡ true → GoesAt N walk last
+  takes : (last : Word) → TakesAt N walk last
 
-  takes_at : (walk : Walk C) (last : Word) → Decides walk → TakesAt N walk last
-  takes_at (InAcquire (ForLock mode) (AcquireLoad arrival)) last d = record { wants = refl; free = refl; missed = λ word. refl; made = refl; has = refl; asked = refl }
-  takes_at (InAcquire (ForWait wait outcome) (AcquireLoad arrival)) last d = record { wants = refl; free = refl; missed = λ word. refl; made = refl; has = refl; asked = refl }
-  takes_at (InAcquire aim place) last d = absurd d
-  takes_at (InRelease releasing ReleaseLoad) last d = record { wants = refl; free = refl; missed = λ word. refl; made = refl; has = scanning_has N (word_taken ToChange last); asked = refl }
-  takes_at (InRelease releasing place) last d = absurd d
-  takes_at (InWait wait (InQueuing again Load)) last d = record { wants = refl; free = refl; missed = λ word. refl; made = refl; has = refl; asked = refl }
-  takes_at (InWait wait (InLeaving cause LeaveLoad)) last d = record { wants = refl; free = refl; missed = λ word. refl; made = refl; has = refl; asked = refl }
-  takes_at (InWait wait place) last d = absurd d
-  takes_at (InSignal waking k SignalLoad) last d = record { wants = refl; free = refl; missed = λ word. refl; made = refl; has = refl; asked = refl }
-  takes_at (InSignal waking k place) last d = absurd d
-  takes_at (InTry mode place) last d = absurd d
-  takes_at (InCells place) last d = absurd d
+decides_at : {C : Type 0} (N : ℕ) (walk : Walk C) → Decides walk → DecidesAt N walk
+decides_at N (InAcquire (ForLock mode) (AcquireLoad arrival)) d = record { wants = refl; free = refl; by_word = λ word. refl; goes = λ last may. record { wants = refl; free = refl; missed = λ word. refl; made = refl; asked = refl }; takes = λ last. record { wants = refl; free = refl; missed = λ word. refl; made = refl; has = refl; asked = refl } }
+decides_at N (InAcquire (ForWait wait outcome) (AcquireLoad arrival)) d = record { wants = refl; free = refl; by_word = λ word. refl; goes = λ last may. record { wants = refl; free = refl; missed = λ word. refl; made = refl; asked = refl }; takes = λ last. record { wants = refl; free = refl; missed = λ word. refl; made = refl; has = refl; asked = refl } }
+decides_at N (InAcquire aim place) d = absurd d
+decides_at N (InRelease releasing ReleaseLoad) d = record { wants = refl; free = refl; by_word = λ word. refl; goes = λ last may. record { wants = refl; free = refl; missed = λ word. refl; made = refl; asked = refl }; takes = λ last. record { wants = refl; free = refl; missed = λ word. refl; made = refl; has = scanning_has N (word_taken ToChange last); asked = refl } }
+decides_at N (InRelease releasing place) d = absurd d
+decides_at N (InWait wait (InQueuing again Load)) d = record { wants = refl; free = refl; by_word = λ word. refl; goes = λ last may. absurd (cc); takes = λ last. record { wants = refl; free = refl; missed = λ word. refl; made = refl; has = refl; asked = refl } }
+decides_at N (InWait wait (InLeaving cause LeaveLoad)) d = record { wants = refl; free = refl; by_word = λ word. refl; goes = λ last may. absurd (cc); takes = λ last. record { wants = refl; free = refl; missed = λ word. refl; made = refl; has = refl; asked = refl } }
+decides_at N (InWait wait place) d = absurd d
+decides_at N (InSignal waking k SignalLoad) d = record { wants = refl; free = refl; by_word = λ word. refl; goes = λ last may. absurd (cc); takes = λ last. record { wants = refl; free = refl; missed = λ word. refl; made = refl; has = refl; asked = refl } }
+decides_at N (InSignal waking k place) d = absurd d
+decides_at N (InTry mode place) d = absurd d
+decides_at N (InCells place) d = absurd d
 
 -- one that its word lets go may go without the queues
 pub goes_alone : {C : Type 0} (going : Going C) (word : Word) → may_go going word ≡ true → MayGoAlone going
@@ -126,51 +95,30 @@ keeps_slots (Acquiring aim arrival) last found stood slots may = refl
 keeps_slots (Leaving releasing) last found stood slots may = refl
 keeps_slots Changing last found stood slots may = absurd (cc)
 
--- putting the queues back it wants that, and stays where it is where that fails
+-- Putting the queues back it wants that, and stays where it is where that fails. What is found doesn't go by the word, and the slot is empty then.
 record PutsAt {C : Type 0} (N : ℕ) (walk : Walk C) (last : Word) : Type 1 where
   wants : want_of (returning_at walk last) ≡ act_returning (returning_of walk) last
   has : (word : Word) → has_queues (Some (returning_at walk word)) ≡ true
   missed : (word : Word) → got_of N (returning_at walk last) (Saw word) ≡ On (returning_at walk word)
   made : (truths : Truths C) (seat : ℕ) (row : List ℕ) (stood : Lists C) → got_of N (returning_at walk last) (found_returned truths seat (returning_of walk) last row stood) ≡ got_of N walk (found_returned truths seat (returning_of walk) last row stood)
+  same : (truths : Truths C) (first : Word) (seat : ℕ) (row : List ℕ) (stood : Lists C) → found_returned truths seat (returning_of walk) last row stood ≡ found_returned truths seat (returning_of walk) first row stood
+  empties : (truths : Truths C) (seat : ℕ) (row : List ℕ) (stood now : Lists C) (slots : List (ℕ × Lists C)) → carried_by (act_returning (returning_of walk) last) (found_returned truths seat (returning_of walk) last row stood) now slots ≡ rest slots
   asked : asked_of (returning_at walk last) ≡ asked_of walk
 
 module _ {C : Type 0} where
   puts_at : (N : ℕ) (walk : Walk C) (last : Word) → PutsBack walk → PutsAt N walk last
-  puts_at N (InAcquire aim (Queue arrival other)) last puts = record { wants = refl; has = λ word. refl; missed = λ word. refl; made = λ truths seat row stood. refl; asked = refl }
+  puts_at N (InAcquire aim (Queue arrival other)) last puts = record { wants = refl; has = λ word. refl; missed = λ word. refl; made = λ truths seat row stood. refl; same = λ truths first seat row stood. refl; empties = λ truths seat row stood now slots. refl; asked = refl }
   puts_at N (InAcquire aim place) last puts = absurd puts
-  puts_at N (InRelease releasing (ScanAndRelease other)) last puts = record { wants = refl; has = λ word. refl; missed = λ word. refl; made = λ truths seat row stood. refl; asked = refl }
+  puts_at N (InRelease releasing (ScanAndRelease other)) last puts = record { wants = refl; has = λ word. refl; missed = λ word. refl; made = λ truths seat row stood. refl; same = λ truths first seat row stood. refl; empties = λ truths seat row stood now slots. refl; asked = refl }
   puts_at N (InRelease releasing place) last puts = absurd puts
-  puts_at N (InWait wait (InQueuing again (QueueToWait other))) last puts = record { wants = refl; has = λ word. refl; missed = λ word. refl; made = λ truths seat row stood. refl; asked = refl }
-  puts_at N (InWait wait (InLeaving cause (Leave other))) last puts = record { wants = refl; has = λ word. refl; missed = λ word. refl; made = λ truths seat row stood. refl; asked = refl }
+  puts_at N (InWait wait (InQueuing again (QueueToWait other))) last puts = record { wants = refl; has = λ word. refl; missed = λ word. refl; made = λ truths seat row stood. refl; same = λ truths first seat row stood. refl; empties = λ truths seat row stood now slots. refl; asked = refl }
+  puts_at N (InWait wait (InLeaving cause (Leave other))) last puts = record { wants = refl; has = λ word. refl; missed = λ word. refl; made = λ truths seat row stood. refl; same = λ truths first seat row stood. refl; empties = λ truths seat row stood now slots. refl; asked = refl }
   puts_at N (InWait wait place) last puts = absurd puts
   puts_at N (InSignal waking k place) last puts = absurd puts
   puts_at N (InTry mode place) last puts = absurd puts
   puts_at N (InCells place) last puts = absurd puts
 
-  -- what is found doesn't go by the word
-  any_word : (truths : Truths C) (walk : Walk C) (last first : Word) (seat : ℕ) (row : List ℕ) (stood : Lists C) → PutsBack walk → found_returned truths seat (returning_of walk) last row stood ≡ found_returned truths seat (returning_of walk) first row stood
-  any_word truths (InAcquire aim (Queue arrival other)) last first seat row stood puts = refl
-  any_word truths (InAcquire aim place) last first seat row stood puts = absurd puts
-  any_word truths (InRelease releasing place) last first seat row stood puts = refl
-  any_word truths (InWait wait (InQueuing again place)) last first seat row stood puts = refl
-  any_word truths (InWait wait (InLeaving cause place)) last first seat row stood puts = refl
-  any_word truths (InWait wait place) last first seat row stood puts = absurd puts
-  any_word truths (InSignal waking k place) last first seat row stood puts = absurd puts
-  any_word truths (InTry mode place) last first seat row stood puts = absurd puts
-  any_word truths (InCells place) last first seat row stood puts = absurd puts
-
-  -- the slot is empty then, and as it was where another word was found
-  back_slots : (truths : Truths C) (walk : Walk C) (last : Word) (seat : ℕ) (row : List ℕ) (stood now : Lists C) (slots : List (ℕ × Lists C)) → PutsBack walk → carried_by (act_returning (returning_of walk) last) (found_returned truths seat (returning_of walk) last row stood) now slots ≡ rest slots
-  back_slots truths (InAcquire aim (Queue arrival other)) last seat row stood now slots puts = refl
-  back_slots truths (InAcquire aim place) last seat row stood now slots puts = absurd puts
-  back_slots truths (InRelease releasing place) last seat row stood now slots puts = refl
-  back_slots truths (InWait wait (InQueuing again place)) last seat row stood now slots puts = refl
-  back_slots truths (InWait wait (InLeaving cause place)) last seat row stood now slots puts = refl
-  back_slots truths (InWait wait place) last seat row stood now slots puts = absurd puts
-  back_slots truths (InSignal waking k place) last seat row stood now slots puts = absurd puts
-  back_slots truths (InTry mode place) last seat row stood now slots puts = absurd puts
-  back_slots truths (InCells place) last seat row stood now slots puts = absurd puts
-
+  -- the slot stays as it was where another word was found
   saw_slots : (returning : Returning C) (last word : Word) (now : Lists C) (slots : List (ℕ × Lists C)) → carried_by (act_returning returning last) (Saw word) now slots ≡ slots
   saw_slots (Changed change) last word now slots = refl
   saw_slots (Released releasing) last word now slots = refl
@@ -193,11 +141,17 @@ saw_keeps truths seat (WaitReturning wait again last) old new word commits e = e
 saw_keeps truths seat _ old new word commits e = absurd e
 
 module _ {C : Type 0} {N : ℕ} (truths : Truths C) where
+  pub held_in : (b : Option (Walk C)) (view : SeatView C N) → (view_in view b).held ≡ view.held
+  held_in None view = refl
+  held_in (Some first) view = refl
+
+  -- a step that changes nothing leaves the section in hand
+  pub same_held : (b : Option (Walk C)) (act : Act C) (found : Found) (me now : SeatOf C N) (p : Performed truths b act found me now) → p.did.made.step.held ≡ (view_in (the me.0).at b).held → (the now.0).at.held ≡ (the me.0).at.held
+  same_held b act found me now p same = ap (λ (x : SeatView C N). x.held) p.did.becomes ∙ (same ∙ held_in b (the me.0).at)
+
   -- a step that saw a word leaves the section in hand
   pub saw_held : (act : Act C) (word : Word) (me now : SeatOf C N) → Performed truths None act (Saw word) me now → (the now.0).at.held ≡ (the me.0).at.held
-  saw_held act word me now p =
-      let d = p.did in
-      ap (λ (x : SeatView C N). x.held) d.becomes ∙ ap (λ (q : Part C N). q.held) (saw_keeps truths (the me.0).at.seat act (part_of d.made.between (the me.0).at.held (the me.0).at.owed) (part_of d.new d.made.step.held d.made.step.owed) word d.commits (does truths None act (Saw word) me now p))
+  saw_held act word me now p = let d = p.did in same_held None act (Saw word) me now p (ap (λ (q : Part C N). q.held) (saw_keeps truths (the me.0).at.seat act (part_of d.made.between (the me.0).at.held (the me.0).at.owed) (part_of d.new d.made.step.held d.made.step.owed) word d.commits (does truths None act (Saw word) me now p)))
 
   -- a step that commits nothing leaves the caller's own events
   pub commits_none : (b : Option (Walk C)) (act : Act C) (found : Found) (me now : SeatOf C N) (p : Performed truths b act found me now) → p.did.commits ≡ [] → (the now.0).told.mine ≡ (the me.0).told.mine
@@ -207,79 +161,70 @@ module _ {C : Type 0} {N : ℕ} (truths : Truths C) where
   pub same_number : (calls : Option (Walk C)) (number : ℕ) (me now : SeatOf C N) → IsNumberOf number me → HasSince calls (the me.0) (the now.0) → IsNumberOf number now
   same_number calls number me now n s = (n.0 ∙ sym s.seat, n.1)
 
-  pub may_now : (walk : Walk C) (word : Word) (me : SeatOf C N) → Decides walk → may_go (going_of walk) word ≡ true → Leads truths (asked_of walk) (got_of N walk (Saw word)) me → IsAt truths (going_at walk word) me
-  may_now walk word me d may led = subst (λ (b : Bool). Leads truths (asked_of walk) (cond b (On (going_at walk word)) (cond word.spin (Idle walk) (On (taking_at walk word)))) me) may (subst (λ next. Leads truths (asked_of walk) next me) (by_word N walk word d) led)
+  -- the word last seen decides where it goes
+  pub decided : (walk : Walk C) (word : Word) (may spin : Bool) (me : SeatOf C N) → Decides walk → may_go (going_of walk) word ≡ may → word.spin ≡ spin → HasReached truths (asked_of walk) (got_of N walk (Saw word)) me → HasReached truths (asked_of walk) (cond may (On (going_at walk word)) (cond spin (Idle walk) (On (taking_at walk word)))) me
+  decided walk word may spin me d may_is spin_is led = subst (λ (b : Bool × Bool). HasReached truths (asked_of walk) (cond b.0 (On (going_at walk word)) (cond b.1 (Idle walk) (On (taking_at walk word)))) me) (λ i. (may_is i, spin_is i)) (subst (λ next. HasReached truths (asked_of walk) next me) ((decides_at N walk d).by_word word) led)
 
-  pub spins_now : (walk : Walk C) (word : Word) (me : SeatOf C N) → Decides walk → may_go (going_of walk) word ≡ false → word.spin ≡ true → Leads truths (asked_of walk) (got_of N walk (Saw word)) me → IsAt truths walk me
-  spins_now walk word me d may spin led = subst (λ (b : Bool × Bool). Leads truths (asked_of walk) (cond b.0 (On (going_at walk word)) (cond b.1 (Idle walk) (On (taking_at walk word)))) me) (λ i. (may i, spin i)) (subst (λ next. Leads truths (asked_of walk) next me) (by_word N walk word d) led)
+  pub can_load : (walk : Walk C) (me : SeatOf C N) → Decides walk → IsAtPlace truths walk me → CanStep truths None LoadWord me
+  can_load walk me d at = can_go truths walk LoadWord me (decides_at N walk d).wants at
 
-  pub takes_now : (walk : Walk C) (word : Word) (me : SeatOf C N) → Decides walk → may_go (going_of walk) word ≡ false → word.spin ≡ false → Leads truths (asked_of walk) (got_of N walk (Saw word)) me → IsAt truths (taking_at walk word) me
-  takes_now walk word me d may spin led = subst (λ (b : Bool × Bool). Leads truths (asked_of walk) (cond b.0 (On (going_at walk word)) (cond b.1 (Idle walk) (On (taking_at walk word)))) me) (λ i. (may i, spin i)) (subst (λ next. Leads truths (asked_of walk) next me) (by_word N walk word d) led)
-
-  pub can_load : (walk : Walk C) (me : SeatOf C N) → Decides walk → IsAt truths walk me → CanStep truths None LoadWord me
-  can_load walk me d at = can_go truths walk LoadWord me (loads_word walk d).0 at
-
-  pub loads : (walk : Walk C) (word : Word) (me now : SeatOf C N) → Decides walk → IsAt truths walk me → Performed truths None LoadWord (Saw word) me now → Leads truths (asked_of walk) (got_of N walk (Saw word)) now
-  loads walk word me now d at p = goes truths walk LoadWord (Saw word) (got_of N walk (Saw word)) me now at (loads_word walk d).1 refl refl p
+  pub loads : (walk : Walk C) (word : Word) (me now : SeatOf C N) → Decides walk → IsAtPlace truths walk me → Performed truths None LoadWord (Saw word) me now → HasReached truths (asked_of walk) (got_of N walk (Saw word)) now
+  loads walk word me now d at p = goes truths walk LoadWord (Saw word) (got_of N walk (Saw word)) me now at (decides_at N walk d).free refl refl p
 
   -- the same as a call begins
-  pub loads_first : (first walk : Walk C) (word : Word) (me now : SeatOf C N) → walk ≡ first → IsAtRest truths me → Performed truths (Some walk) LoadWord (Saw word) me now → Leads truths (asked_of first) (got_of N first (Saw word)) now × HasSince (Some first) (the me.0) (the now.0)
+  pub loads_first : (first walk : Walk C) (word : Word) (me now : SeatOf C N) → walk ≡ first → IsAtRest truths me → Performed truths (Some walk) LoadWord (Saw word) me now → HasReached truths (asked_of first) (got_of N first (Saw word)) now × HasSince (Some first) (the me.0) (the now.0)
   loads_first first walk word me now is rest did = let p = subst (λ w. Performed truths (Some w) LoadWord (Saw word) me now) is did in (begins truths first LoadWord (Saw word) (got_of N first (Saw word)) me now refl (λ _. p.carried ∙ rest.empty) p, since truths (Some first) LoadWord (Saw word) me now p)
 
   -- ---- it goes
 
-  pub can_go_by : (walk : Walk C) (last : Word) (me : SeatOf C N) → Decides walk → may_go (going_of walk) last ≡ true → IsAt truths (going_at walk last) me → CanStep truths None (going_act (going_of walk) last) me
-  can_go_by walk last me d may at = can_go truths (going_at walk last) (going_act (going_of walk) last) me (goes_at N walk last d may).wants at
+  pub can_go_by : (walk : Walk C) (last : Word) (me : SeatOf C N) → Decides walk → may_go (going_of walk) last ≡ true → IsAtPlace truths (going_at walk last) me → CanStep truths None (going_act (going_of walk) last) me
+  can_go_by walk last me d may at = can_go truths (going_at walk last) (going_act (going_of walk) last) me ((decides_at N walk d).goes last may).wants at
 
-  pub goes_by : (walk : Walk C) (last : Word) (me now : SeatOf C N) → Decides walk → may_go (going_of walk) last ≡ true → IsAt truths (going_at walk last) me → Performed truths None (going_act (going_of walk) last) Made me now → Leads truths (asked_of walk) (gone_to N walk) now
-  goes_by walk last me now d may at p = let g = goes_at N walk last d may in
-      subst (λ r. Leads truths r (gone_to N walk) now) g.asked (goes truths (going_at walk last) (going_act (going_of walk) last) Made (gone_to N walk) me now at g.free g.made (keeps_slots (going_of walk) last Made (the now.0).stood me.1 may) p)
+  pub goes_by : (walk : Walk C) (last : Word) (me now : SeatOf C N) → Decides walk → may_go (going_of walk) last ≡ true → IsAtPlace truths (going_at walk last) me → Performed truths None (going_act (going_of walk) last) Made me now → HasReached truths (asked_of walk) (gone_to N walk) now
+  goes_by walk last me now d may at p = let g = (decides_at N walk d).goes last may in
+      subst (λ r. HasReached truths r (gone_to N walk) now) g.asked (goes truths (going_at walk last) (going_act (going_of walk) last) Made (gone_to N walk) me now at g.free g.made (keeps_slots (going_of walk) last Made (the now.0).stood me.1 may) p)
 
   -- another step came between
-  pub misses : (walk : Walk C) (last word : Word) (me now : SeatOf C N) → Decides walk → may_go (going_of walk) last ≡ true → IsAt truths (going_at walk last) me → Performed truths None (going_act (going_of walk) last) (Saw word) me now → Leads truths (asked_of walk) (got_of N walk (Saw word)) now
-  misses walk last word me now d may at p = let g = goes_at N walk last d may in
-      subst (λ r. Leads truths r (got_of N walk (Saw word)) now) g.asked (goes truths (going_at walk last) (going_act (going_of walk) last) (Saw word) (got_of N walk (Saw word)) me now at g.free (g.missed word) (keeps_slots (going_of walk) last (Saw word) (the now.0).stood me.1 may) p)
+  pub misses : (walk : Walk C) (last word : Word) (me now : SeatOf C N) → Decides walk → may_go (going_of walk) last ≡ true → IsAtPlace truths (going_at walk last) me → Performed truths None (going_act (going_of walk) last) (Saw word) me now → HasReached truths (asked_of walk) (got_of N walk (Saw word)) now
+  misses walk last word me now d may at p = let g = (decides_at N walk d).goes last may in
+      subst (λ r. HasReached truths r (got_of N walk (Saw word)) now) g.asked (goes truths (going_at walk last) (going_act (going_of walk) last) (Saw word) (got_of N walk (Saw word)) me now at g.free (g.missed word) (keeps_slots (going_of walk) last (Saw word) (the now.0).stood me.1 may) p)
 
   -- ---- it takes the queues
 
-  pub can_take : (walk : Walk C) (last : Word) (me : SeatOf C N) → Decides walk → IsAt truths (taking_at walk last) me → CanStep truths None (TakeQueues (taking_for (going_of walk)) last) me
-  can_take walk last me d at = can_go truths (taking_at walk last) (TakeQueues (taking_for (going_of walk)) last) me (takes_at N walk last d).wants at
+  pub can_take : (walk : Walk C) (last : Word) (me : SeatOf C N) → Decides walk → IsAtPlace truths (taking_at walk last) me → CanStep truths None (TakeQueues (taking_for (going_of walk)) last) me
+  can_take walk last me d at = can_go truths (taking_at walk last) (TakeQueues (taking_for (going_of walk)) last) me ((decides_at N walk d).takes last).wants at
 
-  pub misses_taking : (walk : Walk C) (last word : Word) (me now : SeatOf C N) → Decides walk → IsAt truths (taking_at walk last) me → Performed truths None (TakeQueues (taking_for (going_of walk)) last) (Saw word) me now → Leads truths (asked_of walk) (got_of N walk (Saw word)) now
-  misses_taking walk last word me now d at p = let t = takes_at N walk last d in
-      subst (λ r. Leads truths r (got_of N walk (Saw word)) now) t.asked (goes truths (taking_at walk last) (TakeQueues (taking_for (going_of walk)) last) (Saw word) (got_of N walk (Saw word)) me now at t.free (t.missed word) refl p)
-
-  -- a step that changes no section leaves the one in hand
-  pub leaves_held : (act : Act C) (found : Found) (me now : SeatOf C N) (p : Performed truths None act found me now) → p.did.made.step.held ≡ (the me.0).at.held → (the now.0).at.held ≡ (the me.0).at.held
-  leaves_held act found me now p same = ap (λ (x : SeatView C N). x.held) p.did.becomes ∙ same
+  pub misses_taking : (walk : Walk C) (last word : Word) (me now : SeatOf C N) → Decides walk → IsAtPlace truths (taking_at walk last) me → Performed truths None (TakeQueues (taking_for (going_of walk)) last) (Saw word) me now → HasReached truths (asked_of walk) (got_of N walk (Saw word)) now
+  misses_taking walk last word me now d at p = let t = (decides_at N walk d).takes last in
+      subst (λ r. HasReached truths r (got_of N walk (Saw word)) now) t.asked (goes truths (taking_at walk last) (TakeQueues (taking_for (going_of walk)) last) (Saw word) (got_of N walk (Saw word)) me now at t.free (t.missed word) refl p)
 
   -- then the word tells whether some waiter has a condition
   cond_tells : (taking : Taking) (last : Word) (me now : SeatOf C N) → Performed truths None (TakeQueues taking last) Made me now → last.cond ≡ (bits_of (the now.0).stood.lock).conditional
   cond_tells taking last me now p =
       let d = p.did in let e = does truths None (TakeQueues taking last) Made me now p in
-      let word : last ≡ d.old.word = e.0 ∙ ap (λ (s : State C N). s.word) d.made.begins in
-      let lists : (the now.0).stood ≡ d.old.lists = d.stood_now ∙ (ap (λ (q : Part C N). q.lists) e.2 ∙ ap (λ (s : State C N). s.lists) d.made.begins) in
+      let word : last ≡ d.old.word = e.0 ∙ ap (λ (s : LockState C N). s.word) d.made.begins in
+      let lists : (the now.0).stood ≡ d.old.lists = d.stood_now ∙ (ap (λ (q : Part C N). q.lists) e.2 ∙ ap (λ (s : LockState C N). s.lists) d.made.begins) in
       ap (λ (w : Word). w.cond) word ∙ (ap (λ b. b.conditional) (d.lawful.bits_tell.at_home (ap (λ (w : Word). w.spin) (sym word) ∙ e.1)) ∙ ap (λ (l : Lists C). (bits_of l.lock).conditional) (sym lists))
 
-  pub took : (walk : Walk C) (last : Word) (start me now : SeatOf C N) → Decides walk → IsPackable last → (the me.0).at.held ≡ (the start.0).at.held → IsAt truths (taking_at walk last) me → Performed truths None (TakeQueues (taking_for (going_of walk)) last) Made me now
+  pub took : (walk : Walk C) (last : Word) (start me now : SeatOf C N) → Decides walk → IsPackable last → (the me.0).at.held ≡ (the start.0).at.held → IsAtPlace truths (taking_at walk last) me → Performed truths None (TakeQueues (taking_for (going_of walk)) last) Made me now
       → HasTakenAt truths walk (word_taken (taking_for (going_of walk)) last) start now
   took walk last start me now d packs held at p =
-      let t = takes_at N walk last d in let taking = taking_for (going_of walk) in let word = word_taken taking last in let e = does truths None (TakeQueues taking last) Made me now p in record {
+      let t = (decides_at N walk d).takes last in let taking = taking_for (going_of walk) in let word = word_taken taking last in let e = does truths None (TakeQueues taking last) Made me now p in record {
         at = goes_on truths (taking_at walk last) (TakeQueues taking last) Made (On (taken_at N walk word)) me now at t.made (λ e. absurd (let h = t.has in cc)) p;
         taken = p.carried ∙ ap (λ slots. (0, (the now.0).stood) ∷ slots) (at.empty t.free);
         packs = taken_packs taking last packs;
-        held = leaves_held (TakeQueues taking last) Made me now p (ap (λ (q : Part C N). q.held) e.2) ∙ held;
+        held = same_held None (TakeQueues taking last) Made me now p (ap (λ (q : Part C N). q.held) e.2) ∙ held;
         tells = taken_tells taking last ∙ cond_tells taking last me now p;
       }
 
   -- ---- it puts them back
 
   -- the row of the section in hand is the lock's
-  pub row_at : (found : Found) (v w : GateView C N) (d : Did truths None found v w) (held : Held C N) → v.at.held ≡ Some held → row_in v.at.held ≡ d.made.between.row
+  pub row_at : (found : Found) (v w : GateView C N) (d : HasStepped truths None found v w) (held : Held C N) → v.at.held ≡ Some held → row_in v.at.held ≡ d.made.between.row
   row_at found v w d held has =
-      let split = ap (λ (s : State C N). s.views) (sym d.made.begins) ∙ d.made.step.was in
-      let fits = view_fits truths v.limit d.few d.history d.old d.made.step.front v.at d.made.step.back split d.lawful in
-      ap row_in has ∙ ((subst (λ o. SectionFits (standing_after d.history) d.old.row v.at.seat v.at.walk o) has fits.section).cells ∙ ap (λ (s : State C N). s.row) (sym d.made.begins))
+      let split = ap (λ (s : LockState C N). s.views) (sym d.made.begins) ∙ d.made.step.was in
+      let fits = view_fits truths v.seat_count d.few d.history d.old d.made.step.front v.at d.made.step.back split d.lawful in
+      ap row_in has ∙ ((subst (λ o. SectionFits (standing_after d.history) d.old.row v.at.seat v.at.walk o) has fits.section).cells ∙ ap (λ (s : LockState C N). s.row) (sym d.made.begins))
 
   -- what is in hand stays so, while another word is found
   pub hand_stays : (returning : Returning C) (turned : Turned) (me now : SeatOf C N) → HasKeptItsQueues me now → HasInHand truths returning turned me → HasInHand truths returning turned now
@@ -304,22 +249,22 @@ module _ {C : Type 0} {N : ℕ} (truths : Truths C) where
   pub still_since : (b : Option (Walk C)) (v : GateView C N) (me now : SeatOf C N) → now.0 ≡ me.0 → HasSince b v (the me.0) → HasSince b v (the now.0)
   still_since b v me now same s = subst (λ (vs : List (GateView C N)). HasSince b v (the vs)) (sym same) s
 
-  pub can_put_back : (walk : Walk C) (last : Word) (me : SeatOf C N) → PutsBack walk → IsAt truths (returning_at walk last) me → CanStep truths None (act_returning (returning_of walk) last) me
+  pub can_put_back : (walk : Walk C) (last : Word) (me : SeatOf C N) → PutsBack walk → IsAtPlace truths (returning_at walk last) me → CanStep truths None (act_returning (returning_of walk) last) me
   can_put_back walk last me puts at = can_go truths (returning_at walk last) (act_returning (returning_of walk) last) me (puts_at N walk last puts).wants at
 
   -- another step came between
-  pub misses_back : (walk : Walk C) (last word : Word) (me now : SeatOf C N) → PutsBack walk → IsAt truths (returning_at walk last) me → Performed truths None (act_returning (returning_of walk) last) (Saw word) me now → IsAt truths (returning_at walk word) now × HasKeptItsQueues me now
+  pub misses_back : (walk : Walk C) (last word : Word) (me now : SeatOf C N) → PutsBack walk → IsAtPlace truths (returning_at walk last) me → Performed truths None (act_returning (returning_of walk) last) (Saw word) me now → IsAtPlace truths (returning_at walk word) now × HasKeptItsQueues me now
   misses_back walk last word me now puts at p =
       let r = puts_at N walk last puts in let act = act_returning (returning_of walk) last in
       let e = saw_keeps truths (the me.0).at.seat act (part_of p.did.made.between (the me.0).at.held (the me.0).at.owed) (part_of p.did.new p.did.made.step.held p.did.made.step.owed) word p.did.commits (does truths None act (Saw word) me now p) in (
         goes_on truths (returning_at walk last) act (Saw word) (On (returning_at walk word)) me now at (r.missed word) (λ e. absurd (let h = r.has word in cc)) p,
-        stays_by truths act (Saw word) me now p (ap has_queues at.walks ∙ r.has last) (p.carried ∙ saw_slots (returning_of walk) last word (the now.0).stood me.1) (ap (λ (q : Part C N). q.lists) e ∙ ap (λ (s : State C N). s.lists) p.did.made.begins) (ap (λ (q : Part C N). q.held) e),
+        stays_by truths act (Saw word) me now p (ap has_queues at.walks ∙ r.has last) (p.carried ∙ saw_slots (returning_of walk) last word (the now.0).stood me.1) (ap (λ (q : Part C N). q.lists) e ∙ ap (λ (s : LockState C N). s.lists) p.did.made.begins) (ap (λ (q : Part C N). q.held) e),
       )
 
-  by_effect : (found : Found) (me now : SeatOf C N) (d : Did truths None found (the me.0) (the now.0)) → has_queues (the me.0).at.walk ≡ true → (held : Held C N) → (the me.0).at.held ≡ Some held → d.made.step.owed ≡ seats_of (woken_of (meets_at truths d.made.between.row) d.made.between.lists.lock) → (the now.0).at.owed ≡ seats_of (woken_of (meets_at truths (row_in (the me.0).at.held)) (the me.0).stood.lock)
+  by_effect : (found : Found) (me now : SeatOf C N) (d : HasStepped truths None found (the me.0) (the now.0)) → has_queues (the me.0).at.walk ≡ true → (held : Held C N) → (the me.0).at.held ≡ Some held → d.made.step.owed ≡ seats_of (woken_of (meets_at truths d.made.between.row) d.made.between.lists.lock) → (the now.0).at.owed ≡ seats_of (woken_of (meets_at truths (row_in (the me.0).at.held)) (the me.0).stood.lock)
   by_effect found me now d has held there owed =
       let row : d.made.between.row ≡ row_in (the me.0).at.held = sym (row_at found (the me.0) (the now.0) d held there) in
-      let stood : d.made.between.lists ≡ (the me.0).stood = ap (λ (s : State C N). s.lists) d.made.begins ∙ sym (d.stood_was has) in
+      let stood : d.made.between.lists ≡ (the me.0).stood = ap (λ (s : LockState C N). s.lists) d.made.begins ∙ sym (d.stood_was has) in
       ap (λ (x : SeatView C N). x.owed) d.becomes ∙ (owed ∙ (λ i. seats_of (woken_of (meets_at truths (row i)) (stood i).lock)))
 
   -- whom it owes a wake then
@@ -333,55 +278,55 @@ module _ {C : Type 0} {N : ℕ} (truths : Truths C) where
       by_effect found me now d has e.0 e.1 (ap (λ (q : Part C N). q.owed) e.4)
 
   -- The queues are back.
-  is_back : (walk : Walk C) (first last : Word) (turned : Turned) (start me now : SeatOf C N) → PutsBack walk → IsAt truths (returning_at walk last) me → HasKeptItsQueues start me → HasInHand truths (returning_of walk) turned start
+  is_back : (walk : Walk C) (first last : Word) (turned : Turned) (start me now : SeatOf C N) → PutsBack walk → IsAtPlace truths (returning_at walk last) me → HasKeptItsQueues start me → HasInHand truths (returning_of walk) turned start
       → Performed truths None (act_returning (returning_of walk) last) (found_back truths (returning_of walk) last me) me now
-      → Leads truths (asked_of walk) (got_of N walk (found_back truths (returning_of walk) first start)) now × OwesTheWoken truths (returning_of walk) start (the now.0).at.owed
+      → HasReached truths (asked_of walk) (got_of N walk (found_back truths (returning_of walk) first start)) now × OwesTheWoken truths (returning_of walk) start (the now.0).at.owed
   is_back walk first last turned start me now puts at s hand p =
       let r = puts_at N walk last puts in let returning = returning_of walk in let act = act_returning returning last in
       let has = ap has_queues at.walks ∙ r.has last in
       let found = found_back truths returning last me in
       let lists = (hand_stays returning turned start me s hand).carries last in
-      let same : found ≡ found_back truths returning first start = (λ i. found_returned truths (s.seat i) returning last (row_in (s.held i)) (s.stood i)) ∙ any_word truths walk last first (the start.0).at.seat (row_in (the start.0).at.held) (the start.0).stood puts in (
-        subst (λ (x : Found × Request C). Leads truths x.1 (got_of N walk x.0) now) (λ i. (same i, r.asked i))
-            (goes_on truths (returning_at walk last) act found (got_of N walk found) me now at (r.made truths (the me.0).at.seat (row_in (the me.0).at.held) (the me.0).stood) (λ _. p.carried ∙ (back_slots truths walk last (the me.0).at.seat (row_in (the me.0).at.held) (the me.0).stood (the now.0).stood me.1 puts ∙ ap rest lists)) p),
+      let same : found ≡ found_back truths returning first start = (λ i. found_returned truths (s.seat i) returning last (row_in (s.held i)) (s.stood i)) ∙ r.same truths first (the start.0).at.seat (row_in (the start.0).at.held) (the start.0).stood in (
+        subst (λ (x : Found × Request C). HasReached truths x.1 (got_of N walk x.0) now) (λ i. (same i, r.asked i))
+            (goes_on truths (returning_at walk last) act found (got_of N walk found) me now at (r.made truths (the me.0).at.seat (row_in (the me.0).at.held) (the me.0).stood) (λ _. p.carried ∙ (r.empties truths (the me.0).at.seat (row_in (the me.0).at.held) (the me.0).stood (the now.0).stood me.1 ∙ ap rest lists)) p),
         same_owed truths returning start me (the now.0).at.owed s (owes_woken returning last me now has p),
       )
 
   -- the same, where it was told what it puts them back for
-  pub is_back_for : (returning : Returning C) (walk : Walk C) (first last : Word) (turned : Turned) (start me now : SeatOf C N) → returning ≡ returning_of walk → PutsBack walk → IsAt truths (returning_at walk last) me → HasKeptItsQueues start me → HasInHand truths returning turned start
+  pub is_back_for : (returning : Returning C) (walk : Walk C) (first last : Word) (turned : Turned) (start me now : SeatOf C N) → returning ≡ returning_of walk → PutsBack walk → IsAtPlace truths (returning_at walk last) me → HasKeptItsQueues start me → HasInHand truths returning turned start
       → Performed truths None (act_returning returning last) (found_back truths returning last me) me now
-      → Leads truths (asked_of walk) (got_of N walk (found_back truths returning first start)) now × OwesTheWoken truths returning start (the now.0).at.owed
+      → HasReached truths (asked_of walk) (got_of N walk (found_back truths returning first start)) now × OwesTheWoken truths returning start (the now.0).at.owed
   is_back_for returning walk first last turned start me now is puts at s hand p =
-      subst (λ r. Leads truths (asked_of walk) (got_of N walk (found_back truths r first start)) now × OwesTheWoken truths r start (the now.0).at.owed) (sym is)
+      subst (λ r. HasReached truths (asked_of walk) (got_of N walk (found_back truths r first start)) now × OwesTheWoken truths r start (the now.0).at.owed) (sym is)
       (is_back walk first last turned start me now puts at s (subst (λ r. HasInHand truths r turned start) is hand) (subst (λ r. Performed truths None (act_returning r last) (found_back truths r last me) me now) is p))
 
   -- ---- at the flag
 
-  pub sleeps_on : (walk : Walk C) (value : ℕ) (me now : SeatOf C N) → Sleeps N walk → value ≡ 1 → IsAt truths walk me → Performed truths None LoadFlag (Flag value) me now → IsAt truths walk now
+  pub sleeps_on : (walk : Walk C) (value : ℕ) (me now : SeatOf C N) → Sleeps N walk → value ≡ 1 → IsAtPlace truths walk me → Performed truths None LoadFlag (Flag value) me now → IsAtPlace truths walk now
   sleeps_on walk value me now s set at p = goes truths walk LoadFlag (Flag 1) (Idle walk) me now at s.free s.rests refl (subst (λ n. Performed truths None LoadFlag (Flag n) me now) set p)
 
-  pub is_woken : (walk : Walk C) (value : ℕ) (me now : SeatOf C N) → Sleeps N walk → IsAt truths walk me → Performed truths None LoadFlag (Flag value) me now → Leads truths (asked_of walk) (got_of N walk (Flag value)) now
+  pub is_woken : (walk : Walk C) (value : ℕ) (me now : SeatOf C N) → Sleeps N walk → IsAtPlace truths walk me → Performed truths None LoadFlag (Flag value) me now → HasReached truths (asked_of walk) (got_of N walk (Flag value)) now
   is_woken walk value me now s at p = goes truths walk LoadFlag (Flag value) (got_of N walk (Flag value)) me now at s.free refl refl p
 
   -- ---- wakes are paid
 
-  pub can_pay : (walk : Walk C) (value woken : ℕ) (others : List ℕ) (me : SeatOf C N) → Pays N value walk → (the me.0).at.owed ≡ woken ∷ others → Leads truths (asked_of walk) (got_of N walk (Paid (has_some (the me.0).at.owed))) me → IsAt truths walk me
-  can_pay walk value woken others me pays some led = subst (λ next. Leads truths (asked_of walk) next me) pays.more (subst (λ ns. Leads truths (asked_of walk) (got_of N walk (Paid (has_some ns))) me) some led)
+  pub can_pay : (walk : Walk C) (value woken : ℕ) (others : List ℕ) (me : SeatOf C N) → Pays N value walk → (the me.0).at.owed ≡ woken ∷ others → HasReached truths (asked_of walk) (got_of N walk (Paid (has_some (the me.0).at.owed))) me → IsAtPlace truths walk me
+  can_pay walk value woken others me pays some led = subst (λ next. HasReached truths (asked_of walk) next me) pays.more (subst (λ ns. HasReached truths (asked_of walk) (got_of N walk (Paid (has_some ns))) me) some led)
 
   -- the next seat to which a wake is owed, and its number
   pub owes_next : (woken : ℕ) (others : List ℕ) (me : SeatOf C N) → (the me.0).at.owed ≡ woken ∷ others → OwesBelow (the me.0).at.owed → IsOwedNext woken (the me.0).at.owed × (woken < 64)
   owes_next woken others me some below = (subst (IsOwedNext woken) (sym some) refl, subst OwesBelow some below)
 
   -- one wake was paid, and the others are owed still
-  pub is_paid : (walk : Walk C) (value woken : ℕ) (others : List ℕ) (me now : SeatOf C N) → Pays N value walk → (the me.0).at.owed ≡ woken ∷ others → IsAt truths walk me → Performed truths None (PayWake value) (owes_more (the me.0).at.owed) me now
-      → ((the now.0).at.owed ≡ others) × Leads truths (asked_of walk) (got_of N walk (Paid (has_some (the now.0).at.owed))) now
+  pub is_paid : (walk : Walk C) (value woken : ℕ) (others : List ℕ) (me now : SeatOf C N) → Pays N value walk → (the me.0).at.owed ≡ woken ∷ others → IsAtPlace truths walk me → Performed truths None (PayWake value) (owes_more (the me.0).at.owed) me now
+      → ((the now.0).at.owed ≡ others) × HasReached truths (asked_of walk) (got_of N walk (Paid (has_some (the now.0).at.owed))) now
   is_paid walk value woken others me now pays some at p =
       let paid = subst (λ ns. Performed truths None (PayWake value) (owes_more ns) me now) some p in
       let e = does truths None (PayWake value) (Paid (has_some others)) me now paid in
       let left : (the now.0).at.owed ≡ others = ap (λ (x : SeatView C N). x.owed) paid.did.becomes ∙ (ap (λ (q : Part C N). q.owed) e.3 ∙ ap rest_of (sym e.2 ∙ some)) in (
         left,
-        subst (λ ns. Leads truths (asked_of walk) (got_of N walk (Paid (has_some ns))) now) (sym left) (goes truths walk (PayWake value) (Paid (has_some others)) (got_of N walk (Paid (has_some others))) me now at pays.free refl refl paid),
+        subst (λ ns. HasReached truths (asked_of walk) (got_of N walk (Paid (has_some ns))) now) (sym left) (goes truths walk (PayWake value) (Paid (has_some others)) (got_of N walk (Paid (has_some others))) me now at pays.free refl refl paid),
       )
 
-  pub all_paid : (walk : Walk C) (me : SeatOf C N) → (the me.0).at.owed ≡ [] → Leads truths (asked_of walk) (got_of N walk (Paid (has_some (the me.0).at.owed))) me → Leads truths (asked_of walk) (got_of N walk (Paid false)) me
-  all_paid walk me none led = subst (λ ns. Leads truths (asked_of walk) (got_of N walk (Paid (has_some ns))) me) none led
+  pub all_paid : (walk : Walk C) (me : SeatOf C N) → (the me.0).at.owed ≡ [] → HasReached truths (asked_of walk) (got_of N walk (Paid (has_some (the me.0).at.owed))) me → HasReached truths (asked_of walk) (got_of N walk (Paid false)) me
+  all_paid walk me none led = subst (λ ns. HasReached truths (asked_of walk) (got_of N walk (Paid (has_some ns))) me) none led

@@ -3,12 +3,11 @@ use Rattle.std.proofs.Common.{◌≡◌, ℕ, ◌+◌, ◌-◌, ◌<◌, ◌≤�
 use Rattle.std.proofs.lemmas.Bool.{cases_Bool, cases_eq, cond-false, cond-true, cond_both, le-ltb, lt-ltb}
 use Rattle.std.proofs.lemmas.Grind.{same_number_lists}
 use Rattle.std.proofs.lemmas.List.{get_or-set_same, get_or-set_other}
-use Rattle.ns_monitor.proofs.Standing.{commits_none}
+use Rattle.ns_monitor.proofs.Standing.{commits_none, held_in, same_held}
 use Rattle.ns_gate.proofs.Calls.{begins, goes_on, since, since_itself, since_then}
-use Rattle.ns_gate.proofs.Tells.{cell_in_hand, does}
-use Rattle.ns_gate.specs.Prelude.{SeatOf, HasAnswered, HasSince, IsAt, IsWide, Leads, GateView, the, carried_by, CanStep, HasTaken, Performed, Truths, Lists, asked_of, view_in, before_in, row_in, HasMode, IsSettled, PlaceFits, Tests, Part, State, got_of, has_queues, release_has_queues, wait_has_queues, walk_after, want_of, Act, JudgeMet, JudgeQuiet, LoadCell, Found, Cell, Quiet, Tested, QuietCells, QuietLast, ToTell, ScanCells, ScanAndRelease, Await, IsQuiet, Held, SeatView, LoadToScan, QueueToWait, Visit, OnEntry, Wait, TestCells, InQueuing, Next, On, Is, Walk, InRelease, InCells, InWait}
-use Rattle.ns_monitor.specs.Tests.{AreRead, HasGone, HasLoaded, HasTested, StandsAt, loading, loading_at, tested_by}
-use Rattle.ns_monitor.specs.Walks.{judging}
+use Rattle.ns_gate.proofs.Findings.{cell_in_hand, does}
+use Rattle.ns_gate.specs.Prelude.{SeatOf, HasAnswered, HasSince, IsAtPlace, IsWide, HasReached, GateView, the, carried_by, CanStep, HasUnchangedQueues, Performed, Truths, Lists, asked_of, view_in, before_in, row_in, HasMode, IsSettled, PlaceFits, Tests, Part, LockState, got_of, has_queues, release_has_queues, wait_has_queues, walk_after, want_of, Act, JudgeMet, JudgeQuiet, LoadCell, Found, Cell, Quiet, Tested, QuietCells, QuietLast, ToTell, ScanCells, ScanAndRelease, Await, IsQuiet, Held, SeatView, LoadToScan, QueueToWait, Visit, OnEntry, Wait, TestCells, InQueuing, Next, On, Is, Walk, InRelease, InCells, InWait}
+use Rattle.ns_monitor.specs.Prelude.{AreRead, HasGone, HasLoaded, HasTested, StandsAt, judging, loading, loading_at, tested_by}
 
 -- ---- the row
 
@@ -85,30 +84,22 @@ module _ {C : Type 0} {N : ℕ} (truths : Truths C) where
   can_step (Some first) walk act me wants at = record { one = at.1.one; may = (at.1.over, at.2, at.3); walk = first; walks = refl; wants = ap want_of at.0 ∙ wants }
 
   steps : (b : Option (Walk C)) (walk : Walk C) (act : Act C) (found : Found) (next : Next C) (me now : SeatOf C N) → StandsAt truths b walk me → got_of N walk found ≡ next → (has_queues (walk_after next) ≡ false → has_queues (Some walk) ≡ false)
-      → carried_by act found (the now.0).stood me.1 ≡ me.1 → Performed truths b act found me now → Leads truths (asked_of walk) next now
+      → carried_by act found (the now.0).stood me.1 ≡ me.1 → Performed truths b act found me now → HasReached truths (asked_of walk) next now
   steps None walk act found next me now at is free keeps p = goes_on truths walk act found next me now at is (λ e. p.carried ∙ (keeps ∙ at.empty (free e))) p
   steps (Some first) walk act found next me now at is free keeps p =
-      subst (λ w. Leads truths (asked_of w) next now) at.0 (begins truths first act found next me now (ap (λ w. got_of N w found) at.0 ∙ is) (λ _. p.carried ∙ (keeps ∙ at.1.empty)) p)
+      subst (λ w. HasReached truths (asked_of w) next now) at.0 (begins truths first act found next me now (ap (λ w. got_of N w found) at.0 ∙ is) (λ _. p.carried ∙ (keeps ∙ at.1.empty)) p)
 
   since_more : (b left : Option (Walk C)) (act : Act C) (found : Found) (v : GateView C N) (me now : SeatOf C N) → HasGone b left v (the me.0) → Performed truths left act found me now → HasSince b v (the now.0)
   since_more b None act found v me now s p = since_then b v (the me.0) (the now.0) s (since truths None act found me now p)
   since_more b (Some first) act found v me now s p = subst (λ (x : Option (Walk C) × GateView C N). HasSince x.0 x.1 (the now.0)) (λ i. (sym s.0 i, s.1 i)) (since truths (Some first) act found me now p)
 
-  held_in : (b : Option (Walk C)) (view : SeatView C N) → (view_in view b).held ≡ view.held
-  held_in None view = refl
-  held_in (Some first) view = refl
-
-  -- a step that changes nothing leaves the section in hand
-  same_held : (b : Option (Walk C)) (act : Act C) (found : Found) (me now : SeatOf C N) (p : Performed truths b act found me now) → p.did.made.step.held ≡ (view_in (the me.0).at b).held → (the now.0).at.held ≡ (the me.0).at.held
-  same_held b act found me now p same = ap (λ (x : SeatView C N). x.held) p.did.becomes ∙ (same ∙ held_in b (the me.0).at)
-
   -- ---- a cell is loaded
 
   -- the queues in hand stay as they stood
-  stays_taken : (b : Option (Walk C)) (walk : Walk C) (i value : ℕ) (me now : SeatOf C N) → StandsAt truths b walk me → Performed truths b (LoadCell i) (Cell value) me now → HasTaken me → HasTaken now × ((the now.0).stood ≡ (the me.0).stood)
+  stays_taken : (b : Option (Walk C)) (walk : Walk C) (i value : ℕ) (me now : SeatOf C N) → StandsAt truths b walk me → Performed truths b (LoadCell i) (Cell value) me now → HasUnchangedQueues me → HasUnchangedQueues now × ((the now.0).stood ≡ (the me.0).stood)
   stays_taken (Some first) walk i value me now at p taken = absurd (let none : me.1 ≡ [] = at.1.empty in cc)
   stays_taken None walk i value me now at p taken = elim (cases_Bool (has_queues (Some walk))) [
-    | inl has ↦ let same = p.did.stood_now ∙ (ap (λ (q : Part C N). q.lists) (does truths None (LoadCell i) (Cell value) me now p).1 ∙ (ap (λ (s : State C N). s.lists) p.did.made.begins ∙ sym (p.did.stood_was (ap has_queues at.walks ∙ has)))) in
+    | inl has ↦ let same = p.did.stood_now ∙ (ap (λ (q : Part C N). q.lists) (does truths None (LoadCell i) (Cell value) me now p).1 ∙ (ap (λ (s : LockState C N). s.lists) p.did.made.begins ∙ sym (p.did.stood_was (ap has_queues at.walks ∙ has)))) in
         (p.carried ∙ (taken ∙ ap (λ (lists : Lists C). (0, lists) ∷ []) (sym same)), same)
     | inr free ↦ absurd (let none : me.1 ≡ [] = at.empty free in cc)
   ]
@@ -128,7 +119,7 @@ module _ {C : Type 0} {N : ℕ} (truths : Truths C) where
       → HasLoaded truths b None walk (i + 1) (set row i value) start now
   loads_cell b left walk i value row start me now low inside has p =
       let l = loads_at N walk i low in let place = (loading N walk).at i in let at = subst (λ w. StandsAt truths left w me) (at_cell N walk i low) has.at in
-      let held = same_held left (LoadCell i) (Cell value) me now p (ap (λ (q : Part C N). q.held) (does truths left (LoadCell i) (Cell value) me now p).1) in
+      let held = same_held truths left (LoadCell i) (Cell value) me now p (ap (λ (q : Part C N). q.held) (does truths left (LoadCell i) (Cell value) me now p).1) in
       let section = there N truths walk i (the me.0).at.held low (fits_at left place me at).0 in record {
         at = steps left place (LoadCell i) (Cell value) (On (loading_at N walk (i + 1))) me now at (l.goes value) l.free refl p;
         since = since_more b left (LoadCell i) (Cell value) (the start.0) me now has.since p;
@@ -146,7 +137,7 @@ module _ {C : Type 0} {N : ℕ} (truths : Truths C) where
 
   -- what comes of a last load: where it leads, and the row, which is the one of the section in hand
   record HasTold (b : Option (Walk C)) (walk : Walk C) (found : Found) (row : List ℕ) (start now : SeatOf C N) : Type 0 where
-    leads : Leads truths (asked_of (loading N walk).last) (got_of N (loading N walk).last found) now
+    leads : HasReached truths (asked_of (loading N walk).last) (got_of N (loading N walk).last found) now
     since : HasSince b (the start.0) (the now.0)
     held : (the now.0).at.held ≡ (the start.0).at.held
     mine : (the now.0).told.mine ≡ (the start.0).told.mine
@@ -160,9 +151,9 @@ module _ {C : Type 0} {N : ℕ} (truths : Truths C) where
       let more = reads_more N whole row (N - 1) value (omega (arith, some)) (subst (AreRead N whole row) last has.read) (is ∙ ap (λ (o : Option (Held C N)). slice_index (row_in o) (N - 1)) has.held) in record {
         leads = steps left (loading N walk).last act found (got_of N (loading N walk).last found) me now at refl (λ _. free) keeps p;
         since = since_more b left act found (the start.0) me now has.since p;
-        held = same_held left act found me now p same ∙ has.held;
+        held = same_held truths left act found me now p same ∙ has.held;
         mine = commits_none truths left act found me now p none ∙ has.mine;
-        row_is = all_read N whole (set row (N - 1) value) (ap (λ (o : Option (Held C N)). length (row_in o)) (sym has.held) ∙ wide_row N (the me.0).at.held section (sym (held_in left (the me.0).at) ∙ there) (fits_at left (loading N walk).last me at).1)
+        row_is = all_read N whole (set row (N - 1) value) (ap (λ (o : Option (Held C N)). length (row_in o)) (sym has.held) ∙ wide_row N (the me.0).at.held section (sym (held_in truths left (the me.0).at) ∙ there) (fits_at left (loading N walk).last me at).1)
             (subst (AreRead N whole (set row (N - 1) value)) (omega (arith, some)) more);
       }
 
@@ -180,7 +171,7 @@ module _ {C : Type 0} {N : ℕ} (truths : Truths C) where
       let t = told b left (InWait wait (TestCells visit 0)) (JudgeMet (N - 1) c) found row value e.0 start me now some refl refl has e.1 cell refl p (ap (λ (q : Part C N). q.held) e.3) e.4 in (
         t.since,
         record {
-          leads = subst (λ met. Leads truths (Await wait) (tested_by wait visit met) now) (ap (λ o. truths.holds c (row_in o)) has.held ∙ (ap (truths.holds c) (sym t.row_is) ∙ sym is)) t.leads;
+          leads = subst (λ met. HasReached truths (Await wait) (tested_by wait visit met) now) (ap (λ o. truths.holds c (row_in o)) has.held ∙ (ap (truths.holds c) (sym t.row_is) ∙ sym is)) t.leads;
           held = t.held;
           mine = t.mine;
           row_is = t.row_is;
@@ -204,13 +195,13 @@ module _ {C : Type 0} {N : ℕ} (truths : Truths C) where
 
   -- ---- a scan has its row
 
-  pub is_scanned : (left : Option (Walk C)) (walk : Walk C) (row : List ℕ) (start me : SeatOf C N) → 1 ≤ N → (loading N walk).count ≡ N → IsAt truths (loading_at N walk 0) start → HasLoaded truths None left walk N row start me
-      → IsAt truths (loading N walk).last me × HasSince None (the start.0) (the me.0) × (row ≡ row_in (the start.0).at.held)
+  pub is_scanned : (left : Option (Walk C)) (walk : Walk C) (row : List ℕ) (start me : SeatOf C N) → 1 ≤ N → (loading N walk).count ≡ N → IsAtPlace truths (loading_at N walk 0) start → HasLoaded truths None left walk N row start me
+      → IsAtPlace truths (loading N walk).last me × HasSince None (the start.0) (the me.0) × (row ≡ row_in (the start.0).at.held)
   is_scanned (Some first) walk row start me some scans at has = absurd (let no = has.since.0 in cc)
   is_scanned None walk row start me some scans at has =
       let low = subst (λ n. 1 ≤ n) (sym scans) some in
       let section = there N truths walk 0 (the start.0).at.held low (subst (λ w. PlaceFits truths (Some w) (the start.0).at.held) (at_cell N walk 0 low) at.fits) in (
-        subst (λ w. IsAt truths w me) (ap (loading_at N walk) (sym scans) ∙ at_last N walk) has.at,
+        subst (λ w. IsAtPlace truths w me) (ap (loading_at N walk) (sym scans) ∙ at_last N walk) has.at,
         has.since,
         all_read N (row_in (the start.0).at.held) row (wide_row N (the start.0).at.held section.0 section.1 at.wide) has.read,
       )

@@ -2,13 +2,12 @@
 use Rattle.std.proofs.Common.{◌≡◌, ◌≢◌, ℕ, Bool, true, false, cond, nat_lt, ne_eqb, Option, None, Some, refl, ap, sym, ◌∙◌, subst}
 use Rattle.std.proofs.lemmas.Bool.{cond_both}
 use Rattle.ns_gate.proofs.Calls.{goes}
-use Rattle.ns_gate.specs.Prelude.{SeatOf, IsAt, Leads, the, Performed, Truths, IsList, waiters_of, times_in, Which, IsInRange, arrival_of, home_of, is_limited, outcome_taken, woken_by, armed_place, got_of, rest_or_look, AcquireLoad, ArmFlag, LoadFlag, Look, LeaveSelf, Flag, Looked, Made, Cause, Await, ForWait, AwaitWakeToLeave, Leave, LeaveLoad, Outcome, Ended, ArmToWait, Load, QueueToWait, Subject, OnCondition, OnVariable, Wait, AwaitWakeInWait, InLeaving, InQueuing, LookOut, Idle, On, InAcquire, InWait, Arrival, AsFresh, Word, LoadToScan, wait_has_queues}
+use Rattle.ns_gate.specs.Prelude.{SeatOf, IsAtPlace, HasReached, the, Performed, Truths, IsList, waiters_of, times_in, Which, IsInRange, arrival_of, home_of, is_limited, outcome_taken, woken_by, armed_place, got_of, rest_or_look, AcquireLoad, ArmFlag, LoadFlag, Look, LeaveSelf, Flag, Looked, Made, Cause, Await, ForWait, AwaitWakeToLeave, Leave, LeaveLoad, Outcome, Ended, ArmToWait, Load, QueueToWait, Subject, OnCondition, OnVariable, Wait, AwaitWakeInWait, InLeaving, InQueuing, LookOut, Idle, On, InAcquire, InWait, Arrival, AsFresh, Word, LoadToScan, wait_has_queues}
 use Rattle.ns_gate.specs.declared.queues.Returning.TheVariants.{Changed}
 use Rattle.ns_word.specs.Walks.{load_place}
 use Rattle.ns_monitor.proofs.Locks.{HasArmed, arms}
 use Rattle.ns_monitor.proofs.Tests.{moves_in}
-use Rattle.ns_monitor.specs.Tests.{lacks_row}
-use Rattle.ns_monitor.specs.Standing.{found_back, HasTakenAt}
+use Rattle.ns_monitor.specs.Prelude.{HasTakenAt, found_back, lacks_row}
 
 module _ {C : Type 0} where
   -- where a wait goes that has set its flag: to load the row, where it lacks it
@@ -37,8 +36,8 @@ module _ {C : Type 0} {N : ℕ} (truths : Truths C) where
   pub arms_to_wait : (wait : Wait C) (again : Bool) (last : Word) (start me now : SeatOf C N) → HasTakenAt truths (InWait wait (InQueuing again Load)) last start me → Performed truths None ArmFlag Made me now → HasArmed truths (InWait wait (InQueuing again (armed_place N wait.on last))) me now
   arms_to_wait wait again last start me now took p = arms truths (InWait wait (InQueuing again (ArmToWait last))) (InWait wait (InQueuing again (armed_place N wait.on last))) me now refl refl (armed_has N again wait.on last) refl took.at took.taken p
 
-  pub loads_or_queues : (wait : Wait C) (again : Bool) (last : Word) (lacks : Bool) (me : SeatOf C N) → lacks ≡ lacks_row wait.on last → IsAt truths (InWait wait (InQueuing again (armed_place N wait.on last))) me → IsAt truths (cond lacks (InWait wait (InQueuing again (load_place N last 0))) (InWait wait (InQueuing again (QueueToWait last)))) me
-  loads_or_queues wait again last lacks me is at = subst (λ w. IsAt truths w me) (ap (λ place. InWait wait (InQueuing again place)) (armed_at N wait.on last ∙ ap (λ b. cond b (load_place N last 0) (QueueToWait last)) (sym is)) ∙ moves_in (λ place. InWait wait (InQueuing again place)) lacks (load_place N last 0) (QueueToWait last)) at
+  pub loads_or_queues : (wait : Wait C) (again : Bool) (last : Word) (lacks : Bool) (me : SeatOf C N) → lacks ≡ lacks_row wait.on last → IsAtPlace truths (InWait wait (InQueuing again (armed_place N wait.on last))) me → IsAtPlace truths (cond lacks (InWait wait (InQueuing again (load_place N last 0))) (InWait wait (InQueuing again (QueueToWait last)))) me
+  loads_or_queues wait again last lacks me is at = subst (λ w. IsAtPlace truths w me) (ap (λ place. InWait wait (InQueuing again place)) (armed_at N wait.on last ∙ ap (λ b. cond b (load_place N last 0) (QueueToWait last)) (sym is)) ∙ moves_in (λ place. InWait wait (InQueuing again place)) lacks (load_place N last 0) (QueueToWait last)) at
 
   -- ---- it leaves its list
 
@@ -50,21 +49,21 @@ module _ {C : Type 0} {N : ℕ} (truths : Truths C) where
       ((λ i. nat_lt 0 (times_in (the (same i)).at.seat (waiters_of (the (same i)).stood home))) ∙ ((λ i. nat_lt 0 (times_in (sym is i) (waiters_of (the me.0).stood home))) ∙ (sym tells ∙ so)))
 
   -- one that was taken before is woken, and comes back
-  pub taken_next : (wait : Wait C) (cause : Cause) (flag : ℕ) (outcome : Outcome) (arrival : Arrival) (me : SeatOf C N) → flag ≢ 1 → outcome ≡ outcome_taken wait.on cause flag → arrival ≡ arrival_of 0 flag → Leads truths (Await wait) (got_of N (InWait wait (InLeaving cause AwaitWakeToLeave)) (Flag flag)) me
-      → IsAt truths (InAcquire (ForWait wait outcome) (AcquireLoad arrival)) me
+  pub taken_next : (wait : Wait C) (cause : Cause) (flag : ℕ) (outcome : Outcome) (arrival : Arrival) (me : SeatOf C N) → flag ≢ 1 → outcome ≡ outcome_taken wait.on cause flag → arrival ≡ arrival_of 0 flag → HasReached truths (Await wait) (got_of N (InWait wait (InLeaving cause AwaitWakeToLeave)) (Flag flag)) me
+      → IsAtPlace truths (InAcquire (ForWait wait outcome) (AcquireLoad arrival)) me
   taken_next wait cause flag outcome arrival me clear is how led =
-      subst (λ (x : Outcome × Arrival). IsAt truths (InAcquire (ForWait wait x.0) (AcquireLoad x.1)) me) (λ i. (sym is i, sym how i))
-      (subst (λ (b : Bool). Leads truths (Await wait) (cond b (Idle (InWait wait (InLeaving cause AwaitWakeToLeave))) (On (InAcquire (ForWait wait (outcome_taken wait.on cause flag)) (AcquireLoad (arrival_of 0 flag))))) me) (ne_eqb flag 1 clear) led)
+      subst (λ (x : Outcome × Arrival). IsAtPlace truths (InAcquire (ForWait wait x.0) (AcquireLoad x.1)) me) (λ i. (sym is i, sym how i))
+      (subst (λ (b : Bool). HasReached truths (Await wait) (cond b (Idle (InWait wait (InLeaving cause AwaitWakeToLeave))) (On (InAcquire (ForWait wait (outcome_taken wait.on cause flag)) (AcquireLoad (arrival_of 0 flag))))) me) (ne_eqb flag 1 clear) led)
 
   -- ---- it looks out
 
   -- at a flag that is set it looks, where something may end it
-  pub looks_out : (wait : Wait C) (value : ℕ) (me now : SeatOf C N) → value ≡ 1 → is_limited wait.limits ≡ true → IsAt truths (InWait wait AwaitWakeInWait) me → Performed truths None LoadFlag (Flag value) me now → IsAt truths (InWait wait LookOut) now
+  pub looks_out : (wait : Wait C) (value : ℕ) (me now : SeatOf C N) → value ≡ 1 → is_limited wait.limits ≡ true → IsAtPlace truths (InWait wait AwaitWakeInWait) me → Performed truths None LoadFlag (Flag value) me now → IsAtPlace truths (InWait wait LookOut) now
   looks_out wait value me now set limited at p =
       goes truths (InWait wait AwaitWakeInWait) LoadFlag (Flag 1) (On (InWait wait LookOut)) me now at refl (ap (λ (b : Bool). cond b (On (InWait wait LookOut)) (Idle (InWait wait AwaitWakeInWait))) limited) refl (subst (λ n. Performed truths None LoadFlag (Flag n) me now) set p)
 
-  pub waits_on : (wait : Wait C) (shown : Option Cause) (me now : SeatOf C N) → shown ≡ None → IsAt truths (InWait wait LookOut) me → Performed truths None (Look wait.limits false) (Looked shown) me now → IsAt truths (InWait wait AwaitWakeInWait) now
+  pub waits_on : (wait : Wait C) (shown : Option Cause) (me now : SeatOf C N) → shown ≡ None → IsAtPlace truths (InWait wait LookOut) me → Performed truths None (Look wait.limits false) (Looked shown) me now → IsAtPlace truths (InWait wait AwaitWakeInWait) now
   waits_on wait shown me now none at p = goes truths (InWait wait LookOut) (Look wait.limits false) (Looked None) (Idle (InWait wait AwaitWakeInWait)) me now at refl refl refl (subst (λ o. Performed truths None (Look wait.limits false) (Looked o) me now) none p)
 
-  pub goes_to_leave : (wait : Wait C) (shown : Option Cause) (cause : Cause) (me now : SeatOf C N) → shown ≡ Some cause → IsAt truths (InWait wait LookOut) me → Performed truths None (Look wait.limits false) (Looked shown) me now → IsAt truths (InWait wait (InLeaving cause LeaveLoad)) now
+  pub goes_to_leave : (wait : Wait C) (shown : Option Cause) (cause : Cause) (me now : SeatOf C N) → shown ≡ Some cause → IsAtPlace truths (InWait wait LookOut) me → Performed truths None (Look wait.limits false) (Looked shown) me now → IsAtPlace truths (InWait wait (InLeaving cause LeaveLoad)) now
   goes_to_leave wait shown cause me now some at p = goes truths (InWait wait LookOut) (Look wait.limits false) (Looked (Some cause)) (On (InWait wait (InLeaving cause LeaveLoad))) me now at refl refl refl (subst (λ o. Performed truths None (Look wait.limits false) (Looked o) me now) some p)

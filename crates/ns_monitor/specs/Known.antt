@@ -9,7 +9,7 @@ use Rattle.ns_model.specs.Truths.{Truths}
 use Rattle.ns_word.specs.declared.view.Held.{Held}
 use Rattle.ns_word.specs.declared.walk.Walk.{Walk}
 use Rattle.ns_word.specs.Lawful.{IsLawful}
-use Rattle.ns_word.specs.Steps.{State}
+use Rattle.ns_word.specs.Steps.{LockState}
 use Rattle.ns_word.specs.Words.{is_held}
 use Rattle.ns_word.specs.Meanings.{new_section}
 use Rattle.ns_gate.specs.Calls.{SeatOf, IsTrueToHistory}
@@ -19,7 +19,7 @@ use Rattle.ns_queue.specs.Queues.{Lists}
 -- what contracts see of a seat or a section: its monitor, how many seats that has, its own number, the history that it has seen, its own events, the calls that it has begun, by their first places, the section in hand, the place in the call that is in progress, what it carries of the monitor, by number: the waiter queues, while it has them in hand, and the seats to which it owes wakes
 pub record Known (C : Type 0) (N : ℕ) : Type 0 where
   pub monitor : TableId
-  pub limit : ℕ
+  pub seat_count : ℕ
   pub seat : ℕ
   pub seen : List (Event C N)
   pub mine : List (Event C N)
@@ -31,16 +31,16 @@ pub record Known (C : Type 0) (N : ℕ) : Type 0 where
 
 -- what a seat of the gate shows of itself
 abbrev pub known_of : {C : Type 0} {N : ℕ} → TableId → SeatOf C N → Known C N
-known_of monitor me = let view = the me.0 in record { monitor = monitor; limit = view.limit; seat = view.at.seat; seen = view.told.seen; mine = view.told.mine; begun = view.told.begun; held = view.at.held; call = view.at.walk; carries = me.1; owed = view.at.owed }
+known_of monitor me = let view = the me.0 in record { monitor = monitor; seat_count = view.seat_count; seat = view.at.seat; seen = view.told.seen; mine = view.told.mine; begun = view.told.begun; held = view.at.held; call = view.at.walk; carries = me.1; owed = view.at.owed }
 
 -- The same caller behind one call that began so: what it has seen begins with what it had seen, and is a legal history by the seats that there are, in which its own events are just its own; it has begun that call and no other, which is over; and it owes no wake, and carries nothing.
 pub record Grows {C : Type 0} {N : ℕ} (truths : Truths C) (call : Walk C) (old new : Known C N) : Type 0 where
   pub monitor : new.monitor ≡ old.monitor
-  pub limit : new.limit ≡ old.limit
+  pub seat_count : new.seat_count ≡ old.seat_count
   pub seat : new.seat ≡ old.seat
   pub begins : BeginsWith new.seen old.seen
   pub begun : new.begun ≡ old.begun ++ call ∷ []
-  pub true_to : IsTrueToHistory truths new.limit new.seat new.seen new.mine
+  pub true_to : IsTrueToHistory truths new.seat_count new.seat new.seen new.mine
   pub over : new.call ≡ None
   pub owes : new.owed ≡ []
   pub empty : new.carries ≡ []
@@ -59,23 +59,23 @@ pub record HasLocked {C : Type 0} {N : ℕ} (truths : Truths C) (call : Walk C) 
 
 -- a seat of a new monitor with so many: it has seen and done nothing, and has nothing in hand
 abbrev pub new_seat : {C : Type 0} {N : ℕ} → TableId → ℕ → ℕ → Known C N
-new_seat monitor limit seat = record { monitor = monitor; limit = limit; seat = seat; seen = []; mine = []; begun = []; held = None; call = None; carries = []; owed = [] }
+new_seat monitor seat_count seat = record { monitor = monitor; seat_count = seat_count; seat = seat; seen = []; mine = []; begun = []; held = None; call = None; carries = []; owed = [] }
 
 -- the seats of a new monitor, from a number on
 abbrev pub AreNew : {C : Type 0} {N : ℕ} → ℕ → TableId → ℕ → List (Known C N) → Type 0
-AreNew limit monitor from [] = Unit {0}
-AreNew limit monitor from (seat ∷ seats) = (seat ≡ new_seat monitor limit from) × AreNew limit monitor (suc from) seats
+AreNew seat_count monitor from [] = Unit {0}
+AreNew seat_count monitor from (seat ∷ seats) = (seat ≡ new_seat monitor seat_count from) × AreNew seat_count monitor (suc from) seats
 
 -- Nothing of the caller has changed but what it has seen: a legal history by the seats that there are, which begins with what it had seen, and in which its own events are just its own. It is in no call, owes no wake, and carries nothing.
 pub record HasLearned {C : Type 0} {N : ℕ} (truths : Truths C) (old new : Known C N) : Type 0 where
   pub monitor : new.monitor ≡ old.monitor
-  pub limit : new.limit ≡ old.limit
+  pub seat_count : new.seat_count ≡ old.seat_count
   pub seat : new.seat ≡ old.seat
   pub begins : BeginsWith new.seen old.seen
   pub mine : new.mine ≡ old.mine
   pub begun : new.begun ≡ old.begun
   pub held : new.held ≡ old.held
-  pub true_to : IsTrueToHistory truths new.limit new.seat new.seen new.mine
+  pub true_to : IsTrueToHistory truths new.seat_count new.seat new.seen new.mine
   pub over : new.call ≡ None
   pub owes : new.owed ≡ []
   pub empty : new.carries ≡ []
@@ -93,8 +93,8 @@ AreOfOneHistory first second = SawAllOf first second ⊎ SawAllOf second first
 -- The monitor has come to a lawful state, with a history that begins with what the caller has seen and has just the caller's events as its own; the cells are that state's row, and the lock is free or held as is told. Where it is free, they are the row after that history.
 pub record EndsAs {C : Type 0} {N : ℕ} (truths : Truths C) (k : Known C N) (row : List ℕ) (free : Bool) : Type 0 where
   pub history : List (Event C N)
-  pub state : State C N
-  pub lawful : IsLawful truths k.limit history state
+  pub state : LockState C N
+  pub lawful : IsLawful truths k.seat_count history state
   pub begins : BeginsWith history k.seen
   pub own : own_of history k.seat ≡ k.mine
   pub row_is : row ≡ state.row

@@ -1,13 +1,14 @@
 pub mod Known
 pub mod Limits
 pub mod Looks
+pub mod Prelude
 pub mod Saved
 pub mod Standing
 pub mod Tests
 pub mod Waits
 pub mod Walks
 -- what a user's contract names
-pub use Rattle.ns_gate.specs.Law.{NewFault}
+pub use Rattle.ns_gate.specs.Law.{RefusesGate}
 pub use Rattle.ns_model.specs.Truths.{Truths, truths}
 pub use Rattle.ns_model.specs.declared.event.Mode.{Mode}
 pub use Rattle.ns_model.specs.declared.event.Mode.TheVariants.{Read, Write}

@@ -19,8 +19,8 @@ pub record IsLooking (env : TableId) (seat : EnvKnown) (note : Option Note) (lim
 -- the same seat later, which has seen more and done nothing of its own
 pub record HasLookedOn (old new : EnvKnown) : Type 0 where
   pub env : new.env ≡ old.env
-  pub limit : new.limit ≡ old.limit
-  pub who : new.who ≡ old.who
+  pub seat_count : new.seat_count ≡ old.seat_count
+  pub seat : new.seat ≡ old.seat
   pub begins : BeginsWith new.seen old.seen
   pub mine : new.mine ≡ old.mine
   pub makes : (note : ℕ) → IsMade old.seen note → IsMade new.seen note

@@ -19,10 +19,10 @@ use Rattle.ns_word.specs.declared.limits.Limits.{Limits}
 -- ---- a seat that looks on
 
 pub same_looker : (seat : EnvKnown) → HasLookedOn seat seat
-same_looker seat = record { env = refl; limit = refl; who = refl; begins = begins_itself seat.seen; mine = refl; makes = λ given made. made }
+same_looker seat = record { env = refl; seat_count = refl; seat = refl; begins = begins_itself seat.seen; mine = refl; makes = λ given made. made }
 
 pub then_looker : (one two three : EnvKnown) → HasLookedOn one two → HasLookedOn two three → HasLookedOn one three
-then_looker one two three s t = record { env = t.env ∙ s.env; limit = t.limit ∙ s.limit; who = t.who ∙ s.who; begins = begins_through three.seen two.seen one.seen t.begins s.begins; mine = t.mine ∙ s.mine; makes = λ given made. t.makes given (s.makes given made) }
+then_looker one two three s t = record { env = t.env ∙ s.env; seat_count = t.seat_count ∙ s.seat_count; seat = t.seat ∙ s.seat; begins = begins_through three.seen two.seen one.seen t.begins s.begins; mine = t.mine ∙ s.mine; makes = λ given made. t.makes given (s.makes given made) }
 
 -- a note that was made stays so
 still_made : (given : Option Note) (old new : EnvKnown) → HasLookedOn old new → IfSome given (λ n. IsMade old.seen n.index) → IfSome given (λ n. IsMade new.seen n.index)

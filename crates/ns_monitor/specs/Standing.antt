@@ -1,7 +1,7 @@
 -- What the loops of a call are told of the place at which it stands, and where they lead it.
 use Rattle.std.specs.Prelude.{◌≡◌, ℕ, ◌<◌, List, true, Bool, false, not, if◌then◌else◌, Option, None, Some}
-use Rattle.ns_gate.specs.Calls.{SeatOf, IsAt, Leads}
-use Rattle.ns_gate.specs.Steps.{the, Carries, HasTaken, found_returned, lists_returned, some_returned}
+use Rattle.ns_gate.specs.Calls.{SeatOf, IsAtPlace, HasReached}
+use Rattle.ns_gate.specs.Steps.{the, Carries, HasUnchangedQueues, found_returned, lists_returned, some_returned}
 use Rattle.ns_gate.specs.declared.queues.Returning.{Returning}
 use Rattle.ns_gate.specs.declared.queues.Returning.TheVariants.{Changed, Released, Waited}
 use Rattle.ns_gate.specs.declared.queues.Turned.{Turned}
@@ -133,8 +133,8 @@ taken_at N walk word = walk
 
 -- A call has taken the queues, at a word that has a number and tells whether some waiter has a condition; its section is as it was.
 pub record HasTakenAt {C : Type 0} {N : ℕ} (truths : Truths C) (walk : Walk C) (word : Word) (me now : SeatOf C N) : Type 0 where
-  pub at : IsAt truths (taken_at N walk word) now
-  pub taken : HasTaken now
+  pub at : IsAtPlace truths (taken_at N walk word) now
+  pub taken : HasUnchangedQueues now
   pub packs : IsPackable word
   pub held : (the now.0).at.held ≡ (the me.0).at.held
   pub tells : word.cond ≡ (bits_of (the now.0).stood.lock).conditional
@@ -146,13 +146,13 @@ MayGoAlone going = Unit {0}
 
 -- A call has gone by the words that it has seen, or has taken the queues; then this is the word.
 abbrev pub WentOrTook : {C : Type 0} {N : ℕ} → Truths C → Walk C → Option Word → SeatOf C N → SeatOf C N → Type 0
-WentOrTook {C} {N} truths walk None me now = MayGoAlone (going_of walk) × Leads truths (asked_of walk) (gone_to N walk) now
+WentOrTook {C} {N} truths walk None me now = MayGoAlone (going_of walk) × HasReached truths (asked_of walk) (gone_to N walk) now
 WentOrTook truths walk (Some word) me now = HasTakenAt truths walk word me now
 
 -- A call that has begun, and has loaded the word, has gone by it; or it has seen a word with this number last, and stands where its decision leads.
 abbrev pub WentAtOnce : {C : Type 0} {N : ℕ} → Truths C → Walk C → Option ℕ → SeatOf C N → Type 0
-WentAtOnce {C} {N} truths walk None now = MayGoAlone (going_of walk) × Leads truths (asked_of walk) (gone_to N walk) now
-WentAtOnce {C} {N} truths walk (Some last) now = IsPackable (word_of last) × Leads truths (asked_of walk) (got_of N walk (Saw (word_of last))) now
+WentAtOnce {C} {N} truths walk None now = MayGoAlone (going_of walk) × HasReached truths (asked_of walk) (gone_to N walk) now
+WentAtOnce {C} {N} truths walk (Some last) now = IsPackable (word_of last) × HasReached truths (asked_of walk) (got_of N walk (Saw (word_of last))) now
 
 -- ---- with the queues in hand
 
@@ -199,12 +199,12 @@ OwesTheWoken truths returning me owed = owed ≡ seats_of (woken_of (meets_at tr
 
 -- an acquire has seen this word, and stands where its decision leads
 abbrev pub AcquiresBy : {C : Type 0} {N : ℕ} → Truths C → Aim C → Arrival → Word → SeatOf C N → Type 0
-AcquiresBy truths aim arrival word me = Leads truths (request_for aim) (acquire_by aim arrival word) me
+AcquiresBy truths aim arrival word me = HasReached truths (request_for aim) (acquire_by aim arrival word) me
 
 -- an acquire was made: a call that locks is over, and a wait stands where it goes on
 abbrev pub HasAcquired : {C : Type 0} {N : ℕ} → Truths C → Aim C → SeatOf C N → Type 0
-HasAcquired {C} {N} truths aim me = Leads truths (request_for aim) (acquired_for N aim) me
+HasAcquired {C} {N} truths aim me = HasReached truths (request_for aim) (acquired_for N aim) me
 
 -- a release has seen this word, and stands where its decision leads
 abbrev pub ReleasesBy : {C : Type 0} {N : ℕ} → Truths C → Releasing → Word → SeatOf C N → Type 0
-ReleasesBy truths releasing word me = Leads truths (TheRequest.Release releasing) (release_by releasing word) me
+ReleasesBy truths releasing word me = HasReached truths (TheRequest.Release releasing) (release_by releasing word) me

@@ -1,8 +1,8 @@
 -- How a call loads the cells of the row one after another, and what the test of a wait tells.
 use Rattle.std.specs.Prelude.{◌≡◌, ℕ, ◌-◌, ◌<◌, if◌then◌else◌, List, length, slice_index, Bool, false, Option, None, Some}
-use Rattle.ns_gate.specs.Calls.{SeatOf, HasSince, IsAt, IsAtRest, Leads}
+use Rattle.ns_gate.specs.Calls.{SeatOf, HasSince, IsAtPlace, IsAtRest, HasReached}
 use Rattle.ns_gate.specs.Law.{GateView}
-use Rattle.ns_gate.specs.Steps.{the, HasTaken}
+use Rattle.ns_gate.specs.Steps.{the, HasUnchangedQueues}
 use Rattle.ns_model.specs.Truths.{Truths}
 use Rattle.ns_model.specs.declared.event.Answer.TheVariants.{Met}
 use Rattle.ns_queue.specs.Scans.{left_of, woken_of}
@@ -56,7 +56,7 @@ loading_at N walk k = walk
 
 -- a call stands at this place, or its seat, at rest, may begin it there
 abbrev pub StandsAt : {C : Type 0} {N : ℕ} → Truths C → Option (Walk C) → Walk C → SeatOf C N → Type 0
-StandsAt truths None walk me = IsAt truths walk me
+StandsAt truths None walk me = IsAtPlace truths walk me
 StandsAt {C} {N} truths (Some first) walk me = (first ≡ walk) × IsAtRest truths me × IsFirst N first × PlaceFits truths (Some first) (the me.0).at.held
 
 -- the seat has made steps of a call that begins so; or that call is yet to begin, and nothing has changed
@@ -75,7 +75,7 @@ pub record HasLoaded {C : Type 0} {N : ℕ} (truths : Truths C) (begins left : O
   pub since : HasGone begins left (the me.0) (the now.0)
   pub held : (the now.0).at.held ≡ (the me.0).at.held
   pub mine : (the now.0).told.mine ≡ (the me.0).told.mine
-  pub taken : HasTaken me → HasTaken now × ((the now.0).stood ≡ (the me.0).stood)
+  pub taken : HasUnchangedQueues me → HasUnchangedQueues now × ((the now.0).stood ≡ (the me.0).stood)
   pub read : AreRead N (row_in (the me.0).at.held) row count
 
 -- ---- the test of a wait
@@ -86,12 +86,12 @@ tested_by wait visit met = if met then Done (Answered Met) else unmet_by wait vi
 
 -- a wait may test its condition, as it has come back, or as a seat at rest with a section in the wait's mode begins it
 abbrev pub MayTest : {C : Type 0} {N : ℕ} → Truths C → Option (Walk C) → Wait C → Visit → SeatOf C N → Type 0
-MayTest {C} {N} truths None wait visit me = IsAt truths (test_place N wait visit 0) me
+MayTest {C} {N} truths None wait visit me = IsAtPlace truths (test_place N wait visit 0) me
 MayTest {C} {N} truths (Some first) wait visit me = (first ≡ wait_first N wait) × (visit ≡ OnEntry) × IsAtRest truths me × HasMode wait.mode (the me.0).at.held
 
 -- a wait has tested its condition, of the row of the section in hand, which was loaded, and has found this; the section is as it was, and nothing was committed
 pub record HasTested {C : Type 0} {N : ℕ} (truths : Truths C) (wait : Wait C) (visit : Visit) (c : C) (met : Bool) (row : List ℕ) (me now : SeatOf C N) : Type 0 where
-  pub leads : Leads truths (Await wait) (tested_by wait visit met) now
+  pub leads : HasReached truths (Await wait) (tested_by wait visit met) now
   pub held : (the now.0).at.held ≡ (the me.0).at.held
   pub mine : (the now.0).told.mine ≡ (the me.0).told.mine
   pub row_is : row ≡ row_in (the me.0).at.held
@@ -106,8 +106,8 @@ pub record ScansAs {C : Type 0} (truths : Truths C) (row held : List ℕ) (lock 
 
 -- A call has the queues in hand as they stood, and a row at which a scan takes and leaves the same as at its section's.
 pub record IsReady {C : Type 0} {N : ℕ} (truths : Truths C) (walk : Walk C) (row : List ℕ) (me : SeatOf C N) : Type 0 where
-  pub at : IsAt truths walk me
-  pub taken : HasTaken me
+  pub at : IsAtPlace truths walk me
+  pub taken : HasUnchangedQueues me
   pub scans : ScansAs truths row (row_in (the me.0).at.held) (the me.0).stood.lock
 
 -- a wait for a condition has this row at hand, since it has tested it; one for a variable has none

@@ -1,6 +1,6 @@
 -- How far the parts of a wait have come, and what it tells once it is over.
 use Rattle.std.specs.Prelude.{◌≡◌, ◌≢◌, ℕ, ◌⊎◌, Bool, false, List, [], ◌∷◌, ◌++◌, Option, None, Some, Result, Ok, Err}
-use Rattle.ns_gate.specs.Calls.{SeatOf, HasAnswered, IsAt, Leads}
+use Rattle.ns_gate.specs.Calls.{SeatOf, HasAnswered, IsAtPlace, HasReached}
 use Rattle.ns_gate.specs.Steps.{the}
 use Rattle.ns_model.specs.Histories.{row_after}
 use Rattle.ns_model.specs.Sections.{is_met}
@@ -38,8 +38,8 @@ IfEnded (Ended cause) so = so cause
 
 -- a wait has found this value in its flag, which isn't set any more, or its last look has shown this cause to leave
 abbrev pub WokenOrEnded : {C : Type 0} {N : ℕ} → Truths C → Wait C → Result ℕ Cause → SeatOf C N → Type 0
-WokenOrEnded {C} {N} truths wait (Ok flag) me = (flag ≢ 1) × Leads truths (Await wait) (got_of N (InWait wait AwaitWakeInWait) (Flag flag)) me
-WokenOrEnded truths wait (Err cause) me = IsAt truths (InWait wait (InLeaving cause LeaveLoad)) me
+WokenOrEnded {C} {N} truths wait (Ok flag) me = (flag ≢ 1) × HasReached truths (Await wait) (got_of N (InWait wait AwaitWakeInWait) (Flag flag)) me
+WokenOrEnded truths wait (Err cause) me = IsAtPlace truths (InWait wait (InLeaving cause LeaveLoad)) me
 
 -- this is so of what a wait answers that has ended it early, if it answers that
 abbrev pub IfAnswered : Answer → (Cause → Type 0) → Type 0
@@ -49,7 +49,7 @@ IfAnswered Canceled so = so Notified
 
 -- a wait that is about to queue goes on to it, with its section as it was, or its look has shown this cause, which it answers; one that begins leaves its section as it was then too
 abbrev pub QueuesOrEnds : {C : Type 0} {N : ℕ} → Truths C → Wait C → Bool → Option Cause → SeatOf C N → SeatOf C N → Type 0
-QueuesOrEnds truths wait again None me now = IsAt truths (InWait wait (InQueuing again Load)) now × ((the now.0).at.held ≡ (the me.0).at.held)
+QueuesOrEnds truths wait again None me now = IsAtPlace truths (InWait wait (InQueuing again Load)) now × ((the now.0).at.held ≡ (the me.0).at.held)
 QueuesOrEnds truths wait again (Some cause) me now = HasAnswered truths (Await wait) (Answered (answer_of cause)) now × (again ≡ false → (the now.0).at.held ≡ (the me.0).at.held)
 
 -- ---- as its caller sees it

@@ -1,8 +1,8 @@
 //! An acquire that may have to wait: in the lock list, for its flag.
 
 ghost use Rattle.std.specs.Prelude.{◌≡◌, None};
-ghost use Rattle.ns_gate.specs.Prelude.{IsPackable, word_of, AcquireLoad, Arm, InAcquire, HasSince, IsAt, HasTaken, the};
-ghost use Rattle.ns_monitor.specs.Standing.{AcquiresBy, HasAcquired, IsNumberOf};
+ghost use Rattle.ns_gate.specs.Prelude.{IsPackable, word_of, AcquireLoad, Arm, InAcquire, HasSince, IsAtPlace, HasUnchangedQueues, the};
+ghost use Rattle.ns_monitor.specs.Prelude.{AcquiresBy, HasAcquired, IsNumberOf};
 
 use crate::going::Going;
 use crate::monitor::Monitor;
@@ -53,7 +53,7 @@ impl<C: Gated<N>, const N: usize> Monitor<C, N> {
     )
         requires of { seat.old.table_id ≡ self.now }
         requires number { IsNumberOf number seat.old.me }
-        requires at { IsAt C.means (InAcquire aim (AcquireLoad arrival)) seat.old.me }
+        requires at { IsAtPlace C.means (InAcquire aim (AcquireLoad arrival)) seat.old.me }
         ensures seat { seat.new.table_id ≡ self.now }
         ensures since { HasSince None (the seat.old.me.0) (the seat.new.me.0) }
         ensures acquired { HasAcquired C.means aim seat.new.me }
@@ -108,11 +108,11 @@ impl<C: Gated<N>, const N: usize> Monitor<C, N> {
         requires of { seat.old.table_id ≡ self.now }
         requires number { IsNumberOf number seat.old.me }
         requires word { IsPackable word }
-        requires at { IsAt C.means (InAcquire aim (Arm arrival word)) seat.old.me }
-        requires taken { HasTaken seat.old.me }
+        requires at { IsAtPlace C.means (InAcquire aim (Arm arrival word)) seat.old.me }
+        requires taken { HasUnchangedQueues seat.old.me }
         ensures seat { seat.new.table_id ≡ self.now }
         ensures since { HasSince None (the seat.old.me.0) (the seat.new.me.0) }
-        ensures woken { IsAt C.means (InAcquire aim (AcquireLoad result)) seat.new.me }
+        ensures woken { IsAtPlace C.means (InAcquire aim (AcquireLoad result)) seat.new.me }
     {
         let mode = aim.mode();
         self.gate.arm_flag(seat, number);

@@ -2,7 +2,7 @@
 
 ghost use Rattle.std.specs.Prelude.{◌≡◌, ◌<◌, ℕ, Option, None, Some, length, slice_index, slice_index_or};
 ghost use Rattle.ns_gate.specs.Prelude.{Mode, Read, Write, Held, HasMode};
-ghost use Rattle.ns_monitor.specs.Saved.{HasSaved, IsFresh, saved_after, value_before};
+ghost use Rattle.ns_monitor.specs.Prelude.{HasSaved, IsFresh, saved_after, value_before};
 
 use ns_gate::gate::GateSeat;
 use ns_model::condition::Condition;

@@ -2,9 +2,8 @@
 //! whether the section is quiet, and a scan.
 
 ghost use Rattle.std.specs.Prelude.{◌≡◌, ◌≤◌, None, Some, false, if◌then◌else◌};
-ghost use Rattle.ns_gate.specs.Prelude.{Write, before_in, row_in, HasMode, IsQuiet, OnCondition, Is, HasAnswered, HasSince, IsAt, IsAtRest, HasTaken, the};
-ghost use Rattle.ns_monitor.specs.Tests.{HasLoaded, HasTested, IsReady, MayTest, ScansAs, StandsAt, loading, loading_at};
-ghost use Rattle.ns_monitor.specs.Walks.{judging};
+ghost use Rattle.ns_gate.specs.Prelude.{Write, before_in, row_in, HasMode, IsQuiet, OnCondition, Is, HasAnswered, HasSince, IsAtPlace, IsAtRest, HasUnchangedQueues, the};
+ghost use Rattle.ns_monitor.specs.Prelude.{HasLoaded, HasTested, IsReady, MayTest, ScansAs, StandsAt, judging, loading, loading_at};
 
 use crate::monitor::Monitor;
 use ns_gate::gate::GateSeat;
@@ -91,8 +90,8 @@ impl<C: Gated<N>, const N: usize> Monitor<C, N> {
     )
         requires of { seat.old.table_id ≡ self.now }
         requires scans { (loading N walk).count ≡ N }
-        requires at { IsAt C.means (if needed then loading_at N walk 0 else (loading N walk).last) seat.old.me }
-        requires taken { HasTaken seat.old.me }
+        requires at { IsAtPlace C.means (if needed then loading_at N walk 0 else (loading N walk).last) seat.old.me }
+        requires taken { HasUnchangedQueues seat.old.me }
         requires ready { needed ≡ false → ScansAs C.means row.old (row_in (the seat.old.me.0).at.held) (the seat.old.me.0).stood.lock }
         ensures seat { seat.new.table_id ≡ self.now }
         ensures since { HasSince None (the seat.old.me.0) (the seat.new.me.0) }

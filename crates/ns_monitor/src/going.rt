@@ -2,7 +2,7 @@
 
 ghost use Rattle.std.specs.Prelude.{◌≡◌, ⊤, None, Some, true, IfErr};
 ghost use Rattle.ns_gate.specs.Prelude.{HasSince, IsAtRest, CanStep, Performed, the, tried, IsFirst, IsPackable, PlaceFits};
-ghost use Rattle.ns_monitor.specs.Standing.{Decides, WentAtOnce, going_act, going_of, may_go, taking_for};
+ghost use Rattle.ns_monitor.specs.Prelude.{Decides, WentAtOnce, going_act, going_of, may_go, taking_for};
 
 use crate::monitor::Monitor;
 use ns_gate::gate::GateSeat;

@@ -2,8 +2,8 @@
 //! which is for the proof alone: no code reads it.
 
 ghost use Rattle.std.specs.Prelude.{◌≡◌, ◌≢◌, None, Some, false};
-ghost use Rattle.ns_gate.specs.Prelude.{HasSince, IsAt, Leads, the, asked_of, IsPackable, has_some, got_of};
-ghost use Rattle.ns_monitor.specs.Standing.{Decides, HasInHand, HasTakenAt, IsNumberOf, OwesTheWoken, Pays, PutsBack, Sleeps, WentOrTook, found_back, going_of, returning_at, returning_of};
+ghost use Rattle.ns_gate.specs.Prelude.{HasSince, IsAtPlace, HasReached, the, asked_of, IsPackable, has_some, got_of};
+ghost use Rattle.ns_monitor.specs.Prelude.{Decides, HasInHand, HasTakenAt, IsNumberOf, OwesTheWoken, Pays, PutsBack, Sleeps, WentOrTook, found_back, going_of, returning_at, returning_of};
 ghost use Rattle.ns_monitor.specs.declared.going.Going.TheVariants.{Changing};
 
 use crate::going::Going;
@@ -34,7 +34,7 @@ impl<C: Gated<N>, const N: usize> Monitor<C, N> {
         requires decides { Decides _walk }
         requires going { going ≡ going_of _walk }
         requires word { IsPackable first }
-        requires at { Leads C.means (asked_of _walk) (got_of N _walk (Found.Saw first)) seat.old.me }
+        requires at { HasReached C.means (asked_of _walk) (got_of N _walk (Found.Saw first)) seat.old.me }
         ensures seat { seat.new.table_id ≡ self.now }
         ensures since { HasSince None (the seat.old.me.0) (the seat.new.me.0) }
         ensures came { WentOrTook C.means _walk result seat.old.me seat.new.me }
@@ -66,7 +66,7 @@ impl<C: Gated<N>, const N: usize> Monitor<C, N> {
         requires of { seat.old.table_id ≡ self.now }
         requires decides { Decides _walk }
         requires going { going_of _walk ≡ Changing }
-        requires at { IsAt C.means _walk seat.old.me }
+        requires at { IsAtPlace C.means _walk seat.old.me }
         ensures seat { seat.new.table_id ≡ self.now }
         ensures since { HasSince None (the seat.old.me.0) (the seat.new.me.0) }
         ensures taken { HasTakenAt C.means _walk result seat.old.me seat.new.me }
@@ -93,11 +93,11 @@ impl<C: Gated<N>, const N: usize> Monitor<C, N> {
         requires puts { PutsBack _walk }
         requires returning { returning ≡ returning_of _walk }
         requires word { IsPackable first }
-        requires at { IsAt C.means (returning_at _walk first) seat.old.me }
+        requires at { IsAtPlace C.means (returning_at _walk first) seat.old.me }
         requires hand { HasInHand C.means returning turned seat.old.me }
         ensures seat { seat.new.table_id ≡ self.now }
         ensures since { HasSince None (the seat.old.me.0) (the seat.new.me.0) }
-        ensures returned { Leads C.means (asked_of _walk) (got_of N _walk (found_back C.means returning first seat.old.me)) seat.new.me }
+        ensures returned { HasReached C.means (asked_of _walk) (got_of N _walk (found_back C.means returning first seat.old.me)) seat.new.me }
         ensures owes { OwesTheWoken C.means returning seat.old.me (the seat.new.me.0).at.owed }
     {
         let mut word = first;
@@ -121,11 +121,11 @@ impl<C: Gated<N>, const N: usize> Monitor<C, N> {
         requires of { seat.old.table_id ≡ self.now }
         requires number { IsNumberOf number seat.old.me }
         requires sleeps { Sleeps N _walk }
-        requires at { IsAt C.means _walk seat.old.me }
+        requires at { IsAtPlace C.means _walk seat.old.me }
         ensures seat { seat.new.table_id ≡ self.now }
         ensures since { HasSince None (the seat.old.me.0) (the seat.new.me.0) }
         ensures cleared { result ≢ 1 }
-        ensures woken { Leads C.means (asked_of _walk) (got_of N _walk (Found.Flag result)) seat.new.me }
+        ensures woken { HasReached C.means (asked_of _walk) (got_of N _walk (Found.Flag result)) seat.new.me }
     {
         for _ in rt.forever() {
             let flag = self.gate.load_flag(seat, number);
@@ -147,11 +147,11 @@ impl<C: Gated<N>, const N: usize> Monitor<C, N> {
     )
         requires of { seat.old.table_id ≡ self.now }
         requires pays { Pays N value _walk }
-        requires at { Leads C.means (asked_of _walk) (got_of N _walk (Found.Paid (has_some (the seat.old.me.0).at.owed))) seat.old.me }
+        requires at { HasReached C.means (asked_of _walk) (got_of N _walk (Found.Paid (has_some (the seat.old.me.0).at.owed))) seat.old.me }
         requires owed { (the seat.old.me.0).at.owed ≡ woken.now.items }
         ensures seat { seat.new.table_id ≡ self.now }
         ensures since { HasSince None (the seat.old.me.0) (the seat.new.me.0) }
-        ensures paid { Leads C.means (asked_of _walk) (got_of N _walk (Found.Paid false)) seat.new.me }
+        ensures paid { HasReached C.means (asked_of _walk) (got_of N _walk (Found.Paid false)) seat.new.me }
     {
         for &number in woken.as_slice() {
             self.gate.pay_wake(seat, number, value);

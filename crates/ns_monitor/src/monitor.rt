@@ -2,11 +2,8 @@
 
 ghost use Rattle.std.specs.Prelude.{◌≡◌, ◌<◌, ◌≤◌, ◌++◌, [], ◌∷◌, if◌then◌else◌, None, Some, true, All, IfErr, IfOk, OnOk, length, slice_index, slice_set};
 ghost use Rattle.ns_model.specs.declared.event.Exit.TheVariants as TheExit;
-ghost use Rattle.ns_gate.specs.Prelude.{Read, Write, TryLock, Busy, Succeeded, QuietWriter, Reader, Writer, InHand, HasMode, section_of, mode_released, HasAnswered, HasSince, IsAtRest, NewFault, ShareTheLock, the};
-ghost use Rattle.ns_monitor.specs.Known.{AreNew, AreOfOneHistory, EndsAs, Grows, HasLearned, HasLocked, HasSeenMore, known_of};
-ghost use Rattle.ns_monitor.specs.Saved.{IsQuietFor};
-ghost use Rattle.ns_monitor.specs.Standing.{IsNumberOf};
-ghost use Rattle.ns_monitor.specs.Walks.{getting, judging, locking, releasing_by, setting, trying};
+ghost use Rattle.ns_gate.specs.Prelude.{Read, Write, TryLock, Busy, Succeeded, QuietWriter, Reader, Writer, InHand, HasMode, section_of, mode_released, HasAnswered, HasSince, IsAtRest, RefusesGate, ShareTheLock, the};
+ghost use Rattle.ns_monitor.specs.Prelude.{AreNew, AreOfOneHistory, EndsAs, Grows, HasLearned, HasLocked, HasSeenMore, IsNumberOf, IsQuietFor, getting, judging, known_of, locking, releasing_by, setting, trying};
 
 use crate::caller::{Caller, Free, Hand, ReadHeld, Renewed, Seat, Section, WriteHeld};
 use crate::going::Going;
@@ -69,13 +66,13 @@ impl<C: Gated<N>, const N: usize> Monitor<C, N> {
         requires { 0 < seats }
         ensures made { IfOk result (λ r. (seats ≤ 64) × (length r.1.items ≡ seats) × AreNew seats r.0 0 r.1.items) }
         ensures seats { IfOk result (λ r. All (λ seat. seat.monitor ≡ r.0) r.1.items) }
-        ensures refused { IfErr result (NewFault seats) }
+        ensures refused { IfErr result (RefusesGate seats) }
     {
         let (gate, mut all) = Gate::new(alloc, seats)?;
         let mut given = Vec::new(alloc);
-        for who in 0..seats {
+        for number in 0..seats {
             let seat = gate.part(&mut all);
-            add(&mut given, seated(seat, who as u8))?;
+            add(&mut given, seated(seat, number as u8))?;
         }
         Ok((Monitor { gate }, given))
     }

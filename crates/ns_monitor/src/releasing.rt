@@ -1,9 +1,9 @@
 //! A release, and the scan of the lock list where somebody may have to be woken.
 
 ghost use Rattle.std.specs.Prelude.{◌≡◌, None};
-ghost use Rattle.ns_gate.specs.Prelude.{IsPackable, word_of, bits_of, Succeeded, InRelease, HasAnswered, HasSince, IsAt, HasTaken, the};
+ghost use Rattle.ns_gate.specs.Prelude.{IsPackable, word_of, bits_of, Succeeded, InRelease, HasAnswered, HasSince, IsAtPlace, HasUnchangedQueues, the};
 ghost use Rattle.ns_word.specs.declared.request.Request.TheVariants as TheRequest;
-ghost use Rattle.ns_monitor.specs.Standing.{ReleasesBy, scanning_at};
+ghost use Rattle.ns_monitor.specs.Prelude.{ReleasesBy, scanning_at};
 
 use crate::going::Going;
 use crate::monitor::Monitor;
@@ -53,8 +53,8 @@ impl<C: Gated<N>, const N: usize> Monitor<C, N> {
     )
         requires of { seat.old.table_id ≡ self.now }
         requires word { IsPackable word }
-        requires at { IsAt C.means (InRelease releasing (scanning_at N word)) seat.old.me }
-        requires taken { HasTaken seat.old.me }
+        requires at { IsAtPlace C.means (InRelease releasing (scanning_at N word)) seat.old.me }
+        requires taken { HasUnchangedQueues seat.old.me }
         requires tells { word.cond ≡ (bits_of (the seat.old.me.0).stood.lock).conditional }
         ensures seat { seat.new.table_id ≡ self.now }
         ensures since { HasSince None (the seat.old.me.0) (the seat.new.me.0) }

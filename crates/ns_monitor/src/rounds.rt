@@ -2,13 +2,9 @@
 //! and tests.
 
 ghost use Rattle.std.specs.Prelude.{◌≡◌, ◌⊎◌, None, Some, IfSome, false, true};
-ghost use Rattle.ns_gate.specs.Prelude.{IsMade, row_in, is_limited, look_or_queue, wait_first, Await, Load, OnCondition, InQueuing, Answered, InWait, HasAnswered, HasSince, IsAt, Leads, the};
+ghost use Rattle.ns_gate.specs.Prelude.{IsMade, row_in, is_limited, look_or_queue, wait_first, Await, Load, OnCondition, InQueuing, Answered, InWait, HasAnswered, HasSince, IsAtPlace, HasReached, the};
 ghost use Rattle.ns_note.specs.Known.{Grows as EnvGrows};
-ghost use Rattle.ns_monitor.specs.Known.{Grows};
-ghost use Rattle.ns_monitor.specs.Saved.{IsFreshIn};
-ghost use Rattle.ns_monitor.specs.Standing.{IsNumberOf};
-ghost use Rattle.ns_monitor.specs.Waits.{EndedBy, HadLooked, HasWaitedFor, IfAnswered, QueuesOrEnds};
-ghost use Rattle.ns_monitor.specs.Walks.{limits_of, waiting, waits_by};
+ghost use Rattle.ns_monitor.specs.Prelude.{EndedBy, Grows, HadLooked, HasWaitedFor, IfAnswered, IsFreshIn, IsNumberOf, QueuesOrEnds, limits_of, waiting, waits_by};
 
 use crate::caller::{Caller, Renewed};
 use crate::monitor::Monitor;
@@ -38,7 +34,7 @@ impl<C: Gated<N>, const N: usize> Monitor<C, N> {
         requires of { seat.old.table_id ≡ self.now }
         requires number { IsNumberOf number seat.old.me }
         requires watches { W.watches watch.old wait.limits }
-        requires at { Leads C.means (Await wait) (look_or_queue wait again) seat.old.me }
+        requires at { HasReached C.means (Await wait) (look_or_queue wait again) seat.old.me }
         ensures seat { seat.new.table_id ≡ self.now }
         ensures since { HasSince None (the seat.old.me.0) (the seat.new.me.0) }
         ensures looked { W.since watch.old watch.new }
@@ -73,7 +69,7 @@ impl<C: Gated<N>, const N: usize> Monitor<C, N> {
         requires on { wait.on ≡ OnCondition condition }
         requires watches { W.watches watch.old wait.limits }
         requires row { row.old ≡ row_in (the seat.old.me.0).at.held }
-        requires at { IsAt C.means (InWait wait (InQueuing false Load)) seat.old.me }
+        requires at { IsAtPlace C.means (InWait wait (InQueuing false Load)) seat.old.me }
         ensures seat { seat.new.table_id ≡ self.now }
         ensures since { HasSince None (the seat.old.me.0) (the seat.new.me.0) }
         ensures looked { W.since watch.old watch.new }

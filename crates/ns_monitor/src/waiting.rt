@@ -1,10 +1,8 @@
 //! A wait outside: it leaves its section and queues, waits to be woken or ended, and may leave its list.
 
 ghost use Rattle.std.specs.Prelude.{◌≡◌, ◌≢◌, None, Some, IfErr, IfSome, true};
-ghost use Rattle.ns_gate.specs.Prelude.{row_in, IsInRange, is_limited, AcquireLoad, ForWait, LeaveLoad, Load, AwaitWakeInWait, InLeaving, InQueuing, InAcquire, InWait, HasSince, IsAt, the};
-ghost use Rattle.ns_monitor.specs.Standing.{IsNumberOf};
-ghost use Rattle.ns_monitor.specs.Tests.{HasRow, lacks_row};
-ghost use Rattle.ns_monitor.specs.Waits.{IfEnded, WokenOrEnded};
+ghost use Rattle.ns_gate.specs.Prelude.{row_in, IsInRange, is_limited, AcquireLoad, ForWait, LeaveLoad, Load, AwaitWakeInWait, InLeaving, InQueuing, InAcquire, InWait, HasSince, IsAtPlace, the};
+ghost use Rattle.ns_monitor.specs.Prelude.{HasRow, IfEnded, IsNumberOf, WokenOrEnded, lacks_row};
 
 use crate::monitor::Monitor;
 use crate::watching::Watch;
@@ -47,11 +45,11 @@ impl<C: Gated<N>, const N: usize> Monitor<C, N> {
         requires of { seat.old.table_id ≡ self.now }
         requires number { IsNumberOf number seat.old.me }
         requires range { IsInRange wait.on }
-        requires at { IsAt C.means (InWait wait (InQueuing again Load)) seat.old.me }
+        requires at { IsAtPlace C.means (InWait wait (InQueuing again Load)) seat.old.me }
         requires row { HasRow wait.on row.old (row_in (the seat.old.me.0).at.held) }
         ensures seat { seat.new.table_id ≡ self.now }
         ensures since { HasSince None (the seat.old.me.0) (the seat.new.me.0) }
-        ensures waits { IsAt C.means (InWait wait AwaitWakeInWait) seat.new.me }
+        ensures waits { IsAtPlace C.means (InWait wait AwaitWakeInWait) seat.new.me }
     {
         let place = Walk::InWait(wait, WaitPlace::InQueuing(again, QueuePlace::Load));
         let word = self.take(rt, seat, place);
@@ -86,11 +84,11 @@ impl<C: Gated<N>, const N: usize> Monitor<C, N> {
         requires of { seat.old.table_id ≡ self.now }
         requires number { IsNumberOf number seat.old.me }
         requires range { IsInRange wait.on }
-        requires at { IsAt C.means (InWait wait (InLeaving cause LeaveLoad)) seat.old.me }
+        requires at { IsAtPlace C.means (InWait wait (InLeaving cause LeaveLoad)) seat.old.me }
         ensures seat { seat.new.table_id ≡ self.now }
         ensures since { HasSince None (the seat.old.me.0) (the seat.new.me.0) }
         ensures ended { IfEnded result.1 (λ other. other ≡ cause) }
-        ensures left { IsAt C.means (InAcquire (ForWait wait result.1) (AcquireLoad result.0)) seat.new.me }
+        ensures left { IsAtPlace C.means (InAcquire (ForWait wait result.1) (AcquireLoad result.0)) seat.new.me }
     {
         let place = Walk::InWait(wait, WaitPlace::InLeaving(cause, LeavePlace::LeaveLoad));
         let word = self.take(rt, seat, place);
@@ -131,12 +129,12 @@ impl<C: Gated<N>, const N: usize> Monitor<C, N> {
         requires number { IsNumberOf number seat.old.me }
         requires range { IsInRange wait.on }
         requires watches { W.watches watch.old wait.limits }
-        requires at { IsAt C.means (InWait wait AwaitWakeInWait) seat.old.me }
+        requires at { IsAtPlace C.means (InWait wait AwaitWakeInWait) seat.old.me }
         ensures seat { seat.new.table_id ≡ self.now }
         ensures since { HasSince None (the seat.old.me.0) (the seat.new.me.0) }
         ensures looked { W.since watch.old watch.new }
         ensures ended { IfEnded result.1 (λ cause. (is_limited wait.limits ≡ true) × W.shows watch.old watch.new wait.limits (Some cause)) }
-        ensures comes { IsAt C.means (InAcquire (ForWait wait result.1) (AcquireLoad result.0)) seat.new.me }
+        ensures comes { IsAtPlace C.means (InAcquire (ForWait wait result.1) (AcquireLoad result.0)) seat.new.me }
     {
         if !wait.limits.is_some() {
             let place = Walk::InWait(wait, WaitPlace::AwaitWakeInWait);
@@ -163,7 +161,7 @@ impl<C: Gated<N>, const N: usize> Monitor<C, N> {
         requires number { IsNumberOf number seat.old.me }
         requires limited { is_limited wait.limits ≡ true }
         requires watches { W.watches watch.old wait.limits }
-        requires at { IsAt C.means (InWait wait AwaitWakeInWait) seat.old.me }
+        requires at { IsAtPlace C.means (InWait wait AwaitWakeInWait) seat.old.me }
         ensures seat { seat.new.table_id ≡ self.now }
         ensures since { HasSince None (the seat.old.me.0) (the seat.new.me.0) }
         ensures looked { W.since watch.old watch.new }

@@ -3,8 +3,7 @@
 ghost use Rattle.std.specs.Prelude.{◌≡◌, refl, true, false, None, Some, Option, IfSome, option_map};
 ghost use Rattle.std.proofs.Common.{◌∙◌};
 ghost use Rattle.ns_gate.specs.Prelude.{is_met, MayShow, answer_of, is_limited, Cause, Limits};
-ghost use Rattle.ns_monitor.specs.Limits.{HasLookedOn, IsLooking, LookShows};
-ghost use Rattle.ns_monitor.specs.Looks.{may_show, none_shown, nothing_named, same_looker, shown_since, still_looking, then_looker};
+ghost use Rattle.ns_monitor.specs.Prelude.{HasLookedOn, IsLooking, LookShows, may_show, none_shown, nothing_named, same_looker, shown_since, still_looking, then_looker};
 
 use ns_model::event::Answer;
 use ns_note::env::Env;

@@ -4,4 +4,4 @@ pub mod Lines
 pub mod Looks
 pub mod Rests
 pub mod Seats
-pub mod Turns
+pub mod Allowed

@@ -14,7 +14,7 @@ use Rattle.ns_note.specs.Words.{note_of}
 use Rattle.ns_note.specs.declared.view.Making.TheVariants.{Nothing}
 use Rattle.ns_note.specs.declared.view.EnvView.{EnvView}
 use Rattle.ns_note.specs.Known.{EnvKnown, known_of, the, IsOne, IsTrueToHistory, IsAtRest, Grows}
-use Rattle.ns_note.specs.Told.{Adds, Added, HasTaken, FoundFull}
+use Rattle.ns_note.specs.Told.{Adds, Added, HasTakenNumber, FoundFull}
 
 -- the seat is at rest again
 pub rests : {S : Type 0} (env : TableId) (es : List EnvEvent) (me now : Me S (List EnvView)) → me.1 ≡ [] → IsOne now.0 → now.1 ≡ me.1 → (the now.0).making ≡ Nothing → Adds es (the me.0) (the now.0) → IsAtRest env now
@@ -29,10 +29,10 @@ pub grew : (k : EnvKnown) (env env' : TableId) (es : List EnvEvent) (v w : EnvVi
 grew k env env' es v w is same a = subst (λ (z : EnvKnown × TableId). Grows z.0 (known_of z.1 w)) (λ i. (is i, sym same i)) (a.grows env)
 
 pub grows_through : (a b c : EnvKnown) → Grows a b → Grows b c → Grows a c
-grows_through a b c f g = record { env = g.env ∙ f.env; limit = g.limit ∙ f.limit; who = g.who ∙ f.who; begins = begins_through c.seen b.seen a.seen g.begins f.begins; true_to = g.true_to }
+grows_through a b c f g = record { env = g.env ∙ f.env; seat_count = g.seat_count ∙ f.seat_count; seat = g.seat ∙ f.seat; begins = begins_through c.seen b.seen a.seen g.begins f.begins; true_to = g.true_to }
 
 pub grows_not : (k : EnvKnown) → IsTrueToHistory k → Grows k k
-grows_not k t = record { env = refl; limit = refl; who = refl; begins = begins_itself k.seen; true_to = t }
+grows_not k t = record { env = refl; seat_count = refl; seat = refl; begins = begins_itself k.seen; true_to = t }
 
 -- two steps
 pub adds_through : (es fs : List EnvEvent) (u v w : EnvView) → Adds es u v → Adds fs v w → Adds (es ++ fs) u w
@@ -44,24 +44,24 @@ adds_through es fs u v w a b = record {
 -- the same seat, maybe later
 pub record IsSince (old new : EnvKnown) : Type 0 where
   pub env : new.env ≡ old.env
-  pub limit : new.limit ≡ old.limit
-  pub who : new.who ≡ old.who
+  pub seat_count : new.seat_count ≡ old.seat_count
+  pub seat : new.seat ≡ old.seat
   pub begins : BeginsWith new.seen old.seen
   pub mine : new.mine ≡ old.mine
 
 pub since_now : (k : EnvKnown) → IsSince k k
-since_now k = record { env = refl; limit = refl; who = refl; begins = begins_itself k.seen; mine = refl }
+since_now k = record { env = refl; seat_count = refl; seat = refl; begins = begins_itself k.seen; mine = refl }
 
 pub grows_since : (a b c : EnvKnown) → IsSince a b → Grows b c → Grows a c
-grows_since a b c s g = record { env = g.env ∙ s.env; limit = g.limit ∙ s.limit; who = g.who ∙ s.who; begins = begins_through c.seen b.seen a.seen g.begins s.begins; true_to = g.true_to }
+grows_since a b c s g = record { env = g.env ∙ s.env; seat_count = g.seat_count ∙ s.seat_count; seat = g.seat ∙ s.seat; begins = begins_through c.seen b.seen a.seen g.begins s.begins; true_to = g.true_to }
 
 pub since_grows : (a b c : EnvKnown) → IsSince a b → Grows b c → c.mine ≡ b.mine → IsSince a c
-since_grows a b c s g m = record { env = g.env ∙ s.env; limit = g.limit ∙ s.limit; who = g.who ∙ s.who; begins = begins_through c.seen b.seen a.seen g.begins s.begins; mine = m ∙ s.mine }
+since_grows a b c s g m = record { env = g.env ∙ s.env; seat_count = g.seat_count ∙ s.seat_count; seat = g.seat ∙ s.seat; begins = begins_through c.seen b.seen a.seen g.begins s.begins; mine = m ∙ s.mine }
 
-pub has_taken : (number : ℕ) (v u w : EnvView) → Adds [] v u → number < 64 → Added number u w → HasTaken number v w
-has_taken number v u w a below b = let t = b.0 below in let g = a.grows nowhere in let who : u.who ≡ v.who = g.who in
+pub has_taken : (number : ℕ) (v u w : EnvView) → Adds [] v u → number < 64 → Added number u w → HasTakenNumber number v w
+has_taken number v u w a below b = let t = b.0 below in let g = a.grows nowhere in let seat : u.seat ≡ v.seat = g.seat in
     let grown = (grown_begins u.seen v.seen g.true_to.legal g.begins).takes in let least = t.2 in
-    (below, subst (λ (k : ℕ). Adds (Take k number ∷ []) v w) who (adds_through [] (Take u.who number ∷ []) v u w a t.0), t.1, omega arith)
+    (below, subst (λ (k : ℕ). Adds (Take k number ∷ []) v w) seat (adds_through [] (Take u.seat number ∷ []) v u w a t.0), t.1, omega arith)
 
 pub found_full : (number : ℕ) (v u w : EnvView) → Adds [] v u → 64 ≤ number → Added number u w → FoundFull v w
 found_full number v u w a most b = let t = b.1 most in (adds_through [] [] v u w a t.0, t.1, t.2)
@@ -69,10 +69,10 @@ found_full number v u w a most b = let t = b.1 most in (adds_through [] [] v u w
 -- ---- a note is made
 
 -- a number is taken, and then its note is made
-pub adds_note : (number place : ℕ) (word : ℕ) (note : NoteWord) (v u w : EnvView) → Adds (Take v.who number ∷ []) v u → Adds (New u.who place (note_of word).parent (note_of word).deadline ∷ []) u w → place ≡ number → note_of word ≡ note
-    → Adds (Take v.who number ∷ New v.who number note.parent note.deadline ∷ []) v w
-adds_note number place word note v u w a b is told = let who : u.who ≡ v.who = (a.grows nowhere).who in
-    adds_through (Take v.who number ∷ []) (New v.who number note.parent note.deadline ∷ []) v u w a (subst (λ (z : ℕ × ℕ × NoteWord). Adds (New z.0 z.1 z.2.parent z.2.deadline ∷ []) u w) (λ i. (who i, is i, told i)) b)
+pub adds_note : (number place : ℕ) (word : ℕ) (note : NoteWord) (v u w : EnvView) → Adds (Take v.seat number ∷ []) v u → Adds (New u.seat place (note_of word).parent (note_of word).deadline ∷ []) u w → place ≡ number → note_of word ≡ note
+    → Adds (Take v.seat number ∷ New v.seat number note.parent note.deadline ∷ []) v w
+adds_note number place word note v u w a b is told = let seat : u.seat ≡ v.seat = (a.grows nowhere).seat in
+    adds_through (Take v.seat number ∷ []) (New v.seat number note.parent note.deadline ∷ []) v u w a (subst (λ (z : ℕ × ℕ × NoteWord). Adds (New z.0 z.1 z.2.parent z.2.deadline ∷ []) u w) (λ i. (seat i, is i, told i)) b)
 
 -- the numbers of notes have room in a word
 pub numbers_fit : (o : Option Note) → IfSome (option_map (λ n. n.index) o) (λ p. p < 64)
@@ -80,7 +80,7 @@ numbers_fit None = tt
 numbers_fit (Some n) = n.in_range
 
 -- a parent that was seen made has a smaller number than one that is taken later
-pub parent_above : (o : Option Note) (number : ℕ) (v w : EnvView) → HasTaken number v w → IsLegalEnv v.seen → IfSome o (λ p. IsMade v.seen p.index) → IfSome (option_map (λ n. n.index) o) (λ p. IsMade w.seen p × (p < number))
+pub parent_above : (o : Option Note) (number : ℕ) (v w : EnvView) → HasTakenNumber number v w → IsLegalEnv v.seen → IfSome o (λ p. IsMade v.seen p.index) → IfSome (option_map (λ n. n.index) o) (λ p. IsMade w.seen p × (p < number))
 parent_above None number v w t l made = tt
 parent_above (Some n) number v w t l made = let g = t.1.grows nowhere in let below = (sound_after v.seen l).made n.index made in let least = t.3 in (made_begins w.seen v.seen n.index g.true_to.legal g.begins made, omega arith)
 

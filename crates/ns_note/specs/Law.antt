@@ -1,6 +1,6 @@
 -- The rule of an environment's table, whose words stand as `places.rt` names them: the clock at CLOCK, the next note's number at NEXT, and the notes from NOTES on.
 use Rattle.std.specs.Prelude.{◌≡◌, ℕ, suc, zero, ◌+◌, ◌^◌, ◌<◌, ◌≤◌, min, Bool, true, false, ◌==◌, List, [], ◌∷◌, length, Some, slice_index}
-use Rattle.atomic_table.specs.Table.{State}
+use Rattle.atomic_table.specs.Table.{State as TableState}
 use Rattle.ns_model.specs.declared.environment.EnvEvent.{EnvEvent}
 use Rattle.ns_model.specs.Beginnings.{BeginsWith}
 use Rattle.ns_model.specs.Tallies.{total, one_if, Every}
@@ -30,23 +30,23 @@ abbrev pub is_adding : EnvView → ℕ
 is_adding view = adds view.making
 
 -- 1 for the seat of this number
-abbrev pub is_who : ℕ → EnvView → ℕ
-is_who who view = one_if (view.who == who)
+abbrev pub is_seat : ℕ → EnvView → ℕ
+is_seat seat view = one_if (view.seat == seat)
 
 -- a number that a seat has taken is its own, and its note isn't made yet
 abbrev pub MakingFits : List EnvEvent → ℕ → Making → Type 0
-MakingFits h who Nothing = Unit {0}
-MakingFits h who Adding = Unit {0}
-MakingFits h who (Taken note) = ((env_after h).takers note ≡ Some who) × (is_made h note ≡ false) × (note < takes_in h)
+MakingFits h seat Nothing = Unit {0}
+MakingFits h seat Adding = Unit {0}
+MakingFits h seat (Taken note) = ((env_after h).takers note ≡ Some seat) × (is_made h note ≡ false) × (note < takes_in h)
 
 -- what one of so many seats knows fits the history: it has seen a beginning of it, which has all of its own events
-pub record Fits (limit : ℕ) (h : List EnvEvent) (view : EnvView) : Type 0 where
-  pub limited : view.limit ≡ limit
-  pub below : view.who < limit
+pub record Fits (seat_count : ℕ) (h : List EnvEvent) (view : EnvView) : Type 0 where
+  pub limited : view.seat_count ≡ seat_count
+  pub below : view.seat < seat_count
   pub seen : BeginsWith h view.seen
-  pub mine : env_own h view.who ≡ view.mine
-  pub mine_seen : env_own view.seen view.who ≡ view.mine
-  pub making : MakingFits h view.who view.making
+  pub mine : env_own h view.seat ≡ view.mine
+  pub mine_seen : env_own view.seen view.seat ≡ view.mine
+  pub making : MakingFits h view.seat view.making
 
 -- the word of a note as a history leaves it
 abbrev pub note_word : NoteStanding → NoteWord
@@ -58,28 +58,28 @@ NoteFits word note = (word ≡ word_of (note_word note)) × WordFits (note_word 
 
 -- The rule: the words are as a history leaves them, which is legal, by these seats, and begins with what each seat has seen.
 -- The next number may pass 64, where seats saw it below 64 and add at once, but no further than the seats go: at most 127.
-pub record IsRuled (limit clock next : ℕ) (notes : List ℕ) (views : Views) (h : List EnvEvent) : Type 0 where
+pub record IsRuled (seat_count clock next : ℕ) (notes : List ℕ) (views : Views) (h : List EnvEvent) : Type 0 where
   pub clock_is : clock ≡ clock_of h
   pub moment : clock < 2 ^ 54
   pub takes_are : takes_in h ≡ min next 64
   pub room : next + tally is_adding views ≤ 127
   pub width : length notes ≡ 64
   pub notes_are : (n : ℕ) → n < 64 → NoteFits (slice_index notes n) ((env_after h).notes n)
-  pub seats : tally (λ _. 1) views ≡ limit
-  pub few : limit ≤ 64
-  pub once : (who : ℕ) → tally (is_who who) views ≤ 1
+  pub seats : tally (λ _. 1) views ≡ seat_count
+  pub few : seat_count ≤ 64
+  pub once : (seat : ℕ) → tally (is_seat seat) views ≤ 1
   pub legal : IsLegalEnv h
-  pub by_seats : IsEnvBySeats limit h
-  pub each : Every (Every (Fits limit h)) views
+  pub by_seats : IsEnvBySeats seat_count h
+  pub each : Every (Every (Fits seat_count h)) views
 
 -- the seats from a number on, so many of them, of which none has made a step
 abbrev pub fresh_seat : ℕ → ℕ → EnvView
-fresh_seat limit who = record { limit = limit; who = who; making = Nothing; seen = []; mine = [] }
+fresh_seat seat_count seat = record { seat_count = seat_count; seat = seat; making = Nothing; seen = []; mine = [] }
 
 -- the first views of so many seats, from a number on
 abbrev pub fresh : ℕ → ℕ → ℕ → List EnvView
-fresh limit from zero = []
-fresh limit from (suc k) = fresh_seat limit from ∷ fresh limit (suc from) k
+fresh seat_count from zero = []
+fresh seat_count from (suc k) = fresh_seat seat_count from ∷ fresh seat_count (suc from) k
 
 -- the first seat of a view, alone, and the rest
 abbrev pub first_of : List EnvView → List EnvView
@@ -93,10 +93,10 @@ rest_of (v ∷ vs) = vs
 
 -- The rule holds of these words: some history is as it says.
 abbrev pub HoldsAt : ℕ → List ℕ → Views → Type 0
-HoldsAt limit [] views = ⊥
-HoldsAt limit (clock ∷ []) views = ⊥
-HoldsAt limit (clock ∷ next ∷ notes) views = (h : List EnvEvent) × IsRuled limit clock next notes views h
+HoldsAt seat_count [] views = ⊥
+HoldsAt seat_count (clock ∷ []) views = ⊥
+HoldsAt seat_count (clock ∷ next ∷ notes) views = (h : List EnvEvent) × IsRuled seat_count clock next notes views h
 
 -- The rule of a table with so many seats.
-abbrev pub Holds : {S : Type 0} → ℕ → State S (List EnvView) → Type 0
-Holds limit s = HoldsAt limit s.words s.views
+abbrev pub Holds : {S : Type 0} → ℕ → TableState S (List EnvView) → Type 0
+Holds seat_count s = HoldsAt seat_count s.words s.views

@@ -12,8 +12,8 @@ use Rattle.ns_note.specs.Law.{NoteFits}
 use Rattle.ns_note.specs.Known.{known_of, the, the_second, IsOne, ArePair, Grows, AreOfOneHistory}
 
 -- what a step tells of the seat's view before and after it
-abbrev pub Tells : Type 1
-Tells = EnvView → EnvView → Type 0
+abbrev pub ViewChange : Type 1
+ViewChange = EnvView → EnvView → Type 0
 
 -- a step of one seat, with these events of its own
 pub record Adds (events : List EnvEvent) (v w : EnvView) : Type 0 where
@@ -21,37 +21,37 @@ pub record Adds (events : List EnvEvent) (v w : EnvView) : Type 0 where
   pub mine : w.mine ≡ v.mine ++ events
 
 -- the seat stands for itself alone before and after, and holds what it held
-abbrev pub Stepped : {S : Type 0} → Tells → Me S (List EnvView) → Me S (List EnvView) → Type 0
-Stepped tells me now = IsOne now.0 × (now.1 ≡ me.1) × tells (the me.0) (the now.0)
+abbrev pub OneLearns : {S : Type 0} → ViewChange → Me S (List EnvView) → Me S (List EnvView) → Type 0
+OneLearns tells me now = IsOne now.0 × (now.1 ≡ me.1) × tells (the me.0) (the now.0)
 
 -- the clock was loaded
-abbrev pub LoadedClock : ℕ → Tells
+abbrev pub LoadedClock : ℕ → ViewChange
 LoadedClock found v w = Adds [] v w × (w.making ≡ v.making) × (found ≡ clock_of w.seen) × (found < 2 ^ 54)
 
 -- the next number was loaded: the seat may go and take one where it is below 64
-abbrev pub LoadedNext : ℕ → Tells
+abbrev pub LoadedNext : ℕ → ViewChange
 LoadedNext found v w = Adds [] v w × (found < 64 → w.making ≡ Adding) × (64 ≤ found → (w.making ≡ Nothing) × (takes_in w.seen ≡ 64))
 
 -- a note's word was loaded
-abbrev pub LoadedNote : ℕ → ℕ → Tells
+abbrev pub LoadedNote : ℕ → ℕ → ViewChange
 LoadedNote note found v w = Adds [] v w × (w.making ≡ v.making) × NoteFits found ((env_after w.seen).notes note)
 
 -- a number was taken, if there still was one
-abbrev pub Added : ℕ → Tells
-Added found v w = (found < 64 → Adds (Take v.who found ∷ []) v w × (w.making ≡ Taken found) × (takes_in v.seen ≤ found))
+abbrev pub Added : ℕ → ViewChange
+Added found v w = (found < 64 → Adds (Take v.seat found ∷ []) v w × (w.making ≡ Taken found) × (takes_in v.seen ≤ found))
     × (64 ≤ found → Adds [] v w × (w.making ≡ Nothing) × (takes_in w.seen ≡ 64))
 
 -- a note was made, as its word tells
-abbrev pub Made : ℕ → ℕ → Tells
-Made note word v w = Adds (New v.who note (note_of word).parent (note_of word).deadline ∷ []) v w × (w.making ≡ Nothing) × IsMade w.seen note
+abbrev pub Made : ℕ → ℕ → ViewChange
+Made note word v w = Adds (New v.seat note (note_of word).parent (note_of word).deadline ∷ []) v w × (w.making ≡ Nothing) × IsMade w.seen note
 
 -- a note was notified
-abbrev pub NotifiedNote : ℕ → Tells
-NotifiedNote note v w = Adds (Notify v.who note ∷ []) v w × (w.making ≡ v.making)
+abbrev pub NotifiedNote : ℕ → ViewChange
+NotifiedNote note v w = Adds (Notify v.seat note ∷ []) v w × (w.making ≡ v.making)
 
 -- the clock was moved
-abbrev pub AdvancedClock : ℕ → Tells
-AdvancedClock to v w = Adds (Advance v.who to ∷ []) v w × (w.making ≡ v.making)
+abbrev pub AdvancedClock : ℕ → ViewChange
+AdvancedClock to v w = Adds (Advance v.seat to ∷ []) v w × (w.making ≡ v.making)
 
 -- two seats that are joined have seen the history so far
 pub record HaveLearned (a b a' b' : EnvView) : Type 0 where
@@ -67,9 +67,9 @@ abbrev pub Learned : {S : Type 0} → Me S (List EnvView) → Me S (List EnvView
 Learned me now = ArePair now.0 × (now.1 ≡ me.1) × HaveLearned (the me.0) (the_second me.0) (the now.0) (the_second now.0)
 
 -- the seat has taken this number, which is past all that it had seen taken
-abbrev pub HasTaken : ℕ → Tells
-HasTaken number v w = (number < 64) × Adds (Take v.who number ∷ []) v w × (w.making ≡ Taken number) × (takes_in v.seen ≤ number)
+abbrev pub HasTakenNumber : ℕ → ViewChange
+HasTakenNumber number v w = (number < 64) × Adds (Take v.seat number ∷ []) v w × (w.making ≡ Taken number) × (takes_in v.seen ≤ number)
 
 -- the seat found no number left
-abbrev pub FoundFull : Tells
+abbrev pub FoundFull : ViewChange
 FoundFull v w = Adds [] v w × (w.making ≡ Nothing) × (takes_in w.seen ≡ 64)

@@ -6,17 +6,17 @@ ghost use Rattle.ns_model.specs.Environments.{IsMade, IsNotified, clock_of, earl
 ghost use Rattle.ns_note.specs.Answers.{LookAnswers, WaitAnswers};
 ghost use Rattle.ns_note.specs.Known.{AreNew, AreOfOneHistory, Grows, IsAtRest, IsOne, IsTrueToHistory, known_of, the};
 ghost use Rattle.ns_note.specs.Law.{note_word};
-ghost use Rattle.ns_note.specs.Told.{FoundFull, HasTaken};
+ghost use Rattle.ns_note.specs.Told.{FoundFull, HasTakenNumber};
 ghost use Rattle.ns_note.specs.declared.view.Making.TheVariants.{Nothing};
 ghost use Rattle.ns_note.specs.Words.{WordFits};
 
 use crate::fault::{Fault, NotesFull};
 use crate::note::{Note, NoteWord, decode_note, encode_note, index_of, is_due};
-use crate::places::{CLOCK, NEXT, NOTES, WORDS};
 use crate::plays::{
     FirstOut, Law, Learn, LoadClock, LoadNext, LoadNote, Make, Mark, MoveClock, Take, Together,
 };
 use crate::seat::{EnvSeat, TableSeat};
+use crate::table_words::{CLOCK, NEXT, NOTES, WORDS};
 use crate::view::View;
 use atomic_table::Table;
 use crossbeam_utils::Backoff;
@@ -39,7 +39,7 @@ pub struct Env {
 impl Model for Env {
     ghost use Rattle.std.specs.Prelude.{◌≡◌};
     ghost use Rattle.atomic_table.specs.Seated.{TableId};
-    ghost use Rattle.ns_note.specs.declared.places.TheConstants.{WORDS};
+    ghost use Rattle.ns_note.specs.declared.table_words.TheConstants.{WORDS};
 
     ghost Value = { TableId };
 
@@ -80,7 +80,7 @@ impl Env {
         }
         let (table, mut rest) = Table::of_words(alloc, &[0; WORDS], &(seats as u8))?;
         let mut given = Vec::new(alloc);
-        for _who in 0..seats {
+        for _number in 0..seats {
             let seat = table.shared.split_seat::<FirstOut>(&mut rest);
             add(&mut given, seated(seat))?;
         }
@@ -112,7 +112,7 @@ impl Env {
         requires one { IsOne seat.old.me.0 }
         requires idle { (the seat.old.me.0).making ≡ Nothing }
         ensures seat { (seat.new.table_id ≡ seat.old.table_id) × IsOne seat.new.me.0 × (seat.new.me.1 ≡ seat.old.me.1) }
-        ensures taken { IfOk result (λ number. HasTaken number (the seat.old.me.0) (the seat.new.me.0)) }
+        ensures taken { IfOk result (λ number. HasTakenNumber number (the seat.old.me.0) (the seat.new.me.0)) }
         ensures full { IfErr result (λ _. FoundFull (the seat.old.me.0) (the seat.new.me.0)) }
     {
         let shared = &self.table.shared;
@@ -142,7 +142,7 @@ impl Env {
         requires parent { IfSome parent (λ p. IsMade seat.old.seen p.index) }
         requires deadline { IfSome deadline (λ d. d < 2 ^ 54) }
         ensures grows { Grows seat.old seat.new }
-        ensures made { IfOk result (λ note. seat.new.mine ≡ seat.old.mine ++ EnvEvent.Take seat.old.who note.index ∷ EnvEvent.New seat.old.who note.index (option_map (λ p. p.index) parent) deadline ∷ []) }
+        ensures made { IfOk result (λ note. seat.new.mine ≡ seat.old.mine ++ EnvEvent.Take seat.old.seat note.index ∷ EnvEvent.New seat.old.seat note.index (option_map (λ p. p.index) parent) deadline ∷ []) }
         ensures is_made { IfOk result (λ note. IsMade seat.new.seen note.index) }
         ensures full { IfErr result (λ _. (seat.new.mine ≡ seat.old.mine) × (takes_in seat.new.seen ≡ 64)) }
     {
@@ -177,7 +177,7 @@ impl Env {
         requires env { seat.old.env ≡ self.now }
         requires moment { to < 2 ^ 54 }
         ensures grows { Grows seat.old seat.new }
-        ensures mine { seat.new.mine ≡ seat.old.mine ++ EnvEvent.Advance seat.old.who to ∷ [] }
+        ensures mine { seat.new.mine ≡ seat.old.mine ++ EnvEvent.Advance seat.old.seat to ∷ [] }
     {
         self.table
             .shared
@@ -191,7 +191,7 @@ impl Env {
         requires env { seat.old.env ≡ self.now }
         requires made { IsMade seat.old.seen note.index }
         ensures grows { Grows seat.old seat.new }
-        ensures mine { seat.new.mine ≡ seat.old.mine ++ EnvEvent.Notify seat.old.who note.index ∷ [] }
+        ensures mine { seat.new.mine ≡ seat.old.mine ++ EnvEvent.Notify seat.old.seat note.index ∷ [] }
     {
         self.table
             .shared

@@ -39,7 +39,7 @@
 pub mod env;
 pub mod fault;
 pub mod note;
-mod places;
 mod plays;
 pub mod seat;
+mod table_words;
 mod view;

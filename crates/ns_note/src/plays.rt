@@ -1,9 +1,9 @@
 //! The rule of the table, and what each step on it tells.
 
 ghost use Rattle.std.specs.Prelude.{◌-◌, ◌++◌, []};
-ghost use Rattle.ns_note.specs.declared.places.TheConstants.{NOTES};
+ghost use Rattle.ns_note.specs.declared.table_words.TheConstants.{NOTES};
 ghost use Rattle.ns_note.specs.Law.{Holds, first_of, fresh, rest_of};
-ghost use Rattle.ns_note.specs.Told.{Added, AdvancedClock, Learned, LoadedClock, LoadedNext, LoadedNote, Made, NotifiedNote, Stepped};
+ghost use Rattle.ns_note.specs.Told.{Added, AdvancedClock, Learned, LoadedClock, LoadedNext, LoadedNote, Made, NotifiedNote, OneLearns};
 
 use crate::view::View;
 use atomic_table::{Join, Play, Split, TableRule};
@@ -12,58 +12,58 @@ use atomic_table::{Join, Play, Split, TableRule};
 pub struct Law;
 
 impl TableRule<(), View, u8> for Law {
-    ghost holds = { λ limit s. Holds limit s };
+    ghost holds = { λ seat_count s. Holds seat_count s };
 
-    ghost first = { λ limit. fresh limit 0 limit };
+    ghost first = { λ seat_count. fresh seat_count 0 seat_count };
 }
 
 /// A load of the clock.
 pub struct LoadClock;
 
 impl Play<(), View> for LoadClock {
-    ghost then = { λ st me found now. Stepped (LoadedClock found) me now };
+    ghost then = { λ st me found now. OneLearns (LoadedClock found) me now };
 }
 
 /// A load of the next number, before one is taken.
 pub struct LoadNext;
 
 impl Play<(), View> for LoadNext {
-    ghost then = { λ st me found now. Stepped (LoadedNext found) me now };
+    ghost then = { λ st me found now. OneLearns (LoadedNext found) me now };
 }
 
 /// A load of a note's word.
 pub struct LoadNote;
 
 impl Play<(), View> for LoadNote {
-    ghost then = { λ st me found now. Stepped (LoadedNote (st.word - NOTES) found) me now };
+    ghost then = { λ st me found now. OneLearns (LoadedNote (st.word - NOTES) found) me now };
 }
 
 /// An addition of 1 to the next number.
 pub struct Take;
 
 impl Play<(), View> for Take {
-    ghost then = { λ st me found now. Stepped (Added found) me now };
+    ghost then = { λ st me found now. OneLearns (Added found) me now };
 }
 
 /// A store of a new note's word.
 pub struct Make;
 
 impl Play<(), View> for Make {
-    ghost then = { λ st me found now. Stepped (Made (st.word - NOTES) st.first) me now };
+    ghost then = { λ st me found now. OneLearns (Made (st.word - NOTES) st.first) me now };
 }
 
 /// A mark on a note's word.
 pub struct Mark;
 
 impl Play<(), View> for Mark {
-    ghost then = { λ st me found now. Stepped (NotifiedNote (st.word - NOTES)) me now };
+    ghost then = { λ st me found now. OneLearns (NotifiedNote (st.word - NOTES)) me now };
 }
 
 /// A move of the clock.
 pub struct MoveClock;
 
 impl Play<(), View> for MoveClock {
-    ghost then = { λ st me found now. Stepped (AdvancedClock st.first) me now };
+    ghost then = { λ st me found now. OneLearns (AdvancedClock st.first) me now };
 }
 
 /// A load by two seats that are joined: both see the history so far.

@@ -17,9 +17,9 @@ pub enum Making {
 /// has seen, and its own events in it.
 pub struct EnvView {
     /// How many seats the environment has.
-    pub limit: u8,
+    pub seat_count: u8,
     /// The seat's own number.
-    pub who: u8,
+    pub seat: u8,
     /// How far it has come in making a note.
     pub making: Making,
     /// The history that it has seen.

@@ -11,7 +11,7 @@ use Rattle.serde_json.specs.declared.value.Value.{Value}
 use Rattle.serde_json.specs.Find.{as_array}
 use Rattle.serde_json.specs.Read.{read}
 use Rattle.serde_json.specs.View.{items_of, members_view}
-use Rattle.ns_replay.specs.declared.place.Place.{Place}
+use Rattle.ns_replay.specs.declared.path.ScriptPath.{ScriptPath}
 use Rattle.ns_replay.specs.declared.fault.Fault.TheVariants.{NotJson, TooMany}
 use Rattle.ns_replay.specs.Script.{json_of, json_read, list_of, list_in, is_known, are_known}
 
@@ -31,16 +31,16 @@ list_of-items_of : (ds : List Data) → list_of (items_of ds) ≡ ds
 list_of-items_of [] = refl
 list_of-items_of (d ∷ ds) = ap (λ (xs : List Data). d ∷ xs) (list_of-items_of ds)
 
-pub list_few : (limit : ℕ) (p : Place) (d : Data) (ds : List Data) → Some (items_of ds) ≡ as_array d → length ds ≤ limit → list_in limit p (Some d) ≡ Ok ds
+pub list_few : (most : ℕ) (p : ScriptPath) (d : Data) (ds : List Data) → Some (items_of ds) ≡ as_array d → length ds ≤ most → list_in most p (Some d) ≡ Ok ds
 unfolding list_in
-list_few limit p d ds e le =
-    let few : nat_le (length ds) limit ≡ true = grind (arith, nat_tests) in
+list_few most p d ds e le =
+    let few : nat_le (length ds) most ≡ true = grind (arith, nat_tests) in
     rw (← e, list_of-items_of ds, few) refl
 
-pub list_many : (limit : ℕ) (p : Place) (d : Data) (ds : List Data) → Some (items_of ds) ≡ as_array d → limit < length ds → list_in limit p (Some d) ≡ Err (TooMany p)
+pub list_many : (most : ℕ) (p : ScriptPath) (d : Data) (ds : List Data) → Some (items_of ds) ≡ as_array d → most < length ds → list_in most p (Some d) ≡ Err (TooMany p)
 unfolding list_in
-list_many limit p d ds e lt =
-    let many : nat_le (length ds) limit ≡ false = grind (arith, nat_tests) in
+list_many most p d ds e lt =
+    let many : nat_le (length ds) most ≡ false = grind (arith, nat_tests) in
     rw (← e, list_of-items_of ds, many) refl
 
 pub are_known_entries : (es : List (String Global × Value)) → are_known (members_view es) ≡ list_all (λ name. is_known (string_bytes name)) (map (λ e. e.0) es)

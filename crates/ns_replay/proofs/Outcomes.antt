@@ -3,7 +3,7 @@ use Rattle.std.proofs.Common.{◌≡◌, ℕ, ◌<◌, ◌≤◌, true, false, L
 use Rattle.std.specs.Prelude.{nat_lt}
 use Rattle.std.proofs.KnownBytes.{Keeps-refl}
 use Rattle.std.proofs.lemmas.Bool.Decides.{nat_tests}
-use Rattle.ns_replay.specs.declared.place.Place.TheVariants as at
+use Rattle.ns_replay.specs.declared.path.ScriptPath.TheVariants as at
 use Rattle.ns_replay.specs.declared.fault.Fault.{Fault}
 use Rattle.ns_replay.specs.declared.fault.Fault.TheVariants.{OutOfMemory, NotJson, BadScript, TooMany, StepLimit, Read, Write}
 use Rattle.ns_replay.specs.Faults.{Fails}
@@ -29,8 +29,8 @@ script_refused limit bytes StepLimit few h = absurd h
 script_refused limit bytes Read few h = absurd h
 script_refused limit bytes Write few h = absurd h
 script_refused limit bytes NotJson few h = rw (plan_few bytes few) h
-script_refused limit bytes (BadScript place) few h = rw (plan_few bytes few) h
-script_refused limit bytes (TooMany place) few h = rw (plan_few bytes few) h
+script_refused limit bytes (BadScript path) few h = rw (plan_few bytes few) h
+script_refused limit bytes (TooMany path) few h = rw (plan_few bytes few) h
 
 pub run_refused : (limit : ℕ) (bytes : List ℕ) (plan : Plan) (fault : Fault) → plan_from bytes ≡ Ok plan → IsRunFault limit plan fault → IsRefused limit bytes fault
 run_refused limit bytes plan OutOfMemory read h = tt
@@ -38,8 +38,8 @@ run_refused limit bytes plan StepLimit read h = record { plan = plan; read = rea
 run_refused limit bytes plan Read read h = absurd h
 run_refused limit bytes plan Write read h = absurd h
 run_refused limit bytes plan NotJson read h = absurd h
-run_refused limit bytes plan (BadScript place) read h = absurd h
-run_refused limit bytes plan (TooMany place) read h = absurd h
+run_refused limit bytes plan (BadScript path) read h = absurd h
+run_refused limit bytes plan (TooMany path) read h = absurd h
 
 -- ---- bytes that are too many
 
@@ -61,7 +61,7 @@ not_collected taken left IsSuch limit bytes (TooMany (at.Call t c)) h = absurd h
 not_collected taken left IsSuch limit bytes (TooMany at.Schedule) h = absurd h
 not_collected taken left IsSuch limit bytes (TooMany (at.Word i)) h = absurd h
 not_collected taken left IsSuch limit bytes NotJson h = absurd h
-not_collected taken left IsSuch limit bytes (BadScript place) h = absurd h
+not_collected taken left IsSuch limit bytes (BadScript path) h = absurd h
 not_collected taken left IsSuch limit bytes StepLimit h = absurd h
 not_collected taken left IsSuch limit bytes Write h = absurd h
 
@@ -80,7 +80,7 @@ read_part bytes left (TooMany (at.Call t c)) h = absurd h
 read_part bytes left (TooMany at.Schedule) h = absurd h
 read_part bytes left (TooMany (at.Word i)) h = absurd h
 read_part bytes left NotJson h = absurd h
-read_part bytes left (BadScript place) h = absurd h
+read_part bytes left (BadScript path) h = absurd h
 read_part bytes left StepLimit h = absurd h
 read_part bytes left Write h = absurd h
 
@@ -103,7 +103,7 @@ ended_part bytes left before after (TooMany (at.Call t c)) h count = absurd h
 ended_part bytes left before after (TooMany at.Schedule) h count = absurd h
 ended_part bytes left before after (TooMany (at.Word i)) h count = absurd h
 ended_part bytes left before after NotJson h count = absurd h
-ended_part bytes left before after (BadScript place) h count = absurd h
+ended_part bytes left before after (BadScript path) h count = absurd h
 ended_part bytes left before after StepLimit h count = absurd h
 ended_part bytes left before after Write h count = absurd h
 

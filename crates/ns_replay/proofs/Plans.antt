@@ -11,8 +11,8 @@ use Rattle.ns_world.specs.declared.call.Call.{Call}
 use Rattle.ns_world.specs.declared.call.Call.TheVariants.{Lock, RLock, TryLock, TryRLock, Unlock, RUnlock, UnlockQuiet, Get, Set, Wait, CvWait, Signal, Broadcast, NewNote, Notify, Advance, IsNotified, Expiry, NoteWait}
 use Rattle.ns_world.specs.declared.schedule.Turn.{Turn}
 use Rattle.ns_world.specs.Calls.{CallInRange, IsNoteNumber, IsVariable, IsMoment}
-use Rattle.ns_replay.specs.declared.place.Place.{Place}
-use Rattle.ns_replay.specs.declared.place.Place.TheVariants as at
+use Rattle.ns_replay.specs.declared.path.ScriptPath.{ScriptPath}
+use Rattle.ns_replay.specs.declared.path.ScriptPath.TheVariants as at
 use Rattle.ns_replay.specs.declared.fault.Fault.{Fault}
 use Rattle.ns_replay.specs.Faults.{◌>>=◌, need, each_from}
 use Rattle.ns_replay.specs.declared.condition.ScriptCondition.{ScriptCondition}
@@ -29,9 +29,9 @@ bind_ok : {A B : Type 0} (r : Result A Fault) (f : A → Result B Fault) (y : B)
 bind_ok (Ok x) f y e = (x, refl, e)
 bind_ok (Err fault) f y e = absurd cc
 
-need_ok : {A : Type 0} (place : Place) (o : Option A) (x : A) → need place o ≡ Ok x → o ≡ Some x
-need_ok place None x e = absurd cc
-need_ok place (Some y) x e = cc
+need_ok : {A : Type 0} (path : ScriptPath) (o : Option A) (x : A) → need path o ≡ Ok x → o ≡ Some x
+need_ok path None x e = absurd cc
+need_ok path (Some y) x e = cc
 
 map_some : {A B : Type 0} (f : A → B) (o : Option A) (y : B) → option_map f o ≡ Some y → (x : A) × (o ≡ Some x) × (f x ≡ y)
 map_some f None y e = absurd cc
@@ -49,11 +49,11 @@ at_most_by : {A : Type 0} (b : Bool) (xs ys : List A) (fault : Fault) → cond b
 at_most_by true xs ys fault e = (refl, cc)
 at_most_by false xs ys fault e = absurd cc
 
-at_most_few : {A : Type 0} (limit : ℕ) (place : Place) (xs ys : List A) → at_most limit place xs ≡ Ok ys → length ys ≤ limit
-at_most_few limit place xs ys e =
-    let p = at_most_by (nat_le (length xs) limit) xs ys _ e in
-    let few : nat_le (length xs) limit ≡ true = p.0 in
-    let fits : length xs ≤ limit = grind (arith, nat_tests) in
+at_most_few : {A : Type 0} (most : ℕ) (path : ScriptPath) (xs ys : List A) → at_most most path xs ≡ Ok ys → length ys ≤ most
+at_most_few most path xs ys e =
+    let p = at_most_by (nat_le (length xs) most) xs ys _ e in
+    let few : nat_le (length xs) most ≡ true = p.0 in
+    let fits : length xs ≤ most = grind (arith, nat_tests) in
     rw (← p.1) fits
 
 -- ---- each element of a list
@@ -76,12 +76,12 @@ each_all P f h i (x ∷ xs) ys e =
 
 -- ---- the cells of calls
 
-below_some : (limit : ℕ) (o : Option ℕ) (n : ℕ) → below limit o ≡ Some n → n < limit
-below_some limit o n e =
+below_some : (bound : ℕ) (o : Option ℕ) (n : ℕ) → below bound o ≡ Some n → n < bound
+below_some bound o n e =
     let (k, number, test) = then_some _ o n e in
-    let p = if_some (nat_lt k limit) (Some k) n test in
+    let p = if_some (nat_lt k bound) (Some k) n test in
     let is : k ≡ n = let same : Some k ≡ Some n = p.1 in cc in
-    let small : nat_lt k limit ≡ true = p.0 in
+    let small : nat_lt k bound ≡ true = p.0 in
     rw (← is) (grind (arith, nat_tests))
 
 -- what the word writes, where it isn't a dash
@@ -238,11 +238,11 @@ call_at_fits cvs few thread number d call e =
 
 -- ---- the threads
 
-list_few : (limit : ℕ) (place : Place) (d : Option Data) (ds : List Data) → list_in limit place d ≡ Ok ds → length ds ≤ limit
+list_few : (most : ℕ) (path : ScriptPath) (d : Option Data) (ds : List Data) → list_in most path d ≡ Ok ds → length ds ≤ most
 unfolding list_in
-list_few limit place d ds e =
-    let (list, is, few) = bind_ok (need place (option_map list_of (option_and_then as_array d))) (at_most limit place) ds e in
-    at_most_few limit place list ds few
+list_few most path d ds e =
+    let (list, is, few) = bind_ok (need path (option_map list_of (option_and_then as_array d))) (at_most most path) ds e in
+    at_most_few most path list ds few
 
 calls_short : (cvs : ℕ) → cvs ≤ 4 → (thread : ℕ) (d : Data) (calls : List (Call ScriptCondition)) → calls_at cvs thread d ≡ Ok calls → IsShort calls
 unfolding calls_at

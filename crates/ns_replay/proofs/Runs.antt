@@ -12,7 +12,7 @@ use Rattle.ns_world.specs.declared.step.Step.TheVariants.{Went, Idle, Finished, 
 use Rattle.ns_world.specs.declared.fault.Fault.{Fault as WorldFault}
 use Rattle.ns_world.specs.declared.fault.Fault.TheVariants as world
 use Rattle.ns_word.specs.declared.env_walk.EnvNext.{EnvNext}
-use Rattle.ns_word.specs.declared.env_walk.EnvNext.TheVariants.{Go, Repeat, Over, Shown}
+use Rattle.ns_word.specs.declared.env_walk.EnvNext.TheVariants.{Go, Repeat, Over, LookOver}
 use Rattle.ns_word.specs.EnvWalks.{env_got_of}
 use Rattle.ns_word.specs.Begins.{fresh_views}
 use Rattle.ns_word.specs.declared.view.SeatView.{SeatView}
@@ -21,7 +21,7 @@ use Rattle.ns_world.specs.declared.call.Start.TheVariants.{OnLock, Ask}
 use Rattle.ns_world.specs.Begins.{begun_at}
 use Rattle.ns_world.specs.Calls.{start_of, mode_of}
 use Rattle.ns_world.specs.World.{Now, Goes, LookGoes, Moves, StepOf, fresh, is_walking, is_asking, is_busy}
-use Rattle.ns_world.specs.Runs.{Progress, Leads, TurnOf, TurnsOf, Turned, Item, items_of, rest_of, is_end, progressed, start, StopsFor, RunFault, ListFits}
+use Rattle.ns_world.specs.Runs.{Progress, GoesOnOrBegins, TurnOf, TurnsOf, Turned, Item, items_of, rest_of, is_end, progressed, start, StopsFor, RunFault, ListFits}
 use Rattle.ns_world.proofs.Fresh.{length_views}
 use Rattle.ns_replay.specs.Condition.{script_truths}
 use Rattle.ns_replay.specs.declared.condition.ScriptCondition.{ScriptCondition}
@@ -42,7 +42,7 @@ module _ {C : Type 0} {N : ℕ} where
 
   look_keeps : (next : EnvNext) (old new : Now C N) (seat : ℕ) (step : Step) → LookGoes next old new seat step → seats_of new ≡ seats_of old
   look_keeps (Go next) old new seat step (is, went) = ap seats_of is
-  look_keeps (Shown cause) old new seat step (goes, looked) = goes_keeps old new seat step goes
+  look_keeps (LookOver cause) old new seat step (goes, looked) = goes_keeps old new seat step goes
   look_keeps (Repeat next) old new seat step h = absurd h
   look_keeps (Over reply) old new seat step h = absurd h
 
@@ -61,7 +61,7 @@ module _ {C : Type 0} {N : ℕ} where
   step_keeps old new seat (Finished reply) h = moves_keep old new seat (Finished reply) h
   step_keeps old new seat Nothing h = rw h.0 refl
 
-  leads_keeps : (lists : List (List (Call C))) (p : Progress C N) (seat : ℕ) (now : Now C N) → Leads lists p seat now → seats_of now ≡ seats_of p.world
+  leads_keeps : (lists : List (List (Call C))) (p : Progress C N) (seat : ℕ) (now : Now C N) → GoesOnOrBegins lists p seat now → seats_of now ≡ seats_of p.world
   leads_keeps lists p seat now (inl (busy, e)) = rw e refl
   leads_keeps lists p seat now (inr (call, next, starts)) = ap seats_of starts.begins ∙ begun_keeps p.world seat starts.view (start_of N (mode_of starts.view.held) call)
 

@@ -2,28 +2,28 @@
 use Rattle.std.specs.Prelude.{◌≡◌, ℕ, ◌+◌, List, [], ◌∷◌, ◌++◌, codes, decimal, Option, Some, None, Result, Ok, Err}
 use Rattle.ns_world.specs.declared.fault.Fault.{Fault as WorldFault}
 use Rattle.ns_world.specs.declared.fault.Fault.TheVariants as world
-use Rattle.ns_replay.specs.declared.place.Place.{Place}
-use Rattle.ns_replay.specs.declared.place.Place.TheVariants as at
+use Rattle.ns_replay.specs.declared.path.ScriptPath.{ScriptPath}
+use Rattle.ns_replay.specs.declared.path.ScriptPath.TheVariants as at
 use Rattle.ns_replay.specs.declared.fault.Fault.{Fault}
 use Rattle.ns_replay.specs.declared.fault.Fault.TheVariants.{OutOfMemory, NotJson, BadScript, TooMany, StepLimit, Read, Write}
 
 -- a place as a path
-abbrev pub place_text : Place → List ℕ
-place_text at.Root = codes "/"
-place_text at.Version = codes "/version"
-place_text at.Variables = codes "/cvs"
-place_text at.Threads = codes "/threads"
-place_text (at.Thread thread) = codes "/threads/" ++ decimal thread
-place_text (at.Call thread call) = codes "/threads/" ++ decimal thread ++ codes "/" ++ decimal call
-place_text at.Schedule = codes "/schedule"
-place_text (at.Word word) = codes "/schedule/" ++ decimal word
+abbrev pub path_text : ScriptPath → List ℕ
+path_text at.Root = codes "/"
+path_text at.Version = codes "/version"
+path_text at.Variables = codes "/cvs"
+path_text at.Threads = codes "/threads"
+path_text (at.Thread thread) = codes "/threads/" ++ decimal thread
+path_text (at.Call thread call) = codes "/threads/" ++ decimal thread ++ codes "/" ++ decimal call
+path_text at.Schedule = codes "/schedule"
+path_text (at.Word word) = codes "/schedule/" ++ decimal word
 
 -- a fault as it prints
 abbrev pub fault_text : Fault → List ℕ
 fault_text OutOfMemory = codes "refused 2: out of memory"
 fault_text NotJson = codes "refused 6: not JSON"
-fault_text (BadScript place) = codes "refused 7: bad script at " ++ place_text place
-fault_text (TooMany place) = codes "refused 8: too many at " ++ place_text place
+fault_text (BadScript path) = codes "refused 7: bad script at " ++ path_text path
+fault_text (TooMany path) = codes "refused 8: too many at " ++ path_text path
 fault_text StepLimit = codes "refused 9: step limit"
 fault_text Read = codes "fault 10: read"
 fault_text Write = codes "fault 11: write"
@@ -42,9 +42,9 @@ abbrev pub ◌>>=◌ : {A B : Type 0} → Result A Fault → (A → Result B Fau
 (Err fault) >>= f = Err fault
 
 -- what is there, or a bad script at the place
-abbrev pub need : {A : Type 0} → Place → Option A → Result A Fault
-need place None = Err (BadScript place)
-need place (Some x) = Ok x
+abbrev pub need : {A : Type 0} → ScriptPath → Option A → Result A Fault
+need path None = Err (BadScript path)
+need path (Some x) = Ok x
 
 -- f of each element and its place, from left to right, up to the first fault
 abbrev pub each_from : {A B : Type 0} → (ℕ → A → Result B Fault) → ℕ → List A → Result (List B) Fault

@@ -8,7 +8,7 @@ use Rattle.ns_world.specs.Runs.{Runs, RunFault}
 use Rattle.ns_replay.specs.declared.condition.ScriptCondition.{ScriptCondition}
 use Rattle.ns_replay.specs.Condition.{script_truths}
 use Rattle.ns_replay.specs.declared.options.Options.{Options}
-use Rattle.ns_replay.specs.declared.place.Place.TheVariants as at
+use Rattle.ns_replay.specs.declared.path.ScriptPath.TheVariants as at
 use Rattle.ns_replay.specs.declared.fault.Fault.{Fault}
 use Rattle.ns_replay.specs.declared.fault.Fault.TheVariants.{OutOfMemory, TooMany, StepLimit, Read, Write}
 use Rattle.ns_replay.specs.Runnable.{IsRunnable}

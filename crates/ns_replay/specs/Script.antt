@@ -7,8 +7,8 @@ use Rattle.serde_json.specs.Read.{read}
 use Rattle.ns_world.specs.declared.call.Call.{Call}
 use Rattle.ns_world.specs.declared.schedule.Turn.{Turn}
 use Rattle.ns_replay.specs.declared.script.Script.{Script}
-use Rattle.ns_replay.specs.declared.place.Place.{Place}
-use Rattle.ns_replay.specs.declared.place.Place.TheVariants as at
+use Rattle.ns_replay.specs.declared.path.ScriptPath.{ScriptPath}
+use Rattle.ns_replay.specs.declared.path.ScriptPath.TheVariants as at
 use Rattle.ns_replay.specs.declared.fault.Fault.{Fault}
 use Rattle.ns_replay.specs.declared.fault.Fault.TheVariants.{NotJson, BadScript, TooMany}
 use Rattle.ns_replay.specs.Faults.{◌>>=◌, need, each_from}
@@ -32,12 +32,12 @@ list_of no_items = []
 list_of (item d ds) = d ∷ list_of ds
 
 -- a list, if it has at most so many elements, and else too much at the place
-abbrev pub at_most : {A : Type 0} → ℕ → Place → List A → Result (List A) Fault
-at_most limit place xs = if nat_le (length xs) limit then Ok xs else Err (TooMany place)
+abbrev pub at_most : {A : Type 0} → ℕ → ScriptPath → List A → Result (List A) Fault
+at_most most path xs = if nat_le (length xs) most then Ok xs else Err (TooMany path)
 
 -- a list of at most so many values
-unfoldable pub list_in : ℕ → Place → Option Data → Result (List Data) Fault
-list_in limit place d = need place (option_map list_of (option_and_then as_array d)) >>= at_most limit place
+unfoldable pub list_in : ℕ → ScriptPath → Option Data → Result (List Data) Fault
+list_in most path d = need path (option_map list_of (option_and_then as_array d)) >>= at_most most path
 
 -- a call, where there are so many condition variables: a text of words parted by one space
 unfoldable pub call_at : ℕ → ℕ → ℕ → Data → Result (Call ScriptCondition) Fault

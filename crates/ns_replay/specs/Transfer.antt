@@ -2,7 +2,7 @@
 use Rattle.std.specs.Prelude.{◌≡◌, ℕ, ◌+◌, ◌<◌, ◌≤◌, ◌⊎◌, List, ◌++◌, length, Bool, true, false, Option, Result, Ok, Err}
 use Rattle.std.specs.Global.{Vec}
 use Rattle.std.specs.Io.KnownBytes.{Consumes, Appends, IsAtEnd}
-use Rattle.ns_replay.specs.declared.place.Place.TheVariants as at
+use Rattle.ns_replay.specs.declared.path.ScriptPath.TheVariants as at
 use Rattle.ns_replay.specs.declared.fault.Fault.{Fault}
 use Rattle.ns_replay.specs.declared.fault.Fault.TheVariants.{OutOfMemory, TooMany, Read}
 use Rattle.ns_replay.specs.Streams.{Counts}

@@ -16,9 +16,9 @@ is_numeral word = all_ascii_digits word && nat_lt 0 (length word) && (length wor
 unfoldable pub number_of : List ℕ → Option ℕ
 number_of word = if is_numeral word && nat_lt (digits_value 10 word) (2 ^ 64) then Some (digits_value 10 word) else None
 
--- a number, if it is below the limit
+-- a number, if it is below the bound
 abbrev pub below : ℕ → Option ℕ → Option ℕ
-below limit number = option_and_then (λ n. if nat_lt n limit then Some n else None) number
+below bound number = option_and_then (λ n. if nat_lt n bound then Some n else None) number
 
 -- a moment, below 2^54
 abbrev pub moment_of : List ℕ → Option ℕ

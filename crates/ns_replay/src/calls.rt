@@ -54,12 +54,12 @@ fn short_call(name: &str, word: &str, cvs: u8) -> Option<Call<ScriptCondition>>
             Some(Call::Expiry(note))
         }
         "signal" => {
-            let variable = number_below(word, cvs)?;
-            Some(Call::Signal(variable))
+            let k = number_below(word, cvs)?;
+            Some(Call::Signal(k))
         }
         "broadcast" => {
-            let variable = number_below(word, cvs)?;
-            Some(Call::Broadcast(variable))
+            let k = number_below(word, cvs)?;
+            Some(Call::Broadcast(k))
         }
         _ => None,
     }
@@ -120,7 +120,7 @@ pub fn call(
                 }
             } else if *name == "cvwait" {
                 match variable_wait(rest, cvs) {
-                    Some((variable, limits)) => Ok(Some(Call::CvWait(variable, limits))),
+                    Some((k, limits)) => Ok(Some(Call::CvWait(k, limits))),
                     None => Ok(None),
                 }
             } else {

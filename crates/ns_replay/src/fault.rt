@@ -3,7 +3,7 @@
 ghost use Rattle.std.specs.Prelude.{◌≡◌};
 ghost use Rattle.ns_replay.specs.declared.fault.Fault.TheVariants.{OutOfMemory};
 
-use crate::place::Place;
+use crate::path::ScriptPath;
 use std::alloc::{AllocError, AllocFailed};
 use std::fmt;
 use thiserror::Error;
@@ -16,9 +16,9 @@ pub enum Fault {
     /// The bytes are no JSON text.
     NotJson,
     /// What stands there is missing, or of the wrong kind.
-    BadScript(Place),
+    BadScript(ScriptPath),
     /// There is more there than a script may have.
-    TooMany(Place),
+    TooMany(ScriptPath),
     /// The schedule needs more turns than the limit.
     StepLimit,
     /// The source failed, or did not end in as many reads as it may take.
@@ -37,8 +37,8 @@ impl fmt::Display for Fault {
         match self {
             Fault::OutOfMemory => write!(f, "refused 2: out of memory"),
             Fault::NotJson => write!(f, "refused 6: not JSON"),
-            Fault::BadScript(place) => write!(f, "refused 7: bad script at {place}"),
-            Fault::TooMany(place) => write!(f, "refused 8: too many at {place}"),
+            Fault::BadScript(path) => write!(f, "refused 7: bad script at {path}"),
+            Fault::TooMany(path) => write!(f, "refused 8: too many at {path}"),
             Fault::StepLimit => write!(f, "refused 9: step limit"),
             Fault::Read => write!(f, "fault 10: read"),
             Fault::Write => write!(f, "fault 11: write"),
@@ -56,8 +56,8 @@ impl From<ns_world::fault::Fault> for Fault {
     fn from(refused: ns_world::fault::Fault) -> Fault {
         match refused {
             ns_world::fault::Fault::OutOfMemory => Fault::OutOfMemory,
-            ns_world::fault::Fault::NoSuchSeat => Fault::BadScript(Place::Schedule),
-            ns_world::fault::Fault::TooManySeats => Fault::TooMany(Place::Threads),
+            ns_world::fault::Fault::NoSuchSeat => Fault::BadScript(ScriptPath::Schedule),
+            ns_world::fault::Fault::TooManySeats => Fault::TooMany(ScriptPath::Threads),
             ns_world::fault::Fault::StepLimit => Fault::StepLimit,
         }
     }

@@ -14,7 +14,7 @@ ghost use Rattle.ns_replay.specs.Script.{is_known, list_in, call_at, calls_at, t
 use crate::calls;
 use crate::condition::ScriptCondition;
 use crate::fault::Fault;
-use crate::place::Place;
+use crate::path::ScriptPath;
 use crate::words::parts_at;
 use ns_world::call::Call;
 use ns_world::schedule::Turn;
@@ -35,17 +35,17 @@ pub struct Script {
 
 /// The list that stands at the place, of at most so many values.
 #[tactic(auto, unfolding(crate::specs::Script::list_in))]
-fn list<'a>(value: Option<&'a Value>, place: Place, limit: usize) -> Result<&'a [Value], Fault>
-    ensures { Gives (λ x. map view x.now) result (list_in limit place (option_map (λ v. view v.now) value.entry)) }
+fn list<'a>(value: Option<&'a Value>, path: ScriptPath, most: usize) -> Result<&'a [Value], Fault>
+    ensures { Gives (λ x. map view x.now) result (list_in most path (option_map (λ v. view v.now) value.entry)) }
 {
     let Some(value) = value else {
-        return Err(Fault::BadScript(place));
+        return Err(Fault::BadScript(path));
     };
     let Some(list) = value.as_array() else {
-        return Err(Fault::BadScript(place));
+        return Err(Fault::BadScript(path));
     };
-    if list.len() > limit {
-        return Err(Fault::TooMany(place));
+    if list.len() > most {
+        return Err(Fault::TooMany(path));
     }
     Ok(list.as_slice())
 }
@@ -61,14 +61,14 @@ fn call_in(
 ) -> Result<Call<ScriptCondition>, Fault>
     ensures { Gives (λ c. c) result (call_at cvs thread number (view value.now)) }
 {
-    let place = Place::Call(thread, number);
+    let path = ScriptPath::Call(thread, number);
     let Some(text) = value.as_str() else {
-        return Err(Fault::BadScript(place));
+        return Err(Fault::BadScript(path));
     };
     let words = parts_at(alloc, text, ' ')?;
     match calls::call(alloc, &words, cvs)? {
         Some(call) => Ok(call),
-        None => Err(Fault::BadScript(place)),
+        None => Err(Fault::BadScript(path)),
     }
 }
 
@@ -99,7 +99,7 @@ fn calls(
 ) -> Result<Vec<Call<ScriptCondition>>, Fault>
     ensures { Gives (λ v. v.items) result (calls_at cvs thread (view value.now)) }
 {
-    let values = list(Some(value), Place::Thread(thread), 256)?;
+    let values = list(Some(value), ScriptPath::Thread(thread), 256)?;
     each_call(alloc, values, cvs, thread)
 }
 
@@ -124,7 +124,7 @@ fn each_thread(
 fn threads(alloc: Global, value: &Value, cvs: u8) -> Result<Vec<Vec<Call<ScriptCondition>>>, Fault>
     ensures { Gives (λ v. map (λ w. w.items) v.items) result (threads_of cvs (view value.now)) }
 {
-    let values = list(value.get("threads"), Place::Threads, 64)?;
+    let values = list(value.get("threads"), ScriptPath::Threads, 64)?;
     each_thread(alloc, values, cvs)
 }
 
@@ -146,7 +146,7 @@ fn turn_in(alloc: Global, word: &str, threads: u8, number: usize) -> Result<Turn
     let parts = parts_at(alloc, word, '*')?;
     match calls::turn(alloc, &parts, threads)? {
         Some(turn) => Ok(turn),
-        None => Err(Fault::BadScript(Place::Word(number))),
+        None => Err(Fault::BadScript(ScriptPath::Word(number))),
     }
 }
 
@@ -168,11 +168,11 @@ fn schedule(alloc: Global, value: &Value, threads: u8) -> Result<Vec<Turn>, Faul
     ensures { Gives (λ v. v.items) result (schedule_of threads (view value.now)) }
 {
     let Some(text) = value.get("schedule").and_then(Value::as_str) else {
-        return Err(Fault::BadScript(Place::Schedule));
+        return Err(Fault::BadScript(ScriptPath::Schedule));
     };
     let words = schedule_words(alloc, text)?;
     if words.len() > 4096 {
-        return Err(Fault::TooMany(Place::Schedule));
+        return Err(Fault::TooMany(ScriptPath::Schedule));
     }
     each_turn(alloc, &words, threads)
 }
@@ -195,10 +195,10 @@ fn members(value: &Value) -> Result<&Map<String, Value>, Fault>
     ensures { Gives (λ m. members_view m.now.entries) result (members_of (view value.now)) }
 {
     let Some(members) = value.as_object() else {
-        return Err(Fault::BadScript(Place::Root));
+        return Err(Fault::BadScript(ScriptPath::Root));
     };
     if !all_known(members) {
-        return Err(Fault::BadScript(Place::Root));
+        return Err(Fault::BadScript(ScriptPath::Root));
     }
     Ok(members)
 }
@@ -210,7 +210,7 @@ fn version(value: &Value) -> Result<u64, Fault>
 {
     match value.get("version").and_then(Value::as_u64) {
         Some(1) => Ok(1),
-        _ => Err(Fault::BadScript(Place::Version)),
+        _ => Err(Fault::BadScript(ScriptPath::Version)),
     }
 }
 
@@ -223,10 +223,10 @@ fn variables(value: Option<&Value>) -> Result<u8, Fault>
         return Ok(0);
     };
     let Some(count) = value.as_u64() else {
-        return Err(Fault::BadScript(Place::Variables));
+        return Err(Fault::BadScript(ScriptPath::Variables));
     };
     if count > 4 {
-        return Err(Fault::TooMany(Place::Variables));
+        return Err(Fault::TooMany(ScriptPath::Variables));
     }
     Ok(count as u8)
 }

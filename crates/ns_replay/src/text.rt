@@ -217,8 +217,8 @@ fn push_entry(out: &mut String, entry: Entry<ScriptCondition>) -> Result<(), All
             write!(out, "waited:{condition}:")?;
             push_answer(out, answer)
         }
-        Entry::AfterCv(variable, answer) => {
-            write!(out, "aftercv:{variable}:")?;
+        Entry::AfterCv(k, answer) => {
+            write!(out, "aftercv:{k}:")?;
             push_answer(out, answer)
         }
     }
@@ -231,7 +231,7 @@ fn push_exit(out: &mut String, exit: Exit<ScriptCondition>) -> Result<(), AllocE
     match exit {
         Exit::Plain => out.push_str("plain"),
         Exit::CondWait(condition) => write!(out, "cond:{condition}"),
-        Exit::CvWait(variable) => write!(out, "cv:{variable}"),
+        Exit::CvWait(k) => write!(out, "cv:{k}"),
     }
 }
 

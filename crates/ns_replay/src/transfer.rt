@@ -6,7 +6,7 @@ ghost use Rattle.ns_replay.specs.Streams.{Counts};
 ghost use Rattle.ns_replay.specs.Transfer.{Collects, Gave, IsAskedEnough, IsEnough, IsFine, IsReadFault, IsWriteFault, WritesFront, ends_for};
 
 use crate::fault::Fault;
-use crate::place::Place;
+use crate::path::ScriptPath;
 use crate::streams::{Got, Sink, Source};
 use std::alloc::Global;
 
@@ -38,7 +38,7 @@ pub fn collect_bytes<S: Source>(alloc: Global, source: &mut S) -> Result<Vec<u8>
             Got::Bytes(n) => {
                 bytes.extend_from_slice(&buffer[..n])?;
                 if bytes.len() > MAX_BYTES {
-                    return Err(Fault::TooMany(Place::Root));
+                    return Err(Fault::TooMany(ScriptPath::Root));
                 }
             }
             Got::Interrupted => {}

@@ -151,9 +151,9 @@ pub fn variable_wait(words: &[&str], cvs: u8) -> Option<(u8, Limits)>
 {
     match words {
         [word, rest @ ..] => {
-            let variable = number_below(word, cvs)?;
+            let k = number_below(word, cvs)?;
             let limits = limits(rest)?;
-            Some((variable, limits))
+            Some((k, limits))
         }
         _ => None,
     }

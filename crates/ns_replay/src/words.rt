@@ -34,12 +34,12 @@ pub fn number(word: &str) -> Option<u64>
     word.parse::<u64>().ok()
 }
 
-/// The number that a word writes, if it is below the limit.
-pub fn number_below(word: &str, limit: u8) -> Option<u8>
-    ensures { result ≡ below limit (number_of word.now) }
+/// The number that a word writes, if it is below the bound.
+pub fn number_below(word: &str, bound: u8) -> Option<u8>
+    ensures { result ≡ below bound (number_of word.now) }
 {
     let n = number(word)?;
-    if n < limit as u64 {
+    if n < bound as u64 {
         Some(n as u8)
     } else {
         None

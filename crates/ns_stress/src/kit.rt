@@ -13,7 +13,7 @@ use rand_pcg::Pcg32;
 
 /// What the threads of a round share.
 #[derive(Clone, Copy)]
-pub struct Place<'a> {
+pub struct Commons<'a> {
     /// The monitor.
     pub monitor: &'a Monitor<Wish, 4>,
     /// The clock and the notes.

@@ -2,7 +2,7 @@
 
 ghost use Rattle.std.specs.Prelude.{◌≡◌, ◌<◌};
 
-use crate::kit::{Kit, Place};
+use crate::kit::{Commons, Kit};
 use crate::ring::watch;
 use crate::sections::{do_some, enter, leave};
 use crate::waits::wait_until_met;
@@ -12,48 +12,54 @@ use std::sync::Wait;
 
 /// How many goods are given or taken next, where so many are left to be: so few that never both a giver
 /// and a taker have to wait.
-fn draw_amount(place: Place<'_>, kit: &mut Kit, left: u64) -> u64
+fn draw_amount(commons: Commons<'_>, kit: &mut Kit, left: u64) -> u64
     ensures { kit.new.env_seat ≡ kit.old.env_seat }
 {
-    let half = place.most.div_ceil(2);
+    let half = commons.most.div_ceil(2);
     let drawn = u64::from(kit.draw(4)).saturating_add(1);
     drawn.min(half).min(left)
 }
 
 /// Moves goods from one cell to the other in the section in hand.
-fn transfer(place: Place<'_>, held: &mut WriteHeld<Wish, 4>, from: usize, to: usize, amount: u64)
-    requires of { held.old.monitor ≡ place.monitor.now }
+fn transfer(
+    commons: Commons<'_>,
+    held: &mut WriteHeld<Wish, 4>,
+    from: usize,
+    to: usize,
+    amount: u64,
+)
+    requires of { held.old.monitor ≡ commons.monitor.now }
     requires cells { (from < 4) × (to < 4) }
     ensures { held.new.monitor ≡ held.old.monitor }
 {
-    let less = place.monitor.get(held, from).wrapping_sub(amount);
-    place.monitor.set(held, from, less);
-    let more = place.monitor.get(held, to).wrapping_add(amount);
-    place.monitor.set(held, to, more);
+    let less = commons.monitor.get(held, from).wrapping_sub(amount);
+    commons.monitor.set(held, from, less);
+    let more = commons.monitor.get(held, to).wrapping_add(amount);
+    commons.monitor.set(held, to, more);
 }
 
 /// Gives so many goods, some at a time, each time once there is room.
 pub fn give<R: Wait>(
     rt: &R,
-    place: Place<'_>,
+    commons: Commons<'_>,
     seat: Seat<Wish, 4>,
     kit: &mut Kit,
     goods: u64,
 ) -> Seat<Wish, 4>
-    requires { (seat.monitor ≡ place.monitor.now) × (kit.old.env_seat.env ≡ place.env.now) }
-    ensures { (result.monitor ≡ place.entry.monitor.now) × (kit.new.env_seat.env ≡ kit.old.env_seat.env) }
+    requires { (seat.monitor ≡ commons.monitor.now) × (kit.old.env_seat.env ≡ commons.env.now) }
+    ensures { (result.monitor ≡ commons.entry.monitor.now) × (kit.new.env_seat.env ≡ kit.old.env_seat.env) }
 {
     let mut seat = seat;
     let mut left = goods;
     for _ in 0..goods {
-        seat = do_some(rt, place, seat, kit);
-        let amount = draw_amount(place, kit, left);
-        let held = enter(rt, place, seat, kit);
-        let mut held = wait_until_met(rt, place, held, Wish::room(amount), kit);
-        transfer(place, &mut held, ROOM, GOODS, amount);
-        let done = place.monitor.get(&mut held, DONE).wrapping_add(amount);
-        place.monitor.set(&mut held, DONE, done);
-        seat = leave(rt, place, held, kit);
+        seat = do_some(rt, commons, seat, kit);
+        let amount = draw_amount(commons, kit, left);
+        let held = enter(rt, commons, seat, kit);
+        let mut held = wait_until_met(rt, commons, held, Wish::room(amount), kit);
+        transfer(commons, &mut held, ROOM, GOODS, amount);
+        let done = commons.monitor.get(&mut held, DONE).wrapping_add(amount);
+        commons.monitor.set(&mut held, DONE, done);
+        seat = leave(rt, commons, held, kit);
         left = left.saturating_sub(amount);
         if left == 0 {
             break;
@@ -65,23 +71,23 @@ pub fn give<R: Wait>(
 /// Takes so many goods, some at a time, each time once they are there.
 pub fn take<R: Wait>(
     rt: &R,
-    place: Place<'_>,
+    commons: Commons<'_>,
     seat: Seat<Wish, 4>,
     kit: &mut Kit,
     goods: u64,
 ) -> Seat<Wish, 4>
-    requires { (seat.monitor ≡ place.monitor.now) × (kit.old.env_seat.env ≡ place.env.now) }
-    ensures { (result.monitor ≡ place.entry.monitor.now) × (kit.new.env_seat.env ≡ kit.old.env_seat.env) }
+    requires { (seat.monitor ≡ commons.monitor.now) × (kit.old.env_seat.env ≡ commons.env.now) }
+    ensures { (result.monitor ≡ commons.entry.monitor.now) × (kit.new.env_seat.env ≡ kit.old.env_seat.env) }
 {
     let mut seat = seat;
     let mut left = goods;
     for _ in 0..goods {
-        seat = do_some(rt, place, seat, kit);
-        let amount = draw_amount(place, kit, left);
-        let held = enter(rt, place, seat, kit);
-        let mut held = wait_until_met(rt, place, held, Wish::goods(amount), kit);
-        transfer(place, &mut held, GOODS, ROOM, amount);
-        seat = leave(rt, place, held, kit);
+        seat = do_some(rt, commons, seat, kit);
+        let amount = draw_amount(commons, kit, left);
+        let held = enter(rt, commons, seat, kit);
+        let mut held = wait_until_met(rt, commons, held, Wish::goods(amount), kit);
+        transfer(commons, &mut held, GOODS, ROOM, amount);
+        seat = leave(rt, commons, held, kit);
         left = left.saturating_sub(amount);
         if left == 0 {
             break;
@@ -93,20 +99,20 @@ pub fn take<R: Wait>(
 /// Watches until so many goods were given, and stops at some of the numbers before.
 pub fn watch_all<R: Wait>(
     rt: &R,
-    place: Place<'_>,
+    commons: Commons<'_>,
     seat: Seat<Wish, 4>,
     kit: &mut Kit,
     goods: u64,
 ) -> Seat<Wish, 4>
-    requires { (seat.monitor ≡ place.monitor.now) × (kit.old.env_seat.env ≡ place.env.now) }
-    ensures { (result.monitor ≡ place.entry.monitor.now) × (kit.new.env_seat.env ≡ kit.old.env_seat.env) }
+    requires { (seat.monitor ≡ commons.monitor.now) × (kit.old.env_seat.env ≡ commons.env.now) }
+    ensures { (result.monitor ≡ commons.entry.monitor.now) × (kit.new.env_seat.env ≡ kit.old.env_seat.env) }
 {
     let mut seat = seat;
     let mut seen = 0;
     for _ in 0..goods {
-        seat = do_some(rt, place, seat, kit);
+        seat = do_some(rt, commons, seat, kit);
         let next = u64::from(kit.draw(5)).saturating_add(seen).min(goods);
-        let (back, done) = watch(rt, place, seat, kit, next);
+        let (back, done) = watch(rt, commons, seat, kit, next);
         kit.expect(seen <= done, "what was given became less");
         kit.expect(done <= goods, "more was given than there is");
         seat = back;
@@ -115,7 +121,7 @@ pub fn watch_all<R: Wait>(
             return seat;
         }
     }
-    let (back, done) = watch(rt, place, seat, kit, goods);
+    let (back, done) = watch(rt, commons, seat, kit, goods);
     kit.expect(done == goods, "more was given than there is");
     back
 }

@@ -4,7 +4,7 @@ ghost use Rattle.std.specs.Prelude.{◌≡◌, ◌<◌, All, IfOk, IfSome};
 ghost use Rattle.std.specs.Thread.{IsSync};
 
 use crate::door::Door;
-use crate::kit::{Kit, Place};
+use crate::kit::{Commons, Kit};
 use crate::market::{give, take, watch_all};
 use crate::ring::take_turns;
 use crate::wish::{ROOM, Wish};
@@ -135,8 +135,8 @@ struct Outcome {
 }
 
 /// Does a thread's work.
-fn work<R: Wait>(rt: &R, place: Place<'_>, job: Job) -> Outcome
-    requires { (job.seat.monitor ≡ place.monitor.now) × (job.kit.env_seat.env ≡ place.env.now) }
+fn work<R: Wait>(rt: &R, commons: Commons<'_>, job: Job) -> Outcome
+    requires { (job.seat.monitor ≡ commons.monitor.now) × (job.kit.env_seat.env ≡ commons.env.now) }
 {
     let Job {
         seat,
@@ -148,10 +148,10 @@ fn work<R: Wait>(rt: &R, place: Place<'_>, job: Job) -> Outcome
             first,
             apart,
             turns,
-        } => take_turns(rt, place, seat, &mut kit, first, apart, turns),
-        Role::Give(goods) => give(rt, place, seat, &mut kit, goods),
-        Role::Take(goods) => take(rt, place, seat, &mut kit, goods),
-        Role::Watch(goods) => watch_all(rt, place, seat, &mut kit, goods),
+        } => take_turns(rt, commons, seat, &mut kit, first, apart, turns),
+        Role::Give(goods) => give(rt, commons, seat, &mut kit, goods),
+        Role::Take(goods) => take(rt, commons, seat, &mut kit, goods),
+        Role::Watch(goods) => watch_all(rt, commons, seat, &mut kit, goods),
     };
     Outcome {
         added: kit.added,
@@ -176,15 +176,15 @@ fn begin<R: Wait>(
 
 /// Takes the last seat of each kind, as long as there are both.
 fn next_seats(
-    place: Place<'_>,
+    commons: Commons<'_>,
     seats: &mut Vec<Seat<Wish, 4>>,
     env_seats: &mut Vec<EnvSeat>,
 ) -> Option<(Seat<Wish, 4>, EnvSeat)>
-    requires monitor { All (λ seat. seat.monitor ≡ place.monitor.now) seats.old.items }
-    requires env { All (λ seat. seat.env ≡ place.env.now) env_seats.old.items }
-    ensures monitor { All (λ seat. seat.monitor ≡ place.entry.monitor.now) seats.new.items }
-    ensures env { All (λ seat. seat.env ≡ place.entry.env.now) env_seats.new.items }
-    ensures taken { IfSome result (λ r. (r.0.monitor ≡ place.entry.monitor.now) × (r.1.env ≡ place.entry.env.now)) }
+    requires monitor { All (λ seat. seat.monitor ≡ commons.monitor.now) seats.old.items }
+    requires env { All (λ seat. seat.env ≡ commons.env.now) env_seats.old.items }
+    ensures monitor { All (λ seat. seat.monitor ≡ commons.entry.monitor.now) seats.new.items }
+    ensures env { All (λ seat. seat.env ≡ commons.entry.env.now) env_seats.new.items }
+    ensures taken { IfSome result (λ r. (r.0.monitor ≡ commons.entry.monitor.now) × (r.1.env ≡ commons.entry.env.now)) }
 {
     let seat = seats.pop()?;
     let env_seat = env_seats.pop()?;
@@ -194,21 +194,21 @@ fn next_seats(
 /// The work of each thread.
 fn jobs(
     alloc: Global,
-    place: Place<'_>,
+    commons: Commons<'_>,
     plan: Plan,
     draws: &mut Pcg32,
     seats: Vec<Seat<Wish, 4>>,
     env_seats: Vec<EnvSeat>,
 ) -> Result<Vec<Job>, AllocError>
-    requires monitor { All (λ seat. seat.monitor ≡ place.monitor.now) seats.items }
-    requires env { All (λ seat. seat.env ≡ place.env.now) env_seats.items }
-    ensures { IfOk result (λ jobs. All (λ job. (job.seat.monitor ≡ place.entry.monitor.now) × (job.kit.env_seat.env ≡ place.entry.env.now)) jobs.items) }
+    requires monitor { All (λ seat. seat.monitor ≡ commons.monitor.now) seats.items }
+    requires env { All (λ seat. seat.env ≡ commons.env.now) env_seats.items }
+    ensures { IfOk result (λ jobs. All (λ job. (job.seat.monitor ≡ commons.entry.monitor.now) × (job.kit.env_seat.env ≡ commons.entry.env.now)) jobs.items) }
 {
     let mut seats = seats;
     let mut env_seats = env_seats;
     let mut jobs = Vec::new(alloc);
     for number in 0..plan.threads {
-        let Some((seat, env_seat)) = next_seats(place, &mut seats, &mut env_seats) else {
+        let Some((seat, env_seat)) = next_seats(commons, &mut seats, &mut env_seats) else {
             break;
         };
         let kit = Kit {
@@ -237,17 +237,17 @@ fn total(outcomes: &[Outcome]) -> (u64, Option<&'static str>) {
 /// Has the threads do their work, and answers what they have added and found wrong.
 fn played<R: Threads + Wait + Sync>(
     rt: &R,
-    place: Place<'_>,
+    commons: Commons<'_>,
     jobs: Vec<Job>,
 ) -> Result<(u64, Option<&'static str>), AllocError>
-    requires { All (λ job. (job.seat.monitor ≡ place.monitor.now) × (job.kit.env_seat.env ≡ place.env.now)) jobs.items }
+    requires { All (λ job. (job.seat.monitor ≡ commons.monitor.now) × (job.kit.env_seat.env ≡ commons.env.now)) jobs.items }
 {
     let outcomes = map_vec(
         rt,
         jobs,
         &|job: Job| -> Outcome
-            requires { IsSync R.row × (job.seat.monitor ≡ place.monitor.now) × (job.kit.env_seat.env ≡ place.env.now) }
-        { work(rt, place, job) },
+            requires { IsSync R.row × (job.seat.monitor ≡ commons.monitor.now) × (job.kit.env_seat.env ≡ commons.env.now) }
+        { work(rt, commons, job) },
     )?;
     Ok(total(outcomes.as_slice()))
 }
@@ -268,16 +268,16 @@ pub fn run<R: Threads + Wait + Sync>(rt: &R, alloc: Global, seed: u64, round: u6
     };
     let last = begin(rt, &monitor, last, plan);
     let door = Door::new();
-    let place = Place {
+    let commons = Commons {
         monitor: &monitor,
         env: &env,
         door: &door,
         most: plan.most,
     };
-    let Ok(jobs) = jobs(alloc, place, plan, &mut draws, seats, env_seats) else {
+    let Ok(jobs) = jobs(alloc, commons, plan, &mut draws, seats, env_seats) else {
         return Verdict::NoMemory;
     };
-    let Ok((sum, wrong)) = played(rt, place, jobs) else {
+    let Ok((sum, wrong)) = played(rt, commons, jobs) else {
         return Verdict::NoMemory;
     };
     if let Some(what) = wrong {

@@ -3,7 +3,7 @@
 ghost use Rattle.std.specs.Prelude.{◌≡◌, IfSome};
 ghost use Rattle.ns_model.specs.Environments.{IsMade};
 
-use crate::kit::{Kit, Place};
+use crate::kit::{Commons, Kit};
 use crate::wish::{DONE, GOODS, ROOM, SUM, Wish};
 use ns_model::condition::Condition;
 use ns_model::event::{Answer, Mode};
@@ -12,38 +12,38 @@ use ns_note::note::Note;
 use std::sync::Wait;
 
 /// The row of the section in hand, which writes.
-fn row(place: Place<'_>, held: &mut WriteHeld<Wish, 4>) -> [u64; 4]
-    requires { held.old.monitor ≡ place.monitor.now }
+fn row(commons: Commons<'_>, held: &mut WriteHeld<Wish, 4>) -> [u64; 4]
+    requires { held.old.monitor ≡ commons.monitor.now }
     ensures { held.new.monitor ≡ held.old.monitor }
 {
-    let goods = place.monitor.get(held, GOODS);
-    let room = place.monitor.get(held, ROOM);
-    let done = place.monitor.get(held, DONE);
-    let sum = place.monitor.get(held, SUM);
+    let goods = commons.monitor.get(held, GOODS);
+    let room = commons.monitor.get(held, ROOM);
+    let done = commons.monitor.get(held, DONE);
+    let sum = commons.monitor.get(held, SUM);
     [goods, room, done, sum]
 }
 
 /// The row of the section in hand, which reads.
-fn row_to_read(place: Place<'_>, held: &mut ReadHeld<Wish, 4>) -> [u64; 4]
-    requires { held.old.monitor ≡ place.monitor.now }
+fn row_to_read(commons: Commons<'_>, held: &mut ReadHeld<Wish, 4>) -> [u64; 4]
+    requires { held.old.monitor ≡ commons.monitor.now }
     ensures { held.new.monitor ≡ held.old.monitor }
 {
-    let goods = place.monitor.get(held, GOODS);
-    let room = place.monitor.get(held, ROOM);
-    let done = place.monitor.get(held, DONE);
-    let sum = place.monitor.get(held, SUM);
+    let goods = commons.monitor.get(held, GOODS);
+    let room = commons.monitor.get(held, ROOM);
+    let done = commons.monitor.get(held, DONE);
+    let sum = commons.monitor.get(held, SUM);
     [goods, room, done, sum]
 }
 
 /// A note that is made, if the draw finds one.
-fn draw_note(place: Place<'_>, kit: &mut Kit) -> Option<Note>
-    requires { kit.old.env_seat.env ≡ place.env.now }
+fn draw_note(commons: Commons<'_>, kit: &mut Kit) -> Option<Note>
+    requires { kit.old.env_seat.env ≡ commons.env.now }
     ensures env { kit.new.env_seat.env ≡ kit.old.env_seat.env }
     ensures made { IfSome result (λ note. IsMade kit.new.env_seat.seen note.index) }
 {
     let index = kit.draw(64) as u8;
     let note = Note { index };
-    if place.env.knows(&mut kit.env_seat, note) {
+    if commons.env.knows(&mut kit.env_seat, note) {
         Some(note)
     } else {
         None
@@ -51,8 +51,8 @@ fn draw_note(place: Place<'_>, kit: &mut Kit) -> Option<Note>
 }
 
 /// A deadline that has come, or comes soon where others move the clock, or never comes; or none.
-fn draw_deadline(place: Place<'_>, kit: &mut Kit) -> Option<u64>
-    requires { kit.old.env_seat.env ≡ place.env.now }
+fn draw_deadline(commons: Commons<'_>, kit: &mut Kit) -> Option<u64>
+    requires { kit.old.env_seat.env ≡ commons.env.now }
     ensures { kit.new.env_seat.env ≡ kit.old.env_seat.env }
 {
     let ticks = match kit.draw(4) {
@@ -60,32 +60,32 @@ fn draw_deadline(place: Place<'_>, kit: &mut Kit) -> Option<u64>
         1 => 1 << 40,
         _ => u64::from(kit.draw(4)),
     };
-    let now = place.env.now(&mut kit.env_seat);
+    let now = commons.env.now(&mut kit.env_seat);
     Some(now.saturating_add(ticks))
 }
 
 /// Whether a wait may answer so, which had these limits and came back with a row of which the condition
 /// is true or isn't.
 fn is_right(
-    place: Place<'_>,
+    commons: Commons<'_>,
     kit: &mut Kit,
     answer: Answer,
     is_met: bool,
     deadline: Option<u64>,
     note: Option<Note>,
 ) -> bool
-    requires { kit.old.env_seat.env ≡ place.env.now }
+    requires { kit.old.env_seat.env ≡ commons.env.now }
     ensures { kit.new.env_seat.env ≡ kit.old.env_seat.env }
 {
     match (answer, deadline, note) {
         (Answer::Met, _, _) => is_met,
         (Answer::TimedOut, Some(moment), _) => {
-            let now = place.env.now(&mut kit.env_seat);
+            let now = commons.env.now(&mut kit.env_seat);
             !is_met && moment <= now
         }
         (Answer::Canceled, _, Some(note)) => {
-            let known = place.env.knows(&mut kit.env_seat, note);
-            !is_met && known && place.env.is_notified(&mut kit.env_seat, note)
+            let known = commons.env.knows(&mut kit.env_seat, note);
+            !is_met && known && commons.env.is_notified(&mut kit.env_seat, note)
         }
         _ => false,
     }
@@ -94,30 +94,30 @@ fn is_right(
 /// Waits in a section that writes, with limits that are drawn, and answers whether the condition is true now.
 fn wait_limited<R: Wait>(
     rt: &R,
-    place: Place<'_>,
+    commons: Commons<'_>,
     held: WriteHeld<Wish, 4>,
     wish: Wish,
     kit: &mut Kit,
 ) -> (WriteHeld<Wish, 4>, bool)
-    requires { (held.monitor ≡ place.monitor.now) × (kit.old.env_seat.env ≡ place.env.now) }
-    ensures { (result.0.monitor ≡ place.entry.monitor.now) × (kit.new.env_seat.env ≡ kit.old.env_seat.env) }
+    requires { (held.monitor ≡ commons.monitor.now) × (kit.old.env_seat.env ≡ commons.env.now) }
+    ensures { (result.0.monitor ≡ commons.entry.monitor.now) × (kit.new.env_seat.env ≡ kit.old.env_seat.env) }
 {
-    let deadline = draw_deadline(place, kit);
-    let note = draw_note(place, kit);
-    place.door.leave(Mode::Write);
-    let (mut held, answer) = place.monitor.wait_with_deadline(
+    let deadline = draw_deadline(commons, kit);
+    let note = draw_note(commons, kit);
+    commons.door.leave(Mode::Write);
+    let (mut held, answer) = commons.monitor.wait_with_deadline(
         rt,
         held,
         wish,
         deadline,
         note,
-        place.env,
+        commons.env,
         &mut kit.env_seat,
     );
-    kit.enter(place.door, Mode::Write);
-    let row = row(place, &mut held);
+    kit.enter(commons.door, Mode::Write);
+    let row = row(commons, &mut held);
     let is_met = wish.test(&row);
-    let right = is_right(place, kit, answer, is_met, deadline, note);
+    let right = is_right(commons, kit, answer, is_met, deadline, note);
     kit.expect(right, "a wait answers what isn't so");
     (held, is_met)
 }
@@ -125,26 +125,26 @@ fn wait_limited<R: Wait>(
 /// Waits in a section that writes until the condition is true, some times with limits and then with none.
 pub fn wait_until_met<R: Wait>(
     rt: &R,
-    place: Place<'_>,
+    commons: Commons<'_>,
     held: WriteHeld<Wish, 4>,
     wish: Wish,
     kit: &mut Kit,
 ) -> WriteHeld<Wish, 4>
-    requires { (held.monitor ≡ place.monitor.now) × (kit.old.env_seat.env ≡ place.env.now) }
-    ensures { (result.monitor ≡ place.entry.monitor.now) × (kit.new.env_seat.env ≡ kit.old.env_seat.env) }
+    requires { (held.monitor ≡ commons.monitor.now) × (kit.old.env_seat.env ≡ commons.env.now) }
+    ensures { (result.monitor ≡ commons.entry.monitor.now) × (kit.new.env_seat.env ≡ kit.old.env_seat.env) }
 {
     let mut held = held;
     for _ in 0..kit.draw(4) {
-        let (back, is_met) = wait_limited(rt, place, held, wish, kit);
+        let (back, is_met) = wait_limited(rt, commons, held, wish, kit);
         held = back;
         if is_met {
             return held;
         }
     }
-    place.door.leave(Mode::Write);
-    let mut held = place.monitor.wait(rt, held, wish);
-    kit.enter(place.door, Mode::Write);
-    let row = row(place, &mut held);
+    commons.door.leave(Mode::Write);
+    let mut held = commons.monitor.wait(rt, held, wish);
+    kit.enter(commons.door, Mode::Write);
+    let row = row(commons, &mut held);
     kit.expect(
         wish.test(&row),
         "a wait comes back to a condition that is false",
@@ -155,30 +155,30 @@ pub fn wait_until_met<R: Wait>(
 /// Waits in a section that reads, with limits that are drawn, and answers whether the condition is true now.
 fn wait_limited_to_read<R: Wait>(
     rt: &R,
-    place: Place<'_>,
+    commons: Commons<'_>,
     held: ReadHeld<Wish, 4>,
     wish: Wish,
     kit: &mut Kit,
 ) -> (ReadHeld<Wish, 4>, bool)
-    requires { (held.monitor ≡ place.monitor.now) × (kit.old.env_seat.env ≡ place.env.now) }
-    ensures { (result.0.monitor ≡ place.entry.monitor.now) × (kit.new.env_seat.env ≡ kit.old.env_seat.env) }
+    requires { (held.monitor ≡ commons.monitor.now) × (kit.old.env_seat.env ≡ commons.env.now) }
+    ensures { (result.0.monitor ≡ commons.entry.monitor.now) × (kit.new.env_seat.env ≡ kit.old.env_seat.env) }
 {
-    let deadline = draw_deadline(place, kit);
-    let note = draw_note(place, kit);
-    place.door.leave(Mode::Read);
-    let (mut held, answer) = place.monitor.wait_with_deadline(
+    let deadline = draw_deadline(commons, kit);
+    let note = draw_note(commons, kit);
+    commons.door.leave(Mode::Read);
+    let (mut held, answer) = commons.monitor.wait_with_deadline(
         rt,
         held,
         wish,
         deadline,
         note,
-        place.env,
+        commons.env,
         &mut kit.env_seat,
     );
-    kit.enter(place.door, Mode::Read);
-    let row = row_to_read(place, &mut held);
+    kit.enter(commons.door, Mode::Read);
+    let row = row_to_read(commons, &mut held);
     let is_met = wish.test(&row);
-    let right = is_right(place, kit, answer, is_met, deadline, note);
+    let right = is_right(commons, kit, answer, is_met, deadline, note);
     kit.expect(right, "a wait answers what isn't so");
     (held, is_met)
 }
@@ -186,26 +186,26 @@ fn wait_limited_to_read<R: Wait>(
 /// Waits in a section that reads until the condition is true, some times with limits and then with none.
 pub fn wait_until_met_to_read<R: Wait>(
     rt: &R,
-    place: Place<'_>,
+    commons: Commons<'_>,
     held: ReadHeld<Wish, 4>,
     wish: Wish,
     kit: &mut Kit,
 ) -> ReadHeld<Wish, 4>
-    requires { (held.monitor ≡ place.monitor.now) × (kit.old.env_seat.env ≡ place.env.now) }
-    ensures { (result.monitor ≡ place.entry.monitor.now) × (kit.new.env_seat.env ≡ kit.old.env_seat.env) }
+    requires { (held.monitor ≡ commons.monitor.now) × (kit.old.env_seat.env ≡ commons.env.now) }
+    ensures { (result.monitor ≡ commons.entry.monitor.now) × (kit.new.env_seat.env ≡ kit.old.env_seat.env) }
 {
     let mut held = held;
     for _ in 0..kit.draw(4) {
-        let (back, is_met) = wait_limited_to_read(rt, place, held, wish, kit);
+        let (back, is_met) = wait_limited_to_read(rt, commons, held, wish, kit);
         held = back;
         if is_met {
             return held;
         }
     }
-    place.door.leave(Mode::Read);
-    let mut held = place.monitor.wait(rt, held, wish);
-    kit.enter(place.door, Mode::Read);
-    let row = row_to_read(place, &mut held);
+    commons.door.leave(Mode::Read);
+    let mut held = commons.monitor.wait(rt, held, wish);
+    kit.enter(commons.door, Mode::Read);
+    let row = row_to_read(commons, &mut held);
     kit.expect(
         wish.test(&row),
         "a wait comes back to a condition that is false",

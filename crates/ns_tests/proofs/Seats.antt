@@ -5,13 +5,13 @@ use Rattle.std.proofs.lemmas.List.Elements.{All-nil, All-cons, All-pop}
 use Rattle.ns_monitor.specs.Known.{Known, AreNew}
 
 -- each is of that monitor
-pub all_of_monitor : {C : Type 0} {N : ℕ} (limit : ℕ) (monitor : _) (from : ℕ) (seats : List (Known C N)) → AreNew limit monitor from seats → All (λ seat. seat.monitor ≡ monitor) seats
-all_of_monitor {C} {N} limit monitor from [] new = All-nil (λ (s : Known C N). s.monitor ≡ monitor)
-all_of_monitor {C} {N} limit monitor from (seat ∷ seats) new = All-cons (λ (s : Known C N). s.monitor ≡ monitor) seat seats (ap (λ (s : Known C N). s.monitor) new.0) (all_of_monitor limit monitor (suc from) seats new.1)
+pub all_of_monitor : {C : Type 0} {N : ℕ} (seat_count : ℕ) (monitor : _) (from : ℕ) (seats : List (Known C N)) → AreNew seat_count monitor from seats → All (λ seat. seat.monitor ≡ monitor) seats
+all_of_monitor {C} {N} seat_count monitor from [] new = All-nil (λ (s : Known C N). s.monitor ≡ monitor)
+all_of_monitor {C} {N} seat_count monitor from (seat ∷ seats) new = All-cons (λ (s : Known C N). s.monitor ≡ monitor) seat seats (ap (λ (s : Known C N). s.monitor) new.0) (all_of_monitor seat_count monitor (suc from) seats new.1)
 
 -- so are the two behind, taken in turn, and the rest
-pub two_of_monitor : {C : Type 0} {N : ℕ} (limit : ℕ) (monitor : _) (seats more rest : List (Known C N)) (last other : Known C N) → AreNew limit monitor 0 seats → seats ≡ more ++ last ∷ [] → more ≡ rest ++ other ∷ [] → (All (λ seat. seat.monitor ≡ monitor) rest × (other.monitor ≡ monitor)) × (last.monitor ≡ monitor)
-two_of_monitor {C} {N} limit monitor seats more rest last other new first second =
-    let one = All-pop (λ (s : Known C N). s.monitor ≡ monitor) seats more (Some last) first (all_of_monitor limit monitor 0 seats new) in
+pub two_of_monitor : {C : Type 0} {N : ℕ} (seat_count : ℕ) (monitor : _) (seats more rest : List (Known C N)) (last other : Known C N) → AreNew seat_count monitor 0 seats → seats ≡ more ++ last ∷ [] → more ≡ rest ++ other ∷ [] → (All (λ seat. seat.monitor ≡ monitor) rest × (other.monitor ≡ monitor)) × (last.monitor ≡ monitor)
+two_of_monitor {C} {N} seat_count monitor seats more rest last other new first second =
+    let one = All-pop (λ (s : Known C N). s.monitor ≡ monitor) seats more (Some last) first (all_of_monitor seat_count monitor 0 seats new) in
     let two = All-pop (λ (s : Known C N). s.monitor ≡ monitor) more rest (Some other) second one.0 in
     ((two.0, two.1), one.1)

@@ -1,7 +1,7 @@
 -- A call that is driven by walks as values.
 use Rattle.std.proofs.Common.{◌≡◌, ℕ, [], None, Some, ap, sym, ◌∙◌, subst}
 use Rattle.ns_gate.proofs.Calls.{begins, goes_on, since, since_then}
-use Rattle.ns_gate.specs.Calls.{SeatOf, HasSince, IsAt, Leads}
+use Rattle.ns_gate.specs.Calls.{SeatOf, HasSince, IsAtPlace, HasReached}
 use Rattle.ns_gate.specs.Law.{GateView}
 use Rattle.ns_gate.specs.Steps.{the, Performed}
 use Rattle.ns_model.specs.Truths.{Truths}
@@ -17,7 +17,7 @@ use Rattle.ns_word.specs.declared.walk.Walk.{Walk}
 module _ {C : Type 0} {N : ℕ} (truths : Truths C) where
   -- a call that began so has come so far, and has no queues in hand
   pub record IsDriven (first : Walk C) (next : Next C) (v : GateView C N) (me : SeatOf C N) : Type 0 where
-    pub leads : Leads truths (asked_of first) next me
+    pub leads : HasReached truths (asked_of first) next me
     pub empty : me.1 ≡ []
     pub asks : (walk : Walk C) → walk_after next ≡ Some walk → asked_of walk ≡ asked_of first
     pub comes : HasSince (Some first) v (the me.0)
@@ -30,16 +30,16 @@ module _ {C : Type 0} {N : ℕ} (truths : Truths C) where
     comes = since truths (Some first) (want_of first) d.0 me now d.1;
   }
 
-  at_walk : (request : Request C) (next : Next C) (walk : Walk C) (me : SeatOf C N) → walk_after next ≡ Some walk → Leads truths request next me → IsAt truths walk me
-  at_walk request (On w) walk me e led = let same : w ≡ walk = cc in subst (λ x. IsAt truths x me) same led
-  at_walk request (Idle w) walk me e led = let same : w ≡ walk = cc in subst (λ x. IsAt truths x me) same led
+  at_walk : (request : Request C) (next : Next C) (walk : Walk C) (me : SeatOf C N) → walk_after next ≡ Some walk → HasReached truths request next me → IsAtPlace truths walk me
+  at_walk request (On w) walk me e led = let same : w ≡ walk = cc in subst (λ x. IsAtPlace truths x me) same led
+  at_walk request (Idle w) walk me e led = let same : w ≡ walk = cc in subst (λ x. IsAtPlace truths x me) same led
   at_walk request (Done reply) walk me e led = absurd (cc)
 
   -- each step takes it on
   pub driven_on : (first walk : Walk C) (was next : Next C) (v : GateView C N) (me now : SeatOf C N) → IsDriven first was v me → walk_after was ≡ Some walk → (found : Found) × Performed truths None (want_of walk) found me now × (next ≡ got_of N walk found) → now.1 ≡ [] → IsDriven first next v now
   driven_on first walk was next v me now s e d empty =
       let at = at_walk (asked_of first) was walk me e s.leads in record {
-        leads = subst (λ (r : Request C). Leads truths r next now) (s.asks walk e) (goes_on truths walk (want_of walk) d.0 next me now at (sym d.2) (λ _. empty) d.1);
+        leads = subst (λ (r : Request C). HasReached truths r next now) (s.asks walk e) (goes_on truths walk (want_of walk) d.0 next me now at (sym d.2) (λ _. empty) d.1);
         empty = empty;
         asks = λ w f. asked_stays C N walk d.0 w (ap walk_after (sym d.2) ∙ f) ∙ s.asks walk e;
         comes = since_then (Some first) v (the me.0) (the now.0) s.comes (since truths None (want_of walk) d.0 me now d.1);

@@ -8,7 +8,7 @@ mod timelines;
 mod worlds;
 
 use self::memory::{Expects, Interrupted, Pieces};
-use ns_replay::{Fault, Options, OverRead, OverWrite, Place, Sink, Source, replay};
+use ns_replay::{Fault, Options, OverRead, OverWrite, ScriptPath, Sink, Source, replay};
 use std::alloc::Global;
 use std::test::Fail;
 
@@ -58,8 +58,8 @@ fn lengths(rt: HostRuntime) -> Result<(), Fail> {
     for (length, piece, want) in [
         (1_048_576, 4096, Ok(())),
         (1_048_576, 1, Ok(())),
-        (1_048_577, 4096, Err(Fault::TooMany(Place::Root))),
-        (1_048_577, 1, Err(Fault::TooMany(Place::Root))),
+        (1_048_577, 4096, Err(Fault::TooMany(ScriptPath::Root))),
+        (1_048_577, 1, Err(Fault::TooMany(ScriptPath::Root))),
     ] {
         let mut script = Vec::new(rt.alloc());
         script.extend_from_slice(EMPTY.as_bytes())?;
@@ -160,10 +160,10 @@ fn faults(rt: HostRuntime) -> Result<(), Fail> {
         (Fault::OutOfMemory, "refused 2: out of memory"),
         (Fault::NotJson, "refused 6: not JSON"),
         (
-            Fault::BadScript(Place::Call(0, 3)),
+            Fault::BadScript(ScriptPath::Call(0, 3)),
             "refused 7: bad script at /threads/0/3",
         ),
-        (Fault::TooMany(Place::Root), "refused 8: too many at /"),
+        (Fault::TooMany(ScriptPath::Root), "refused 8: too many at /"),
         (Fault::StepLimit, "refused 9: step limit"),
         (Fault::Read, "fault 10: read"),
         (Fault::Write, "fault 11: write"),

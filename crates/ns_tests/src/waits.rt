@@ -565,18 +565,18 @@ fn take_turns<R: Wait>(
     requires { seat.monitor ≡ monitor.now }
     ensures { result.0.monitor ≡ monitor.now }
 {
-    let mut turn = first;
+    let mut ticket = first;
     let mut wrong = 0u64;
     for _ in 0..TURNS {
         let held = monitor.lock(rt, seat);
-        let mut held = monitor.wait(rt, held, AtLeast { least: turn });
+        let mut held = monitor.wait(rt, held, AtLeast { least: ticket });
         let found = monitor.get(&mut held, 0);
-        if found != turn {
+        if found != ticket {
             wrong = wrong.wrapping_add(1);
         }
         monitor.set(&mut held, 0, found.wrapping_add(1));
         seat = monitor.unlock(rt, held);
-        turn = turn.wrapping_add(2);
+        ticket = ticket.wrapping_add(2);
     }
     (seat, wrong)
 }

@@ -14,8 +14,8 @@ written old new IsSuch limit bytes text (Ok done) such all front is = (text, suc
 written old new IsSuch limit bytes text (Err Write) such all (front, rest, whole, more, appends) is = (front, rest, subst (IsSuch bytes) whole such, more, appends)
 written old new IsSuch limit bytes text (Err OutOfMemory) such all front is = absurd cc
 written old new IsSuch limit bytes text (Err NotJson) such all front is = absurd cc
-written old new IsSuch limit bytes text (Err (BadScript place)) such all front is = absurd cc
-written old new IsSuch limit bytes text (Err (TooMany place)) such all front is = absurd cc
+written old new IsSuch limit bytes text (Err (BadScript path)) such all front is = absurd cc
+written old new IsSuch limit bytes text (Err (TooMany path)) such all front is = absurd cc
 written old new IsSuch limit bytes text (Err StepLimit) such all front is = absurd cc
 written old new IsSuch limit bytes text (Err Read) such all front is = absurd cc
 
@@ -25,8 +25,8 @@ read_all bytes left (Ok done) end is = end
 read_all bytes left (Err Write) end is = end
 read_all bytes left (Err OutOfMemory) end is = absurd cc
 read_all bytes left (Err NotJson) end is = absurd cc
-read_all bytes left (Err (BadScript place)) end is = absurd cc
-read_all bytes left (Err (TooMany place)) end is = absurd cc
+read_all bytes left (Err (BadScript path)) end is = absurd cc
+read_all bytes left (Err (TooMany path)) end is = absurd cc
 read_all bytes left (Err StepLimit) end is = absurd cc
 read_all bytes left (Err Read) end is = absurd cc
 

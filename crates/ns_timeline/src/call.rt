@@ -75,11 +75,11 @@ fn push_words(out: &mut String, call: Call<ScriptCondition>) -> Result<(), Alloc
             write!(out, " {condition}")?;
             push_limits(out, limits)
         }
-        Call::CvWait(variable, limits) => {
-            write!(out, " {variable}")?;
+        Call::CvWait(k, limits) => {
+            write!(out, " {k}")?;
             push_limits(out, limits)
         }
-        Call::Signal(variable) | Call::Broadcast(variable) => write!(out, " {variable}"),
+        Call::Signal(k) | Call::Broadcast(k) => write!(out, " {k}"),
         _ => push_note_words(out, call),
     }
 }

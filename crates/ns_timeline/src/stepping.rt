@@ -126,17 +126,17 @@ fn draw_word(
     drawing: &mut Drawing,
     world: &mut World<ScriptCondition, 8>,
     threads: &[Vec<Call<ScriptCondition>>],
-    turn: &Turn,
+    word: &Turn,
     limit: u32,
 ) -> Result<(), AllocError>
     requires { All (λ calls. ListFits 8 calls.items) threads.now }
 {
     // No script has more than 64 threads.
-    if 64 <= turn.thread {
+    if 64 <= word.thread {
         return Ok(());
     }
-    for _ in 0..turn.times {
-        draw_item(drawing, world, threads, turn.thread, turn.whole, limit)?;
+    for _ in 0..word.times {
+        draw_item(drawing, world, threads, word.thread, word.whole, limit)?;
     }
     Ok(())
 }
@@ -151,8 +151,8 @@ pub fn draw_schedule(
 ) -> Result<(), AllocError>
     requires { All (λ calls. ListFits 8 calls.items) threads.now }
 {
-    for turn in schedule {
-        draw_word(drawing, world, threads, turn, limit)?;
+    for word in schedule {
+        draw_word(drawing, world, threads, word, limit)?;
     }
     Ok(())
 }

@@ -26,7 +26,7 @@ use Rattle.ns_word.specs.Waits.{home_of}
 use Rattle.ns_word.specs.Walks.{judge_of, want_waiting, want_of, awaits, pays}
 use Rattle.ns_word.specs.Views.{walk_at, AreApart}
 use Rattle.ns_model.specs.Truths.{Truths}
-use Rattle.ns_word.specs.Steps.{State, part_of, with_lock}
+use Rattle.ns_word.specs.Steps.{LockState, part_of, with_lock}
 use Rattle.ns_word.specs.Places.{IsForCondition, IsUnmet, IsInRange, CanWait, WaitFits, PlaceFits, HasList, ActFits, OwesOne}
 use Rattle.ns_word.specs.Lawful.{EachFits, ViewFits, IsLawful}
 use Rattle.ns_word.proofs.Views.{walk_here, apart_parts, each_parts}
@@ -74,7 +74,7 @@ module _ {C : Type 0} {N : ℕ} (truths : Truths C) where
 
 -- ---- each act
 
-module _ {C : Type 0} {N : ℕ} (truths : Truths C) (seats : ℕ) (few : seats ≤ 64) (h : List (Event C N)) (s : State C N) (front : List (SeatView C N)) (view : SeatView C N) (back : List (SeatView C N)) (split : s.views ≡ front ++ view ∷ back) (p : IsLawful truths seats h s) where
+module _ {C : Type 0} {N : ℕ} (truths : Truths C) (seats : ℕ) (few : seats ≤ 64) (h : List (Event C N)) (s : LockState C N) (front : List (SeatView C N)) (view : SeatView C N) (back : List (SeatView C N)) (split : s.views ≡ front ++ view ∷ back) (p : IsLawful truths seats h s) where
   -- what the law says of a seat's view
   pub view_fits : ViewFits truths seats (standing_after h) s.row view
   view_fits = (each_parts truths seats (standing_after h) s.row front view back (subst (λ vs. EachFits truths seats (standing_after h) s.row vs) split p.one_history.each)).1

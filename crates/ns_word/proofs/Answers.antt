@@ -55,7 +55,7 @@ use Rattle.ns_word.specs.Waits.{answer_of, answer_of_wait, is_limited, mode_for}
 use Rattle.ns_word.specs.Walks.{judge_of, want_waiting, want_trying, want_acquiring, want_releasing, want_in_cells, want_leaving, want_signaling, want_of, got_waiting, got_acquiring, got_of, reply_of, acquire_by, back_with, unmet_by, look_or_queue}
 use Rattle.ns_word.specs.Words.{may_acquire}
 use Rattle.ns_model.specs.Truths.{Truths}
-use Rattle.ns_word.specs.Steps.{State, Part, Effect, Step, part_of, newly_held, entry_of, opening_by, held_after}
+use Rattle.ns_word.specs.Steps.{LockState, Part, Effect, Step, part_of, newly_held, entry_of, opening_by, held_after}
 use Rattle.ns_word.specs.Places.{PlaceFits, WaitFits, IsForCondition, Tests, IsUnmet, MayWait, CanWait, ComesBack}
 use Rattle.ns_word.specs.Lawful.{EachFits, IsLawful}
 use Rattle.ns_word.specs.Answers.{comes_back, place_has_come_back, has_come_back}
@@ -184,7 +184,7 @@ module _ {C : Type 0} {N : ℕ} (truths : Truths C) (wait : Wait C) (c : C) wher
   answers_at seat place old found new commits answer for p e is = absurd (goes_on_not (got_waiting N wait place found) (Answered answer) (others_on N wait place found refl) is)
 
 -- A wait for a condition answers what its section is committed with.
-pub answers_rightly : {C : Type 0} {N : ℕ} (truths : Truths C) (seats : ℕ) (h : List (Event C N)) (old new : State C N) (view : SeatView C N) (found : Found) (commits : List (Event C N)) (wait : Wait C) (c : C) (place : WaitPlace) (answer : Answer) →
+pub answers_rightly : {C : Type 0} {N : ℕ} (truths : Truths C) (seats : ℕ) (h : List (Event C N)) (old new : LockState C N) (view : SeatView C N) (found : Found) (commits : List (Event C N)) (wait : Wait C) (c : C) (place : WaitPlace) (answer : Answer) →
     (step : Step truths old view found new commits) → IsLawful truths seats h old → step.walk ≡ InWait wait place → wait.on ≡ OnCondition c → got_of N step.walk found ≡ Done (Answered answer) → AnswersOf truths wait c (has_come_back step.walk) step.held answer
 answers_rightly {C} {N} truths seats h old new view found commits wait c place answer step lawful walks for is =
     let fits = (each_parts truths seats (standing_after h) old.row step.front view step.back (subst (λ vs. EachFits truths seats (standing_after h) old.row vs) step.was lawful.one_history.each)).1 in
@@ -235,7 +235,7 @@ module _ {C : Type 0} {N : ℕ} (truths : Truths C) (wait : Wait C) (outcome : O
   after_at seat place old found new commits answer for e is = absurd (goes_on_not (got_acquiring N (ForWait wait outcome) place found) (Answered answer) (acquires_on N (ForWait wait outcome) place found refl) is)
 
 -- A wait for a variable answers what its section says of how it began.
-pub variable_answers_rightly : {C : Type 0} {N : ℕ} (truths : Truths C) (old new : State C N) (view : SeatView C N) (found : Found) (commits : List (Event C N)) (wait : Wait C) (outcome : Outcome) (place : AcquirePlace) (k : ℕ) (answer : Answer) →
+pub variable_answers_rightly : {C : Type 0} {N : ℕ} (truths : Truths C) (old new : LockState C N) (view : SeatView C N) (found : Found) (commits : List (Event C N)) (wait : Wait C) (outcome : Outcome) (place : AcquirePlace) (k : ℕ) (answer : Answer) →
     (step : Step truths old view found new commits) → step.walk ≡ InAcquire (ForWait wait outcome) place → wait.on ≡ OnVariable k → got_of N step.walk found ≡ Done (Answered answer) → AnswersAfter truths wait outcome k step.held answer
 variable_answers_rightly {C} {N} truths old new view found commits wait outcome place k answer step walks for is =
     after_at truths wait outcome k view.seat place (part_of old view.held view.owed) found (part_of new step.held step.owed) commits answer for
@@ -250,7 +250,7 @@ module _ {C : Type 0} {N : ℕ} (truths : Truths C) (wait : Wait C) (k : ℕ) wh
   none_at place held found answer for p is = goes_on_not (got_waiting N wait place found) (Answered answer) (others_on N wait place found refl) is
 
 -- A wait for a variable doesn't answer before it acquires again.
-pub variable_answers_back : {C : Type 0} {N : ℕ} (truths : Truths C) (seats : ℕ) (h : List (Event C N)) (old new : State C N) (view : SeatView C N) (found : Found) (commits : List (Event C N)) (wait : Wait C) (place : WaitPlace) (k : ℕ) (answer : Answer) →
+pub variable_answers_back : {C : Type 0} {N : ℕ} (truths : Truths C) (seats : ℕ) (h : List (Event C N)) (old new : LockState C N) (view : SeatView C N) (found : Found) (commits : List (Event C N)) (wait : Wait C) (place : WaitPlace) (k : ℕ) (answer : Answer) →
     (step : Step truths old view found new commits) → IsLawful truths seats h old → step.walk ≡ InWait wait place → wait.on ≡ OnVariable k → got_of N step.walk found ≢ Done (Answered answer)
 variable_answers_back {C} {N} truths seats h old new view found commits wait place k answer step lawful walks for is =
     let fits = (each_parts truths seats (standing_after h) old.row step.front view step.back (subst (λ vs. EachFits truths seats (standing_after h) old.row vs) step.was lawful.one_history.each)).1 in
@@ -392,7 +392,7 @@ module _ {C : Type 0} {N : ℕ} where
   effect_so truths seat _ old _ new commits was held n e p q = absurd e
 
 -- What a section says of how it began stays until it is left, but for the looks of a wait that has come back.
-pub keep_beginning : {C : Type 0} {N : ℕ} (truths : Truths C) (old new : State C N) (view : SeatView C N) (found : Found) (commits : List (Event C N)) (was held : Held C N) →
+pub keep_beginning : {C : Type 0} {N : ℕ} (truths : Truths C) (old new : LockState C N) (view : SeatView C N) (found : Found) (commits : List (Event C N)) (was held : Held C N) →
     (step : Step truths old view found new commits) → has_come_back step.walk ≡ false → view.held ≡ Some was → step.held ≡ Some held → BeganSo was held
 keep_beginning truths old new view found commits was held step n p q =
     effect_so truths view.seat (want_of step.walk) (part_of old view.held view.owed) found (part_of new step.held step.owed) commits was held (looks_by step.walk n) step.effect p q

@@ -19,7 +19,7 @@ use Rattle.ns_word.specs.Answers.{has_come_back}
 use Rattle.ns_word.specs.Asked.{asked_in_cells, asked_of, asked_to_judge}
 use Rattle.ns_word.specs.Places.{PlaceFits}
 use Rattle.ns_word.specs.Lawful.{EachFits, IsLawful}
-use Rattle.ns_word.specs.Steps.{Effect, Part, State, Step, changed, kept_by, moved_to, part_of, taken_by, wake_of}
+use Rattle.ns_word.specs.Steps.{Effect, Part, LockState, Step, changed, kept_by, moved_to, part_of, taken_by, wake_of}
 use Rattle.ns_word.specs.Waits.{arrival_of, is_limited, mode_for, outcome_taken, woken_by}
 use Rattle.ns_word.specs.Walks.{acquire_by, acquired_for, back_with, got_acquiring, got_in_cells, got_leaving, got_of, got_queuing, got_releasing, got_signaling, got_trying, got_waiting, is_arrival_woken, judge_of, look_or_queue, pays, release_by, rest_or_look, test_place, unmet_by, walk_after, want_acquiring, want_in_cells, want_leaving, want_of, want_releasing, want_signaling, want_trying, want_waiting, was_woken}
 use Rattle.ns_word.specs.Words.{is_held, is_woken, may_acquire, needs_scan}
@@ -71,7 +71,7 @@ use Rattle.ns_word.specs.declared.word.Releasing.TheVariants.{QuietWriter}
 use Rattle.ns_word.specs.declared.word.Word.{Word}
 
 -- A seat whose call is over owes nobody a wake.
-pub over_owes_nothing : {C : Type 0} {N : ℕ} (truths : Truths C) (seats : ℕ) (h : List (Event C N)) (s : State C N) (at : ℕ) (view : SeatView C N) → IsLawful truths seats h s → slice_get s.views at ≡ Some view → view.walk ≡ None → view.owed ≡ []
+pub over_owes_nothing : {C : Type 0} {N : ℕ} (truths : Truths C) (seats : ℕ) (h : List (Event C N)) (s : LockState C N) (at : ℕ) (view : SeatView C N) → IsLawful truths seats h s → slice_get s.views at ≡ Some view → view.walk ≡ None → view.owed ≡ []
 over_owes_nothing truths seats h s at view lawful here over =
     let fits = (each_parts truths seats (standing_after h) s.row (take at s.views) view (drop (suc at) s.views) (subst (λ vs. EachFits truths seats (standing_after h) s.row vs) (split_at s.views at view here) lawful.one_history.each)).1 in
     none_of view.owed (fits.owes ∙ ap pays over)
@@ -130,7 +130,7 @@ module _ (C : Type 0) (N : ℕ) (truths : Truths C) (seat : ℕ) (waking : Wakin
       wakes_at place found old new commits (subst (λ n. n < 4) two fits.1) four (subst (λ n. Effect truths seat (want_signaling waking n place) old found new commits) two (subst (λ w. Effect truths seat (want_signaling w j place) old found new commits) one e))
 
 -- A step of a call that wakes commits whom the rule takes, or nothing.
-pub wakes_by_rule : {C : Type 0} {N : ℕ} (truths : Truths C) (seats : ℕ) (h : List (Event C N)) (old new : State C N) (view : SeatView C N) (found : Found) (commits : List (Event C N)) (waking : Waking) (k : ℕ) → (step : Step truths old view found new commits) → IsLawful truths seats h old → asked_of step.walk ≡ Wake waking k →
+pub wakes_by_rule : {C : Type 0} {N : ℕ} (truths : Truths C) (seats : ℕ) (h : List (Event C N)) (old new : LockState C N) (view : SeatView C N) (found : Found) (commits : List (Event C N)) (waking : Waking) (k : ℕ) → (step : Step truths old view found new commits) → IsLawful truths seats h old → asked_of step.walk ≡ Wake waking k →
     WakesBy C N truths view.seat waking k (part_of old view.held view.owed) (part_of new step.held step.owed) commits
 wakes_by_rule {C} {N} truths seats h old new view found commits waking k step lawful asked =
     let fits = (each_parts truths seats (standing_after h) old.row step.front view step.back (subst (λ vs. EachFits truths seats (standing_after h) old.row vs) step.was lawful.one_history.each)).1 in

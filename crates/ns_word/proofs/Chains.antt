@@ -12,7 +12,7 @@ use Rattle.ns_word.specs.declared.env_walk.Chain.{Chain}
 use Rattle.ns_word.specs.declared.env_walk.Chain.TheVariants.{ForLook, ForIsNotified, ForNoteWait}
 use Rattle.ns_word.specs.declared.env_walk.EnvWalk.TheVariants.{ClockLoad, NoteLoad}
 use Rattle.ns_word.specs.declared.env_walk.EnvNext.{EnvNext}
-use Rattle.ns_word.specs.declared.env_walk.EnvNext.TheVariants.{Go, Repeat, Over, Shown}
+use Rattle.ns_word.specs.declared.env_walk.EnvNext.TheVariants.{Go, Repeat, Over, LookOver}
 use Rattle.ns_word.specs.declared.walk.Reply.TheVariants.{Is}
 use Rattle.ns_word.specs.EnvWalks.{standing_of, env_got_of, chain_note, stopped, passed, up_to}
 use Rattle.ns_word.specs.EnvSteps.{EnvState, IfMade, IsLawfulEnv}
@@ -47,7 +47,7 @@ module _ (point now : List EnvEvent) where
 
   -- past the root the chain's note, if it has one, wasn't notified
   passed_fits : (chain : Chain) (clock : ℕ) → clock ≡ clock_of point → IsUnnotified point (chain_note chain) → ChainFits point now chain (passed chain clock)
-  passed_fits (ForLook limits) clock is waited = either_fits (ForLook limits) (Shown (Some Expired)) (Shown None) (is_due clock limits.deadline)
+  passed_fits (ForLook limits) clock is waited = either_fits (ForLook limits) (LookOver (Some Expired)) (LookOver None) (is_due clock limits.deadline)
       (λ due. (waited, subst (λ (c : ℕ). IsSomeAnd limits.deadline (λ d. d ≤ c)) is (due_is clock limits.deadline due)))
       (λ due. (waited, subst (λ (c : ℕ). IfSome limits.deadline (λ d. c < d)) is (not_due_is clock limits.deadline due)))
   passed_fits (ForIsNotified note) clock is waited = waited

@@ -22,7 +22,7 @@ use Rattle.ns_word.specs.Courses.{AcquireSoFar, CallGoes, HasLeft, HasLookedFor,
 use Rattle.ns_word.specs.Lists.{has_some}
 use Rattle.ns_word.specs.Meanings.{ConditionWaitMeans, Course, HasLocked, HasReleased, HasWoken, InHand, IsQuietSection, MayAnswer, Means, Unchanged, VariableWaitMeans, leave_told, new_section}
 use Rattle.ns_word.specs.Places.{AimFits, CanLeave, CanWait, CellFits, ComesBack, IsForCondition, IsLeft, MayWait, PlaceFits, QueueFits, ReleaseFits, Tests, WaitFits}
-use Rattle.ns_word.specs.Steps.{State, Step, part_of, Effect, MayShow, Part, entry_of, exit_for, held_after, held_by, leave_of, newly_held, opening_by, section_of, taken_by, wake_of}
+use Rattle.ns_word.specs.Steps.{LockState, Step, part_of, Effect, MayShow, Part, entry_of, exit_for, held_after, held_by, leave_of, newly_held, opening_by, section_of, taken_by, wake_of}
 use Rattle.ns_word.specs.Waits.{answer_of, answer_of_wait, arrival_of, cause_in, home_of, is_limited, mode_for, outcome_taken, woken_by}
 use Rattle.ns_word.specs.Walks.{acquire_by, acquired_for, armed_place, back_with, got_acquiring, got_in_cells, got_leaving, got_of, got_queuing, got_releasing, got_signaling, got_trying, got_waiting, judge_of, leave_by, load_place, look_or_queue, pay_releasing, pay_waiting, pay_woken, queue_by, quiet_place, release_by, rest_or_look, scan_place, signal_by, test_place, unmet_by, want_acquiring, want_in_cells, want_leaving, want_of, want_queuing, want_releasing, want_signaling, want_trying, want_waiting}
 use Rattle.ns_word.specs.Words.{is_held, is_woken, may_acquire, mode_released, needs_scan, tries_of, word_taken}
@@ -608,7 +608,7 @@ module _ (C : Type 0) (N : ℕ) (truths : Truths C) (seat : ℕ) (row : List ℕ
     comes_on (InSignal waking k place) found e fits so_far = signals_on waking k place found e so_far
 
   -- what the law says of the seat's part of the state
-  stands_by : (seats : ℕ) (h : List (Event C N)) (s : State C N) (view : SeatView C N) (commits : List (Event C N)) → (commits ≡ [] → row_after h ≡ row) → IsLawful truths seats h s → ViewFits truths seats (standing_after h) s.row view → Stands (part_of s view.held view.owed) commits
+  stands_by : (seats : ℕ) (h : List (Event C N)) (s : LockState C N) (view : SeatView C N) (commits : List (Event C N)) → (commits ≡ [] → row_after h ≡ row) → IsLawful truths seats h s → ViewFits truths seats (standing_after h) s.row view → Stands (part_of s view.held view.owed) commits
   stands_by seats h s view commits same lawful fits = record {
     free = λ silent free. lawful.one_history.free free ∙ same silent;
     cells = λ held is. (held_fits held is).cells;
@@ -619,7 +619,7 @@ module _ (C : Type 0) (N : ℕ) (truths : Truths C) (seat : ℕ) (row : List ℕ
       held_fits held is = subst (λ x. SectionFits (standing_after h) s.row view.seat view.walk x) is fits.section
 
 -- A step takes its call on.
-pub takes_on : (C : Type 0) (N : ℕ) (truths : Truths C) (seats : ℕ) (history : List (Event C N)) (old new : State C N) (view : SeatView C N) (found : Found) (commits : List (Event C N)) (course : Course C N) →
+pub takes_on : (C : Type 0) (N : ℕ) (truths : Truths C) (seats : ℕ) (history : List (Event C N)) (old new : LockState C N) (view : SeatView C N) (found : Found) (commits : List (Event C N)) (course : Course C N) →
     (step : Step truths old view found new commits) → IsLawful truths seats history old → SoFar truths view.seat course step.walk view.held →
     CallGoes truths view.seat (row_after (history ++ commits)) (asked_of step.walk) (course_after found commits course) (got_of N step.walk found) step.held
 takes_on C N truths seats history old new view found commits course step lawful so_far =

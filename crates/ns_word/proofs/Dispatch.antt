@@ -68,7 +68,7 @@ use Rattle.ns_word.specs.Waits.{IsWokenBy, OutcomeFits, arrival_of, cause_in, ho
 use Rattle.ns_word.specs.Walks.{want_waiting, want_signaling, judge_of, want_of, got_waiting, got_leaving, got_signaling, got_of, walk_after, acquired_for, armed_place, pay_waiting, pay_woken, rest_or_look, pay_releasing, wait_has_queues, place_awaits, has_queues, is_queuing, has_armed, waits_in, awaits, was_woken, calls_from_lock, pays, is_on_way, phase_by, expected_for}
 use Rattle.ns_word.specs.Views.{NoneIs}
 use Rattle.ns_model.specs.Truths.{Truths, QuietKeeps}
-use Rattle.ns_word.specs.Steps.{State, Part, Effect, Step, MayShow, section_of, opening_for, newly_held, held_after, flags_with, meets_at, with_lock, waited_in, taken_by, kept_by, moved_to, changed, moves, owed_after, change_found, wake_of, leave_of}
+use Rattle.ns_word.specs.Steps.{LockState, Part, Effect, Step, MayShow, section_of, opening_for, newly_held, held_after, flags_with, meets_at, with_lock, waited_in, taken_by, kept_by, moved_to, changed, moves, owed_after, change_found, wake_of, leave_of}
 use Rattle.ns_word.specs.Seen.{HasNumber, word_seen}
 use Rattle.ns_word.specs.Places.{PlaceFits, IsInRange, HasMode, IsSettledBy, IsSettled, CanLeave, IsLeft, MayWait, CanWait, AimFits}
 use Rattle.ns_word.specs.Finds.{row_in}
@@ -183,7 +183,7 @@ taken_fits (OnVariable k) limits cause flag given = (refl, tt)
 
 module _ {C : Type 0} {N : ℕ} (truths : Truths C) (seats : ℕ) (h : List (Event C N)) (front : List (SeatView C N)) (who : ℕ) (back : List (SeatView C N)) where
   -- the state with this part of a seat's
-  abbrev at : Part C N → Option (Walk C) → State C N
+  abbrev at : Part C N → Option (Walk C) → LockState C N
   at part walk = record { word = part.word; row = part.row; lists = part.lists; flags = part.flags; views = front ++ view_of who walk part.held part.owed ∷ back }
 
   abbrev Kept : List (Event C N) → Part C N → Option (Walk C) → Type 0
@@ -192,7 +192,7 @@ module _ {C : Type 0} {N : ℕ} (truths : Truths C) (seats : ℕ) (h : List (Eve
   moved : (walk : Option (Walk C)) (part next : Part C N) (old new : List (Event C N)) → next ≡ part → new ≡ old → Kept old part walk → Kept new next walk
   moved walk part next old new e f p = subst (λ x. Groups truths seats (h ++ x) (at next walk)) (sym f) (subst (λ x. Groups truths seats (h ++ old) (at x walk)) (sym e) p)
 
-  none_more : (s : State C N) → Groups truths seats h s → Groups truths seats (h ++ []) s
+  none_more : (s : LockState C N) → Groups truths seats h s → Groups truths seats (h ++ []) s
   none_more s p = subst (λ x. Groups truths seats x s) (sym (append-nil h)) p
 
   place : (walk : Walk C) (part : Part C N) → Groups truths seats h (at part (Some walk)) → PlaceFits truths (Some walk) part.held
@@ -616,7 +616,7 @@ module _ {C : Type 0} {N : ℕ} (truths : Truths C) (seats : ℕ) (h : List (Eve
   by_walk (InSignal waking k at_place) found part next commits few some quiet e p = by_signal waking k at_place found part next commits few e p
   by_walk _ _ part next commits few some quiet e p = absurd e
 
-pub keeps : {C : Type 0} {N : ℕ} (truths : Truths C) → 0 < N → QuietKeeps N truths → (seats : ℕ) (h : List (Event C N)) (old : State C N) (view : SeatView C N) (found : Found) (new : State C N) (commits : List (Event C N)) → seats ≤ 64 →
+pub keeps : {C : Type 0} {N : ℕ} (truths : Truths C) → 0 < N → QuietKeeps N truths → (seats : ℕ) (h : List (Event C N)) (old : LockState C N) (view : SeatView C N) (found : Found) (new : LockState C N) (commits : List (Event C N)) → seats ≤ 64 →
     Step truths old view found new commits → IsLawful truths seats h old → IsLawful truths seats (h ++ commits) new
 keeps {C} {N} truths some quiet seats h old view found new commits few step p =
     let start = subst (λ views. IsLawful truths seats h (record { word = old.word; row = old.row; lists = old.lists; flags = old.flags; views = views })) step.was p in

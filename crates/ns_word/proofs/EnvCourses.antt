@@ -14,7 +14,7 @@ use Rattle.ns_word.specs.declared.env_walk.Chain.TheVariants.{ForLook, ForIsNoti
 use Rattle.ns_word.specs.declared.env_walk.EnvWalk.{EnvWalk}
 use Rattle.ns_word.specs.declared.env_walk.EnvWalk.TheVariants.{NextLoad, TakeNumber, MakeNote, Notifying, Advancing, ClockLoad, NoteLoad, ExpiryLoad}
 use Rattle.ns_word.specs.declared.env_walk.EnvNext.{EnvNext}
-use Rattle.ns_word.specs.declared.env_walk.EnvNext.TheVariants.{Go, Repeat, Over, Shown}
+use Rattle.ns_word.specs.declared.env_walk.EnvNext.TheVariants.{Go, Repeat, Over, LookOver}
 use Rattle.ns_word.specs.declared.env_request.EnvRequest.{EnvRequest}
 use Rattle.ns_word.specs.declared.env_request.EnvRequest.TheVariants as TheRequest
 use Rattle.ns_word.specs.declared.walk.Reply.TheVariants.{NotesFull, Is, Expiry}
@@ -33,7 +33,7 @@ abbrev GoesAsAsked : EnvRequest → EnvNext → Type 0
 GoesAsAsked request (Go walk) = env_asked_of walk ≡ request
 GoesAsAsked request (Repeat walk) = env_asked_of walk ≡ request
 GoesAsAsked request (Over reply) = Unit {0}
-GoesAsAsked request (Shown cause) = Unit {0}
+GoesAsAsked request (LookOver cause) = Unit {0}
 
 -- what is so of each of two ways to go is so of the one that a test picks
 either_way : (P : EnvNext → Type 0) (b : Bool) (one other : EnvNext) → P one → P other → P (cond b one other)
@@ -48,7 +48,7 @@ stopped_asks (ForNoteWait note deadline) = tt
 
 -- past the root a chain is over, or waits on for its note
 passed_asks : (chain : Chain) (clock : ℕ) → GoesAsAsked (asked_by chain) (passed chain clock)
-passed_asks (ForLook limits) clock = either_way (GoesAsAsked (TheRequest.Look limits)) (is_due clock limits.deadline) (Shown (Some Expired)) (Shown None) tt tt
+passed_asks (ForLook limits) clock = either_way (GoesAsAsked (TheRequest.Look limits)) (is_due clock limits.deadline) (LookOver (Some Expired)) (LookOver None) tt tt
 passed_asks (ForIsNotified note) clock = tt
 passed_asks (ForNoteWait note deadline) clock = either_way (GoesAsAsked (TheRequest.NoteWait note deadline)) (is_due clock deadline) (Over (Is false)) (Repeat (ClockLoad (ForNoteWait note deadline))) tt refl
 
@@ -79,7 +79,7 @@ asked_after : (request : EnvRequest) (next : EnvNext) (walk : EnvWalk) → env_w
 asked_after request (Go one) walk e p = let same : one ≡ walk = cc in sym (ap env_asked_of same) ∙ p
 asked_after request (Repeat one) walk e p = let same : one ≡ walk = cc in sym (ap env_asked_of same) ∙ p
 asked_after request (Over reply) walk e p = absurd (cc)
-asked_after request (Shown cause) walk e p = absurd (cc)
+asked_after request (LookOver cause) walk e p = absurd (cc)
 
 -- No step of a call changes what it was asked to do.
 pub env_asked_stays : (walk next : EnvWalk) (found : EnvFound) → env_walk_after (env_got_of walk found) ≡ Some next → env_asked_of next ≡ env_asked_of walk
@@ -150,7 +150,7 @@ module _ (now : List EnvEvent) (seat : ℕ) (course : EnvCourse) (since : Begins
     -- past the root a chain answers of the point at which it loaded the clock, or waits on for its note
     passed_goes : (chain : Chain) (clock : ℕ) → ChainFits point now chain (passed chain clock) → EnvGoes now seat (asked_by chain) course (passed chain clock)
     passed_goes (ForLook limits) clock fits =
-        either_way (λ next. ChainFits point now (ForLook limits) next → EnvGoes now seat (TheRequest.Look limits) course next) (is_due clock limits.deadline) (Shown (Some Expired)) (Shown None)
+        either_way (λ next. ChainFits point now (ForLook limits) next → EnvGoes now seat (TheRequest.Look limits) course next) (is_due clock limits.deadline) (LookOver (Some Expired)) (LookOver None)
         (λ due. (none, (point, between, due))) (λ early. (none, (point, between, early))) fits
     passed_goes (ForIsNotified note) clock fits = (none, (point, between, fits))
     passed_goes (ForNoteWait note deadline) clock fits =

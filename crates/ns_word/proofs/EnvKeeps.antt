@@ -19,7 +19,7 @@ use Rattle.ns_word.specs.declared.env_walk.Chain.TheVariants.{ForLook, ForIsNoti
 use Rattle.ns_word.specs.declared.env_walk.EnvWalk.{EnvWalk}
 use Rattle.ns_word.specs.declared.env_walk.EnvWalk.TheVariants.{NextLoad, TakeNumber, MakeNote, Notifying, Advancing, ClockLoad, NoteLoad, ExpiryLoad}
 use Rattle.ns_word.specs.declared.env_walk.EnvNext.{EnvNext}
-use Rattle.ns_word.specs.declared.env_walk.EnvNext.TheVariants.{Go, Repeat, Over, Shown}
+use Rattle.ns_word.specs.declared.env_walk.EnvNext.TheVariants.{Go, Repeat, Over, LookOver}
 use Rattle.ns_word.specs.declared.walk.Reply.TheVariants.{NotesFull, Is}
 use Rattle.ns_word.specs.EnvWalks.{standing_of, env_want_of, env_got_of, env_walk_after, chain_note, stopped, passed, up_to, lowered_to}
 use Rattle.ns_word.specs.EnvSteps.{EnvPlain, EnvState, EnvEffect, EnvStep, Meets, IfMade, AskFits, is_adding, adders, IsLawfulEnv}
@@ -225,13 +225,13 @@ abbrev NextFits : EnvStanding → ℕ → EnvNext → Type 0
 NextFits now seat (Go walk) = AskFits now seat walk
 NextFits now seat (Repeat walk) = AskFits now seat walk
 NextFits now seat (Over reply) = Unit {0}
-NextFits now seat (Shown cause) = Unit {0}
+NextFits now seat (LookOver cause) = Unit {0}
 
 next_fits : (now : EnvStanding) (seat : ℕ) (next : EnvNext) (walk : EnvWalk) → env_walk_after next ≡ Some walk → NextFits now seat next → AskFits now seat walk
 next_fits now seat (Go w) walk e p = let is : w ≡ walk = cc in subst (AskFits now seat) is p
 next_fits now seat (Repeat w) walk e p = let is : w ≡ walk = cc in subst (AskFits now seat) is p
 next_fits now seat (Over reply) walk e p = absurd (cc)
-next_fits now seat (Shown cause) walk e p = absurd (cc)
+next_fits now seat (LookOver cause) walk e p = absurd (cc)
 
 stopped_fits : (now : EnvStanding) (seat : ℕ) (chain : Chain) → NextFits now seat (stopped chain)
 stopped_fits now seat (ForLook limits) = tt
@@ -243,7 +243,7 @@ due_or_not now seat true one other p q = p
 due_or_not now seat false one other p q = q
 
 passed_fits : (now : EnvStanding) (seat : ℕ) (chain : Chain) (clock : ℕ) → IfMade now.notes (chain_note chain) → NextFits now seat (passed chain clock)
-passed_fits now seat (ForLook limits) clock p = due_or_not now seat _ (Shown (Some Expired)) (Shown None) tt tt
+passed_fits now seat (ForLook limits) clock p = due_or_not now seat _ (LookOver (Some Expired)) (LookOver None) tt tt
 passed_fits now seat (ForIsNotified note) clock p = tt
 passed_fits now seat (ForNoteWait note deadline) clock p = due_or_not now seat _ (Over (Is false)) (Repeat (ClockLoad (ForNoteWait note deadline))) tt p
 
@@ -367,7 +367,7 @@ stopped_none (ForIsNotified note) = refl
 stopped_none (ForNoteWait note deadline) = refl
 
 passed_none : (chain : Chain) (clock : ℕ) → adds_not (env_walk_after (passed chain clock))
-passed_none (ForLook limits) clock = one_of _ (Shown (Some Expired)) (Shown None) refl refl
+passed_none (ForLook limits) clock = one_of _ (LookOver (Some Expired)) (LookOver None) refl refl
 passed_none (ForIsNotified note) clock = refl
 passed_none (ForNoteWait note deadline) clock = one_of _ (Over (Is false)) (Repeat (ClockLoad (ForNoteWait note deadline))) refl refl
 

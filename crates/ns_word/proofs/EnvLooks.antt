@@ -10,7 +10,7 @@ use Rattle.ns_word.specs.declared.env_walk.Chain.{Chain}
 use Rattle.ns_word.specs.declared.env_walk.Chain.TheVariants.{ForLook, ForIsNotified, ForNoteWait}
 use Rattle.ns_word.specs.declared.env_walk.EnvWalk.TheVariants.{ClockLoad, NoteLoad, ExpiryLoad}
 use Rattle.ns_word.specs.declared.env_walk.EnvNext.{EnvNext}
-use Rattle.ns_word.specs.declared.env_walk.EnvNext.TheVariants.{Go, Repeat, Over, Shown}
+use Rattle.ns_word.specs.declared.env_walk.EnvNext.TheVariants.{Go, Repeat, Over, LookOver}
 use Rattle.ns_word.specs.declared.walk.Reply.TheVariants.{Is, Expiry}
 use Rattle.ns_word.specs.EnvWalks.{standing_of, env_got_of, stopped, passed, up_to, lowered_to}
 use Rattle.ns_word.specs.EnvSteps.{EnvPlain, EnvState, Meets, IsLawfulEnv, up_by, looked}
@@ -28,7 +28,7 @@ by_cond follow true one other p q = p
 by_cond follow false one other p q = q
 
 by_passed : (follow : ℕ → EnvNext) (chain : Chain) (clock : ℕ) → up_by follow (passed chain clock) ≡ passed chain clock
-by_passed follow (ForLook limits) clock = by_cond follow (is_due clock limits.deadline) (Shown (Some Expired)) (Shown None) refl refl
+by_passed follow (ForLook limits) clock = by_cond follow (is_due clock limits.deadline) (LookOver (Some Expired)) (LookOver None) refl refl
 by_passed follow (ForIsNotified note) clock = refl
 by_passed follow (ForNoteWait note deadline) clock = by_cond follow (is_due clock deadline) (Over (Is false)) (Repeat (ClockLoad (ForNoteWait note deadline))) refl refl
 
@@ -79,7 +79,7 @@ either_not true one other next p q e = p e
 either_not false one other next p q e = q e
 
 passed_not : (chain chain' : Chain) (at clock next : ℕ) → passed chain at ≡ Go (NoteLoad chain' clock next) → ⊥
-passed_not (ForLook limits) chain' at clock next e = either_not (is_due at limits.deadline) (Shown (Some Expired)) (Shown None) (Go (NoteLoad chain' clock next)) (λ e. absurd (cc)) (λ e. absurd (cc)) e
+passed_not (ForLook limits) chain' at clock next e = either_not (is_due at limits.deadline) (LookOver (Some Expired)) (LookOver None) (Go (NoteLoad chain' clock next)) (λ e. absurd (cc)) (λ e. absurd (cc)) e
 passed_not (ForIsNotified note) chain' at clock next e = absurd (cc)
 passed_not (ForNoteWait note deadline) chain' at clock next e = either_not (is_due at deadline) (Over (Is false)) (Repeat (ClockLoad (ForNoteWait note deadline))) (Go (NoteLoad chain' clock next)) (λ e. absurd (cc)) (λ e. absurd (cc)) e
 

@@ -14,8 +14,8 @@ use Rattle.ns_word.specs.declared.act.Found.{Found}
 use Rattle.ns_word.specs.declared.act.Found.TheVariants.{Saw, Made, Cell, Quiet, Tested, Scanned, Paid, Left, Woke, Flag}
 use Rattle.ns_word.specs.Codec.{number_of, word_of}
 use Rattle.ns_word.specs.Walks.{want_of}
-use Rattle.ns_word.specs.Steps.{State, Part, Effect, Step, part_of}
-use Rattle.ns_word.specs.Finds.{row_in, before_in, number_at, exchanged, scanned, owes_more, found_of, IsLook}
+use Rattle.ns_word.specs.Steps.{LockState, Part, Effect, Step, part_of}
+use Rattle.ns_word.specs.Finds.{row_in, before_in, content_at, exchanged, scanned, owes_more, found_of, IsLook}
 use Rattle.ns_word.specs.Lawful.{SectionFits, IsLawful}
 use Rattle.ns_word.proofs.Codes.{decoded}
 use Rattle.ns_word.proofs.Acts.{view_fits}
@@ -30,7 +30,7 @@ refused_at word last seen made e ne =
     let apart : eqb (number_of last) (number_of word) ≡ false = ne_eqb (number_of last) (number_of word) (λ same. ne (e ∙ sym (decoded word) ∙ sym (ap word_of same) ∙ decoded last)) in
     ap Saw (e ∙ sym (decoded word)) ∙ sym (ap (λ b. cond b made (Saw (word_of (number_of word)))) apart)
 
-module _ {C : Type 0} {N : ℕ} (truths : Truths C) (old : State C N) (view : SeatView C N) where
+module _ {C : Type 0} {N : ℕ} (truths : Truths C) (old : LockState C N) (view : SeatView C N) where
   -- the row of the section in hand is the row's cells
   abbrev RowFits : Type 0
   RowFits = (held : Held C N) → view.held ≡ Some held → held.row ≡ old.row
@@ -38,7 +38,7 @@ module _ {C : Type 0} {N : ℕ} (truths : Truths C) (old : State C N) (view : Se
   scans : (held : Held C N) → view.held ≡ Some held → RowFits → (owes : Bool) (tests : ℕ) → scanned truths old.row old.lists.lock ≡ Scanned owes tests → Scanned owes tests ≡ scanned truths (row_in view.held) old.lists.lock
   scans held is row owes tests e = sym e ∙ ap (λ r. scanned truths r old.lists.lock) (sym (row held is) ∙ ap row_in (sym is))
 
-  finds : (act : Act C) (found : Found) (new : Part C N) (commits : List (Event C N)) → RowFits → (IsLook act → ⊥) → Effect truths view.seat act (part_of old view.held view.owed) found new commits → found ≡ found_of truths act view old.lists (number_at view.seat act old)
+  finds : (act : Act C) (found : Found) (new : Part C N) (commits : List (Event C N)) → RowFits → (IsLook act → ⊥) → Effect truths view.seat act (part_of old view.held view.owed) found new commits → found ≡ found_of truths act view old.lists (content_at view.seat act old)
   finds LoadWord (Saw word) new commits row other e = ap Saw (e.0 ∙ sym (decoded old.word))
   finds (Acquire aim arrival last) (Saw word) new commits row other e = refused_at old.word last word Made e.0 e.1
   finds (Acquire aim arrival last) Made new commits row other e = sym (made_at old.word last Made e.0)
@@ -65,12 +65,12 @@ module _ {C : Type 0} {N : ℕ} (truths : Truths C) (old : State C N) (view : Se
   finds act found new commits row other e = absurd e
 
 -- a section in hand has the row's cells
-row_fits : {C : Type 0} {N : ℕ} (truths : Truths C) (seats : ℕ) (h : List (Event C N)) (old : State C N) (view : SeatView C N) (walk : Option (Walk C)) (held : Option (Held C N)) → view.held ≡ held → SectionFits (standing_after h) old.row view.seat walk held → RowFits truths old view
+row_fits : {C : Type 0} {N : ℕ} (truths : Truths C) (seats : ℕ) (h : List (Event C N)) (old : LockState C N) (view : SeatView C N) (walk : Option (Walk C)) (held : Option (Held C N)) → view.held ≡ held → SectionFits (standing_after h) old.row view.seat walk held → RowFits truths old view
 row_fits truths seats h old view walk None e p = λ held is. let never : None ≡ Some held = sym e ∙ is in absurd (cc)
 row_fits truths seats h old view walk (Some was) e p = λ held is. let one : Some was ≡ Some held = sym e ∙ is in let same : was ≡ held = cc in ap (λ x. x.row) (sym same) ∙ p.cells
 
-pub step_finds : {C : Type 0} {N : ℕ} (truths : Truths C) (seats : ℕ) (h : List (Event C N)) (old : State C N) (view : SeatView C N) (found : Found) (new : State C N) (commits : List (Event C N)) → seats ≤ 64 → (step : Step truths old view found new commits) → IsLawful truths seats h old → (IsLook (want_of step.walk) → ⊥) →
-    found ≡ found_of truths (want_of step.walk) view old.lists (number_at view.seat (want_of step.walk) old)
+pub step_finds : {C : Type 0} {N : ℕ} (truths : Truths C) (seats : ℕ) (h : List (Event C N)) (old : LockState C N) (view : SeatView C N) (found : Found) (new : LockState C N) (commits : List (Event C N)) → seats ≤ 64 → (step : Step truths old view found new commits) → IsLawful truths seats h old → (IsLook (want_of step.walk) → ⊥) →
+    found ≡ found_of truths (want_of step.walk) view old.lists (content_at view.seat (want_of step.walk) old)
 step_finds truths seats h old view found new commits few step p other =
     let fits = view_fits truths seats few h old step.front view step.back step.was p in
     finds truths old view (want_of step.walk) found _ commits (row_fits truths seats h old view view.walk view.held refl fits.section) other step.effect

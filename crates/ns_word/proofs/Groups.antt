@@ -8,7 +8,7 @@ use Rattle.ns_word.specs.declared.view.SeatView.{SeatView}
 use Rattle.ns_word.specs.Lists.{has_some, bits_of}
 use Rattle.ns_word.specs.Views.{queuers, AreApart}
 use Rattle.ns_model.specs.Truths.{Truths}
-use Rattle.ns_word.specs.Steps.{State}
+use Rattle.ns_word.specs.Steps.{LockState}
 use Rattle.ns_word.specs.Lawful.{OneWriter, ReadersCounted, OneHistory, SpinHeldOnce, bits_in, WaitersPlaced, WaitersOwn, VariablesTell, DesigOnItsWay, IdleWaitersFalse, AllFalseTrue, WordsSeen, IsLawful}
 
 -- the sections
@@ -30,7 +30,7 @@ pub record Known {C : Type 0} {N : ℕ} (holds : C → List ℕ → Bool) (word 
   pub free : IdleWaitersFalse holds now word lock views
   pub empty : word.waiting ≡ false → (has_some lock ≡ false) × (queuers views ≡ 0)
 
-pub record Groups {C : Type 0} {N : ℕ} (truths : Truths C) (seats : ℕ) (history : List (Event C N)) (s : State C N) : Type 0 where
+pub record Groups {C : Type 0} {N : ℕ} (truths : Truths C) (seats : ℕ) (history : List (Event C N)) (s : LockState C N) : Type 0 where
   pub safe : Safe truths seats history s.word s.row s.views
   pub homed : Homed s.word s.lists.lock s.views
   pub placed : WaitersPlaced s.lists s.flags s.views
@@ -38,7 +38,7 @@ pub record Groups {C : Type 0} {N : ℕ} (truths : Truths C) (seats : ℕ) (hist
   pub told : VariablesTell (standing_after history).phases s.lists s.views
   pub known : Known truths.holds s.word (standing_after history).row s.lists.lock s.flags s.views
 
-module _ {C : Type 0} {N : ℕ} (truths : Truths C) (seats : ℕ) (history : List (Event C N)) (s : State C N) where
+module _ {C : Type 0} {N : ℕ} (truths : Truths C) (seats : ℕ) (history : List (Event C N)) (s : LockState C N) where
   pub groups_of : IsLawful truths seats history s → Groups truths seats history s
   groups_of p = record {
     safe = record { one_writer = p.one_writer; count = p.readers_counted; one_history = p.one_history; apart = p.apart };

@@ -40,7 +40,7 @@ use Rattle.ns_word.specs.Words.{is_held, is_woken, tries_of, mode_released, may_
 use Rattle.ns_word.specs.Lists.{has_some, has_eligible, bits_of, queued, times_among}
 use Rattle.ns_word.specs.Walks.{Stance, has_queues, is_queuing, has_armed, waits_in, awaits, pays, was_woken, calls_from_lock, is_on_way, phase_by}
 use Rattle.ns_word.specs.Views.{called_to, walk_at, NoneIs}
-use Rattle.ns_word.specs.Steps.{State, section_of, flags_with, meets_at, with_lock}
+use Rattle.ns_word.specs.Steps.{LockState, section_of, flags_with, meets_at, with_lock}
 use Rattle.ns_word.specs.Places.{IsSettledBy, PlaceFits}
 use Rattle.ns_word.specs.Lawful.{IsExpected, is_armed, is_unwoken, ViewFits, WaitersOwn, VariableWaiterFits, VariablesTell, lock_stance, bits_in, phase_before}
 use Rattle.ns_word.proofs.Groups.{Safe, Homed, Known, Groups}
@@ -139,7 +139,7 @@ times_lock : {C : Type 0} (lists : Lists C) (lock : List (Waiter C)) (seat : ℕ
 times_lock lists lock seat = omega arith
 
 module _ {C : Type 0} {N : ℕ} (truths : Truths C) (seats : ℕ) (h : List (Event C N)) (front : List (SeatView C N)) (who : ℕ) (walk walk' : Option (Walk C)) (back : List (SeatView C N)) where
-  abbrev st : Option (Walk C) → Word → List ℕ → Lists C → (ℕ → ℕ) → Option (Held C N) → List ℕ → State C N
+  abbrev st : Option (Walk C) → Word → List ℕ → Lists C → (ℕ → ℕ) → Option (Held C N) → List ℕ → LockState C N
   st walk word row lists flags held owed = record { word = word; row = row; lists = lists; flags = flags; views = front ++ view_of who walk held owed ∷ back }
 
   fits : (word : Word) (row : List ℕ) (held : Option (Held C N)) (owed : List ℕ) → Safe truths seats h word row (front ++ view_of who walk held owed ∷ back) →
@@ -388,25 +388,25 @@ module _ {C : Type 0} {N : ℕ} (truths : Truths C) (seats : ℕ) (h : List (Eve
   leaves k mode word row lists flags owed few low idle stood wait place pay s s' set' q q' a' o phase p =
       let fit = fits word row None owed p.safe in
       let apart = others word row None owed p.safe in
-      let cv = waiters_of lists (Cv k) in
-      let lists' = with_waiters lists (Cv k) (without_in who cv) in
-      let gone : times_in who (without_in who cv) ≡ 0 = times_without who cv in
+      let waiting = waiters_of lists (Cv k) in
+      let lists' = with_waiters lists (Cv k) (without_in who waiting) in
+      let gone : times_in who (without_in who waiting) ≡ 0 = times_without who waiting in
       let four = p.placed.four in
       let here = placed_here front who walk None owed walk' None owed back lists flags apart p.placed in
       let within = times_at_most lists (Cv k) who four low in
       let most = one_most (is_unwoken walk (flags who)) in
       let flag : flags who ≡ 1 = due_flag walk (flags who) (omega (arith, here, most, stood, within)) in
       let unowed : called_to who (front ++ view_of who walk None owed ∷ back) ≡ 0 = let less = called_most who (front ++ view_of who walk None owed ∷ back) in omega (arith, here, most, stood, within, less) in
-      let waiter = one_of (VariableWaiterFits (standing_after h).phases (front ++ view_of who walk None owed ∷ back) k) who cv stood (p.told.own k low) in
+      let waiter = one_of (VariableWaiterFits (standing_after h).phases (front ++ view_of who walk None owed ∷ back) k) who waiting stood (p.told.own k low) in
       let same_mode : waiter.0.mode ≡ mode = sym (ap stance_mode waiter.2.stands) ∙ ap (λ seat. stance_mode (waits_in (walk_at seat (front ++ view_of who walk None owed ∷ back)))) waiter.1 ∙ ap (λ w. stance_mode (waits_in w)) (walk_here front (view_of who walk None owed) back apart) ∙ ap stance_mode wait in
       let was : (standing_after h).phases who ≡ Waiting k mode = subst (λ seat. (standing_after h).phases seat ≡ Waiting k waiter.0.mode) waiter.1 waiter.2.waits ∙ ap (Waiting k) same_mode in
       let row_same : (standing_after (h ++ Leave who k ∷ [])).row ≡ (standing_after h).row = ap (λ (s : Standing C). s.row) (standing_from-append (first_standing N) h (Leave who k ∷ [])) in
       record {
         safe = left_variable truths seats h front who walk owed walk' owed back k mode word (word_returned false (bits_of lists.lock) word) row few was phase refl refl place (fit.owes ∙ sym pay) p.safe;
         homed = back_home front who walk None owed walk' None owed back word (word_returned false (bits_of lists.lock) word) lists.lock lists.lock refl refl s s' p.homed;
-        placed = withdrawn front who walk None owed walk' None owed back lists lists' (times_in who cv) flags apart (four_kept lists (Cv k) (without_in who cv) ∙ four) refl set'
-            (omega (arith, times_with lists (Cv k) (without_in who cv) who four low, gone)) (λ seat ne. let same = times_others seat who cv ne in omega (arith, times_with lists (Cv k) (without_in who cv) seat four low, same)) (λ some. a') (λ z. absurd (omega (arith, stood, z))) p.placed;
-        own = own_stays front who walk None owed walk' None owed back lists.lock (let other = times_with lists (Cv k) (without_in who cv) who four low in omega (arith, other, gone, here, most, stood, within)) p.own;
+        placed = withdrawn front who walk None owed walk' None owed back lists lists' (times_in who waiting) flags apart (four_kept lists (Cv k) (without_in who waiting) ∙ four) refl set'
+            (omega (arith, times_with lists (Cv k) (without_in who waiting) who four low, gone)) (λ seat ne. let same = times_others seat who waiting ne in omega (arith, times_with lists (Cv k) (without_in who waiting) seat four low, same)) (λ some. a') (λ z. absurd (omega (arith, stood, z))) p.placed;
+        own = own_stays front who walk None owed walk' None owed back lists.lock (let other = times_with lists (Cv k) (without_in who waiting) who four low in omega (arith, other, gone, here, most, stood, within)) p.own;
         told = tell_leaves front who walk None owed walk' None owed back (standing_after h).phases (standing_after (h ++ Leave who k ∷ [])).phases lists k four low (omega (arith, here, most)) stood
             (left_there k) (λ j m e. let now_is : Left k mode ≡ Waiting j m = sym (left_here k mode was) ∙ e in absurd (cc)) p.told;
         known = subst (λ r. Known truths.holds (word_returned false (bits_of lists.lock) word) r lists.lock flags (front ++ view_of who walk' None owed ∷ back)) (sym row_same)

@@ -45,7 +45,7 @@ use Rattle.ns_word.specs.Words.{may_acquire, needs_scan}
 use Rattle.ns_word.specs.Waits.{answer_of, cause_in, is_limited, mode_for, outcome_taken}
 use Rattle.ns_word.specs.Walks.{want_of, got_waiting, got_signaling, got_of, walk_after, unmet_by, look_or_queue, test_place, load_place, armed_place, acquire_by, back_with, acquired_for, release_by}
 use Rattle.ns_model.specs.Truths.{Truths}
-use Rattle.ns_word.specs.Steps.{State, Part, Effect, Step, part_of}
+use Rattle.ns_word.specs.Steps.{LockState, Part, Effect, Step, part_of}
 use Rattle.ns_word.specs.Answers.{comes_back, place_has_come_back, has_come_back, is_back, cause_for, cause_by, place_cause_kept, cause_kept}
 
 -- ---- what ends a wait early
@@ -71,38 +71,38 @@ next_cause (Idle walk) = cause_kept walk
 next_cause (Done reply) = reply_cause reply
 
 -- a cause was kept before, or is shown now
-abbrev Shown : Option Cause → Found → Option Cause → Type 0
-Shown kept found now = (cause : Cause) → now ≡ Some cause → (kept ≡ Some cause) ⊎ (found ≡ Looked (Some cause))
+abbrev KeptOrFound : Option Cause → Found → Option Cause → Type 0
+KeptOrFound kept found now = (cause : Cause) → now ≡ Some cause → (kept ≡ Some cause) ⊎ (found ≡ Looked (Some cause))
 
-stays_shown : (kept : Option Cause) (found : Found) → Shown kept found kept
+stays_shown : (kept : Option Cause) (found : Found) → KeptOrFound kept found kept
 stays_shown kept found = λ cause e. inl e
 
-none_shown : (kept : Option Cause) (found : Found) → Shown kept found None
+none_shown : (kept : Option Cause) (found : Found) → KeptOrFound kept found None
 none_shown kept found = λ cause e. absurd (cc)
 
-now_shown : (kept : Option Cause) (cause : Cause) → Shown kept (Looked (Some cause)) (Some cause)
+now_shown : (kept : Option Cause) (cause : Cause) → KeptOrFound kept (Looked (Some cause)) (Some cause)
 now_shown kept cause = λ other e. inr (ap Looked e)
 
-answer_shown : (kept : Option Cause) (found : Found) (cause : Cause) → Shown kept found (Some cause) → Shown kept found (answer_cause (answer_of cause))
-answer_shown kept found cause p = subst (λ now. Shown kept found now) (sym (answer_back cause)) p
+answer_shown : (kept : Option Cause) (found : Found) (cause : Cause) → KeptOrFound kept found (Some cause) → KeptOrFound kept found (answer_cause (answer_of cause))
+answer_shown kept found cause p = subst (λ now. KeptOrFound kept found now) (sym (answer_back cause)) p
 
 module _ {C : Type 0} (kept : Option Cause) (found : Found) where
-  abbrev ShownNext : Next C → Type 0
-  ShownNext next = Shown kept found (next_cause next)
+  abbrev KeptOrFoundNext : Next C → Type 0
+  KeptOrFoundNext next = KeptOrFound kept found (next_cause next)
 
-  either_shown : (b : Bool) (one other : Next C) → ShownNext one → ShownNext other → ShownNext (cond b one other)
+  either_shown : (b : Bool) (one other : Next C) → KeptOrFoundNext one → KeptOrFoundNext other → KeptOrFoundNext (cond b one other)
   either_shown true one other p q = p
   either_shown false one other p q = q
 
-  either_walk_shown : (b : Bool) (one other : Walk C) → Shown kept found (cause_kept one) → Shown kept found (cause_kept other) → Shown kept found (cause_kept (cond b one other))
+  either_walk_shown : (b : Bool) (one other : Walk C) → KeptOrFound kept found (cause_kept one) → KeptOrFound kept found (cause_kept other) → KeptOrFound kept found (cause_kept (cond b one other))
   either_walk_shown true one other p q = p
   either_walk_shown false one other p q = q
 
-release_shown : (C : Type 0) (found : Found) (releasing : Releasing) (word : Word) → ShownNext None found (release_by {C = C} releasing word)
+release_shown : (C : Type 0) (found : Found) (releasing : Releasing) (word : Word) → KeptOrFoundNext None found (release_by {C = C} releasing word)
 release_shown C found releasing word = either_shown None found (not (needs_scan releasing word)) _ _ (none_shown _ _) (either_shown None found word.spin _ _ (none_shown _ _) (none_shown _ _))
 
 -- a call that wakes keeps none
-signaling_shown : (C : Type 0) (waking : Waking) (k : ℕ) (place : SignalPlace) (found : Found) → ShownNext None found (got_signaling {C = C} waking k place found)
+signaling_shown : (C : Type 0) (waking : Waking) (k : ℕ) (place : SignalPlace) (found : Found) → KeptOrFoundNext None found (got_signaling {C = C} waking k place found)
 signaling_shown C waking k SignalLoad (Saw word) = either_shown None _ word.spin _ _ (none_shown _ _) (none_shown _ _)
 signaling_shown C waking k (TakeToWake last) (Saw word) = either_shown None _ word.spin _ _ (none_shown _ _) (none_shown _ _)
 signaling_shown C waking k (TakeToWake last) Made = none_shown _ _
@@ -113,24 +113,24 @@ signaling_shown C waking k place found = none_shown None found
 
 module _ {C : Type 0} (N : ℕ) where
   -- the tests keep the cause that they were begun with
-  test_shown : (found : Found) (wait : Wait C) (visit : Visit) (loaded : ℕ) → Shown (cause_by visit) found (cause_kept (test_place N wait visit loaded))
+  test_shown : (found : Found) (wait : Wait C) (visit : Visit) (loaded : ℕ) → KeptOrFound (cause_by visit) found (cause_kept (test_place N wait visit loaded))
   test_shown found wait visit loaded =
       either_walk_shown (cause_by visit) found (ltb loaded (N - 1)) (InWait wait (TestCells visit loaded)) (InWait wait (TestLast visit (N - 1))) (stays_shown (cause_by visit) found) (stays_shown (cause_by visit) found)
 
   -- a wait for a variable keeps no cause that was woken before it left
-  taken_shown : (found : Found) (on : Subject C) (cause : Cause) (flag : ℕ) → Shown (Some cause) found (cause_in (outcome_taken on cause flag))
+  taken_shown : (found : Found) (on : Subject C) (cause : Cause) (flag : ℕ) → KeptOrFound (Some cause) found (cause_in (outcome_taken on cause flag))
   taken_shown found (OnCondition c) cause flag = stays_shown (Some cause) found
   taken_shown found (OnVariable k) cause flag = none_shown (Some cause) found
 
-  looks_shown : (kept : Option Cause) (found : Found) (wait : Wait C) (again : Bool) → ShownNext kept found (look_or_queue wait again)
+  looks_shown : (kept : Option Cause) (found : Found) (wait : Wait C) (again : Bool) → KeptOrFoundNext kept found (look_or_queue wait again)
   looks_shown kept found wait again = either_shown kept found (is_limited wait.limits) (On (InWait wait (InQueuing again LookIn))) (On (InWait wait (InQueuing again Load))) (none_shown kept found) (none_shown kept found)
 
-  unmet_shown : (found : Found) (wait : Wait C) (visit : Visit) → ShownNext (cause_by visit) found (unmet_by wait visit)
+  unmet_shown : (found : Found) (wait : Wait C) (visit : Visit) → KeptOrFoundNext (cause_by visit) found (unmet_by wait visit)
   unmet_shown found wait OnEntry = looks_shown None found wait false
   unmet_shown found wait (OnReturn (Woken by)) = looks_shown None found wait true
   unmet_shown found wait (OnReturn (Ended cause)) = answer_shown (Some cause) found cause (stays_shown (Some cause) found)
 
-  waiting_shown : (wait : Wait C) (place : WaitPlace) (found : Found) → ShownNext (place_cause_kept place) found (got_waiting N wait place found)
+  waiting_shown : (wait : Wait C) (place : WaitPlace) (found : Found) → KeptOrFoundNext (place_cause_kept place) found (got_waiting N wait place found)
   waiting_shown wait (TestCells visit i) (Cell v) = test_shown (Cell v) wait visit (i + 1)
   waiting_shown wait (TestLast visit i) (Tested met) = either_shown _ _ met _ _ (none_shown _ _) (unmet_shown (Tested met) wait visit)
   waiting_shown wait (InQueuing again LookIn) (Looked None) = none_shown _ _
@@ -154,21 +154,21 @@ module _ {C : Type 0} (N : ℕ) where
   waiting_shown wait (InLeaving cause AwaitWakeToLeave) (Flag v) = either_shown _ _ (eqb v 1) _ _ (stays_shown _ _) (taken_shown (Flag v) wait.on cause v)
   waiting_shown wait place found = stays_shown (place_cause_kept place) found
 
-  acquire_shown : (found : Found) (aim : Aim C) (arrival : Arrival) (word : Word) → ShownNext (cause_for aim) found (acquire_by aim arrival word)
+  acquire_shown : (found : Found) (aim : Aim C) (arrival : Arrival) (word : Word) → KeptOrFoundNext (cause_for aim) found (acquire_by aim arrival word)
   acquire_shown found aim arrival word =
       either_shown (cause_for aim) found (may_acquire (mode_for aim) arrival word) _ _ (stays_shown _ _) (either_shown (cause_for aim) found word.spin _ _ (stays_shown _ _) (stays_shown _ _))
 
   -- a wait for a condition that comes back tests it with what came of it, and one for a variable answers that
-  back_shown : (found : Found) (on : Subject C) (wait : Wait C) (outcome : Outcome) → ShownNext (cause_in outcome) found (back_with N on wait outcome)
+  back_shown : (found : Found) (on : Subject C) (wait : Wait C) (outcome : Outcome) → KeptOrFoundNext (cause_in outcome) found (back_with N on wait outcome)
   back_shown found (OnCondition c) wait outcome = test_shown found wait (OnReturn outcome) 0
   back_shown found (OnVariable k) wait (Woken by) = none_shown None found
   back_shown found (OnVariable k) wait (Ended cause) = answer_shown (Some cause) found cause (stays_shown (Some cause) found)
 
-  acquired_shown : (found : Found) (aim : Aim C) → ShownNext (cause_for aim) found (acquired_for N aim)
+  acquired_shown : (found : Found) (aim : Aim C) → KeptOrFoundNext (cause_for aim) found (acquired_for N aim)
   acquired_shown found (ForLock mode) = none_shown _ _
   acquired_shown found (ForWait wait outcome) = back_shown found wait.on wait outcome
 
-  shown_by : (walk : Walk C) (found : Found) → ShownNext (cause_kept walk) found (got_of N walk found)
+  shown_by : (walk : Walk C) (found : Found) → KeptOrFoundNext (cause_kept walk) found (got_of N walk found)
   shown_by (InTry mode TryLoad) (Saw word) = either_shown _ _ (may_acquire mode AsFresh word) _ _ (none_shown _ _) (none_shown _ _)
   shown_by (InTry mode (TryAcquire last)) (Saw word) = none_shown _ _
   shown_by (InTry mode (TryAcquire last)) Made = none_shown _ _
@@ -331,7 +331,7 @@ module _ {C : Type 0} {N : ℕ} (truths : Truths C) where
   holder_acquires_not seat _ _ old new commits was e p = refl
 
   -- With a section in hand, a call that isn't such a wait doesn't become one.
-  pub stays_out : (old new : State C N) (view : SeatView C N) (found : Found) (commits : List (Event C N)) (was : Held C N) →
+  pub stays_out : (old new : LockState C N) (view : SeatView C N) (found : Found) (commits : List (Event C N)) (was : Held C N) →
       (step : Step truths old view found new commits) → has_come_back step.walk ≡ false → view.held ≡ Some was → Out (got_of N step.walk found)
   stays_out old new view found commits was step e p =
       out_by N step.walk found e (holder_acquires_not view.seat step.walk found (part_of old view.held view.owed) (part_of new step.held step.owed) commits was step.effect p)

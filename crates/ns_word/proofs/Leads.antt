@@ -42,7 +42,7 @@ use Rattle.ns_word.specs.declared.walk.Reply.TheVariants.{Busy, Answered}
 use Rattle.ns_word.specs.Words.{mode_released, may_acquire, needs_scan}
 use Rattle.ns_word.specs.Lists.{has_eligible}
 use Rattle.ns_word.specs.Waits.{IsWokenBy, is_limited, mode_for, phase_kept}
-use Rattle.ns_word.specs.Walks.{judged, walk_after, acquire_by, back_with, acquired_for, load_place, armed_place, signal_by, pay_woken, expected_for, calls_from_lock, was_woken, release_by, quiet_place, scan_place, pay_releasing, test_place, unmet_by, queue_by, pay_waiting, rest_or_look, leave_by, has_queues, is_queuing, has_armed, waits_in, pays, phase_by}
+use Rattle.ns_word.specs.Walks.{after_judging, walk_after, acquire_by, back_with, acquired_for, load_place, armed_place, signal_by, pay_woken, expected_for, calls_from_lock, was_woken, release_by, quiet_place, scan_place, pay_releasing, test_place, unmet_by, queue_by, pay_waiting, rest_or_look, leave_by, has_queues, is_queuing, has_armed, waits_in, pays, phase_by}
 use Rattle.ns_model.specs.Truths.{Truths, QuietKeeps}
 use Rattle.ns_word.specs.Answers.{cause_by}
 use Rattle.ns_word.specs.Steps.{MayShow, newly_held, opening_by, held_after, meets_at}
@@ -136,7 +136,7 @@ module _ {C : Type 0} {N : ℕ} (truths : Truths C) where
   pub quiet_leads : (judging : Judging) (held : Option (Held C N)) (loaded : ℕ) → 0 < N → HasMode Write held → IsSettled truths held → Leads None (Some (InCells (quiet_place N judging loaded))) held
   quiet_leads judging held loaded some p settled = quiet_place_at judging held loaded (ltb loaded (N - 1)) refl some p settled
 
-  pub judged_leads : (judging : Judging) (held : Option (Held C N)) (b : Bool) → (b ≡ true → CanLeave truths QuietWriter held) → IsSettled truths held → Leads None (walk_after (judged judging b)) held
+  pub judged_leads : (judging : Judging) (held : Option (Held C N)) (b : Bool) → (b ≡ true → CanLeave truths QuietWriter held) → IsSettled truths held → Leads None (walk_after (after_judging judging b)) held
   judged_leads ToTell held b p settled = (settled, (refl, refl, refl, refl), refl, λ flag n f. f, λ none. refl)
   judged_leads ToRelease held true p settled = (p refl, (refl, refl, refl, refl), refl, λ flag n f. f, λ none. refl)
   judged_leads ToRelease held false p settled = (settled, (refl, refl, refl, refl), refl, λ flag n f. f, λ none. refl)

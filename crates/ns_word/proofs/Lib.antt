@@ -32,7 +32,7 @@ pub mod Scans
 pub mod Seen
 pub mod Stands
 pub mod Starts
-pub mod Tells
+pub mod ToldAfter
 pub mod Variables
 pub mod Views
 pub mod Waits

@@ -39,7 +39,7 @@ use Rattle.ns_word.specs.declared.limits.Cause.{Cause}
 use Rattle.ns_word.specs.Words.{is_woken, may_acquire}
 use Rattle.ns_word.specs.Waits.{mode_for}
 use Rattle.ns_word.specs.Walks.{want_of, judge_of, want_releasing, want_in_cells, want_queuing, want_leaving, want_waiting, want_signaling, was_woken}
-use Rattle.ns_word.specs.Steps.{State, Part, Effect, Step, part_of, held_after}
+use Rattle.ns_word.specs.Steps.{LockState, Part, Effect, Step, part_of, held_after}
 
 -- such a word is acquired by one that was woken alone
 long_shuts : (mode : Mode) (arrival : Arrival) (word : Word) → word.long ≡ true → may_acquire mode arrival word ≡ true → is_woken arrival ≡ true
@@ -156,6 +156,6 @@ module _ (C : Type 0) where
   passes (InWait wait place) word long g = absurd (wait_gains_not wait place word g)
   passes (InSignal waking k place) word long g = absurd (signal_gains_not waking k place word g)
 
-pub woken_pass : {C : Type 0} {N : ℕ} (truths : Truths C) (old : State C N) (view : SeatView C N) (found : Found) (new : State C N) (commits : List (Event C N)) (held : Held C N) → (step : Step truths old view found new commits) → old.word.long ≡ true → view.held ≡ None → step.held ≡ Some held → was_woken (Some step.walk) ≡ true
+pub woken_pass : {C : Type 0} {N : ℕ} (truths : Truths C) (old : LockState C N) (view : SeatView C N) (found : Found) (new : LockState C N) (commits : List (Event C N)) (held : Held C N) → (step : Step truths old view found new commits) → old.word.long ≡ true → view.held ≡ None → step.held ≡ Some held → was_woken (Some step.walk) ≡ true
 woken_pass truths old view found new commits held step long none some =
     passes _ step.walk old.word long (gained truths view.seat (want_of step.walk) (part_of old view.held view.owed) found (part_of new step.held step.owed) commits held step.effect none some)

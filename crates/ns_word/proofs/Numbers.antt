@@ -7,7 +7,7 @@ use Rattle.ns_word.specs.declared.walk.Walk.{Walk}
 use Rattle.ns_word.specs.declared.act.Found.{Found}
 use Rattle.ns_word.specs.Views.{AreNumbered}
 use Rattle.ns_word.specs.Walks.{want_of, got_of, walk_after}
-use Rattle.ns_word.specs.Steps.{State, Effect, Step, part_of}
+use Rattle.ns_word.specs.Steps.{LockState, Effect, Step, part_of}
 use Rattle.ns_word.specs.Begins.{Begins, IsFirst}
 use Rattle.ns_word.specs.Places.{PlaceFits}
 
@@ -47,9 +47,9 @@ set_again [] i x y = refl
 set_again (z ∷ xs) zero x y = refl
 set_again (z ∷ xs) (suc i) x y = ap (λ zs. z ∷ zs) (set_again xs i x y)
 
-module _ {C : Type 0} {N : ℕ} (truths : Truths C) (old : State C N) (i : ℕ) (view : SeatView C N) (at : slice_get old.views i ≡ Some view) (walk : Walk C) where
+module _ {C : Type 0} {N : ℕ} (truths : Truths C) (old : LockState C N) (i : ℕ) (view : SeatView C N) (at : slice_get old.views i ≡ Some view) (walk : Walk C) where
   -- the step whose effect is this, where the view at that number is set and no other
-  abbrev pub step_at : (found : Found) (new : State C N) (held : _) (owed : List ℕ) (commits : List (Event C N)) → view.walk ≡ Some walk →
+  abbrev pub step_at : (found : Found) (new : LockState C N) (held : _) (owed : List ℕ) (commits : List (Event C N)) → view.walk ≡ Some walk →
       new.views ≡ slice_set old.views i (record { seat = view.seat; walk = walk_after (got_of N walk found); held = held; owed = owed }) → Effect truths view.seat (want_of walk) (part_of old view.held view.owed) found (part_of new held owed) commits → Step truths old view found new commits
   step_at found new held owed commits walks becomes effect = record {
     walk = walk;
@@ -64,7 +64,7 @@ module _ {C : Type 0} {N : ℕ} (truths : Truths C) (old : State C N) (i : ℕ) 
   }
 
   -- and so the beginning of a call
-  abbrev pub begin_at : (new : State C N) → view.walk ≡ None → IsFirst N walk → PlaceFits truths (Some walk) view.held → new ≡ record old { views = slice_set old.views i (record view { walk = Some walk }) } → Begins truths old view walk new
+  abbrev pub begin_at : (new : LockState C N) → view.walk ≡ None → IsFirst N walk → PlaceFits truths (Some walk) view.held → new ≡ record old { views = slice_set old.views i (record view { walk = Some walk }) } → Begins truths old view walk new
   begin_at new over first fits becomes = record {
     over = over;
     first = first;

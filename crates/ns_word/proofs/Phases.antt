@@ -21,7 +21,7 @@ use Rattle.ns_word.specs.declared.walk.Walk.TheVariants.{InAcquire, InWait}
 use Rattle.ns_word.specs.Walks.{Stance, place_awaits, waits_in, expected_for}
 use Rattle.ns_word.specs.Views.{walk_at}
 use Rattle.ns_model.specs.Truths.{Truths}
-use Rattle.ns_word.specs.Steps.{State}
+use Rattle.ns_word.specs.Steps.{LockState}
 use Rattle.ns_word.specs.Places.{WaitFits, PlaceFits}
 use Rattle.ns_word.specs.Lawful.{SectionFits, EachFits, IsExpected, WaiterFits, WaitersOwn, IsLawful, cond_on, lock_stance}
 
@@ -120,12 +120,12 @@ module _ {C : Type 0} {N : ℕ} where
     | inr other ↦ few_at truths seats now row seat views mode c tries p.1 (subst (λ b. lock_stance (waits_in (cond b u.walk (walk_at seat views))) ≡ Some (mode, c, tries)) (ne_eqb u.seat seat other) e)
   ]
 
-  pub waiter_tries : (truths : Truths C) (seats : ℕ) (h : List (Event C N)) (s : State C N) (at : ℕ) (w : Waiter C) → IsLawful truths seats h s → slice_get s.lists.lock at ≡ Some w → w.tries ≤ 30
+  pub waiter_tries : (truths : Truths C) (seats : ℕ) (h : List (Event C N)) (s : LockState C N) (at : ℕ) (w : Waiter C) → IsLawful truths seats h s → slice_get s.lists.lock at ≡ Some w → w.tries ≤ 30
   waiter_tries truths seats h s at w p found =
       let own : WaiterFits s.views w = subst (λ x. FitsIf s.views x) found (own_at s.lists.lock s.views at p.waiters_own) in
       few_at truths seats (standing_after h) s.row w.seat s.views w.mode w.cond w.tries p.one_history.each own
 
-  pub waiter_phase : (truths : Truths C) (seats : ℕ) (h : List (Event C N)) (s : State C N) (at : ℕ) (w : Waiter C) (c : C) → IsLawful truths seats h s → slice_get s.lists.lock at ≡ Some w → w.cond ≡ Some c → phase_of h w.seat ≡ Cond c w.mode
+  pub waiter_phase : (truths : Truths C) (seats : ℕ) (h : List (Event C N)) (s : LockState C N) (at : ℕ) (w : Waiter C) (c : C) → IsLawful truths seats h s → slice_get s.lists.lock at ≡ Some w → w.cond ≡ Some c → phase_of h w.seat ≡ Cond c w.mode
   waiter_phase truths seats h s at w c p found e =
       let own : WaiterFits s.views w = subst (λ x. FitsIf s.views x) found (own_at s.lists.lock s.views at p.waiters_own) in
       phase_at truths (standing_after h) s.row seats w.seat s.views w.mode c w.tries p.one_history.each (stance_of (waits_in (walk_at w.seat s.views)) w.mode c w.tries (own ∙ ap (λ x. Some (w.mode, x, w.tries)) e))

@@ -17,7 +17,7 @@ use Rattle.ns_word.specs.Lists.{times_among}
 use Rattle.ns_word.specs.Walks.{awaits}
 use Rattle.ns_word.specs.Views.{is_reading, readers, owed_to, walk_at, NoneIs, AreApart}
 use Rattle.ns_model.specs.Truths.{Truths}
-use Rattle.ns_word.specs.Steps.{State, flags_with}
+use Rattle.ns_word.specs.Steps.{LockState, flags_with}
 use Rattle.ns_word.specs.Lawful.{EachFits, WaitersPlaced, IsLawful, is_unwoken}
 use Rattle.ns_model.specs.Tallies.{one_if}
 use Rattle.ns_word.proofs.Views.{one_most, owed_at, none_parts, each_parts}
@@ -62,7 +62,7 @@ module _ {C : Type 0} {N : ℕ} (lists : Lists C) (flags : ℕ → ℕ) (views :
       let sum : times seat lists + owed_to seat views ≡ one_if (is_unwoken (walk_at seat views) (flags seat)) = p.placed seat in
       due_awaits (walk_at seat views) (flags seat) (omega (arith, sum, some))
 
-module _ {C : Type 0} {N : ℕ} (truths : Truths C) (seats : ℕ) (h : List (Event C N)) (s : State C N) (placed : WaitersPlaced s.lists s.flags s.views) (each : EachFits truths seats (standing_after h) s.row s.views) where
+module _ {C : Type 0} {N : ℕ} (truths : Truths C) (seats : ℕ) (h : List (Event C N)) (s : LockState C N) (placed : WaitersPlaced s.lists s.flags s.views) (each : EachFits truths seats (standing_after h) s.row s.views) where
   -- no seat stands in the lists twice
   pub stands_once : (seat : ℕ) → times seat s.lists ≤ 1
   stands_once seat =
@@ -153,7 +153,7 @@ module _ {C : Type 0} {N : ℕ} where
       let here : one_if (eqb u.seat view.seat) ≡ 0 = rw (ne_eqb u.seat view.seat (λ e. (none_parts u.seat front view back p.0).1 (sym e))) refl in
       omega (arith, reading_more view.seat u (front ++ view ∷ back), reading_not front view back p.1 none, here)
 
-module _ {C : Type 0} {N : ℕ} (truths : Truths C) (seats : ℕ) (h : List (Event C N)) (s : State C N) (p : IsLawful truths seats h s) where
+module _ {C : Type 0} {N : ℕ} (truths : Truths C) (seats : ℕ) (h : List (Event C N)) (s : LockState C N) (p : IsLawful truths seats h s) where
   -- the word counts no more readers than there are seats
   pub readers_most : s.word.readers ≤ seats
   readers_most =

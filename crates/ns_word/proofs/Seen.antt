@@ -53,12 +53,12 @@ use Rattle.ns_word.specs.Words.{may_acquire, needs_scan, word_taken}
 use Rattle.ns_word.specs.Waits.{arrival_of, is_limited, mode_for, outcome_taken, woken_by}
 use Rattle.ns_word.specs.Views.{readers}
 use Rattle.ns_word.specs.Walks.{got_of, got_trying, got_acquiring, got_releasing, got_in_cells, got_waiting, got_queuing, got_leaving, got_signaling, walk_after, acquire_by, acquired_for, back_with, release_by, scan_place, test_place, load_place, armed_place, unmet_by, look_or_queue, queue_by, leave_by, signal_by, rest_or_look}
-use Rattle.ns_word.specs.Steps.{Part, State, Effect}
+use Rattle.ns_word.specs.Steps.{Part, LockState, Effect}
 use Rattle.ns_word.specs.Seen.{word_seen, HasNumber}
 use Rattle.ns_word.specs.Lawful.{IsLawful}
 use Rattle.ns_word.proofs.Ranges.{readers_most}
 
-pub packable : {C : Type 0} {N : ℕ} (truths : Truths C) (seats : ℕ) (h : List (Event C N)) (s : State C N) → seats ≤ 64 → IsLawful truths seats h s → IsPackable s.word
+pub packable : {C : Type 0} {N : ℕ} (truths : Truths C) (seats : ℕ) (h : List (Event C N)) (s : LockState C N) → seats ≤ 64 → IsLawful truths seats h s → IsPackable s.word
 packable truths seats h s few p =
     let most = readers_most truths seats h s p in
     let count : s.word.readers ≡ readers s.views = p.readers_counted in

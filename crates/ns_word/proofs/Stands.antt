@@ -17,7 +17,7 @@ use Rattle.ns_word.specs.Lawful.{EachFits, IsLawful}
 use Rattle.ns_word.specs.Lists.{queued}
 use Rattle.ns_word.specs.Places.{CanWait, IsInRange, IsUnmet, PlaceFits}
 use Rattle.ns_word.specs.Stands.{AreCalled, QueuesFor, WaitsFor, waiter}
-use Rattle.ns_word.specs.Steps.{State, Step, Effect, part_of, changed, moved_to, taken_by, kept_by, waits_at, with_lock, meets_at}
+use Rattle.ns_word.specs.Steps.{LockState, Step, Effect, part_of, changed, moved_to, taken_by, kept_by, waits_at, with_lock, meets_at}
 use Rattle.ns_word.specs.Waits.{mode_for}
 use Rattle.ns_word.specs.Walks.{want_of}
 use Rattle.ns_word.specs.Words.{is_woken, is_held, tries_of}
@@ -63,17 +63,17 @@ module _ (C : Type 0) (N : ℕ) (truths : Truths C) (seat : ℕ) where
   are_called waking k false lists = (refl, refl)
 
 -- the effect of a step whose walk is known
-effect_at : {C : Type 0} {N : ℕ} (truths : Truths C) (old new : State C N) (view : SeatView C N) (found : Found) (commits : List (Event C N)) (walk : Walk C) → (step : Step truths old view found new commits) → step.walk ≡ walk → Effect truths view.seat (want_of walk) (part_of old view.held view.owed) found (part_of new step.held step.owed) commits
+effect_at : {C : Type 0} {N : ℕ} (truths : Truths C) (old new : LockState C N) (view : SeatView C N) (found : Found) (commits : List (Event C N)) (walk : Walk C) → (step : Step truths old view found new commits) → step.walk ≡ walk → Effect truths view.seat (want_of walk) (part_of old view.held view.owed) found (part_of new step.held step.owed) commits
 effect_at truths old new view found commits walk step e = subst (λ w. Effect truths view.seat (want_of w) (part_of old view.held view.owed) found (part_of new step.held step.owed) commits) e step.effect
 
-pub queues_in_place : {C : Type 0} {N : ℕ} (truths : Truths C) (old new : State C N) (view : SeatView C N) (commits : List (Event C N)) (aim : Aim C) (arrival : Arrival) (last : Word) → (step : Step truths old view Made new commits) → step.walk ≡ InAcquire aim (Queue arrival last) →
+pub queues_in_place : {C : Type 0} {N : ℕ} (truths : Truths C) (old new : LockState C N) (view : SeatView C N) (commits : List (Event C N)) (aim : Aim C) (arrival : Arrival) (last : Word) → (step : Step truths old view Made new commits) → step.walk ≡ InAcquire aim (Queue arrival last) →
     QueuesFor view.seat (mode_for aim) arrival old.lists.lock new.lists.lock × (new.lists.cvs ≡ old.lists.cvs)
 queues_in_place {C} {N} truths old new view commits aim arrival last step walks =
     let e = effect_at truths old new view Made commits (InAcquire aim (Queue arrival last)) step walks in
     let lists : new.lists ≡ changed view.seat (QueueSelf (mode_for aim) arrival) last old.lists = ap (λ p. p.lists) e.2 in
     (subst (λ lock. QueuesFor view.seat (mode_for aim) arrival old.lists.lock lock) (sym (ap (λ l. l.lock) lists)) (queues_for C N truths view.seat (mode_for aim) arrival old.lists.lock), ap (λ l. l.cvs) lists)
 
-pub waits_in_place : {C : Type 0} {N : ℕ} (truths : Truths C) (seats : ℕ) (h : List (Event C N)) (old new : State C N) (view : SeatView C N) (commits : List (Event C N)) (wait : Wait C) (again : Bool) (last : Word) (owes : Bool) (tests : ℕ) →
+pub waits_in_place : {C : Type 0} {N : ℕ} (truths : Truths C) (seats : ℕ) (h : List (Event C N)) (old new : LockState C N) (view : SeatView C N) (commits : List (Event C N)) (wait : Wait C) (again : Bool) (last : Word) (owes : Bool) (tests : ℕ) →
     (step : Step truths old view (Scanned owes tests) new commits) → IsLawful truths seats h old → step.walk ≡ InWait wait (InQueuing again (QueueToWait last)) → WaitsFor truths view.seat wait.mode wait.on again old.row old.lists new.lists
 waits_in_place {C} {N} truths seats h old new view commits wait again last owes tests step lawful walks =
     let e = effect_at truths old new view (Scanned owes tests) commits (InWait wait (InQueuing again (QueueToWait last))) step walks in
@@ -90,7 +90,7 @@ waits_in_place {C} {N} truths seats h old new view commits wait again last owes 
     can_range wait again None p = absurd p
     can_range wait again (Some held) p = in_range wait.on held.row p.unmet
 
-pub taken_called : {C : Type 0} {N : ℕ} (truths : Truths C) (old new : State C N) (view : SeatView C N) (commits : List (Event C N)) (waking : Waking) (k : ℕ) (last : Word) (owes : Bool) → (step : Step truths old view (Woke owes) new commits) → step.walk ≡ InSignal waking k (WakeAndReturn last) →
+pub taken_called : {C : Type 0} {N : ℕ} (truths : Truths C) (old new : LockState C N) (view : SeatView C N) (commits : List (Event C N)) (waking : Waking) (k : ℕ) (last : Word) (owes : Bool) → (step : Step truths old view (Woke owes) new commits) → step.walk ≡ InSignal waking k (WakeAndReturn last) →
     AreCalled (is_held last) (taken_by waking (waiters_of old.lists (Cv k))) old.lists.lock new.lists.lock step.owed
 taken_called {C} {N} truths old new view commits waking k last owes step walks =
     let e = effect_at truths old new view (Woke owes) commits (InSignal waking k (WakeAndReturn last)) step walks in

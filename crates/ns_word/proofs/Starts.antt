@@ -30,7 +30,7 @@ use Rattle.ns_word.specs.declared.walk.Walk.TheVariants.{InTry, InAcquire, InRel
 use Rattle.ns_word.specs.Walks.{has_armed, quiet_first, first_for, wait_first}
 use Rattle.ns_word.specs.Views.{writers, readers, takers, queuers, owed_to, walk_at, NoneIs, AreApart}
 use Rattle.ns_model.specs.Truths.{Truths}
-use Rattle.ns_word.specs.Steps.{State}
+use Rattle.ns_word.specs.Steps.{LockState}
 use Rattle.ns_word.specs.Places.{PlaceFits, Tests, CanWait}
 use Rattle.ns_word.specs.Seen.{HasNumber, word_seen}
 use Rattle.ns_word.specs.Lawful.{WordsSeen, EachFits, VariableWaiterFits, IsLawful}
@@ -157,7 +157,7 @@ module _ {C : Type 0} {N : ℕ} (truths : Truths C) (seats : ℕ) (h : List (Eve
   first_place (InSignal waking k SignalLoad) held e p = (p, (refl, refl, refl, refl), refl, λ flag n f. absurd (cc), λ none. refl)
   first_place _ held e p = absurd e
 
-  pub begins : (old : State C N) (view : SeatView C N) (walk : Walk C) (new : State C N) → Begins truths old view walk new → IsLawful truths seats h old → IsLawful truths seats h new
+  pub begins : (old : LockState C N) (view : SeatView C N) (walk : Walk C) (new : LockState C N) → Begins truths old view walk new → IsLawful truths seats h old → IsLawful truths seats h new
   begins old view walk new b p =
       let start = subst (λ views. IsLawful truths seats h (record { word = old.word; row = old.row; lists = old.lists; flags = old.flags; views = views })) b.was p in
       let here = subst (λ w. IsLawful truths seats h (record { word = old.word; row = old.row; lists = old.lists; flags = old.flags; views = b.front ++ view_of view.seat w view.held view.owed ∷ b.back })) b.over start in

@@ -20,7 +20,7 @@ use Rattle.ns_word.specs.declared.walk.Walk.{Walk}
 use Rattle.ns_word.specs.declared.walk.Walk.TheVariants.{InTry, InAcquire, InRelease, InCells, InWait, InSignal}
 use Rattle.ns_word.specs.declared.act.Found.{Found}
 use Rattle.ns_model.specs.Truths.{Truths}
-use Rattle.ns_word.specs.Steps.{State, Step}
+use Rattle.ns_word.specs.Steps.{LockState, Step}
 use Rattle.ns_word.specs.Places.{PlaceFits}
 
 -- the word of a free lock for which nobody waits
@@ -33,7 +33,7 @@ fresh_views first zero = []
 fresh_views first (suc n) = record { seat = first; walk = None; held = None; owed = [] } ∷ fresh_views (first + 1) n
 
 -- a free lock with so many seats, over a row of zeros
-abbrev pub fresh_state : {C : Type 0} {N : ℕ} → ℕ → State C N
+abbrev pub fresh_state : {C : Type 0} {N : ℕ} → ℕ → LockState C N
 fresh_state {C} {N} seats = record { word = free_word; row = first_row N; lists = record { lock = []; cvs = replicate 4 [] }; flags = λ seat. 0; views = fresh_views 0 seats }
 
 -- the wait is for a variable
@@ -57,7 +57,7 @@ IsFirst N (InSignal waking k SignalLoad) = Unit {0}
 IsFirst N walk = ⊥
 
 -- A seat whose last call is over begins one whose need is met: its place in a call changes, and nothing else.
-pub record Begins {C : Type 0} {N : ℕ} (truths : Truths C) (old : State C N) (view : SeatView C N) (walk : Walk C) (new : State C N) : Type 0 where
+pub record Begins {C : Type 0} {N : ℕ} (truths : Truths C) (old : LockState C N) (view : SeatView C N) (walk : Walk C) (new : LockState C N) : Type 0 where
   pub over : view.walk ≡ None
   pub first : IsFirst N walk
   pub fits : PlaceFits truths (Some walk) view.held
@@ -67,7 +67,7 @@ pub record Begins {C : Type 0} {N : ℕ} (truths : Truths C) (old : State C N) (
   pub becomes : new ≡ record old { views = front ++ record view { walk = Some walk } ∷ back }
 
 -- the same where it may begin none; then nothing changes
-abbrev pub BeginsIf : {C : Type 0} {N : ℕ} → Truths C → State C N → SeatView C N → Option (Walk C) → State C N → Type 0
+abbrev pub BeginsIf : {C : Type 0} {N : ℕ} → Truths C → LockState C N → SeatView C N → Option (Walk C) → LockState C N → Type 0
 BeginsIf truths old view None new = new ≡ old
 BeginsIf truths old view (Some walk) new = Begins truths old view walk new
 
@@ -77,7 +77,7 @@ view_in view None = view
 view_in view (Some walk) = record view { walk = Some walk }
 
 -- A seat makes a step: the next of its call in progress, or the first of a call that it begins at once.
-pub record SeatStep {C : Type 0} {N : ℕ} (truths : Truths C) (old : State C N) (view : SeatView C N) (begun : Option (Walk C)) (found : Found) (new : State C N) (commits : List (Event C N)) : Type 0 where
-  pub between : State C N
+pub record SeatStep {C : Type 0} {N : ℕ} (truths : Truths C) (old : LockState C N) (view : SeatView C N) (begun : Option (Walk C)) (found : Found) (new : LockState C N) (commits : List (Event C N)) : Type 0 where
+  pub between : LockState C N
   pub begins : BeginsIf truths old view begun between
   pub step : Step truths between (view_in view begun) found new commits

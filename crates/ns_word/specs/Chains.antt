@@ -8,7 +8,7 @@ use Rattle.ns_word.specs.declared.env_walk.Chain.{Chain}
 use Rattle.ns_word.specs.declared.env_walk.Chain.TheVariants.{ForLook, ForIsNotified, ForNoteWait}
 use Rattle.ns_word.specs.declared.env_walk.EnvWalk.TheVariants.{ClockLoad, NoteLoad}
 use Rattle.ns_word.specs.declared.env_walk.EnvNext.{EnvNext}
-use Rattle.ns_word.specs.declared.env_walk.EnvNext.TheVariants.{Go, Repeat, Over, Shown}
+use Rattle.ns_word.specs.declared.env_walk.EnvNext.TheVariants.{Go, Repeat, Over, LookOver}
 use Rattle.ns_word.specs.declared.walk.Reply.TheVariants.{Is}
 use Rattle.ns_word.specs.EnvWalks.{chain_note}
 
@@ -18,9 +18,9 @@ IsUnnotified events given = IfSome given (λ note. is_notified events note ≡ f
 
 -- What a chain has come to, whose clock was loaded after the events `point`, by now: its note is notified by now, or it wasn't at that point.
 abbrev pub ChainFits : List EnvEvent → List EnvEvent → Chain → EnvNext → Type 0
-ChainFits point now (ForLook limits) (Shown (Some Notified)) = IsSomeAnd limits.note (IsNotified now)
-ChainFits point now (ForLook limits) (Shown (Some Expired)) = IsUnnotified point limits.note × IsSomeAnd limits.deadline (λ d. d ≤ clock_of point)
-ChainFits point now (ForLook limits) (Shown None) = IsUnnotified point limits.note × IfSome limits.deadline (λ d. clock_of point < d)
+ChainFits point now (ForLook limits) (LookOver (Some Notified)) = IsSomeAnd limits.note (IsNotified now)
+ChainFits point now (ForLook limits) (LookOver (Some Expired)) = IsUnnotified point limits.note × IsSomeAnd limits.deadline (λ d. d ≤ clock_of point)
+ChainFits point now (ForLook limits) (LookOver None) = IsUnnotified point limits.note × IfSome limits.deadline (λ d. clock_of point < d)
 ChainFits point now (ForIsNotified note) (Over (Is true)) = IsNotified now note
 ChainFits point now (ForIsNotified note) (Over (Is false)) = is_notified point note ≡ false
 ChainFits point now (ForNoteWait note deadline) (Over (Is true)) = IsNotified now note

@@ -12,7 +12,7 @@ use Rattle.ns_word.specs.declared.env_walk.Chain.TheVariants.{ForLook, ForIsNoti
 use Rattle.ns_word.specs.declared.env_walk.EnvWalk.{EnvWalk}
 use Rattle.ns_word.specs.declared.env_walk.EnvWalk.TheVariants.{NextLoad, TakeNumber, MakeNote, Notifying, Advancing, ClockLoad, NoteLoad, ExpiryLoad}
 use Rattle.ns_word.specs.declared.env_walk.EnvNext.{EnvNext}
-use Rattle.ns_word.specs.declared.env_walk.EnvNext.TheVariants.{Go, Repeat, Over, Shown}
+use Rattle.ns_word.specs.declared.env_walk.EnvNext.TheVariants.{Go, Repeat, Over, LookOver}
 use Rattle.ns_word.specs.declared.env_request.EnvRequest.{EnvRequest}
 use Rattle.ns_word.specs.declared.env_request.EnvRequest.TheVariants as TheRequest
 use Rattle.ns_word.specs.declared.walk.Reply.{Reply}
@@ -107,4 +107,4 @@ abbrev pub EnvGoes : List EnvEvent → ℕ → EnvRequest → EnvCourse → EnvN
 EnvGoes now seat request course (Go walk) = EnvGoesOn now seat request course walk
 EnvGoes now seat request course (Repeat walk) = EnvGoesOn now seat request course walk
 EnvGoes now seat request course (Over reply) = EnvMeans now seat request course reply
-EnvGoes now seat request course (Shown cause) = LookMeans now request course cause
+EnvGoes now seat request course (LookOver cause) = LookMeans now request course cause

@@ -12,7 +12,7 @@ use Rattle.ns_word.specs.declared.env_walk.Chain.TheVariants.{ForLook, ForIsNoti
 use Rattle.ns_word.specs.declared.env_walk.EnvWalk.{EnvWalk}
 use Rattle.ns_word.specs.declared.env_walk.EnvWalk.TheVariants.{NextLoad, TakeNumber, MakeNote, Notifying, Advancing, ClockLoad, NoteLoad, ExpiryLoad}
 use Rattle.ns_word.specs.declared.env_walk.EnvNext.{EnvNext}
-use Rattle.ns_word.specs.declared.env_walk.EnvNext.TheVariants.{Go, Repeat, Over, Shown}
+use Rattle.ns_word.specs.declared.env_walk.EnvNext.TheVariants.{Go, Repeat, Over, LookOver}
 use Rattle.ns_word.specs.declared.walk.Reply.TheVariants.{Succeeded, Number, NotesFull, Is, Expiry}
 
 -- what stands in a note's place, and the same the other way round
@@ -42,13 +42,13 @@ chain_note (ForNoteWait note deadline) = Some note
 
 -- where a chain goes at a note that is over
 abbrev pub stopped : Chain → EnvNext
-stopped (ForLook limits) = Shown (Some Notified)
+stopped (ForLook limits) = LookOver (Some Notified)
 stopped (ForIsNotified note) = Over (Is true)
 stopped (ForNoteWait note deadline) = Over (Is true)
 
 -- where it goes at its end, with the clock that was loaded
 abbrev pub passed : Chain → ℕ → EnvNext
-passed (ForLook limits) clock = if is_due clock limits.deadline then Shown (Some Expired) else Shown None
+passed (ForLook limits) clock = if is_due clock limits.deadline then LookOver (Some Expired) else LookOver None
 passed (ForIsNotified note) clock = Over (Is false)
 passed (ForNoteWait note deadline) clock = if is_due clock deadline then Over (Is false) else Repeat (ClockLoad (ForNoteWait note deadline))
 
@@ -79,4 +79,4 @@ abbrev pub env_walk_after : EnvNext → Option EnvWalk
 env_walk_after (Go walk) = Some walk
 env_walk_after (Repeat walk) = Some walk
 env_walk_after (Over reply) = None
-env_walk_after (Shown cause) = None
+env_walk_after (LookOver cause) = None

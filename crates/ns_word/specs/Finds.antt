@@ -14,7 +14,7 @@ use Rattle.ns_word.specs.declared.act.Found.{Found}
 use Rattle.ns_word.specs.declared.act.Found.TheVariants.{Saw, Made, Cell, Quiet, Tested, Scanned, Paid, Flag, Looked}
 use Rattle.ns_word.specs.Codec.{number_of, word_of}
 use Rattle.ns_word.specs.Lists.{has_some}
-use Rattle.ns_word.specs.Steps.{State, change_found, meets_at}
+use Rattle.ns_word.specs.Steps.{LockState, change_found, meets_at}
 
 -- the row of a section in hand, and the row that it began at
 abbrev pub row_in : {C : Type 0} {N : ℕ} → Option (Held C N) → List ℕ
@@ -25,11 +25,11 @@ abbrev pub before_in : {C : Type 0} {N : ℕ} → Option (Held C N) → List ℕ
 before_in None = []
 before_in (Some held) = held.before
 
--- the number that an act loads, or that its exchange compares; the others load none
-abbrev pub number_at : {C : Type 0} {N : ℕ} → ℕ → Act C → State C N → ℕ
-number_at seat (LoadCell i) s = slice_index s.row i
-number_at seat LoadFlag s = s.flags seat
-number_at seat act s = number_of s.word
+-- the content that an act loads, or that its exchange compares; the others load none
+abbrev pub content_at : {C : Type 0} {N : ℕ} → ℕ → Act C → LockState C N → ℕ
+content_at seat (LoadCell i) s = slice_index s.row i
+content_at seat LoadFlag s = s.flags seat
+content_at seat act s = number_of s.word
 
 -- what an exchange finds at this number: that it is made, or the word that is there
 abbrev pub exchanged : ℕ → Word → Found → Found

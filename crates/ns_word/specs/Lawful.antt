@@ -28,7 +28,7 @@ use Rattle.ns_word.specs.Views.{writers, readers, takers, queuers, owed_to, call
 use Rattle.ns_word.specs.Seen.{HasNumber, word_seen}
 use Rattle.ns_word.specs.Places.{PlaceFits}
 use Rattle.ns_model.specs.Truths.{Truths}
-use Rattle.ns_word.specs.Steps.{State}
+use Rattle.ns_word.specs.Steps.{LockState}
 
 -- ---- the sections
 
@@ -171,7 +171,7 @@ abbrev pub WordsSeen : {C : Type 0} {N : ℕ} → List (SeatView C N) → Type 0
 WordsSeen views = Every (λ view. HasNumber (word_seen view.walk)) views
 
 -- The law, of a lock with so many seats, with this history of all that was committed.
-pub record IsLawful {C : Type 0} {N : ℕ} (truths : Truths C) (seats : ℕ) (history : List (Event C N)) (s : State C N) : Type 0 where
+pub record IsLawful {C : Type 0} {N : ℕ} (truths : Truths C) (seats : ℕ) (history : List (Event C N)) (s : LockState C N) : Type 0 where
   pub one_writer : OneWriter s.word s.views
   pub readers_counted : ReadersCounted s.word s.views
   pub one_history : OneHistory truths seats history s.word s.row s.views

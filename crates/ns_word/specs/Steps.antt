@@ -59,7 +59,7 @@ use Rattle.ns_word.specs.Lists.{has_some, bits_of, queued}
 use Rattle.ns_word.specs.Walks.{want_of, got_of, walk_after}
 
 -- the lock word, the row's cells, the lists as they last stood at home, each seat's flag, and each seat's view
-pub record State (C : Type 0) (N : ℕ) : Type 0 where
+pub record LockState (C : Type 0) (N : ℕ) : Type 0 where
   pub word : Word
   pub row : List ℕ
   pub lists : Lists C
@@ -302,11 +302,11 @@ Effect truths seat (Look limits again) old (Looked cause) new commits = MayShow 
 Effect truths seat act old found new commits = ⊥
 
 -- a view's part of a state
-abbrev pub part_of : {C : Type 0} {N : ℕ} → State C N → Option (Held C N) → List ℕ → Part C N
+abbrev pub part_of : {C : Type 0} {N : ℕ} → LockState C N → Option (Held C N) → List ℕ → Part C N
 part_of s held owed = record { word = s.word; row = s.row; lists = s.lists; flags = s.flags; held = held; owed = owed }
 
 -- The seat with this view makes the step that its walk wants, and no other view changes.
-pub record Step {C : Type 0} {N : ℕ} (truths : Truths C) (old : State C N) (view : SeatView C N) (found : Found) (new : State C N) (commits : List (Event C N)) : Type 0 where
+pub record Step {C : Type 0} {N : ℕ} (truths : Truths C) (old : LockState C N) (view : SeatView C N) (found : Found) (new : LockState C N) (commits : List (Event C N)) : Type 0 where
   pub walk : Walk C
   pub walks : view.walk ≡ Some walk
   pub front : List (SeatView C N)

@@ -155,9 +155,9 @@ abbrev pub quiet_place : ℕ → Judging → ℕ → CellPlace
 quiet_place N judging loaded = if nat_lt loaded (N - 1) then QuietCells judging loaded else QuietLast judging (N - 1)
 
 -- where it goes once it has judged the section
-abbrev pub judged : {C : Type 0} → Judging → Bool → Next C
-judged ToTell quiet = Done (Is quiet)
-judged ToRelease quiet = if quiet then On (InRelease QuietWriter ReleaseLoad) else Done Noisy
+abbrev pub after_judging : {C : Type 0} → Judging → Bool → Next C
+after_judging ToTell quiet = Done (Is quiet)
+after_judging ToRelease quiet = if quiet then On (InRelease QuietWriter ReleaseLoad) else Done Noisy
 
 -- where a release with the queues goes that has loaded so many of N cells
 abbrev pub scan_place : ℕ → Word → ℕ → ReleasePlace
@@ -279,7 +279,7 @@ got_in_cells N (GetLoad i) (Cell v) = Done (Number v)
 got_in_cells N (SetLoad i v) (Cell w) = On (InCells (SetStore i v))
 got_in_cells N (SetStore i v) Made = Done Succeeded
 got_in_cells N (QuietCells judging i) (Cell v) = On (InCells (quiet_place N judging (i + 1)))
-got_in_cells N (QuietLast judging i) (Quiet is_quiet) = judged judging is_quiet
+got_in_cells N (QuietLast judging i) (Quiet is_quiet) = after_judging judging is_quiet
 got_in_cells N place found = On (InCells place)
 
 -- where a wait goes that is about to queue

@@ -35,7 +35,7 @@ ghost use Rattle.ns_word.specs.Begins.{IsFirst};
 ghost use Rattle.ns_word.specs.Courses.{course_after, CallGoes, SoFar};
 ghost use Rattle.ns_word.specs.Lawful.{IsLawful};
 ghost use Rattle.ns_word.specs.Meanings.{Course, course_from};
-ghost use Rattle.ns_word.specs.Steps.{State, Step, kept_by, taken_by, wake_of};
+ghost use Rattle.ns_word.specs.Steps.{LockState, Step, kept_by, taken_by, wake_of};
 ghost use Rattle.ns_word.specs.Waits.{answer_of, is_limited};
 ghost use Rattle.ns_word.specs.Walks.{want_of, got_of, calls_from_lock, walk_after, was_woken};
 ghost use Rattle.ns_word.specs.Words.{may_acquire, tries_of};
@@ -56,7 +56,7 @@ pub fn calls_begin_with_nothing_done<C: Condition<N>, const N: usize>()
 /// place tells; or it is over, and its answer means what it says of the section that it began with,
 /// of the one in hand now, of what it has committed, and of what its looks have shown.
 pub fn steps_take_their_call_on<C: Condition<N>, const N: usize>()
-    ensures { (seats : ℕ) (history : List (Event C N)) (old new : State C N) (view : SeatView C N) (found : Found) (commits : List (Event C N)) (course : Course C N) →
+    ensures { (seats : ℕ) (history : List (Event C N)) (old new : LockState C N) (view : SeatView C N) (found : Found) (commits : List (Event C N)) (course : Course C N) →
         (step : Step C.means old view found new commits) →
         IsLawful C.means seats history old → SoFar C.means view.seat course step.walk view.held →
         CallGoes C.means view.seat (row_after (history ++ commits)) (asked_of step.walk) (course_after found commits course) (got_of N step.walk found) step.held }
@@ -64,7 +64,7 @@ pub fn steps_take_their_call_on<C: Condition<N>, const N: usize>()
 
 /// A seat whose call is over owes nobody a wake.
 pub fn a_call_that_is_over_owes_nothing<C: Condition<N>, const N: usize>()
-    ensures { (seats : ℕ) (history : List (Event C N)) (s : State C N) (at : ℕ) (view : SeatView C N) →
+    ensures { (seats : ℕ) (history : List (Event C N)) (s : LockState C N) (at : ℕ) (view : SeatView C N) →
         IsLawful C.means seats history s → slice_get s.views at ≡ Some view → view.walk ≡ None → view.owed ≡ [] }
 {}
 
@@ -72,7 +72,7 @@ pub fn a_call_that_is_over_owes_nothing<C: Condition<N>, const N: usize>()
 /// variable's list, as that stands then, and the others stay there. No other step of it commits
 /// anything, or changes a list.
 pub fn wakes_take_whom_the_rule_takes<C: Condition<N>, const N: usize>()
-    ensures { (seats : ℕ) (history : List (Event C N)) (old new : State C N) (view : SeatView C N) (found : Found) (commits : List (Event C N)) (waking : Waking) (k : ℕ) →
+    ensures { (seats : ℕ) (history : List (Event C N)) (old new : LockState C N) (view : SeatView C N) (found : Found) (commits : List (Event C N)) (waking : Waking) (k : ℕ) →
         (step : Step C.means old view found new commits) →
         IsLawful C.means seats history old → asked_of step.walk ≡ Wake waking k →
         ((commits ≡ []) × (new.lists ≡ old.lists))

@@ -1,7 +1,7 @@
 //! What a section does with its row: it reads a cell, writes one, or is judged quiet.
 
 ghost use Rattle.std.specs.Prelude.{◌≡◌, ◌≤◌};
-ghost use Rattle.ns_word.specs.Walks.{want_in_cells, got_in_cells, judged, quiet_place};
+ghost use Rattle.ns_word.specs.Walks.{want_in_cells, got_in_cells, after_judging, quiet_place};
 
 use crate::act::{Act, Found};
 use crate::release_walk::ReleasePlace;
@@ -46,8 +46,8 @@ pub(crate) fn quiet_place<const N: usize>(judging: Judging, loaded: usize) -> Ce
 }
 
 /// Where a call goes that has judged the section.
-fn judged<C: Copy>(judging: Judging, is_quiet: bool) -> Next<C>
-    ensures { result ≡ judged judging is_quiet }
+fn after_judging<C: Copy>(judging: Judging, is_quiet: bool) -> Next<C>
+    ensures { result ≡ after_judging judging is_quiet }
 {
     match judging {
         Judging::ToTell => Next::Done(Reply::Is(is_quiet)),
@@ -89,7 +89,9 @@ impl CellPlace {
             (CellPlace::QuietCells(judging, i), Found::Cell(_)) => {
                 Next::On(Walk::InCells(quiet_place::<N>(judging, i as usize + 1)))
             }
-            (CellPlace::QuietLast(judging, _), Found::Quiet(is_quiet)) => judged(judging, is_quiet),
+            (CellPlace::QuietLast(judging, _), Found::Quiet(is_quiet)) => after_judging(
+                judging, is_quiet,
+            ),
             (place, _) => Next::On(Walk::InCells(place)),
         }
     }

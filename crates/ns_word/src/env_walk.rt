@@ -69,7 +69,7 @@ pub enum EnvNext {
     /// The call is over.
     Over(Reply),
     /// The look is over, and shows what ends the wait, if anything does.
-    Shown(Option<Cause>),
+    LookOver(Option<Cause>),
 }
 
 /// Whether the clock has come to the deadline. Where there is none, it never has.
@@ -117,7 +117,7 @@ impl Chain {
         ensures { result ≡ stopped self }
     {
         match self {
-            Chain::ForLook(_) => EnvNext::Shown(Some(Cause::Notified)),
+            Chain::ForLook(_) => EnvNext::LookOver(Some(Cause::Notified)),
             Chain::ForIsNotified(_) => EnvNext::Over(Reply::Is(true)),
             Chain::ForNoteWait(_, _) => EnvNext::Over(Reply::Is(true)),
         }
@@ -130,9 +130,9 @@ impl Chain {
         match self {
             Chain::ForLook(limits) => {
                 if is_due(clock, limits.deadline) {
-                    EnvNext::Shown(Some(Cause::Expired))
+                    EnvNext::LookOver(Some(Cause::Expired))
                 } else {
-                    EnvNext::Shown(None)
+                    EnvNext::LookOver(None)
                 }
             }
             Chain::ForIsNotified(_) => EnvNext::Over(Reply::Is(false)),

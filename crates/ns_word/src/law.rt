@@ -28,8 +28,8 @@ ghost use Rattle.ns_word.specs.declared.act.Found.{Found};
 ghost use Rattle.ns_word.specs.declared.act.Found.TheVariants.{Looked};
 ghost use Rattle.ns_word.specs.Answers.{cause_kept, has_come_back, is_back};
 ghost use Rattle.ns_word.specs.Begins.{Begins, SeatStep, IsFirst, fresh_state};
-ghost use Rattle.ns_word.specs.Steps.{State, Step, entry_of};
-ghost use Rattle.ns_word.specs.Finds.{found_of, number_at, IsLook};
+ghost use Rattle.ns_word.specs.Steps.{LockState, Step, entry_of};
+ghost use Rattle.ns_word.specs.Finds.{found_of, content_at, IsLook};
 ghost use Rattle.ns_word.specs.Lawful.{IsLawful};
 ghost use Rattle.ns_word.specs.Told.{Told, IsTold, nothing_told, told_after, calls_of};
 ghost use Rattle.ns_word.specs.Waits.{answer_of};
@@ -45,7 +45,7 @@ pub fn a_fresh_lock_is_lawful<C: Condition<N>, const N: usize>()
 /// A seat whose last call is over may begin one whose need is met: the law stays, with the same
 /// history.
 pub fn beginning_a_call_keeps_the_law<C: Condition<N>, const N: usize>()
-    ensures { (seats : ℕ) (history : List (Event C N)) (old new : State C N) (view : SeatView C N) (walk : Walk C) →
+    ensures { (seats : ℕ) (history : List (Event C N)) (old new : LockState C N) (view : SeatView C N) (walk : Walk C) →
         Begins C.means old view walk new →
         IsLawful C.means seats history old →
         IsLawful C.means seats history new }
@@ -54,7 +54,7 @@ pub fn beginning_a_call_keeps_the_law<C: Condition<N>, const N: usize>()
 /// A step of any of up to 64 seats, the next of its call or the first of one that it begins, keeps
 /// the law, and the history grows by what it commits.
 pub fn steps_keep_the_law<C: Condition<N>, const N: usize>()
-    ensures { (seats : ℕ) (history : List (Event C N)) (old new : State C N) (view : SeatView C N) (begun : Option (Walk C)) (found : Found) (commits : List (Event C N)) →
+    ensures { (seats : ℕ) (history : List (Event C N)) (old new : LockState C N) (view : SeatView C N) (begun : Option (Walk C)) (found : Found) (commits : List (Event C N)) →
         seats ≤ 64 → SeatStep C.means old view begun found new commits →
         IsLawful C.means seats history old →
         IsLawful C.means seats (history ++ commits) new }
@@ -63,16 +63,16 @@ pub fn steps_keep_the_law<C: Condition<N>, const N: usize>()
 /// A step that is no look finds what one word says, which it loads or compares: the rest is what
 /// its seat has already, its section, the wakes that it owes and the lists in its hand.
 pub fn steps_find_what_one_word_says<C: Condition<N>, const N: usize>()
-    ensures { (seats : ℕ) (history : List (Event C N)) (old new : State C N) (view : SeatView C N) (found : Found) (commits : List (Event C N)) →
+    ensures { (seats : ℕ) (history : List (Event C N)) (old new : LockState C N) (view : SeatView C N) (found : Found) (commits : List (Event C N)) →
         seats ≤ 64 → (step : Step C.means old view found new commits) →
         IsLawful C.means seats history old → (IsLook (want_of step.walk) → ⊥) →
-        found ≡ found_of C.means (want_of step.walk) view old.lists (number_at view.seat (want_of step.walk) old) }
+        found ≡ found_of C.means (want_of step.walk) view old.lists (content_at view.seat (want_of step.walk) old) }
 {}
 
 /// A waiter of the lock list that has a condition is in the wait for it, in its mode, by the
 /// history.
 pub fn waiters_are_in_their_phase<C: Condition<N>, const N: usize>()
-    ensures { (seats : ℕ) (history : List (Event C N)) (s : State C N) (at : ℕ) (w : Waiter C) (c : C) →
+    ensures { (seats : ℕ) (history : List (Event C N)) (s : LockState C N) (at : ℕ) (w : Waiter C) (c : C) →
         IsLawful C.means seats history s → slice_get s.lists.lock at ≡ Some w → w.cond ≡ Some c →
         phase_of history w.seat ≡ Cond c w.mode }
 {}
@@ -80,7 +80,7 @@ pub fn waiters_are_in_their_phase<C: Condition<N>, const N: usize>()
 /// While nobody has the queues, the word says that somebody waits long exactly where one who stands
 /// in the lock list has failed 30 times after being woken, and nobody counts more.
 pub fn the_word_tells_of_a_long_wait<C: Condition<N>, const N: usize>()
-    ensures { (seats : ℕ) (history : List (Event C N)) (s : State C N) →
+    ensures { (seats : ℕ) (history : List (Event C N)) (s : LockState C N) →
         IsLawful C.means seats history s →
         (s.word.spin ≡ false → s.word.long ≡ list_any is_long s.lists.lock)
         × ((at : ℕ) (w : Waiter C) → slice_get s.lists.lock at ≡ Some w → w.tries ≤ 30) }
@@ -88,7 +88,7 @@ pub fn the_word_tells_of_a_long_wait<C: Condition<N>, const N: usize>()
 
 /// While the word says that somebody waits long, only waiters that were woken acquire.
 pub fn only_the_woken_pass_a_long_wait<C: Condition<N>, const N: usize>()
-    ensures { (old new : State C N) (view : SeatView C N) (found : Found) (commits : List (Event C N)) (held : Held C N) →
+    ensures { (old new : LockState C N) (view : SeatView C N) (found : Found) (commits : List (Event C N)) (held : Held C N) →
         (step : Step C.means old view found new commits) →
         old.word.long ≡ true → view.held ≡ None → step.held ≡ Some held → was_woken (Some step.walk) ≡ true }
 {}
@@ -102,7 +102,7 @@ pub fn a_fresh_seat_was_told_nothing<C: Condition<N>, const N: usize>()
 /// what it had seen, its own events grow by what the step commits, and the call that it goes on
 /// with is the last that it has begun: with this step, if it is a call's first.
 pub fn steps_tell_their_seat<C: Condition<N>, const N: usize>()
-    ensures { (seats : ℕ) (history : List (Event C N)) (old new : State C N) (view : SeatView C N) (begun : Option (Walk C)) (found : Found) (commits : List (Event C N)) (told : Told C N) →
+    ensures { (seats : ℕ) (history : List (Event C N)) (old new : LockState C N) (view : SeatView C N) (begun : Option (Walk C)) (found : Found) (commits : List (Event C N)) (told : Told C N) →
         seats ≤ 64 → (made : SeatStep C.means old view begun found new commits) →
         IsLawful C.means seats history old → IsTold C.means.holds seats history view.seat view.walk told →
         IsTold C.means.holds seats (history ++ commits) view.seat (walk_after (got_of N made.step.walk found)) (told_after history commits (calls_of begun) told) × BeginsWith (history ++ commits) told.seen }
@@ -110,7 +110,7 @@ pub fn steps_tell_their_seat<C: Condition<N>, const N: usize>()
 
 /// What a seat was told stays true after the steps of others.
 pub fn steps_tell_no_other<C: Condition<N>, const N: usize>()
-    ensures { (seats : ℕ) (history : List (Event C N)) (old new : State C N) (view : SeatView C N) (begun : Option (Walk C)) (found : Found) (commits : List (Event C N)) (other : ℕ) (walk : Option (Walk C)) (told : Told C N) →
+    ensures { (seats : ℕ) (history : List (Event C N)) (old new : LockState C N) (view : SeatView C N) (begun : Option (Walk C)) (found : Found) (commits : List (Event C N)) (other : ℕ) (walk : Option (Walk C)) (told : Told C N) →
         SeatStep C.means old view begun found new commits →
         view.seat ≢ other → IsTold C.means.holds seats history other walk told → IsTold C.means.holds seats (history ++ commits) other walk told }
 {}
@@ -119,7 +119,7 @@ pub fn steps_tell_no_other<C: Condition<N>, const N: usize>()
 /// returns with, and its section is in the mode that it was called in. Where it has waited, its
 /// section says of itself just that answer.
 pub fn waits_answer_rightly<C: Condition<N>, const N: usize>()
-    ensures { (seats : ℕ) (history : List (Event C N)) (old new : State C N) (view : SeatView C N) (found : Found) (commits : List (Event C N)) (wait : Wait C) (c : C) (place : WaitPlace) (answer : Answer) →
+    ensures { (seats : ℕ) (history : List (Event C N)) (old new : LockState C N) (view : SeatView C N) (found : Found) (commits : List (Event C N)) (wait : Wait C) (c : C) (place : WaitPlace) (answer : Answer) →
         (step : Step C.means old view found new commits) →
         IsLawful C.means seats history old → step.walk ≡ InWait wait place → wait.on ≡ OnCondition c → got_of N step.walk found ≡ Done (Answered answer) →
         (held : Held C N) × (step.held ≡ Some held) × (held.mode ≡ wait.mode) × (is_met answer ≡ C.means.holds c held.row)
@@ -129,7 +129,7 @@ pub fn waits_answer_rightly<C: Condition<N>, const N: usize>()
 /// A wait for a variable answers what its section says of how it began: that it was woken, or by
 /// what it was ended. Its section is in the mode that it was called in.
 pub fn variable_waits_answer_rightly<C: Condition<N>, const N: usize>()
-    ensures { (old new : State C N) (view : SeatView C N) (found : Found) (commits : List (Event C N)) (wait : Wait C) (outcome : Outcome) (place : AcquirePlace) (k : ℕ) (answer : Answer) →
+    ensures { (old new : LockState C N) (view : SeatView C N) (found : Found) (commits : List (Event C N)) (wait : Wait C) (outcome : Outcome) (place : AcquirePlace) (k : ℕ) (answer : Answer) →
         (step : Step C.means old view found new commits) →
         step.walk ≡ InAcquire (ForWait wait outcome) place → wait.on ≡ OnVariable k → got_of N step.walk found ≡ Done (Answered answer) →
         (held : Held C N) × (step.held ≡ Some held) × (held.mode ≡ wait.mode) × (entry_of C.means.holds held.before held.entry ≡ AfterCv k answer) }
@@ -138,7 +138,7 @@ pub fn variable_waits_answer_rightly<C: Condition<N>, const N: usize>()
 /// A wait for a variable answers only as it comes back: not before it has left its section and
 /// acquired again.
 pub fn variable_waits_answer_as_they_come_back<C: Condition<N>, const N: usize>()
-    ensures { (seats : ℕ) (history : List (Event C N)) (old new : State C N) (view : SeatView C N) (found : Found) (commits : List (Event C N)) (wait : Wait C) (place : WaitPlace) (k : ℕ) (answer : Answer) →
+    ensures { (seats : ℕ) (history : List (Event C N)) (old new : LockState C N) (view : SeatView C N) (found : Found) (commits : List (Event C N)) (wait : Wait C) (place : WaitPlace) (k : ℕ) (answer : Answer) →
         (step : Step C.means old view found new commits) →
         IsLawful C.means seats history old → step.walk ≡ InWait wait place → wait.on ≡ OnVariable k → got_of N step.walk found ≢ Done (Answered answer) }
 {}
@@ -162,7 +162,7 @@ pub fn no_call_begins_ended<C: Condition<N>, const N: usize>()
 /// that has come back with it, and hasn't answered yet, may settle that; no step of any other call
 /// changes it, and none leads to such a wait while the section is in hand.
 pub fn sections_keep_their_beginning<C: Condition<N>, const N: usize>()
-    ensures { (old new : State C N) (view : SeatView C N) (found : Found) (commits : List (Event C N)) (was held : Held C N) →
+    ensures { (old new : LockState C N) (view : SeatView C N) (found : Found) (commits : List (Event C N)) (was held : Held C N) →
         (step : Step C.means old view found new commits) →
         has_come_back step.walk ≡ false → view.held ≡ Some was → step.held ≡ Some held →
         (held.mode ≡ was.mode) × (held.before ≡ was.before) × (held.entry ≡ was.entry) × (is_back (walk_after (got_of N step.walk found)) ≡ false) }

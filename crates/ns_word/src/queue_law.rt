@@ -18,7 +18,7 @@ ghost use Rattle.ns_word.specs.declared.word.Arrival.{Arrival};
 ghost use Rattle.ns_word.specs.declared.word.Word.{Word};
 ghost use Rattle.ns_word.specs.Lawful.{IsLawful};
 ghost use Rattle.ns_word.specs.Stands.{AreCalled, QueuesFor, WaitsFor};
-ghost use Rattle.ns_word.specs.Steps.{State, Step, taken_by};
+ghost use Rattle.ns_word.specs.Steps.{LockState, Step, taken_by};
 ghost use Rattle.ns_word.specs.Waits.{mode_for};
 ghost use Rattle.ns_word.specs.Words.{is_held};
 
@@ -28,7 +28,7 @@ use ns_model::condition::Condition;
 /// stands before them all, and has failed once more, of which 30 are counted. No variable's list
 /// changes.
 pub fn who_queues_stands_in_its_place<C: Condition<N>, const N: usize>()
-    ensures { (old new : State C N) (view : SeatView C N) (commits : List (Event C N)) (aim : Aim C) (arrival : Arrival) (last : Word) →
+    ensures { (old new : LockState C N) (view : SeatView C N) (commits : List (Event C N)) (aim : Aim C) (arrival : Arrival) (last : Word) →
         (step : Step C.means old view Made new commits) → step.walk ≡ InAcquire aim (Queue arrival last) →
         QueuesFor view.seat (mode_for aim) arrival old.lists.lock new.lists.lock × (new.lists.cvs ≡ old.lists.cvs) }
 {}
@@ -37,7 +37,7 @@ pub fn who_queues_stands_in_its_place<C: Condition<N>, const N: usize>()
 /// queues again, after it was woken and found its condition false. A wait for a variable stands
 /// behind all that wait for that.
 pub fn who_waits_stands_in_its_place<C: Condition<N>, const N: usize>()
-    ensures { (seats : ℕ) (history : List (Event C N)) (old new : State C N) (view : SeatView C N) (commits : List (Event C N)) (wait : Wait C) (again : Bool) (last : Word) (owes : Bool) (tests : ℕ) →
+    ensures { (seats : ℕ) (history : List (Event C N)) (old new : LockState C N) (view : SeatView C N) (commits : List (Event C N)) (wait : Wait C) (again : Bool) (last : Word) (owes : Bool) (tests : ℕ) →
         (step : Step C.means old view (Scanned owes tests) new commits) → IsLawful C.means seats history old → step.walk ≡ InWait wait (InQueuing again (QueueToWait last)) →
         WaitsFor C.means view.seat wait.mode wait.on again old.row old.lists new.lists }
 {}
@@ -46,7 +46,7 @@ pub fn who_waits_stands_in_its_place<C: Condition<N>, const N: usize>()
 /// where the lock is held, and nobody is owed a wake then; else the lock list stays, and they are
 /// owed their wakes in that order.
 pub fn the_taken_are_moved_or_called<C: Condition<N>, const N: usize>()
-    ensures { (old new : State C N) (view : SeatView C N) (commits : List (Event C N)) (waking : Waking) (k : ℕ) (last : Word) (owes : Bool) →
+    ensures { (old new : LockState C N) (view : SeatView C N) (commits : List (Event C N)) (waking : Waking) (k : ℕ) (last : Word) (owes : Bool) →
         (step : Step C.means old view (Woke owes) new commits) → step.walk ≡ InSignal waking k (WakeAndReturn last) →
         AreCalled (is_held last) (taken_by waking (waiters_of old.lists (Cv k))) old.lists.lock new.lists.lock step.owed }
 {}

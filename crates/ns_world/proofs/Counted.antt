@@ -10,7 +10,7 @@ use Rattle.ns_word.specs.declared.walk.Next.{Next}
 use Rattle.ns_word.specs.declared.walk.Next.TheVariants.{On, Done}
 use Rattle.ns_word.specs.declared.walk.Next.TheVariants as TheNext
 use Rattle.ns_word.specs.declared.env_walk.EnvNext.{EnvNext}
-use Rattle.ns_word.specs.declared.env_walk.EnvNext.TheVariants.{Go, Repeat, Over, Shown}
+use Rattle.ns_word.specs.declared.env_walk.EnvNext.TheVariants.{Go, Repeat, Over, LookOver}
 use Rattle.ns_word.specs.EnvWalks.{env_got_of, env_walk_after}
 use Rattle.ns_word.specs.Walks.{got_of, walk_after}
 use Rattle.ns_world.specs.Asks.{env_step_of}
@@ -22,7 +22,7 @@ use Rattle.ns_world.specs.Calls.{CallInRange, start_of, mode_of}
 use Rattle.ns_world.specs.Performs.{step_of}
 use Rattle.ns_world.specs.Looks.{look_of}
 use Rattle.ns_world.specs.World.{Now, Goes, LookGoes, Moves, is_walking, is_asking, is_busy}
-use Rattle.ns_world.specs.Runs.{Progress, progress, progressed, calls_of, Leads, TurnOf, Counts, IsCounted, ListFits}
+use Rattle.ns_world.specs.Runs.{Progress, progress, progressed, calls_of, GoesOnOrBegins, TurnOf, Counts, IsCounted, ListFits}
 use Rattle.ns_world.proofs.Busy.{both, walking_at, walking_set_same, walking_set_other, asking_set_same, asking_set_other, asking_set_none}
 use Rattle.ns_world.proofs.Turns.{is_busy_of, is_idle_of, begun_others}
 
@@ -56,7 +56,7 @@ over_unasked : (next : EnvNext) (reply : Reply) → Finished reply ≡ env_step_
 over_unasked (Go walk) reply e = absurd (cc)
 over_unasked (Repeat walk) reply e = absurd (cc)
 over_unasked (Over answer) reply e = refl
-over_unasked (Shown cause) reply e = refl
+over_unasked (LookOver cause) reply e = refl
 
 set_others : (over : List ℕ) (seat n other : ℕ) → other ≢ seat → slice_index (slice_set over seat n) other ≡ slice_index over other
 set_others over seat n other ne = get_or-set_other over seat other n 0 ne
@@ -88,7 +88,7 @@ module _ {C : Type 0} {N : ℕ} where
   look_others old new seat step (Go walk) p other ne =
       both new.state.views new.asking other (is_walking old.state.views other) (is_asking old.asking other)
       (ap (λ (world : Now C N). is_walking world.state.views other) p.0) (ap (λ (world : Now C N). is_asking world.asking other) p.0 ∙ asking_set_other old.asking seat (Some walk) other ne)
-  look_others old new seat step (Shown cause) p other ne = goes_others old new seat step p.0 other ne
+  look_others old new seat step (LookOver cause) p other ne = goes_others old new seat step p.0 other ne
   look_others old new seat step (Repeat walk) p other ne = absurd p
   look_others old new seat step (Over reply) p other ne = absurd p
 
@@ -109,7 +109,7 @@ module _ {C : Type 0} {N : ℕ} where
 
   look_over : (old new : Now C N) (seat : ℕ) (reply : Reply) (next : EnvNext) → LookGoes next old new seat (Finished reply) → is_busy new.state.views new.asking seat ≡ false
   look_over old new seat reply (Go walk) p = let e = p.1 in absurd (cc)
-  look_over old new seat reply (Shown cause) p = goes_over old new seat reply p.0
+  look_over old new seat reply (LookOver cause) p = goes_over old new seat reply p.0
   look_over old new seat reply (Repeat walk) p = absurd p
   look_over old new seat reply (Over answer) p = absurd p
 
@@ -122,7 +122,7 @@ module _ {C : Type 0} {N : ℕ} where
       (ap (λ askings. is_asking askings seat) asks.makes.becomes ∙ asking_set_same old.asking seat _ (slice_get_within old.asking seat (Some asks.makes.walk) asks.makes.walks) ∙ over_unasked (env_got_of asks.makes.walk asks.found) reply asks.answers)
 
   -- a call that goes on or begins is one of the seat's, so it is not past its last
-  leads_below : (lists : List (List (Call C))) (p : Progress C N) (seat : ℕ) (begun : Now C N) → length (calls_of lists seat) ≤ 256 → Leads lists p seat begun →
+  leads_below : (lists : List (List (Call C))) (p : Progress C N) (seat : ℕ) (begun : Now C N) → length (calls_of lists seat) ≤ 256 → GoesOnOrBegins lists p seat begun →
       slice_index p.over seat + cond (is_busy p.world.state.views p.world.asking seat) 1 0 ≤ 256 → slice_index p.over seat + 1 ≤ 256
   leads_below lists p seat begun few (inl busy) most =
       let yes = is_busy_of p.world seat busy.0 in
@@ -131,7 +131,7 @@ module _ {C : Type 0} {N : ℕ} where
       let within = slice_get_within (calls_of lists seat) (slice_index p.over seat) called.0 called.1 in
       omega (arith, within, few)
 
-  leads_others : (lists : List (List (Call C))) (p : Progress C N) (seat : ℕ) (begun : Now C N) → Leads lists p seat begun →
+  leads_others : (lists : List (List (Call C))) (p : Progress C N) (seat : ℕ) (begun : Now C N) → GoesOnOrBegins lists p seat begun →
       (other : ℕ) → other ≢ seat → is_busy begun.state.views begun.asking other ≡ is_busy p.world.state.views p.world.asking other
   leads_others lists p seat begun (inl busy) other ne = ap (λ (world : Now C N). is_busy world.state.views world.asking other) busy.1
   leads_others lists p seat begun (inr called) other ne =

@@ -5,7 +5,7 @@ use Rattle.std.proofs.lemmas.List.{append-nil}
 use Rattle.std.proofs.lemmas.Option.{slice_get_within}
 use Rattle.ns_model.specs.declared.environment.EnvEvent.{EnvEvent}
 use Rattle.ns_word.specs.declared.env_walk.EnvNext.{EnvNext}
-use Rattle.ns_word.specs.declared.env_walk.EnvNext.TheVariants.{Go, Shown}
+use Rattle.ns_word.specs.declared.env_walk.EnvNext.TheVariants.{Go, LookOver}
 use Rattle.ns_word.specs.EnvWalks.{env_want_of, env_got_of, env_walk_after}
 use Rattle.ns_word.specs.EnvSteps.{EnvPlain, EnvEffect, IsLawfulEnv, IfMade}
 use Rattle.ns_word.specs.Walks.{got_of, walk_after}
@@ -52,7 +52,7 @@ module _ {C : Type 0} {N : ℕ} (events : List EnvEvent) (old new : Now C N) (se
   -- where a step of a look leads
   looking : (within : seat < length old.asking) (next : EnvNext) → IsLawfulEnv events (env_state old.env (slice_set old.asking seat (env_walk_after next))) → LookGoes next old new seat step → LedTo events new
   looking within (Go walk) kept p = subst (λ (world : Now C N). LedTo events world) (sym p.0) kept
-  looking within (Shown cause) kept p = going within kept p.0
+  looking within (LookOver cause) kept p = going within kept p.0
   looking within next kept p = absurd p
 
   nothing_more : LedTo events new → AreEnvBy seat [] × LedTo (events ++ []) new

@@ -33,7 +33,7 @@ use Rattle.ns_word.specs.declared.env_walk.Chain.TheVariants.{ForLook}
 use Rattle.ns_word.specs.declared.env_walk.EnvWalk.{EnvWalk}
 use Rattle.ns_word.specs.declared.env_walk.EnvWalk.TheVariants.{ClockLoad, NoteLoad}
 use Rattle.ns_word.specs.declared.env_walk.EnvNext.{EnvNext}
-use Rattle.ns_word.specs.declared.env_walk.EnvNext.TheVariants.{Go, Shown}
+use Rattle.ns_word.specs.declared.env_walk.EnvNext.TheVariants.{Go, LookOver}
 use Rattle.ns_word.specs.declared.walk.Walk.{Walk}
 use Rattle.ns_word.specs.declared.signal_walk.SignalPlace.TheVariants.{SignalLoad, TakeToWake, WakeAndReturn, PayTheWoken}
 use Rattle.ns_word.specs.declared.walk.Walk.TheVariants.{InTry, InAcquire, InRelease, InCells, InWait, InSignal}
@@ -248,15 +248,15 @@ look_stays limits place fits seat old new found e = absurd fits
 -- it goes on, or shows what its limits may show
 abbrev pub LookLeads : Limits → EnvNext → Type 0
 LookLeads limits (Go next) = LookFits limits next
-LookLeads limits (Shown cause) = MayShow limits cause
+LookLeads limits (LookOver cause) = MayShow limits cause
 LookLeads limits next = ⊥
 
 given : {A : Type 0} (o : Option A) (x : A) → o ≡ Some x → IsSome o
 given o x e = subst (λ y. IsSome y) (sym e) refl
 
-passed_at : (limits : Limits) (clock : ℕ) (deadline : Option ℕ) → limits.deadline ≡ deadline → LookLeads limits (cond (is_due clock deadline) (Shown (Some Expired)) (Shown None))
+passed_at : (limits : Limits) (clock : ℕ) (deadline : Option ℕ) → limits.deadline ≡ deadline → LookLeads limits (cond (is_due clock deadline) (LookOver (Some Expired)) (LookOver None))
 passed_at limits clock None e = tt
-passed_at limits clock (Some d) e = elim (is_due clock (Some d)) as (λ b. LookLeads limits (cond b (Shown (Some Expired)) (Shown None))) [ true ↦ given limits.deadline d e | false ↦ tt ]
+passed_at limits clock (Some d) e = elim (is_due clock (Some d)) as (λ b. LookLeads limits (cond b (LookOver (Some Expired)) (LookOver None))) [ true ↦ given limits.deadline d e | false ↦ tt ]
 
 passed_leads : (by limits : Limits) (clock : ℕ) → by ≡ limits → LookLeads limits (passed (ForLook by) clock)
 passed_leads by limits clock e = passed_at limits clock by.deadline (ap (λ (x : Limits). x.deadline) (sym e))

@@ -17,7 +17,7 @@ use Rattle.ns_word.specs.Lists.{times_among}
 use Rattle.ns_word.specs.Walks.{has_armed}
 use Rattle.ns_word.specs.Views.{owed_to, walk_at}
 use Rattle.ns_model.specs.Truths.{Truths}
-use Rattle.ns_word.specs.Steps.{State}
+use Rattle.ns_word.specs.Steps.{LockState}
 use Rattle.ns_word.specs.Lawful.{IsLawful, is_unwoken}
 use Rattle.ns_word.proofs.Acts.{view_fits, stands_nowhere, has_list}
 use Rattle.ns_word.proofs.Ranges.{placed_below}
@@ -31,7 +31,7 @@ use Rattle.ns_world.proofs.Mapped.{slice_get-map}
 use Rattle.ns_word.proofs.Numbers.{split_at}
 
 module _ {C : Type 0} {N : ℕ} (truths : Truths C) (word : Word) (row : List ℕ) (queues : Lists C) (flags : List ℕ) (env : Environment) (seats : List (Seat C N)) (history : List (Event C N)) (lawful : IsLawfulWorld (now_with truths word row queues flags env seats history)) where
-  abbrev state : State C N
+  abbrev state : LockState C N
   state = (now_with truths word row queues flags env seats history).state
 
   module _ (i : ℕ) (seat : Seat C N) (at : slice_get seats i ≡ Some seat) where
@@ -96,14 +96,14 @@ module _ {C : Type 0} {N : ℕ} where
       ∙ sym (length-append (map (λ woken. (view.seat, woken)) view.owed) (wakes_owed views))
 
   -- a number that is no seat's is owed nothing
-  none_owed : (truths : Truths C) (seats : ℕ) (h : List (Event C N)) (s : State C N) → IsLawful truths seats h s → (seat : ℕ) → seats ≤ seat → owed_to seat s.views ≡ 0
+  none_owed : (truths : Truths C) (seats : ℕ) (h : List (Event C N)) (s : LockState C N) → IsLawful truths seats h s → (seat : ℕ) → seats ≤ seat → owed_to seat s.views ≡ 0
   none_owed truths seats h s p seat high = elim (cases_eq (owed_to seat s.views) 0) [
     | inl none ↦ none
     | inr some ↦ let low = placed_below truths seats h s p.waiters_placed p.one_history.each seat (omega (arith, some)) in absurd (omega (arith, low, high))
   ]
 
   -- no more wakes are owed than there are seats
-  pub wakes_few : (truths : Truths C) (seats : ℕ) (h : List (Event C N)) (s : State C N) → seats ≤ 64 → IsLawful truths seats h s → length (wakes_owed s.views) ≤ 64
+  pub wakes_few : (truths : Truths C) (seats : ℕ) (h : List (Event C N)) (s : LockState C N) → seats ≤ 64 → IsLawful truths seats h s → length (wakes_owed s.views) ≤ 64
   wakes_few truths seats h s most p =
       let long = length_owing s.views in
       let some = few seats (owing s.views)

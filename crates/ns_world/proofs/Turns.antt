@@ -10,7 +10,7 @@ use Rattle.ns_word.specs.declared.wait.WaitPlace.TheVariants.{TestCells, TestLas
 use Rattle.ns_word.specs.declared.cell_walk.Judging.TheVariants.{ToRelease}
 use Rattle.ns_word.specs.declared.cell_walk.CellPlace.TheVariants.{QuietCells, QuietLast}
 use Rattle.ns_word.specs.declared.env_walk.EnvNext.{EnvNext}
-use Rattle.ns_word.specs.declared.env_walk.EnvNext.TheVariants.{Go, Repeat, Over, Shown}
+use Rattle.ns_word.specs.declared.env_walk.EnvNext.TheVariants.{Go, Repeat, Over, LookOver}
 use Rattle.ns_word.specs.declared.walk.Walk.TheVariants.{InCells, InWait}
 use Rattle.ns_word.specs.declared.walk.Reply.TheVariants as TheReply
 use Rattle.ns_word.specs.Walks.{want_of}
@@ -32,7 +32,7 @@ use Rattle.ns_world.specs.Calls.{start_of, mode_of, mode_waited}
 use Rattle.ns_world.specs.Commits.{Commits}
 use Rattle.ns_world.specs.Begins.{BeginAnswers, BeginFault, Starts, begun_at}
 use Rattle.ns_world.specs.World.{Now, CommitsNext, LookGoes, Moves, IsWalking, IsBusy, IsIdle, StepOf, StepFault, is_walking, is_asking, is_busy}
-use Rattle.ns_world.specs.Runs.{Progress, progress, progressed, finished, Leads, TurnOf, TurnsWith, TurnFault}
+use Rattle.ns_world.specs.Runs.{Progress, progress, progressed, finished, GoesOnOrBegins, TurnOf, TurnsWith, TurnFault}
 use Rattle.ns_world.proofs.Busy.{or_true, both, walking_at, walking_set_same, walking_set_other, asking_at, asking_set_same, asking_set_other}
 use Rattle.ns_word.proofs.EnvKeeps.{set_here}
 
@@ -182,7 +182,7 @@ module _ {C : Type 0} {N : ℕ} where
 
   look_stays : (old new : Now C N) (seat : ℕ) (step : Step) (next : EnvNext) → LookGoes next old new seat step → length new.state.views ≡ length old.state.views
   look_stays old new seat step (Go walk) p = ap (λ (world : Now C N). length world.state.views) p.0
-  look_stays old new seat step (Shown cause) p = ap length p.0.others ∙ length-set old.state.views seat _
+  look_stays old new seat step (LookOver cause) p = ap length p.0.others ∙ length-set old.state.views seat _
   look_stays old new seat step (Repeat walk) p = absurd p
   look_stays old new seat step (Over reply) p = absurd p
 
@@ -197,7 +197,7 @@ module _ {C : Type 0} {N : ℕ} where
   step_stays old new seat (Finished reply) p = moves_stay old new seat (Finished reply) p
   step_stays old new seat Nothing p = ap (λ (world : Now C N). length world.state.views) p.0
 
-  leads_stays : (lists : List (List (Call C))) (p : Progress C N) (seat : ℕ) (begun : Now C N) → Leads lists p seat begun → length begun.state.views ≡ length p.world.state.views
+  leads_stays : (lists : List (List (Call C))) (p : Progress C N) (seat : ℕ) (begun : Now C N) → GoesOnOrBegins lists p seat begun → length begun.state.views ≡ length p.world.state.views
   leads_stays lists p seat begun (inl busy) = ap (λ (world : Now C N). length world.state.views) busy.1
   leads_stays lists p seat begun (inr called) = ap (λ (world : Now C N). length world.state.views) called.2.begins ∙ begun_stays p.world seat called.2.view (start_of N (mode_of called.2.view.held) called.0)
 

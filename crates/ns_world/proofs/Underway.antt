@@ -19,7 +19,7 @@ use Rattle.ns_word.proofs.Courses.{takes_on, begins_unchanged}
 use Rattle.ns_word.proofs.EnvCourses.{begins_course, others_leave_course, step_takes_on}
 use Rattle.ns_word.proofs.EnvKeeps.{set_there, set_here}
 use Rattle.ns_word.proofs.Starts.{quiet_is_first, wait_is_first}
-use Rattle.ns_word.proofs.Tells.{own_append, own_none, step_by, own_all}
+use Rattle.ns_word.proofs.ToldAfter.{own_append, own_none, step_by, own_all}
 use Rattle.ns_word.specs.Asked.{asked_of}
 use Rattle.ns_word.specs.Begins.{IsFirst}
 use Rattle.ns_word.specs.Courses.{SoFar, CallGoes, GoesOn, course_after, looked_after}
@@ -38,7 +38,7 @@ use Rattle.ns_word.specs.declared.cell_walk.Judging.TheVariants.{ToRelease}
 use Rattle.ns_word.specs.declared.env_request.EnvRequest.TheVariants as TheEnvRequest
 use Rattle.ns_word.specs.declared.env_request.EnvRequest.{EnvRequest}
 use Rattle.ns_word.specs.declared.env_walk.Chain.TheVariants.{ForLook}
-use Rattle.ns_word.specs.declared.env_walk.EnvNext.TheVariants.{Go, Shown, Repeat, Over}
+use Rattle.ns_word.specs.declared.env_walk.EnvNext.TheVariants.{Go, LookOver, Repeat, Over}
 use Rattle.ns_word.specs.declared.env_walk.EnvNext.{EnvNext}
 use Rattle.ns_word.specs.declared.env_walk.EnvWalk.TheVariants.{ClockLoad, NoteLoad}
 use Rattle.ns_word.specs.declared.env_walk.EnvWalk.{EnvWalk}
@@ -235,7 +235,7 @@ module _ (C : Type 0) (N : ℕ) (before : Now C N) (earlier : List EnvEvent) (se
   moves_there old new other step ne (inr (inr p)) = looks_there (env_got_of p.place p.found) p.goes where
     looks_there : (next : EnvNext) → LookGoes next old new other step → Untouched old new
     looks_there (Go next) q = subst (λ world. Untouched old world) (sym q.0) (asks_there old old.env other (Some next) ne)
-    looks_there (Shown cause) q = goes_there old new other step ne q.0
+    looks_there (LookOver cause) q = goes_there old new other step ne q.0
     looks_there next q = absurd q
 
   step_there : (old new : Now C N) (other : ℕ) (step : Step) → other ≢ seat → StepOf old new other step → Untouched old new
@@ -395,7 +395,7 @@ module _ (C : Type 0) (N : ℕ) (before : Now C N) (earlier : List EnvEvent) (se
           looking = (look, after, goes.so_far);
           still = u.still;
         }))
-    look_goes walk view look asked limits (Shown cause) given is after goes p =
+    look_goes walk view look asked limits (LookOver cause) given is after goes p =
         lock_goes request events old new step lawful since u p.0 (subst (λ found. WasShown earlier events (limits_of request) (looked_after found u.course.looked)) (sym p.1)
         (subst (λ l. AtSomePoint earlier events (Shows l cause)) (sym given) (look_means events look limits asked cause is after goes)))
     look_goes walk view look asked limits next given is after goes p = absurd p
@@ -434,7 +434,7 @@ module _ (C : Type 0) (N : ℕ) (before : Now C N) (earlier : List EnvEvent) (se
       same = ap held_in at ∙ same;
       silent = silent;
     }
-    asks_settle (Shown cause) walks goes = absurd (means_no_look events request course cause no_look goes)
+    asks_settle (LookOver cause) walks goes = absurd (means_no_look events request course cause no_look goes)
 
   -- a step of the seat in a call of its own on the clock and the notes leads it on
   asks_goes : (request : EnvRequest) (events : List EnvEvent) (old new : Now C N) (step : Step) → IsLawfulWorld old → LedTo events old → (u : NotesUnderway request events old) → (p : Asks old new seat step) → Outcome (OfNotes request) step (events ++ p.events) new
@@ -456,8 +456,8 @@ module _ (C : Type 0) (N : ℕ) (before : Now C N) (earlier : List EnvEvent) (se
 
   -- ---- any step of the seat
 
-  abbrev Leads : Asked C → List EnvEvent → Now C N → Step → List EnvEvent → Type 0
-  Leads asked events new step more = LedTo (events ++ more) new × Outcome asked step (events ++ more) new
+  abbrev LedToOutcome : Asked C → List EnvEvent → Now C N → Step → List EnvEvent → Type 0
+  LedToOutcome asked events new step more = LedTo (events ++ more) new × Outcome asked step (events ++ more) new
 
   -- where the world is led by no event
   no_event : (events : List EnvEvent) (new : Now C N) → LedTo events new → LedTo (events ++ []) new
@@ -470,7 +470,7 @@ module _ (C : Type 0) (N : ℕ) (before : Now C N) (earlier : List EnvEvent) (se
   same_world world = record { views = refl; asking = refl; own_same = refl; means = refl }
 
   -- of a call on the lock
-  lock_moves : (request : Request C) (events : List EnvEvent) (old new : Now C N) (step : Step) → IsLawfulWorld old → LedTo events old → BeginsWith events earlier → LockUnderway request events old → (p : Moves old new seat step) → Leads (OfLock request) events new step (env_done p)
+  lock_moves : (request : Request C) (events : List EnvEvent) (old new : Now C N) (step : Step) → IsLawfulWorld old → LedTo events old → BeginsWith events earlier → LockUnderway request events old → (p : Moves old new seat step) → LedToOutcome (OfLock request) events new step (env_done p)
   unfolding lock_rests
   lock_moves request events old new step lawful led since u (inl p) =
       let now = lock_rests request events [] old old (same_world old) (no_more events) u in
@@ -500,7 +500,7 @@ module _ (C : Type 0) (N : ℕ) (before : Now C N) (earlier : List EnvEvent) (se
       )
 
   -- of a call on the clock and the notes
-  notes_move : (request : EnvRequest) (events : List EnvEvent) (old new : Now C N) (step : Step) → IsLawfulWorld old → LedTo events old → NotesUnderway request events old → (p : Moves old new seat step) → Leads (OfNotes request) events new step (env_done p)
+  notes_move : (request : EnvRequest) (events : List EnvEvent) (old new : Now C N) (step : Step) → IsLawfulWorld old → LedTo events old → NotesUnderway request events old → (p : Moves old new seat step) → LedToOutcome (OfNotes request) events new step (env_done p)
   notes_move request events old new step lawful led u (inl p) = let clash : Some None ≡ Some (Some u.walk) = sym p.unasked ∙ u.walks in absurd (cc)
   notes_move request events old new step lawful led u (inr (inl p)) = (asks_led events old new seat step lawful led p, asks_goes request events old new step lawful led u p)
   notes_move request events old new step lawful led u (inr (inr p)) =
@@ -508,7 +508,7 @@ module _ (C : Type 0) (N : ℕ) (before : Now C N) (earlier : List EnvEvent) (se
       let view_is : p.view ≡ u.view = cc in
       let clash : None ≡ Some p.walk = sym u.idle ∙ ap (λ v. v.walk) (sym view_is) ∙ p.walks in absurd (cc)
 
-  moves_on : (asked : Asked C) (events : List EnvEvent) (old new : Now C N) (step : Step) → IsLawfulWorld old → LedTo events old → BeginsWith events earlier → Underway asked events old → (p : Moves old new seat step) → Leads asked events new step (env_done p)
+  moves_on : (asked : Asked C) (events : List EnvEvent) (old new : Now C N) (step : Step) → IsLawfulWorld old → LedTo events old → BeginsWith events earlier → Underway asked events old → (p : Moves old new seat step) → LedToOutcome asked events new step (env_done p)
   moves_on (OfLock request) events old new step lawful led since u p = lock_moves request events old new step lawful led since u p
   moves_on (OfNotes request) events old new step lawful led since u p = notes_move request events old new step lawful led u p
 
@@ -520,7 +520,7 @@ module _ (C : Type 0) (N : ℕ) (before : Now C N) (earlier : List EnvEvent) (se
       let clash : None ≡ Some u.walk = sym idle ∙ ap (λ v. v.walk) view_is ∙ u.walks in absurd (cc)
   not_idle (OfNotes request) events world view u at idle unasked = let clash : Some None ≡ Some (Some u.walk) = sym unasked ∙ u.walks in absurd (cc)
 
-  step_on : (asked : Asked C) (events : List EnvEvent) (old new : Now C N) (step : Step) → IsLawfulWorld old → LedTo events old → BeginsWith events earlier → Underway asked events old → (p : StepOf old new seat step) → Leads asked events new step (step_done old new seat step p)
+  step_on : (asked : Asked C) (events : List EnvEvent) (old new : Now C N) (step : Step) → IsLawfulWorld old → LedTo events old → BeginsWith events earlier → Underway asked events old → (p : StepOf old new seat step) → LedToOutcome asked events new step (step_done old new seat step p)
   step_on asked events old new Nothing lawful led since u p = absurd (not_idle asked events old p.1.view u p.1.at p.1.idle p.1.unasked)
   step_on asked events old new Went lawful led since u p = moves_on asked events old new Went lawful led since u p
   step_on asked events old new Idle lawful led since u p = moves_on asked events old new Idle lawful led since u p

@@ -17,12 +17,12 @@ use Rattle.ns_word.specs.declared.limits.Cause.{Cause}
 use Rattle.ns_model.specs.Environments.{NoteStanding}
 use Rattle.ns_word.specs.declared.env_walk.EnvWalk.{EnvWalk}
 use Rattle.ns_word.specs.declared.env_walk.EnvNext.{EnvNext}
-use Rattle.ns_word.specs.declared.env_walk.EnvNext.TheVariants.{Go, Repeat, Over, Shown}
+use Rattle.ns_word.specs.declared.env_walk.EnvNext.TheVariants.{Go, Repeat, Over, LookOver}
 use Rattle.ns_word.specs.EnvWalks.{env_want_of, env_got_of, env_walk_after}
 use Rattle.ns_word.specs.EnvSteps.{EnvPlain, EnvBegins, EnvStep, EnvActFits, EnvEffect, IfMade, IsFirstAsk, IsLawfulEnv, events_of}
 use Rattle.ns_word.specs.Walks.{want_of, got_of, walk_after}
 use Rattle.ns_model.specs.Truths.{Truths, QuietKeeps}
-use Rattle.ns_word.specs.Steps.{State, Effect, MayShow}
+use Rattle.ns_word.specs.Steps.{LockState, Effect, MayShow}
 use Rattle.ns_word.specs.Places.{IsSettled, PlaceFits, ActFits}
 use Rattle.ns_word.specs.Begins.{IsFirst}
 use Rattle.ns_word.specs.Lawful.{IsLawful}
@@ -63,11 +63,11 @@ some_ask : (next : EnvNext) → Nothing ≡ env_step_of next → ⊥
 some_ask (Go walk) e = absurd (cc)
 some_ask (Repeat walk) e = absurd (cc)
 some_ask (Over reply) e = absurd (cc)
-some_ask (Shown cause) e = absurd (cc)
+some_ask (LookOver cause) e = absurd (cc)
 
 some_look : {C : Type 0} {N : ℕ} (next : EnvNext) (old new : Now C N) (seat : ℕ) → LookGoes next old new seat Nothing → ⊥
 some_look (Go walk) old new seat p = absurd (cc (p.1))
-some_look {C} {N} (Shown cause) old new seat p = some_step (got_of N p.0.makes.walk p.0.found) p.0.answers
+some_look {C} {N} (LookOver cause) old new seat p = some_step (got_of N p.0.makes.walk p.0.found) p.0.answers
 some_look (Repeat walk) old new seat p = p
 some_look (Over reply) old new seat p = p
 
@@ -274,7 +274,7 @@ module _ {C : Type 0} {N : ℕ} (truths : Truths C) (some : 0 < N) (quiet : Quie
       view_of next ≡ record { seat = (get_or seats i d).number; walk = Some walk; held = (get_or seats i d).held; owed = (get_or seats i d).owed.items } → IfMade (plain_of env).notes (note_in (Some walk)) → looks_at (want_of walk) ≡ None → IsLawfulWorld (now_with truths word row queues flags env (slice_set seats i next) history)
   lawful_begun walk next over unasked asks first place is note inside =
       let new : Now C N = now_with truths word row queues flags env (slice_set seats i next) history in
-      let old_state : State C N = (now_with truths word row queues flags env seats history).state in
+      let old_state : LockState C N = (now_with truths word row queues flags env seats history).state in
       let begun = begin_at truths old_state i (view_of (get_or seats i d)) at_here walk new.state over first place (ap (λ vs. record old_state { views = vs }) (map-set view_of seats i next ∙ ap (slice_set (map view_of seats) i) is)) in
       let kept = begins truths (length (map view_of seats)) history old_state (view_of (get_or seats i d)) walk new.state begun lawful.lawful in
       let same : length (map view_of (slice_set seats i next)) ≡ length (map view_of seats) = length-map (slice_set seats i next) view_of ∙ length-set seats i next ∙ sym (length-map seats view_of) in
@@ -397,7 +397,7 @@ module _ {C : Type 0} {N : ℕ} (truths : Truths C) (some : 0 < N) (quiet : Quie
           lawful)
 
     -- the look is over
-    module _ (cause : Option Cause) (sees : env_got_of place p.found ≡ Shown cause) (q : Sees (get_or seats i d) walk cause next step) where
+    module _ (cause : Option Cause) (sees : env_got_of place p.found ≡ LookOver cause) (q : Sees (get_or seats i d) walk cause next step) where
       may : MayShow looks.0 cause
       may = subst (λ n. LookLeads looks.0 n) sees leads
 
@@ -431,7 +431,7 @@ module _ {C : Type 0} {N : ℕ} (truths : Truths C) (some : 0 < N) (quiet : Quie
         found = p.found;
         effect = seen_effect;
         goes = subst (λ n. LookGoes n (now_with truths word row queues flags env seats history) (now_with truths word row queues flags env' (slice_set seats i next) history) i step) (sym sees)
-            (subst (λ (w : Now C N). LookGoes (Shown cause) (now_with truths word row queues flags env seats history) w i step) (sym same_now) (goes_here walk walks word row queues flags next history step performs, refl));
+            (subst (λ (w : Now C N). LookGoes (LookOver cause) (now_with truths word row queues flags env seats history) w i step) (sym same_now) (goes_here walk walks word row queues flags next history step performs, refl));
       }
 
       lawful_over : IsLawfulWorld (now_with truths word row queues flags env' (slice_set seats i next) history)
@@ -442,7 +442,7 @@ module _ {C : Type 0} {N : ℕ} (truths : Truths C) (some : 0 < N) (quiet : Quie
     looked_by : (n : EnvNext) → env_got_of place p.found ≡ n → SeatLooks n (get_or seats i d) walk next step →
         Looks (now_with truths word row queues flags env seats history) (now_with truths word row queues flags env' (slice_set seats i next) history) i step × IsLawfulWorld (now_with truths word row queues flags env' (slice_set seats i next) history)
     looked_by (Go on) e q = (look_on on e q.0 q.1, lawful_on on e q.0)
-    looked_by (Shown cause) e q = (look_over cause e q, lawful_over cause e q)
+    looked_by (LookOver cause) e q = (look_over cause e q, lawful_over cause e q)
     looked_by n e q = absurd q
 
     -- what a step of a look is in the world, which is lawful after it

@@ -5,7 +5,7 @@ use Rattle.ns_word.specs.declared.env_act.NoteState.{NoteState}
 use Rattle.ns_word.specs.declared.env_act.EnvFound.{EnvFound}
 use Rattle.ns_word.specs.declared.env_walk.EnvWalk.{EnvWalk}
 use Rattle.ns_word.specs.declared.env_walk.EnvNext.{EnvNext}
-use Rattle.ns_word.specs.declared.env_walk.EnvNext.TheVariants.{Go, Repeat, Over, Shown}
+use Rattle.ns_word.specs.declared.env_walk.EnvNext.TheVariants.{Go, Repeat, Over, LookOver}
 use Rattle.ns_word.specs.EnvWalks.{standing_of, state_of, env_want_of, env_got_of, env_walk_after}
 use Rattle.ns_word.specs.EnvSteps.{EnvPlain, EnvState, EnvEffect, events_of}
 use Rattle.ns_world.specs.declared.environment.Environment.{Environment}
@@ -30,7 +30,7 @@ abbrev pub env_step_of : EnvNext → Step
 env_step_of (Go walk) = Went
 env_step_of (Repeat walk) = Idle
 env_step_of (Over reply) = Finished reply
-env_step_of (Shown cause) = Went
+env_step_of (LookOver cause) = Went
 
 -- the step of the walk was made, and the seat is where it leads
 pub record Asked {C : Type 0} {N : ℕ} (old new : EnvPlain) (seat : Seat C N) (walk : EnvWalk) (seat' : Seat C N) (step : Step) : Type 0 where

@@ -6,7 +6,7 @@ use Rattle.ns_word.specs.declared.act.Found.TheVariants.{Looked}
 use Rattle.ns_word.specs.declared.env_act.EnvFound.{EnvFound}
 use Rattle.ns_word.specs.declared.env_walk.EnvWalk.{EnvWalk}
 use Rattle.ns_word.specs.declared.env_walk.EnvNext.{EnvNext}
-use Rattle.ns_word.specs.declared.env_walk.EnvNext.TheVariants.{Go, Shown}
+use Rattle.ns_word.specs.declared.env_walk.EnvNext.TheVariants.{Go, LookOver}
 use Rattle.ns_word.specs.EnvWalks.{env_want_of, env_got_of}
 use Rattle.ns_word.specs.EnvSteps.{EnvPlain, EnvEffect}
 use Rattle.ns_word.specs.Walks.{want_of, got_of, walk_after}
@@ -30,7 +30,7 @@ pub record Sees {C : Type 0} {N : ℕ} (seat : Seat C N) (walk : Walk C) (cause 
 -- where a step of a look leads its seat
 abbrev pub SeatLooks : {C : Type 0} {N : ℕ} → EnvNext → Seat C N → Walk C → Seat C N → Step → Type 0
 SeatLooks (Go next) seat walk seat' step = (seat' ≡ record seat { asking = Some next }) × (step ≡ Went)
-SeatLooks (Shown cause) seat walk seat' step = Sees seat walk cause seat' step
+SeatLooks (LookOver cause) seat walk seat' step = Sees seat walk cause seat' step
 SeatLooks next seat walk seat' step = ⊥
 
 -- a step of a look was made, and the seat is where it leads

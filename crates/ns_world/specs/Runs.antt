@@ -66,15 +66,15 @@ Counts over lines seat (Finished reply) tests over' lines' =
 Counts over lines seat step tests over' lines' = (over' ≡ over) × (lines' ≡ lines)
 
 -- A seat with a call in progress goes on with it; one with none begins its next, if the call's need is met.
-abbrev pub Leads : {C : Type 0} {N : ℕ} → List (List (Call C)) → Progress C N → ℕ → Now C N → Type 0
-Leads {C} {N} lists p seat world =
+abbrev pub GoesOnOrBegins : {C : Type 0} {N : ℕ} → List (List (Call C)) → Progress C N → ℕ → Now C N → Type 0
+GoesOnOrBegins {C} {N} lists p seat world =
     (IsBusy p.world seat × (world ≡ p.world))
     ⊎ ((call : Call C) × (next_call lists p seat ≡ Some call) × BeginAnswers p.world world seat call Started)
 
 -- the seat makes a step of the call that it goes on with or begins
 pub record MakesTurn {C : Type 0} {N : ℕ} (lists : List (List (Call C))) (p : Progress C N) (seat : ℕ) (step : Step) (q : Progress C N) : Type 0 where
   pub begun : Now C N
-  pub leads : Leads lists p seat begun
+  pub leads : GoesOnOrBegins lists p seat begun
   pub world : Now C N
   pub steps : StepOf begun world seat step
   pub goes : step ≢ Nothing

@@ -15,12 +15,12 @@ use Rattle.ns_word.specs.declared.env_act.EnvFound.{EnvFound}
 use Rattle.ns_word.specs.declared.env_walk.EnvWalk.{EnvWalk}
 use Rattle.ns_word.specs.Walks.{want_of, got_of, walk_after}
 use Rattle.ns_model.specs.Truths.{Truths}
-use Rattle.ns_word.specs.Steps.{State, Step as Steps}
+use Rattle.ns_word.specs.Steps.{LockState, Step as Steps}
 use Rattle.ns_word.specs.Lawful.{IsLawful}
 use Rattle.ns_word.specs.Views.{AreNumbered}
 use Rattle.ns_word.specs.Begins.{fresh_state}
 use Rattle.ns_word.specs.declared.env_walk.EnvNext.{EnvNext}
-use Rattle.ns_word.specs.declared.env_walk.EnvNext.TheVariants.{Go, Shown}
+use Rattle.ns_word.specs.declared.env_walk.EnvNext.TheVariants.{Go, LookOver}
 use Rattle.ns_word.specs.EnvWalks.{env_want_of, env_got_of}
 use Rattle.ns_word.specs.EnvSteps.{EnvPlain, EnvStep, EnvEffect, IfMade, IsLawfulEnv, fresh_plain}
 use Rattle.ns_world.specs.declared.environment.Environment.{Environment}
@@ -37,7 +37,7 @@ use Rattle.ns_world.specs.Performs.{view_of, flag_at, step_of, tests_after}
 -- what the conditions mean, the lock and its seats, how many conditions the scan of each seat's call tested, all that has happened, the clock and the notes, and each seat's place in a call on them
 pub record Now (C : Type 0) (N : ℕ) : Type 0 where
   pub truths : Truths C
-  pub state : State C N
+  pub state : LockState C N
   pub tests : List ℕ
   pub history : List (Event C N)
   pub env : EnvPlain
@@ -121,11 +121,11 @@ abbrev pub fresh : {C : Type 0} {N : ℕ} → Truths C → ℕ → Now C N
 fresh {C} {N} truths seats = record { truths = truths; state = fresh_state {C = C} {N = N} seats; tests = replicate seats 0; history = []; env = fresh_plain; asking = replicate seats None }
 
 -- why no world is made: more than 64 seats, or want of memory where there are no more
-abbrev pub NewFault : ℕ → Fault → Type 0
-NewFault seats TooManySeats = 64 < seats
-NewFault seats OutOfMemory = seats ≤ 64
-NewFault seats NoSuchSeat = ⊥
-NewFault seats StepLimit = ⊥
+abbrev pub RefusesWorld : ℕ → Fault → Type 0
+RefusesWorld seats TooManySeats = 64 < seats
+RefusesWorld seats OutOfMemory = seats ≤ 64
+RefusesWorld seats NoSuchSeat = ⊥
+RefusesWorld seats StepLimit = ⊥
 
 -- ---- a step
 
@@ -188,7 +188,7 @@ pub record Asks {C : Type 0} {N : ℕ} (old new : Now C N) (seat : ℕ) (step : 
 -- where a step of a look leads: it goes on, or the wait goes on with what it has shown
 abbrev pub LookGoes : {C : Type 0} {N : ℕ} → EnvNext → Now C N → Now C N → ℕ → Step → Type 0
 LookGoes (Go next) old new seat step = (new ≡ record old { asking = slice_set old.asking seat (Some next) }) × (step ≡ Went)
-LookGoes (Shown cause) old new seat step = (goes : Goes old new seat step) × (goes.found ≡ Looked cause)
+LookGoes (LookOver cause) old new seat step = (goes : Goes old new seat step) × (goes.found ≡ Looked cause)
 LookGoes next old new seat step = ⊥
 
 -- The seat makes one step of a look of its wait: a load of the clock or of a note, which changes neither.

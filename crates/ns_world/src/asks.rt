@@ -29,7 +29,7 @@ fn settle<C: Seated<N>, const N: usize>(seat: &mut Seat<C, N>, next: EnvNext) ->
             seat.asking = None;
             Step::Finished(reply)
         }
-        EnvNext::Shown(_) => {
+        EnvNext::LookOver(_) => {
             seat.asking = None;
             Step::Went
         }

@@ -89,7 +89,7 @@ fn look<C: Seated<N>, const N: usize>(
             seat.asking = Some(next);
             Step::Went
         }
-        EnvNext::Shown(cause) => see(seat, walk, cause),
+        EnvNext::LookOver(cause) => see(seat, walk, cause),
         EnvNext::Repeat(_) => unreachable!(),
         EnvNext::Over(_) => unreachable!(),
     }

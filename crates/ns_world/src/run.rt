@@ -165,20 +165,20 @@ fn schedule_word<C: Seated<N>, const N: usize>(
     world: &mut World<C, N>,
     lists: &[Vec<Call<C>>],
     tally: &mut Tally,
-    turn: &Turn,
+    word: &Turn,
     limit: u32,
 ) -> Result<(), Fault>
     requires lists { All (λ calls. ListFits N calls.items) lists.now }
     requires counted { IsCounted (now_of C.means world.old) tally.old.over }
     requires turns { tally.old.turns ≤ limit }
     ensures ok { OnOk result (let calls = map (λ calls. calls.items) lists.now in
-        Advances calls limit (progress (now_of C.means world.old) tally.old.over tally.old.lines.items) tally.old.turns (items_of (turn.now ∷ [])) [] (progress (now_of C.means world.new) tally.new.over tally.new.lines.items) tally.new.turns) }
+        Advances calls limit (progress (now_of C.means world.old) tally.old.over tally.old.lines.items) tally.old.turns (items_of (word.now ∷ [])) [] (progress (now_of C.means world.new) tally.new.over tally.new.lines.items) tally.new.turns) }
     ensures counted { OnOk result (IsCounted (now_of C.means world.new) tally.new.over) }
     ensures err { IfErr result (λ fault. let calls = map (λ calls. calls.items) lists.now in
-        Stops calls limit (progress (now_of C.means world.old) tally.old.over tally.old.lines.items) tally.old.turns (items_of (turn.now ∷ [])) (now_of C.means world.new) fault) }
+        Stops calls limit (progress (now_of C.means world.old) tally.old.over tally.old.lines.items) tally.old.turns (items_of (word.now ∷ [])) (now_of C.means world.new) fault) }
 {
-    for _ in 0..turn.times {
-        item(world, lists, tally, turn.thread, turn.whole, limit)?;
+    for _ in 0..word.times {
+        item(world, lists, tally, word.thread, word.whole, limit)?;
     }
     Ok(())
 }
@@ -211,8 +211,8 @@ impl<C: Seated<N>, const N: usize> World<C, N> {
             lines: Vec::new(alloc),
             turns: 0,
         };
-        for turn in schedule {
-            schedule_word(self, lists, &mut tally, turn, limit)?;
+        for word in schedule {
+            schedule_word(self, lists, &mut tally, word, limit)?;
         }
         Ok(tally.lines)
     }

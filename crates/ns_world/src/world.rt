@@ -8,7 +8,7 @@ ghost use Rattle.ns_queue.specs.Waiters.{shown_of};
 ghost use Rattle.ns_world.specs.Begins.{BeginAnswers, BeginFault};
 ghost use Rattle.ns_world.specs.Calls.{CallInRange};
 ghost use Rattle.ns_world.specs.Shows.{lists_shown, wakes_owed};
-ghost use Rattle.ns_world.specs.World.{fresh, now_of, is_busy, IsLawfulWorld, NewFault, StepOf, StepFault};
+ghost use Rattle.ns_world.specs.World.{fresh, now_of, is_busy, IsLawfulWorld, RefusesWorld, StepOf, StepFault};
 
 use crate::call::Call;
 use crate::environment::Environment;
@@ -88,7 +88,7 @@ impl<C: Seated<N>, const N: usize> World<C, N> {
     pub fn new(alloc: Global, seats: usize, counters: &[u32], onces: usize) -> Result<Self, Fault>
         requires counters { length counters.now ≤ 16 }
         requires onces { onces ≤ 16 }
-        ensures made { MatchResult result (λ world. (now_of C.means world ≡ fresh C.means seats) × (seats ≤ 64)) (NewFault seats) }
+        ensures made { MatchResult result (λ world. (now_of C.means world ≡ fresh C.means seats) × (seats ≤ 64)) (RefusesWorld seats) }
         ensures lawful { IfOk result (λ world. IsLawfulWorld (now_of C.means world)) }
     {
         if seats > 64 {

@@ -2,7 +2,7 @@
 
 use super::FIRST;
 use super::memory::{Expects, Pieces};
-use ns_replay::{Fault, OverRead, OverWrite, Place, Sink};
+use ns_replay::{Fault, OverRead, OverWrite, ScriptPath, Sink};
 use ns_timeline::timeline;
 
 const PICTURE: &str = "\
@@ -46,7 +46,7 @@ fn refusals(rt: HostRuntime) {
         (FIRST, 1, 7, Fault::Read),
         (FIRST, 2, 6, Fault::StepLimit),
         ("{", 2, 7, Fault::NotJson),
-        ("{}", 2, 7, Fault::BadScript(Place::Version)),
+        ("{}", 2, 7, Fault::BadScript(ScriptPath::Version)),
     ] {
         let mut source = Pieces::new(script.as_bytes(), 4096, reads);
         let mut sink = Expects::new(b"", 4096, usize::MAX);

@@ -4,4 +4,4 @@ use Rattle.ns_model.specs.Environments.{IsMade}
 use Rattle.ns_live.proofs.consuming.consume.Given as goal
 
 abbrev pub invariant-loop : goal.invariant-loop
-invariant-loop g l = (l.seat.monitor ≡ l.place.monitor.now) × (l.env_seat.env ≡ l.place.env.now) × IsMade l.env_seat.seen l.place.note.index
+invariant-loop g l = (l.seat.monitor ≡ l.commons.monitor.now) × (l.env_seat.env ≡ l.commons.env.now) × IsMade l.env_seat.seen l.commons.note.index

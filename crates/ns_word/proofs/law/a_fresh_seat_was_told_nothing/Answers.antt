@@ -1,4 +1,4 @@
-use Rattle.ns_word.proofs.Tells.{told_first}
+use Rattle.ns_word.proofs.ToldAfter.{told_first}
 use Rattle.ns_word.proofs.law.a_fresh_seat_was_told_nothing.Goals as goal
 
 pub returns : goal.returns

@@ -1,4 +1,4 @@
-use Rattle.ns_word.proofs.Tells.{seat_steps_keep}
+use Rattle.ns_word.proofs.ToldAfter.{seat_steps_keep}
 use Rattle.ns_word.proofs.law.steps_keep_the_law.Goals as goal
 
 pub returns : goal.returns

@@ -1,4 +1,4 @@
-use Rattle.ns_word.proofs.Tells.{seat_step_by, told_there}
+use Rattle.ns_word.proofs.ToldAfter.{seat_step_by, told_there}
 use Rattle.ns_word.proofs.law.steps_tell_no_other.Goals as goal
 
 pub returns : goal.returns

@@ -31,14 +31,14 @@ returns-in-Go g c =
       goes = subst (λ next. SeatLooks next c.args.seat.now c.args.walk (record c.args.seat.now { asking = Some c.in-Go.next }) Went) (sym c.in-Go.is ∙ c.got.ensures) (refl, refl);
     }
 
-pub returns-in-Shown : goal.returns-in-Shown
-returns-in-Shown g c =
+pub returns-in-LookOver : goal.returns-in-LookOver
+returns-in-LookOver g c =
     let fits = c.requires.looks in
     let effect = rw c.want.ensures at (c.make-found.ensures c.args.seat.now.number) in
     record {
       found = c.make-found.result;
       effect = (look_effect fits.0 c.args.place fits.2 c.args.seat.now.number (plain_of c.args.env.now) (plain_of c.make-found.new.self) c.make-found.result effect).0;
-      goes = subst (λ next. SeatLooks next c.args.seat.now c.args.walk c.see.new.seat c.see.result) (sym c.in-Shown.is ∙ c.got.ensures) c.see.ensures;
+      goes = subst (λ next. SeatLooks next c.args.seat.now c.args.walk c.see.new.seat c.see.result) (sym c.in-LookOver.is ∙ c.got.ensures) c.see.ensures;
     }
 
 pub make-found-requires : goal.make-found-requires

@@ -25,7 +25,7 @@ returns-in_err-item-clause-err g c =
     let calls = map (λ (calls : Vec (Call _) Global). calls.items) c.args.lists.now in
     let first = progress (now_of g.C.Condition.means c.args.world.now) c.args.tally.now.over c.args.tally.now.lines.items in
     let now = progress (now_of g.C.Condition.means c.loop.world) c.loop.tally.over c.loop.tally.lines.items in
-    rw (p.1, p.2) (stops_again calls c.args.limit first now c.args.tally.now.turns c.loop.tally.turns c.loop.counter c.args.turn.now.times (record { seat = c.args.turn.now.thread; whole = c.args.turn.now.whole }) (now_of g.C.Condition.means c.item.new.world) c.in_err-item.field-0.0
+    rw (p.1, p.2) (stops_again calls c.args.limit first now c.args.tally.now.turns c.loop.tally.turns c.loop.counter c.args.word.now.times (record { seat = c.args.word.now.thread; whole = c.args.word.now.whole }) (now_of g.C.Condition.means c.item.new.world) c.in_err-item.field-0.0
     c.loop-test.true c.loop.invariant.advances c.in_err-item.ensures.err)
 
 pub loop-preserved : goal.loop-preserved
@@ -35,12 +35,12 @@ loop-preserved g c =
     let now = progress (now_of g.C.Condition.means c.loop.world) c.loop.tally.over c.loop.tally.lines.items in
     let next = progress (now_of g.C.Condition.means c.item.new.world) c.item.new.tally.over c.item.new.tally.lines.items in
     record {
-      advances = advance_again calls c.args.limit first now next c.args.tally.now.turns c.loop.tally.turns c.item.new.tally.turns c.loop.counter (record { seat = c.args.turn.now.thread; whole = c.args.turn.now.whole })
+      advances = advance_again calls c.args.limit first now next c.args.tally.now.turns c.loop.tally.turns c.item.new.tally.turns c.loop.counter (record { seat = c.args.word.now.thread; whole = c.args.word.now.whole })
           c.loop.invariant.advances c.in_ok-item.ensures.ok;
       counted = c.in_ok-item.ensures.counted;
     }
 
 pub returns-clause-ok : goal.returns-clause-ok
 returns-clause-ok g c =
-    let all : c.loop.counter ≡ c.args.turn.now.times = omega arith in
+    let all : c.loop.counter ≡ c.args.word.now.times = omega arith in
     rw (append-nil _, ← all) c.loop.invariant.advances

@@ -1,5 +1,5 @@
 use Rattle.ns_gate.specs.Prelude.{act_returning}
-use Rattle.ns_gate.proofs.Tells.{returned_so}
+use Rattle.ns_gate.proofs.Findings.{returned_so}
 use Rattle.ns_gate.proofs.gate.Gate.exchange_to_return.Goals as goal
 
 pub returns-clause-did : goal.returns-clause-did

@@ -1,5 +1,5 @@
 use Rattle.ns_gate.specs.Prelude.{JudgeMet}
-use Rattle.ns_gate.proofs.Tells.{met_cell}
+use Rattle.ns_gate.proofs.Findings.{met_cell}
 use Rattle.ns_gate.proofs.gate.Gate.judge_met.Goals as goal
 
 pub returns-clause-did : goal.returns-clause-did

@@ -1,5 +1,5 @@
 use Rattle.ns_gate.specs.Prelude.{JudgeQuiet}
-use Rattle.ns_gate.proofs.Tells.{quiet_cell}
+use Rattle.ns_gate.proofs.Findings.{quiet_cell}
 use Rattle.ns_gate.proofs.gate.Gate.judge_quiet.Goals as goal
 
 pub returns-clause-did : goal.returns-clause-did

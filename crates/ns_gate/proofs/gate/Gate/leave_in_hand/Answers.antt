@@ -1,6 +1,6 @@
 use Rattle.std.proofs.Common.{rules, ap, ◌∙◌}
 use Rattle.ns_gate.specs.Prelude.{changed, bits_of, LeaveSelf, the}
-use Rattle.ns_gate.proofs.Tells.{has_slot, was_in_hand, now_in_hand}
+use Rattle.ns_gate.proofs.Findings.{has_slot, was_in_hand, now_in_hand}
 use Rattle.ns_gate.proofs.gate.Gate.leave_in_hand.Goals as goal
 
 pub slot_mut-queues-requires : goal.slot_mut-queues-requires

@@ -1,6 +1,6 @@
 use Rattle.std.proofs.Common.{sym, subst}
 use Rattle.ns_gate.specs.Prelude.{IsPackable, LoadWord}
-use Rattle.ns_gate.proofs.Tells.{saw_word, word_packs}
+use Rattle.ns_gate.proofs.Findings.{saw_word, word_packs}
 use Rattle.ns_gate.proofs.gate.Gate.load.Goals as goal
 
 pub unpacked-requires : goal.unpacked-requires

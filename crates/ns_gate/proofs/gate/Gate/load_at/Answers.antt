@@ -1,5 +1,5 @@
-use Rattle.ns_gate.proofs.Turns.{may_load}
-use Rattle.ns_gate.proofs.Tells.{stepped}
+use Rattle.ns_gate.proofs.Allowed.{may_load}
+use Rattle.ns_gate.proofs.Findings.{stepped}
 use Rattle.ns_gate.proofs.gate.Gate.load_at.Goals as goal
 
 pub load_saying-requires-clause-allows : goal.load_saying-requires-clause-allows

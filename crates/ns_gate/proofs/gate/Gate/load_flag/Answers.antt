@@ -1,6 +1,6 @@
 use Rattle.std.proofs.Common.{arith}
 use Rattle.ns_gate.specs.Prelude.{LoadFlag}
-use Rattle.ns_gate.proofs.Tells.{small_flag}
+use Rattle.ns_gate.proofs.Findings.{small_flag}
 use Rattle.ns_gate.proofs.gate.Gate.load_flag.Goals as goal
 
 pub overflow_cast-result : goal.overflow_cast-result

@@ -1,5 +1,5 @@
 use Rattle.std.proofs.Common.{rules}
-use Rattle.ns_gate.proofs.Tells.{has_slot}
+use Rattle.ns_gate.proofs.Findings.{has_slot}
 use Rattle.ns_gate.proofs.gate.Gate.scan_and_queue_in_hand.Goals as goal
 
 pub slot_mut-queues-requires : goal.slot_mut-queues-requires

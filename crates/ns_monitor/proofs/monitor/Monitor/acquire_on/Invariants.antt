@@ -1,6 +1,6 @@
 use Rattle.std.proofs.Common.{◌≡◌, None}
 use Rattle.ns_gate.specs.Prelude.{HasSince, the, IsPackable}
-use Rattle.ns_monitor.specs.Standing.{AcquiresBy}
+use Rattle.ns_monitor.specs.Prelude.{AcquiresBy}
 use Rattle.ns_monitor.proofs.monitor.Monitor.acquire_on.Given as goal
 
 abbrev pub invariant-loop : goal.invariant-loop

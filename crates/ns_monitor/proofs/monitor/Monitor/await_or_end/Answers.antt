@@ -1,5 +1,5 @@
 use Rattle.std.proofs.Common.{◌≡◌, ◌∙◌, sym, subst, refl, arith, None, Some, false}
-use Rattle.ns_gate.specs.Prelude.{TableId, HasSince, IsAt, the, LoadFlag, Look, Flag, Looked, AwaitWakeInWait, LookOut, InWait}
+use Rattle.ns_gate.specs.Prelude.{TableId, HasSince, IsAtPlace, the, LoadFlag, Look, Flag, Looked, AwaitWakeInWait, LookOut, InWait}
 use Rattle.ns_gate.proofs.Calls.{can_go, goes, since, since_itself, since_then}
 use Rattle.ns_monitor.proofs.Standing.{same_number}
 use Rattle.ns_monitor.proofs.Waits.{goes_to_leave, looks_out, waits_on}
@@ -18,7 +18,7 @@ since_flag : (g : Over) (c : After-load_flag-flag g) → HasSince None (the c.ar
 since_flag g c = since_then None _ _ _ c.loop.invariant.3 (since g.C.Condition.means None LoadFlag (Flag c.load_flag-flag.result) c.loop.seat.me c.load_flag-flag.new.seat.me c.load_flag-flag.ensures.did)
 
 -- the flag is set
-looking : (g : Over) (c : After-load_flag-flag g) → c.load_flag-flag.result ≡ 1 → IsAt g.C.Condition.means (InWait c.args.wait LookOut) c.load_flag-flag.new.seat.me
+looking : (g : Over) (c : After-load_flag-flag g) → c.load_flag-flag.result ≡ 1 → IsAtPlace g.C.Condition.means (InWait c.args.wait LookOut) c.load_flag-flag.new.seat.me
 looking g c set = looks_out g.C.Condition.means c.args.wait c.load_flag-flag.result c.loop.seat.me c.load_flag-flag.new.seat.me set c.requires.limited c.loop.invariant.5 c.load_flag-flag.ensures.did
 
 pub returns-then-flag-ne1-clause-since : goal.returns-then-flag-ne1-clause-since

@@ -1,8 +1,7 @@
 use Rattle.std.proofs.Common.{◌∙◌, ap}
 use Rattle.ns_gate.specs.Prelude.{TableId}
 use Rattle.ns_monitor.proofs.Callers.{is_got, saw_more}
-use Rattle.ns_monitor.specs.Known.{Known}
-use Rattle.ns_monitor.specs.Walks.{getting}
+use Rattle.ns_monitor.specs.Prelude.{Known, getting}
 use Rattle.ns_monitor.proofs.monitor.Monitor.get.Goals as goal
 
 pub returns-clause-saw : goal.returns-clause-saw

@@ -1,22 +1,22 @@
 use Rattle.std.proofs.Common.{◌≡◌, ◌∙◌, refl, subst, sym, arith, None, Some, true}
-use Rattle.ns_gate.specs.Prelude.{TableId, HasSince, IsAt, Leads, the, CanStep, Performed, asked_of, IsPackable, got_of, Made, Saw, Word}
+use Rattle.ns_gate.specs.Prelude.{TableId, HasSince, IsAtPlace, HasReached, the, CanStep, Performed, asked_of, IsPackable, got_of, Made, Saw, Word}
 use Rattle.ns_gate.proofs.Calls.{since, since_then}
-use Rattle.ns_monitor.proofs.Standing.{can_go_by, goes_alone, goes_by, loads_first, may_by, may_now, misses, same_word}
-use Rattle.ns_monitor.specs.Standing.{going_act, going_at, going_of, may_go}
+use Rattle.ns_monitor.proofs.Standing.{decided, can_go_by, goes_alone, goes_by, loads_first, may_by, misses, same_word}
+use Rattle.ns_monitor.specs.Prelude.{going_act, going_at, going_of, may_go}
 use Rattle.ns_monitor.proofs.monitor.Monitor.go_at_once.Given.{Over}
 use Rattle.ns_monitor.proofs.monitor.Monitor.go_at_once.Goals.{After-load-word}
 use Rattle.ns_monitor.proofs.monitor.Monitor.go_at_once.Goals as goal
 
 -- the word was loaded
-first : (g : Over) (c : After-load-word g) → Leads g.C.Condition.means (asked_of c.args.walk) (got_of g.row.N c.args.walk (Saw c.load-word.result)) c.load-word.new.seat.me × HasSince (Some c.args.walk) (the c.args.seat.now.me.0) (the c.load-word.new.seat.me.0)
+first : (g : Over) (c : After-load-word g) → HasReached g.C.Condition.means (asked_of c.args.walk) (got_of g.row.N c.args.walk (Saw c.load-word.result)) c.load-word.new.seat.me × HasSince (Some c.args.walk) (the c.args.seat.now.me.0) (the c.load-word.new.seat.me.0)
 first g c = loads_first g.C.Condition.means c.args.walk c.args.walk c.load-word.result c.args.seat.now.me c.load-word.new.seat.me refl c.requires.rest c.load-word.ensures.did
 
 -- and lets it go
-at : (g : Over) (c : After-load-word g) → may_go (going_of c.args.walk) c.load-word.result ≡ true → IsAt g.C.Condition.means (going_at c.args.walk c.load-word.result) c.load-word.new.seat.me
-at g c may = may_now g.C.Condition.means c.args.walk c.load-word.result c.load-word.new.seat.me c.requires.decides may (first g c).0
+at : (g : Over) (c : After-load-word g) → may_go (going_of c.args.walk) c.load-word.result ≡ true → IsAtPlace g.C.Condition.means (going_at c.args.walk c.load-word.result) c.load-word.new.seat.me
+at g c may = decided g.C.Condition.means c.args.walk c.load-word.result true _ c.load-word.new.seat.me c.requires.decides may refl (first g c).0
 
 pub returns-then-not-may_go-clause-went : goal.returns-then-not-may_go-clause-went
-returns-then-not-may_go-clause-went g c = subst (λ (w : Word). IsPackable w × Leads g.C.Condition.means (asked_of c.args.walk) (got_of g.row.N c.args.walk (Saw w)) c.load-word.new.seat.me) (same_word c.load-word.result c.encode-last.result c.encode-last.ensures)
+returns-then-not-may_go-clause-went g c = subst (λ (w : Word). IsPackable w × HasReached g.C.Condition.means (asked_of c.args.walk) (got_of g.row.N c.args.walk (Saw w)) c.load-word.new.seat.me) (same_word c.load-word.result c.encode-last.result c.encode-last.ensures)
     (c.load-word.ensures.word, (first g (goal.at.returns-then-not-may_go-clause-went g c).After-load-word).0)
 
 pub exchange_to_go-requires : goal.exchange_to_go-requires
@@ -39,5 +39,5 @@ returns-in-Err-clause-since g c = since_then (Some c.args.walk) _ _ _ (first g (
 pub returns-in-Err-clause-went : goal.returns-in-Err-clause-went
 returns-in-Err-clause-went g c = let t = g.C.Condition.means in let walk = c.args.walk in let word = c.load-word.result in let other = c.in-Err.other in let me = c.load-word.new.seat.me in let now = c.exchange_to_go.new.seat.me in let is = c.requires.going in
     let may = (may_by c.args.going walk word c.may_go.result true is c.may_go.ensures c.if-not-may_go.false).1 in
-    subst (λ (w : Word). IsPackable w × Leads t (asked_of walk) (got_of g.row.N walk (Saw w)) now) (same_word other c.encode.result c.encode.ensures)
+    subst (λ (w : Word). IsPackable w × HasReached t (asked_of walk) (got_of g.row.N walk (Saw w)) now) (same_word other c.encode.result c.encode.ensures)
     (c.in-Err.ensures.word, misses t walk word other me now c.requires.decides may (at g (goal.at.returns-in-Err-clause-went g c).After-load-word may) (subst (λ x. Performed t None (going_act x word) (Saw other) me now) is c.in-Err.ensures.did))

@@ -1,5 +1,5 @@
 use Rattle.std.proofs.Common.{◌∙◌, ap, sym, subst, refl, arith, None, true, false}
-use Rattle.ns_gate.specs.Prelude.{TableId, HasSince, IsAt, Leads, the, LeaveSelf, Await, AwaitWakeToLeave, Leave, InLeaving, InWait, IsList}
+use Rattle.ns_gate.specs.Prelude.{TableId, HasSince, IsAtPlace, HasReached, the, LeaveSelf, Await, AwaitWakeToLeave, Leave, InLeaving, InWait, IsList}
 use Rattle.ns_gate.specs.declared.queues.Returning.TheVariants.{Changed}
 use Rattle.ns_gate.proofs.Calls.{since_then, works}
 use Rattle.ns_monitor.proofs.Standing.{hand_by, same_number, still_since}
@@ -25,11 +25,11 @@ returns-then-stood-clause-since g c = since_back g (goal.at.returns-then-stood-c
 
 pub returns-then-stood-clause-left : goal.returns-then-stood-clause-left
 returns-then-stood-clause-left g c = let t = g.C.Condition.means in let took = c.take-word in let left = c.leave_in_hand-stood in
-    subst (λ next. Leads t (Await c.args.wait) next c.put_back.new.seat.me) (left_next t c.args.wait c.args.cause took.result c.home-home.result c.args.number left.result.0 true took.new.seat.me left.new.seat.me c.home-home.ensures (c.requires.number.0 ∙ sym took.ensures.since.seat) left.ensures.seat.1 left.ensures.stood c.if-stood.true) c.put_back.ensures.returned
+    subst (λ next. HasReached t (Await c.args.wait) next c.put_back.new.seat.me) (left_next t c.args.wait c.args.cause took.result c.home-home.result c.args.number left.result.0 true took.new.seat.me left.new.seat.me c.home-home.ensures (c.requires.number.0 ∙ sym took.ensures.since.seat) left.ensures.seat.1 left.ensures.stood c.if-stood.true) c.put_back.ensures.returned
 
 pub await_flag-flag-requires : goal.await_flag-flag-requires
 await_flag-flag-requires g c = let t = g.C.Condition.means in let took = c.take-word in let left = c.leave_in_hand-stood in
-    let at : IsAt t (InWait c.args.wait (InLeaving c.args.cause AwaitWakeToLeave)) c.put_back.new.seat.me = subst (λ next. Leads t (Await c.args.wait) next c.put_back.new.seat.me) (left_next t c.args.wait c.args.cause took.result c.home-home.result c.args.number left.result.0 false took.new.seat.me left.new.seat.me c.home-home.ensures (c.requires.number.0 ∙ sym took.ensures.since.seat) left.ensures.seat.1 left.ensures.stood c.if-stood.false) c.put_back.ensures.returned in
+    let at : IsAtPlace t (InWait c.args.wait (InLeaving c.args.cause AwaitWakeToLeave)) c.put_back.new.seat.me = subst (λ next. HasReached t (Await c.args.wait) next c.put_back.new.seat.me) (left_next t c.args.wait c.args.cause took.result c.home-home.result c.args.number left.result.0 false took.new.seat.me left.new.seat.me c.home-home.ensures (c.requires.number.0 ∙ sym took.ensures.since.seat) left.ensures.seat.1 left.ensures.stood c.if-stood.false) c.put_back.ensures.returned in
     (omega arith, (g.met.C.Gated.queues_fit, (omega arith, (c.put_back.ensures.seat, (same_number t None c.args.number c.args.seat.now.me c.put_back.new.seat.me c.requires.number (since_back g (goal.at.await_flag-flag-requires g c).After-put_back), (record { loads = refl; free = refl; rests = refl }, at))))))
 
 pub returns-clause-since : goal.returns-clause-since

@@ -2,8 +2,7 @@ use Rattle.std.proofs.Common.{◌∙◌, Some, subst, sym}
 use Rattle.ns_gate.proofs.Calls.{since_then}
 use Rattle.ns_gate.specs.Prelude.{HasSince, TableId, the}
 use Rattle.ns_monitor.proofs.Callers.{locked, went_so}
-use Rattle.ns_monitor.specs.Known.{HasLocked, Known, known_of}
-use Rattle.ns_monitor.specs.Walks.{locking}
+use Rattle.ns_monitor.specs.Prelude.{HasLocked, Known, known_of, locking}
 use Rattle.ns_monitor.proofs.monitor.Monitor.lock_as.Goals.{in-None, in-Some}
 use Rattle.ns_monitor.proofs.monitor.Monitor.lock_as.Goals as goal
 

@@ -1,7 +1,7 @@
 use Rattle.std.proofs.Common.{◌∙◌, sym, refl, arith, None, true, false}
 use Rattle.ns_gate.specs.Prelude.{TableId, the, Look, Looked, LookIn, InQueuing, InWait}
 use Rattle.ns_gate.proofs.Calls.{can_go, since, since_itself}
-use Rattle.ns_gate.proofs.Tells.{does}
+use Rattle.ns_gate.proofs.Findings.{does}
 use Rattle.ns_monitor.proofs.Standing.{commits_none}
 use Rattle.ns_monitor.proofs.Returns.{by_limits, look_fresh, looks_in}
 use Rattle.ns_monitor.proofs.monitor.Monitor.look_before.Goals as goal

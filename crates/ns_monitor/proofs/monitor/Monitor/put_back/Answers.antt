@@ -3,7 +3,7 @@ use Rattle.ns_gate.specs.Prelude.{TableId, the, act_returning, CanStep, Performe
 use Rattle.ns_gate.proofs.Calls.{since, since_itself, since_then}
 use Rattle.ns_gate.proofs.Stays.{stays_itself, stays_through}
 use Rattle.ns_monitor.proofs.Standing.{can_put_back, hand_stays, is_back_for, misses_back}
-use Rattle.ns_monitor.specs.Standing.{found_back}
+use Rattle.ns_monitor.specs.Prelude.{found_back}
 use Rattle.ns_monitor.proofs.monitor.Monitor.put_back.Goals as goal
 
 pub loop-init : goal.loop-init

@@ -1,10 +1,10 @@
 use Rattle.std.proofs.Common.{◌≡◌, ◌∙◌, ap, not, sym, subst, refl, arith, None}
-use Rattle.ns_gate.specs.Prelude.{TableId, HasSince, Leads, Lists, armed_place, bits_of, row_in, the, times, woken_of, has_some, meets_at, pay_waiting, Await, QueueToWait, InQueuing, InWait}
+use Rattle.ns_gate.specs.Prelude.{TableId, HasSince, HasReached, Lists, armed_place, bits_of, row_in, the, times, woken_of, has_some, meets_at, pay_waiting, Await, QueueToWait, InQueuing, InWait}
 use Rattle.ns_gate.specs.declared.queues.Returning.TheVariants.{Waited}
 use Rattle.ns_gate.proofs.Calls.{since_then, works}
 use Rattle.ns_monitor.proofs.Locks.{HasArmed}
 use Rattle.ns_monitor.proofs.Releases.{hand_scanned, scans_at_hand, took_some, woken_is}
-use Rattle.ns_monitor.specs.Tests.{HasRow}
+use Rattle.ns_monitor.specs.Prelude.{HasRow}
 use Rattle.ns_monitor.proofs.Standing.{still_since}
 use Rattle.ns_monitor.proofs.Waits.{arms_to_wait, loads_or_queues}
 use Rattle.ns_monitor.proofs.monitor.Monitor.queue_to_wait.Given.{Over}
@@ -41,7 +41,7 @@ put_back-requires g c = let t = g.C.Condition.means in let scan = c.scan_and_que
 pub pay-requires : goal.pay-requires
 pay-requires g c = let t = g.C.Condition.means in let scan = c.scan_and_queue_in_hand-scan in let now = c.put_back.new.seat.me in let walk = InWait c.args.wait (InQueuing c.args.again (QueueToWait c.take-word.result)) in
     let owed = c.put_back.ensures.owes in
-    (omega arith, (g.met.C.Gated.queues_fit, (omega arith, (c.put_back.ensures.seat, (record { pays = refl; free = refl; more = refl }, (subst (λ ns. Leads t (Await c.args.wait) (pay_waiting c.args.wait (has_some ns)) now) (sym owed) c.put_back.ensures.returned, owed ∙ sym (woken_is t walk c.load_to_scan.new.row scan.result.0.woken.items c.load_to_scan.new.seat.me scan.new.seat.me c.load_to_scan.ensures.ready scan.ensures.seat.1 scan.ensures.woken)))))))
+    (omega arith, (g.met.C.Gated.queues_fit, (omega arith, (c.put_back.ensures.seat, (record { pays = refl; free = refl; more = refl }, (subst (λ ns. HasReached t (Await c.args.wait) (pay_waiting c.args.wait (has_some ns)) now) (sym owed) c.put_back.ensures.returned, owed ∙ sym (woken_is t walk c.load_to_scan.new.row scan.result.0.woken.items c.load_to_scan.new.seat.me scan.new.seat.me c.load_to_scan.ensures.ready scan.ensures.seat.1 scan.ensures.woken)))))))
 
 pub returns-clause-since : goal.returns-clause-since
 returns-clause-since g c = let scan = c.scan_and_queue_in_hand-scan in let after = (goal.at.returns-clause-since g c).After-load_to_scan in

@@ -1,8 +1,7 @@
 use Rattle.std.proofs.Common.{◌∙◌, ap}
 use Rattle.ns_gate.specs.Prelude.{TableId}
 use Rattle.ns_monitor.proofs.Callers.{grew, is_set, sets_next}
-use Rattle.ns_monitor.specs.Known.{Known}
-use Rattle.ns_monitor.specs.Walks.{setting}
+use Rattle.ns_monitor.specs.Prelude.{Known, setting}
 use Rattle.ns_monitor.proofs.monitor.Monitor.set.Goals as goal
 
 pub returns-clause-grows : goal.returns-clause-grows

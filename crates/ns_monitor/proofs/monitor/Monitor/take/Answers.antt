@@ -1,7 +1,7 @@
 use Rattle.std.proofs.Common.{◌∙◌, sym, subst, arith}
 use Rattle.ns_gate.specs.Prelude.{TableId}
 use Rattle.ns_monitor.proofs.Standing.{can_load, loads}
-use Rattle.ns_monitor.specs.Standing.{MayGoAlone}
+use Rattle.ns_monitor.specs.Prelude.{MayGoAlone}
 use Rattle.ns_monitor.proofs.monitor.Monitor.take.Goals as goal
 
 pub load-first-requires : goal.load-first-requires

@@ -1,8 +1,7 @@
 use Rattle.std.proofs.Common.{◌∙◌, cond, sym, subst}
 use Rattle.ns_gate.specs.Prelude.{TableId, HasAnswered, TryLock, Busy, Succeeded}
 use Rattle.ns_monitor.proofs.Callers.{locked, saw_more}
-use Rattle.ns_monitor.specs.Known.{HasLocked, HasSeenMore, known_of}
-use Rattle.ns_monitor.specs.Walks.{trying}
+use Rattle.ns_monitor.specs.Prelude.{HasLocked, HasSeenMore, known_of, trying}
 use Rattle.ns_monitor.proofs.monitor.Monitor.try_lock_as.Goals as goal
 
 pub returns-then-try_acquire-clause-locked : goal.returns-then-try_acquire-clause-locked

@@ -3,8 +3,7 @@ use Rattle.ns_gate.proofs.Calls.{since_then}
 use Rattle.ns_gate.specs.Prelude.{HasAnswered, HasSince, InHand, SeatOf, section_of, Succeeded, TableId, the}
 use Rattle.ns_monitor.proofs.Callers.{grew, released, went_so}
 use Rattle.ns_monitor.proofs.Standing.{same_number}
-use Rattle.ns_monitor.specs.Known.{Grows, Known}
-use Rattle.ns_monitor.specs.Walks.{releasing_by}
+use Rattle.ns_monitor.specs.Prelude.{Grows, Known, releasing_by}
 use Rattle.ns_model.specs.declared.event.Exit.TheVariants as TheExit
 use Rattle.ns_word.specs.declared.request.Request.TheVariants as TheRequest
 use Rattle.ns_monitor.proofs.monitor.Monitor.unlock_as.Given.{Over}

@@ -2,12 +2,9 @@ use Rattle.std.proofs.Common.{◌≡◌, ◌∙◌, inl, inr, sym, subst, ap, re
 use Rattle.ns_gate.specs.Prelude.{TableId, HasAnswered, HasSince, IsAtRest, SeatOf, the, Answer, Met, row_in, HasMode, answer_of, is_limited, wait_first, Cause, Await, OnEntry, Answered}
 use Rattle.ns_gate.proofs.Calls.{since_then}
 use Rattle.ns_monitor.proofs.Callers.{grew}
-use Rattle.ns_monitor.proofs.Returns.{ended_as, ended_since, fits_fresh, met_now, wait_tells}
+use Rattle.ns_monitor.proofs.Returns.{ended_as, ended_since, fits_fresh, tested_so, wait_tells}
 use Rattle.ns_monitor.proofs.Standing.{same_number}
-use Rattle.ns_monitor.specs.Known.{known_of, Grows, Known}
-use Rattle.ns_monitor.specs.Saved.{IsFreshIn}
-use Rattle.ns_monitor.specs.Waits.{HasWaitedFor, QueuesOrEnds}
-use Rattle.ns_monitor.specs.Walks.{waits_by}
+use Rattle.ns_monitor.specs.Prelude.{Grows, HasWaitedFor, IsFreshIn, Known, QueuesOrEnds, known_of, waits_by}
 use Rattle.ns_monitor.proofs.monitor.Monitor.wait_by.Given.{Over}
 use Rattle.ns_monitor.proofs.monitor.Monitor.wait_by.Goals.{After-wait, After-test, After-look_before, After-wait_on-answer}
 use Rattle.ns_monitor.proofs.monitor.Monitor.wait_by.Goals as goal
@@ -36,7 +33,7 @@ waited g c answer table now s a = let s0 = c.held.inside.seat in let wait = wait
 
 -- the condition is true
 met : (g : Over) (c : After-test g) → c.test.result ≡ true → HasAnswered g.C.Condition.means (Await (waits_by c.mode-mode.result c.args.condition c.args.limits)) (Answered Met) c.test.new.seat.me
-met g c is = met_now g.C.Condition.means (waits_by c.mode-mode.result c.args.condition c.args.limits) OnEntry c.args.condition c.test.result c.test.new.row c.held.inside.seat.me c.test.new.seat.me is c.test.ensures.tested
+met g c is = tested_so g.C.Condition.means (waits_by c.mode-mode.result c.args.condition c.args.limits) OnEntry c.args.condition c.test.result true c.test.new.row c.held.inside.seat.me c.test.new.seat.me is c.test.ensures.tested
 
 pub invariant_of-result : goal.invariant_of-result
 invariant_of-result g c = let after = (goal.at.invariant_of-result g c).After-test in ((met g after c.if-test.true).rest, same_number g.C.Condition.means (Some (wait_first g.row.N (waits_by c.mode-mode.result c.args.condition c.args.limits))) c.held.inside.number c.held.inside.seat.me c.test.new.seat.me c.held.invariant.1 (began g after), subst (λ o. g.H.Hand.fits c.held.inside.hand o) (sym c.test.ensures.tested.held) c.held.invariant.2)

@@ -1,10 +1,9 @@
 use Rattle.std.proofs.Common.{◌≡◌, ◌∙◌, sym, subst, ap, refl, arith, None, Some, IfSome, true, false}
-use Rattle.ns_gate.specs.Prelude.{TableId, HasAnswered, HasSince, Leads, the, row_in, is_limited, unmet_by, Cause, Await, OnReturn, Answered}
+use Rattle.ns_gate.specs.Prelude.{TableId, HasAnswered, HasSince, HasReached, the, row_in, is_limited, unmet_by, Cause, Await, OnReturn, Answered}
 use Rattle.ns_gate.proofs.Calls.{since_itself, since_then}
-use Rattle.ns_monitor.proofs.Returns.{back_to_test, comes_fresh, ended_as, has_row, in_range, met_now, unmet_now}
+use Rattle.ns_monitor.proofs.Returns.{back_to_test, comes_fresh, ended_as, has_row, in_range, tested_so}
 use Rattle.ns_monitor.proofs.Standing.{same_number}
-use Rattle.ns_monitor.specs.Saved.{IsFreshIn}
-use Rattle.ns_monitor.specs.Waits.{IfEnded, QueuesOrEnds}
+use Rattle.ns_monitor.specs.Prelude.{IfEnded, IsFreshIn, QueuesOrEnds}
 use Rattle.ns_monitor.proofs.monitor.Monitor.wait_on.Given.{Over}
 use Rattle.ns_monitor.proofs.monitor.Monitor.wait_on.Goals.{After-look_before, After-test}
 use Rattle.ns_monitor.proofs.monitor.Monitor.wait_on.Goals as goal
@@ -20,6 +19,10 @@ pub await_in-arrival-requires : goal.await_in-arrival-requires
 await_in-arrival-requires g c = let inv = c.loop.invariant in let me = c.queue_to_wait.new.seat.me in
     (omega arith, (g.met.C.Gated.queues_fit, (omega arith, (c.queue_to_wait.ensures.seat, (same_number g.C.Condition.means None c.args.number c.args.seat.now.me me c.requires.number (since_then None _ _ _ inv.3 c.queue_to_wait.ensures.since), (in_range c.args.wait.on c.args.condition c.requires.on, (g.W.Watch.still c.args.watch.now c.loop.watch c.args.wait.limits inv.4 c.requires.watches, c.queue_to_wait.ensures.waits)))))))
 
+pub acquire-requires : goal.acquire-requires
+acquire-requires g c = let inv = c.loop.invariant in let me = c.await_in-arrival.new.seat.me in
+    (omega arith, (g.met.C.Gated.queues_fit, (omega arith, (c.await_in-arrival.ensures.seat, (same_number g.C.Condition.means None c.args.number c.args.seat.now.me me c.requires.number (since_then None _ _ _ (since_then None _ _ _ inv.3 c.queue_to_wait.ensures.since) c.await_in-arrival.ensures.since), c.await_in-arrival.ensures.comes)))))
+
 pub test-requires : goal.test-requires
 test-requires g c = (omega arith, (g.met.C.Gated.queues_fit, (omega arith, (omega (arith, g.met.C.Condition.has_cells), (c.acquire.ensures.seat, (c.requires.on, back_to_test g.C.Condition.means c.args.wait c.args.condition c.await_in-arrival.result.1 c.acquire.new.seat.me c.requires.on c.acquire.ensures.acquired))))))
 
@@ -34,8 +37,8 @@ fresh : (g : Over) (c : After-test g) → IsFreshIn g.row.N c.args.wait.mode (th
 fresh g c = subst (IsFreshIn g.row.N c.args.wait.mode) (sym c.test.ensures.tested.held) (comes_fresh g.C.Condition.means c.args.wait c.await_in-arrival.result.1 c.acquire.new.seat.me (back_to_test g.C.Condition.means c.args.wait c.args.condition c.await_in-arrival.result.1 c.acquire.new.seat.me c.requires.on c.acquire.ensures.acquired))
 
 -- it was false
-unmet : (g : Over) (c : After-test g) → c.test.result ≡ false → Leads g.C.Condition.means (Await c.args.wait) (unmet_by c.args.wait (OnReturn c.await_in-arrival.result.1)) c.test.new.seat.me
-unmet g c false_now = unmet_now g.C.Condition.means c.args.wait (OnReturn c.await_in-arrival.result.1) c.args.condition c.test.result c.test.new.row c.acquire.new.seat.me c.test.new.seat.me false_now c.test.ensures.tested
+unmet : (g : Over) (c : After-test g) → c.test.result ≡ false → HasReached g.C.Condition.means (Await c.args.wait) (unmet_by c.args.wait (OnReturn c.await_in-arrival.result.1)) c.test.new.seat.me
+unmet g c false_now = tested_so g.C.Condition.means c.args.wait (OnReturn c.await_in-arrival.result.1) c.args.condition c.test.result false c.test.new.row c.acquire.new.seat.me c.test.new.seat.me false_now c.test.ensures.tested
 
 pub returns-then-test-clause-since : goal.returns-then-test-clause-since
 returns-then-test-clause-since g c = since_test g (goal.at.returns-then-test-clause-since g c).After-test
@@ -44,7 +47,7 @@ pub returns-then-test-clause-looked : goal.returns-then-test-clause-looked
 returns-then-test-clause-looked g c = watched g (goal.at.returns-then-test-clause-looked g c).After-test
 
 pub returns-then-test-clause-answered : goal.returns-then-test-clause-answered
-returns-then-test-clause-answered g c = met_now g.C.Condition.means c.args.wait (OnReturn c.await_in-arrival.result.1) c.args.condition c.test.result c.test.new.row c.acquire.new.seat.me c.test.new.seat.me c.if-test.true c.test.ensures.tested
+returns-then-test-clause-answered g c = tested_so g.C.Condition.means c.args.wait (OnReturn c.await_in-arrival.result.1) c.args.condition c.test.result true c.test.new.row c.acquire.new.seat.me c.test.new.seat.me c.if-test.true c.test.ensures.tested
 
 pub returns-then-test-clause-fresh : goal.returns-then-test-clause-fresh
 returns-then-test-clause-fresh g c = fresh g (goal.at.returns-then-test-clause-fresh g c).After-test
@@ -61,14 +64,14 @@ returns-in-Ended-clause-ended g c = ended_as (λ cause. (is_limited c.args.wait.
     (shown.0, g.W.Watch.later c.args.watch.now c.loop.watch c.await_in-arrival.new.watch c.args.wait.limits (Some c.in-Ended.cause) c.loop.invariant.4 shown.1))
 
 pub returns-in-Ended-clause-answered : goal.returns-in-Ended-clause-answered
-returns-in-Ended-clause-answered g c = subst (λ a. HasAnswered g.C.Condition.means (Await c.args.wait) (Answered a) c.test.new.seat.me) (sym c.answer_of.ensures) (subst (λ o. Leads g.C.Condition.means (Await c.args.wait) (unmet_by c.args.wait (OnReturn o)) c.test.new.seat.me) c.in-Ended.is (unmet g (goal.at.returns-in-Ended-clause-answered g c).After-test c.if-test.false))
+returns-in-Ended-clause-answered g c = subst (λ a. HasAnswered g.C.Condition.means (Await c.args.wait) (Answered a) c.test.new.seat.me) (sym c.answer_of.ensures) (subst (λ o. HasReached g.C.Condition.means (Await c.args.wait) (unmet_by c.args.wait (OnReturn o)) c.test.new.seat.me) c.in-Ended.is (unmet g (goal.at.returns-in-Ended-clause-answered g c).After-test c.if-test.false))
 
 pub returns-in-Ended-clause-fresh : goal.returns-in-Ended-clause-fresh
 returns-in-Ended-clause-fresh g c = fresh g (goal.at.returns-in-Ended-clause-fresh g c).After-test
 
 pub look_before-requires : goal.look_before-requires
 look_before-requires g c = let t = g.C.Condition.means in let me = c.test.new.seat.me in let after = (goal.at.look_before-requires g c).After-test in
-    (omega arith, (g.met.C.Gated.queues_fit, (omega arith, (c.test.ensures.seat, (same_number t None c.args.number c.args.seat.now.me me c.requires.number (since_test g after), (g.W.Watch.still c.args.watch.now c.await_in-arrival.new.watch c.args.wait.limits (watched g after) c.requires.watches, subst (λ o. Leads t (Await c.args.wait) (unmet_by c.args.wait (OnReturn o)) me) c.in_default.is (unmet g after c.if-test.false)))))))
+    (omega arith, (g.met.C.Gated.queues_fit, (omega arith, (c.test.ensures.seat, (same_number t None c.args.number c.args.seat.now.me me c.requires.number (since_test g after), (g.W.Watch.still c.args.watch.now c.await_in-arrival.new.watch c.args.wait.limits (watched g after) c.requires.watches, subst (λ o. HasReached t (Await c.args.wait) (unmet_by c.args.wait (OnReturn o)) me) c.in_default.is (unmet g after c.if-test.false)))))))
 
 -- it has looked, and goes on
 since_look : (g : Over) (c : After-look_before g) → HasSince None (the c.args.seat.now.me.0) (the c.look_before.new.seat.me.0)

@@ -1,6 +1,6 @@
 use Rattle.std.proofs.Common.{rules, ◌∙◌}
 use Rattle.ns_note.proofs.Rests.{rests, grew}
-use Rattle.ns_note.proofs.Turns.{moves}
+use Rattle.ns_note.proofs.Allowed.{moves}
 use Rattle.ns_note.proofs.env.Env.advance.Goals as goal
 
 pub fetch_max-requires : goal.fetch_max-requires

@@ -10,7 +10,7 @@ use Rattle.ns_note.specs.Known.{EnvKnown, the}
 use Rattle.ns_note.specs.Told.{Adds}
 use Rattle.ns_note.proofs.Codec.{note_of-word_of}
 use Rattle.ns_note.proofs.Rests.{rests, grew, adds_note, numbers_fit, parent_above}
-use Rattle.ns_note.proofs.Turns.{makes, back}
+use Rattle.ns_note.proofs.Allowed.{makes, back}
 use Rattle.ns_note.proofs.env.Env.note_new.Goals as goal
 
 abbrev new_note : Option ℕ → Option ℕ → NoteWord
@@ -31,9 +31,9 @@ store-requires c = let e = c.in_ok-index.ensures in let note = new_note c.index_
 
 -- the two events of a call that made a note
 both_added : (parent : Option Note) (deadline : Option ℕ) (above : Option ℕ) (number index word : ℕ) (v u w : EnvView) → above ≡ option_map (λ n. n.index) parent → IfSome deadline (λ d. d < 2 ^ 54) → word ≡ word_of (new_note above deadline) → number ≡ index
-    → Adds (Take v.who index ∷ []) v u → Adds (New u.who ((number + 2) - 2) (note_of word).parent (note_of word).deadline ∷ []) u w → Adds (Take v.who index ∷ New v.who index (option_map (λ n. n.index) parent) deadline ∷ []) v w
+    → Adds (Take v.seat index ∷ []) v u → Adds (New u.seat ((number + 2) - 2) (note_of word).parent (note_of word).deadline ∷ []) u w → Adds (Take v.seat index ∷ New v.seat index (option_map (λ n. n.index) parent) deadline ∷ []) v w
 both_added parent deadline above number index word v u w is below coded same a b = let fits : WordFits (new_note above deadline) = (subst (λ (o : Option ℕ). IfSome o (λ p. p < 64)) (sym is) (numbers_fit parent), below) in
-    subst (λ (o : Option ℕ). Adds (Take v.who index ∷ New v.who index o deadline ∷ []) v w) is (adds_note index ((number + 2) - 2) word (new_note above deadline) v u w a b (back number ∙ same) (ap note_of coded ∙ note_of-word_of (new_note above deadline) fits))
+    subst (λ (o : Option ℕ). Adds (Take v.seat index ∷ New v.seat index o deadline ∷ []) v w) is (adds_note index ((number + 2) - 2) word (new_note above deadline) v u w a b (back number ∙ same) (ap note_of coded ∙ note_of-word_of (new_note above deadline) fits))
 
 pub invariant_of-seat-2 : goal.invariant_of-seat-2
 invariant_of-seat-2 c = let e = c.in_ok-index.ensures in let t = c.store.ensures.2 in
@@ -45,5 +45,5 @@ returns-clause-grows c = let e = c.in_ok-index.ensures in let t = c.store.ensure
 
 pub returns-clause-made : goal.returns-clause-made
 returns-clause-made c = let e = c.in_ok-index.ensures in let t = c.store.ensures.2 in
-    subst (λ (k : EnvKnown). (the c.store.new.seat.me.0).mine ≡ k.mine ++ Take k.who c.in_ok-index.index ∷ New k.who c.in_ok-index.index (option_map (λ n. n.index) c.args.parent) c.args.deadline ∷ []) c.seat.view_is
+    subst (λ (k : EnvKnown). (the c.store.new.seat.me.0).mine ≡ k.mine ++ Take k.seat c.in_ok-index.index ∷ New k.seat c.in_ok-index.index (option_map (λ n. n.index) c.args.parent) c.args.deadline ∷ []) c.seat.view_is
     (both_added c.args.parent c.args.deadline c.index_of.result c.from.result c.in_ok-index.index c.encode_note-word.result _ _ _ c.index_of.ensures c.requires.deadline c.encode_note-word.ensures c.from.ensures e.taken.1 t.2.0).mine

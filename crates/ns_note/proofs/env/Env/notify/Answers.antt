@@ -2,7 +2,7 @@ use Rattle.std.proofs.Common.{rules, ◌∙◌, subst, sym, ℕ, arith}
 use Rattle.ns_model.specs.Environments.{IsMade}
 use Rattle.ns_note.specs.Known.{EnvKnown}
 use Rattle.ns_note.proofs.Rests.{rests, grew}
-use Rattle.ns_note.proofs.Turns.{marks}
+use Rattle.ns_note.proofs.Allowed.{marks}
 use Rattle.ns_note.proofs.env.Env.notify.Goals as goal
 
 pub fetch_or-requires : goal.fetch_or-requires

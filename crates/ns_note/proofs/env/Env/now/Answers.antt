@@ -1,6 +1,6 @@
 use Rattle.std.proofs.Common.{rules, ◌∙◌}
 use Rattle.ns_note.proofs.Rests.{rests, grew}
-use Rattle.ns_note.proofs.Turns.{loads_clock}
+use Rattle.ns_note.proofs.Allowed.{loads_clock}
 use Rattle.ns_note.proofs.env.Env.now.Goals as goal
 
 pub load-requires : goal.load-requires

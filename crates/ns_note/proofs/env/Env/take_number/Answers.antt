@@ -1,6 +1,6 @@
 use Rattle.std.proofs.Common.{rules, arith}
 use Rattle.ns_note.proofs.Rests.{has_taken, found_full}
-use Rattle.ns_note.proofs.Turns.{loads_next, adds_one}
+use Rattle.ns_note.proofs.Allowed.{loads_next, adds_one}
 use Rattle.ns_note.proofs.env.Env.take_number.Goals as goal
 
 pub load-requires : goal.load-requires

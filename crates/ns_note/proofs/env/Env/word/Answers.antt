@@ -1,6 +1,6 @@
 use Rattle.std.proofs.Common.{rules, ◌∙◌, arith}
 use Rattle.ns_note.proofs.Rests.{rests, grew}
-use Rattle.ns_note.proofs.Turns.{loads_note}
+use Rattle.ns_note.proofs.Allowed.{loads_note}
 use Rattle.ns_note.proofs.env.Env.word.Goals as goal
 
 pub load-word-requires : goal.load-word-requires

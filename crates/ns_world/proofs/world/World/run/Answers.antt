@@ -8,8 +8,8 @@ use Rattle.ns_world.proofs.Schedules.{advance_none, advance_word, stops_word}
 use Rattle.ns_world.proofs.Counted.{start_counted}
 use Rattle.ns_world.proofs.world.World.run.Goals as goal
 
-pub loop-turn-init : goal.loop-turn-init
-loop-turn-init g c =
+pub loop-word-init : goal.loop-word-init
+loop-word-init g c =
     let calls = map (λ (calls : Vec (Call _) Global). calls.items) c.args.lists.now in
     rw c.new.ensures.items (record {
       advances = advance_none calls c.args.limit (start (now_of g.C.Condition.means c.args.self.now)) 0 _ (omega arith);
@@ -20,28 +20,28 @@ pub returns-in_err-schedule_word : goal.returns-in_err-schedule_word
 returns-in_err-schedule_word g c =
     let p = err_from_is_err_and c.from_residual.result c.from_residual.ensures.1 in
     let calls = map (λ (calls : Vec (Call _) Global). calls.items) c.args.lists.now in
-    let now = progress (now_of g.C.Condition.means c.loop-turn.self) c.loop-turn.tally.over c.loop-turn.tally.lines.items in
-    rw (p.1, p.2) (stops_word calls c.args.limit (start (now_of g.C.Condition.means c.args.self.now)) now 0 c.loop-turn.tally.turns c.loop-turn.turn-index c.args.schedule.now _ (now_of g.C.Condition.means c.schedule_word.new.world) c.in_err-schedule_word.field-0.0
-    c.loop-turn-test.true c.loop-turn.invariant.advances c.in_err-schedule_word.ensures.err)
+    let now = progress (now_of g.C.Condition.means c.loop-word.self) c.loop-word.tally.over c.loop-word.tally.lines.items in
+    rw (p.1, p.2) (stops_word calls c.args.limit (start (now_of g.C.Condition.means c.args.self.now)) now 0 c.loop-word.tally.turns c.loop-word.word-index c.args.schedule.now _ (now_of g.C.Condition.means c.schedule_word.new.world) c.in_err-schedule_word.field-0.0
+    c.loop-word-test.true c.loop-word.invariant.advances c.in_err-schedule_word.ensures.err)
 
-pub loop-turn-preserved : goal.loop-turn-preserved
-loop-turn-preserved g c =
+pub loop-word-preserved : goal.loop-word-preserved
+loop-word-preserved g c =
     let calls = map (λ (calls : Vec (Call _) Global). calls.items) c.args.lists.now in
-    let now = progress (now_of g.C.Condition.means c.loop-turn.self) c.loop-turn.tally.over c.loop-turn.tally.lines.items in
+    let now = progress (now_of g.C.Condition.means c.loop-word.self) c.loop-word.tally.over c.loop-word.tally.lines.items in
     let next = progress (now_of g.C.Condition.means c.schedule_word.new.world) c.schedule_word.new.tally.over c.schedule_word.new.tally.lines.items in
     record {
-      advances = advance_word calls c.args.limit (start (now_of g.C.Condition.means c.args.self.now)) now next 0 c.loop-turn.tally.turns c.schedule_word.new.tally.turns c.loop-turn.turn-index c.args.schedule.now _
-          c.loop-turn-test.true c.loop-turn.invariant.advances c.in_ok-schedule_word.ensures.ok;
+      advances = advance_word calls c.args.limit (start (now_of g.C.Condition.means c.args.self.now)) now next 0 c.loop-word.tally.turns c.schedule_word.new.tally.turns c.loop-word.word-index c.args.schedule.now _
+          c.loop-word-test.true c.loop-word.invariant.advances c.in_ok-schedule_word.ensures.ok;
       counted = c.in_ok-schedule_word.ensures.counted;
     }
 
 pub returns : goal.returns
 returns g c =
-    let at : c.loop-turn.turn-index ≡ length c.args.schedule.now = omega arith in
+    let at : c.loop-word.word-index ≡ length c.args.schedule.now = omega arith in
     record {
-      end = progress (now_of g.C.Condition.means c.loop-turn.self) c.loop-turn.tally.over c.loop-turn.tally.lines.items;
-      after = c.loop-turn.tally.turns;
-      advances = rw (at, take-length c.args.schedule.now) at c.loop-turn.invariant.advances;
+      end = progress (now_of g.C.Condition.means c.loop-word.self) c.loop-word.tally.over c.loop-word.tally.lines.items;
+      after = c.loop-word.tally.turns;
+      advances = rw (at, take-length c.args.schedule.now) at c.loop-word.invariant.advances;
       here = refl;
       tells = refl;
     }

@@ -7,7 +7,7 @@ use std::fmt;
 
 /// A place in a script.
 #[derive(Clone, Copy, Debug, Drop, PartialEq, Eq)]
-pub enum Place {
+pub enum ScriptPath {
     /// The whole text.
     Root,
     /// The member `version`.
@@ -26,22 +26,22 @@ pub enum Place {
     Word(usize),
 }
 
-impl fmt::Display for Place {
+impl fmt::Display for ScriptPath {
     ghost use Rattle.std.specs.Prelude.{Some};
-    ghost use Rattle.ns_replay.specs.Faults.{place_text};
+    ghost use Rattle.ns_replay.specs.Faults.{path_text};
 
-    ghost output = { λ place. Some (place_text place) };
+    ghost output = { λ path. Some (path_text path) };
 
     fn fmt<W: fmt::Write>(&self, f: &mut fmt::Formatter<W>) -> fmt::Result {
         match self {
-            Place::Root => write!(f, "/"),
-            Place::Version => write!(f, "/version"),
-            Place::Variables => write!(f, "/cvs"),
-            Place::Threads => write!(f, "/threads"),
-            Place::Thread(thread) => write!(f, "/threads/{thread}"),
-            Place::Call(thread, call) => write!(f, "/threads/{thread}/{call}"),
-            Place::Schedule => write!(f, "/schedule"),
-            Place::Word(word) => write!(f, "/schedule/{word}"),
+            ScriptPath::Root => write!(f, "/"),
+            ScriptPath::Version => write!(f, "/version"),
+            ScriptPath::Variables => write!(f, "/cvs"),
+            ScriptPath::Threads => write!(f, "/threads"),
+            ScriptPath::Thread(thread) => write!(f, "/threads/{thread}"),
+            ScriptPath::Call(thread, call) => write!(f, "/threads/{thread}/{call}"),
+            ScriptPath::Schedule => write!(f, "/schedule"),
+            ScriptPath::Word(word) => write!(f, "/schedule/{word}"),
         }
     }
 }

@@ -1,6 +1,6 @@
 -- The seat is of the same environment as before.
 use Rattle.std.proofs.Common.{◌≡◌}
-use Rattle.ns_live.proofs.place.get_to_know.Given as goal
+use Rattle.ns_live.proofs.commons.get_to_know.Given as goal
 
 abbrev pub invariant-loop : goal.invariant-loop
 invariant-loop g l =

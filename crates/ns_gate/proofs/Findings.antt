@@ -2,7 +2,7 @@
 use Rattle.std.specs.Prelude.{slice_index}
 use Rattle.std.proofs.Common.{◌≡◌, ℕ, Bool, cond, inl, inr, ◌≤◌, List, [], ◌++◌, ◌∷◌, Option, None, Some, Result, refl, ap, sym, ◌∙◌, subst}
 use Rattle.std.proofs.lemmas.Bool.{ne_eqb, cases_eq}
-use Rattle.ns_gate.specs.Prelude.{Me, rest, GateView, the, walk_by, CanStep, Did, Performed, Stepped, IsExchange, IsOwedNext, MayExchange, act_by, act_of, act_returning, found_returned, made_by, next_owed, tried_for, standing_after, Truths, Lists, BeginsIf, view_in, number_of, word_of, IsPackable, found_of, exchanged, row_in, scanned, SectionFits, ActFits, State, Part, part_of, Effect, change_found, want_of, got_of, walk_after, LoadWord, LoadCell, JudgeQuiet, JudgeMet, LoadFlag, Acquire, TakeQueues, ReturnQueues, Release, ReleaseReturning, WaitReturning, Act, Saw, Made, Cell, Flag, Found, Held, SeatView, Walk, Word}
+use Rattle.ns_gate.specs.Prelude.{Me, rest, GateView, the, walk_by, CanStep, HasStepped, Performed, PerformedWith, IsExchange, IsOwedNext, MayExchange, act_by, act_of, act_returning, found_returned, made_by, next_owed, tried_for, standing_after, Truths, Lists, BeginsIf, view_in, number_of, word_of, IsPackable, found_of, exchanged, row_in, scanned, SectionFits, ActFits, LockState, Part, part_of, Effect, change_found, want_of, got_of, walk_after, LoadWord, LoadCell, JudgeQuiet, JudgeMet, LoadFlag, Acquire, TakeQueues, ReturnQueues, Release, ReleaseReturning, WaitReturning, Act, Saw, Made, Cell, Flag, Found, Held, SeatView, Walk, Word}
 use Rattle.ns_gate.specs.declared.queues.Returning.{Returning}
 use Rattle.ns_gate.specs.declared.queues.Returning.TheVariants.{Changed, Released, Waited}
 use Rattle.ns_word.proofs.Codes.{decoded}
@@ -32,20 +32,20 @@ now_in_hand lists now wanted slots carries is = λ i. (0, is i) ∷ (ap rest car
 
 module _ {C : Type 0} {N : ℕ} (truths : Truths C) where
   -- a call that begins leaves the word
-  pub between_word : (b : Option (Walk C)) (old : State C N) (view : SeatView C N) (between : State C N) → BeginsIf truths old view b between → between.word ≡ old.word
-  between_word None old view between s = ap (λ (x : State C N). x.word) s
-  between_word (Some walk) old view between s = ap (λ (x : State C N). x.word) s.becomes
+  pub between_word : (b : Option (Walk C)) (old : LockState C N) (view : SeatView C N) (between : LockState C N) → BeginsIf truths old view b between → between.word ≡ old.word
+  between_word None old view between s = ap (λ (x : LockState C N). x.word) s
+  between_word (Some walk) old view between s = ap (λ (x : LockState C N). x.word) s.becomes
 
   -- a word that was found has a number
-  pub packs : (b : Option (Walk C)) (word : Word) (v w : GateView C N) → Did truths b (Saw word) v w → IsPackable word
+  pub packs : (b : Option (Walk C)) (word : Word) (v w : GateView C N) → HasStepped truths b (Saw word) v w → IsPackable word
   packs b word v w d =
       let same = between_word b d.old v.at d.made.between d.made.begins in
-      found_fits truths (view_in v.at b).seat (want_of d.made.step.walk) _ (Saw word) _ d.commits (subst IsPackable (sym same) (packable truths v.limit d.history d.old d.few d.lawful)) d.made.step.effect
+      found_fits truths (view_in v.at b).seat (want_of d.made.step.walk) _ (Saw word) _ d.commits (subst IsPackable (sym same) (packable truths v.seat_count d.history d.old d.few d.lawful)) d.made.step.effect
 
-  pub packs_exchanged : (b : Option (Walk C)) (k : ℕ) (last : Word) (made : Found) (v w : GateView C N) → IsPackable last → Did truths b (exchanged k last made) v w → IsPackable (word_of k)
+  pub packs_exchanged : (b : Option (Walk C)) (k : ℕ) (last : Word) (made : Found) (v w : GateView C N) → IsPackable last → HasStepped truths b (exchanged k last made) v w → IsPackable (word_of k)
   packs_exchanged b k last made v w p d = elim (cases_eq (number_of last) k) [
     | inl e ↦ subst IsPackable (sym (ap word_of (sym e) ∙ decoded last)) p
-    | inr ne ↦ packs b (word_of k) v w (subst (λ (x : Found). Did truths b x v w) (ap (λ (c : Bool). cond c made (Saw (word_of k))) (ne_eqb (number_of last) k ne)) d)
+    | inr ne ↦ packs b (word_of k) v w (subst (λ (x : Found). HasStepped truths b x v w) (ap (λ (c : Bool). cond c made (Saw (word_of k))) (ne_eqb (number_of last) k ne)) d)
   ]
 
   pub returned_so : (returning : Returning C) (last : Word) (result : Result Unit Word) (me now : Me (Lists C) (List (GateView C N))) → Performed truths None (act_returning returning last) (tried_for (made_by truths (act_returning returning last) (the me.0)) result) me now
@@ -59,8 +59,8 @@ module _ {C : Type 0} {N : ℕ} (truths : Truths C) where
   meant_by b act me can = ap act_of can.walks ∙ can.wants
 
   -- a step as it is meant
-  pub stepped : (b : Option (Walk C)) (k : ℕ) (me now : Me (Lists C) (List (GateView C N))) → Stepped truths b (act_by b (the me.0)) k me now → (act : Act C) → CanStep truths b act me → Stepped truths b act k me now
-  stepped b k me now s act can = subst (λ a. Stepped truths b a k me now) (meant_by b act me can) s
+  pub stepped : (b : Option (Walk C)) (k : ℕ) (me now : Me (Lists C) (List (GateView C N))) → PerformedWith truths b (act_by b (the me.0)) k me now → (act : Act C) → CanStep truths b act me → PerformedWith truths b act k me now
+  stepped b k me now s act can = subst (λ a. PerformedWith truths b a k me now) (meant_by b act me can) s
 
   -- an exchange finds the word last seen, and is made, or another word
   finds_exchanged : (act : Act C) (last new : Word) (view : GateView C N) (slots : List (ℕ × Lists C)) → IsExchange truths act last new view slots → (k : ℕ) → found_of truths act view.at view.stood k ≡ exchanged k last (made_by truths act view)
@@ -73,13 +73,13 @@ module _ {C : Type 0} {N : ℕ} (truths : Truths C) where
   finds_exchanged act last new view slots e k = absurd e
 
   -- so it is told
-  exchanged_by : (last new : Word) (k : ℕ) (me now : Me (Lists C) (List (GateView C N))) (m : MayExchange truths last new me) → Stepped truths None (act_by None (the me.0)) k me now → Performed truths None m.act (exchanged k last (made_by truths m.act (the me.0))) me now
+  exchanged_by : (last new : Word) (k : ℕ) (me now : Me (Lists C) (List (GateView C N))) (m : MayExchange truths last new me) → PerformedWith truths None (act_by None (the me.0)) k me now → Performed truths None m.act (exchanged k last (made_by truths m.act (the me.0))) me now
   exchanged_by last new k me now m s = subst (λ f. Performed truths None m.act f me now) (finds_exchanged m.act last new (the me.0) me.1 m.exchanges k) (stepped None k me now s m.act m.can).made
 
-  pub found_packs : (last new : Word) (k : ℕ) (me now : Me (Lists C) (List (GateView C N))) → IsPackable last → MayExchange truths last new me → Stepped truths None (act_by None (the me.0)) k me now → IsPackable (word_of k)
+  pub found_packs : (last new : Word) (k : ℕ) (me now : Me (Lists C) (List (GateView C N))) → IsPackable last → MayExchange truths last new me → PerformedWith truths None (act_by None (the me.0)) k me now → IsPackable (word_of k)
   found_packs last new k me now p m s = packs_exchanged None k last (made_by truths m.act (the me.0)) (the me.0) (the now.0) p (exchanged_by last new k me now m s).did
 
-  pub exchange_told : (last new : Word) (k : ℕ) (result : Result Unit Word) (me now : Me (Lists C) (List (GateView C N))) → MayExchange truths last new me → ((made : Found) → tried_for made result ≡ exchanged k last made) → Stepped truths None (act_by None (the me.0)) k me now
+  pub exchange_told : (last new : Word) (k : ℕ) (result : Result Unit Word) (me now : Me (Lists C) (List (GateView C N))) → MayExchange truths last new me → ((made : Found) → tried_for made result ≡ exchanged k last made) → PerformedWith truths None (act_by None (the me.0)) k me now
       → (act : Act C) → CanStep truths None act me → Performed truths None act (tried_for (made_by truths act (the me.0)) result) me now
   exchange_told last new k result me now m tries s act can =
       let same : m.act ≡ act = sym (meant_by None m.act me m.can) ∙ meant_by None act me can in
@@ -87,19 +87,19 @@ module _ {C : Type 0} {N : ℕ} (truths : Truths C) where
       (subst (λ f. Performed truths None m.act f me now) (sym (tries (made_by truths m.act (the me.0)))) (exchanged_by last new k me now m s))
 
   -- the word that was loaded
-  pub saw_word : (b : Option (Walk C)) (k : ℕ) (word : Word) (me now : Me (Lists C) (List (GateView C N))) → word ≡ word_of k → Stepped truths b LoadWord k me now → Performed truths b LoadWord (Saw word) me now
+  pub saw_word : (b : Option (Walk C)) (k : ℕ) (word : Word) (me now : Me (Lists C) (List (GateView C N))) → word ≡ word_of k → PerformedWith truths b LoadWord k me now → Performed truths b LoadWord (Saw word) me now
   saw_word b k word me now is s = subst (λ w. Performed truths b LoadWord (Saw w) me now) (sym is) s.made
 
-  pub word_packs : (b : Option (Walk C)) (k : ℕ) (me now : Me (Lists C) (List (GateView C N))) → Stepped truths b LoadWord k me now → IsPackable (word_of k)
+  pub word_packs : (b : Option (Walk C)) (k : ℕ) (me now : Me (Lists C) (List (GateView C N))) → PerformedWith truths b LoadWord k me now → IsPackable (word_of k)
   word_packs b k me now s = packs b (word_of k) (the me.0) (the now.0) s.made.did
 
   -- what the act of the place may count on where the seat's call goes on
-  pub fits_now : (b : Option (Walk C)) (found : Found) (v w : GateView C N) (walk : Walk C) → (d : Did truths b found v w) → w.at.walk ≡ Some walk → ActFits truths v.limit w.at.seat (want_of walk) (part_of d.new w.at.held w.at.owed)
+  pub fits_now : (b : Option (Walk C)) (found : Found) (v w : GateView C N) (walk : Walk C) → (d : HasStepped truths b found v w) → w.at.walk ≡ Some walk → ActFits truths v.seat_count w.at.seat (want_of walk) (part_of d.new w.at.held w.at.owed)
   fits_now b found v w walk d walks =
       let s = d.made.step in
       let is : w.at ≡ record { seat = (view_in v.at b).seat; walk = walk_after (got_of N s.walk found); held = s.held; owed = s.owed } = d.becomes ∙ ap (λ n. record { seat = n; walk = walk_after (got_of N s.walk found); held = s.held; owed = s.owed }) (same_seat b v.at) in
       let stands : d.new.views ≡ s.front ++ w.at ∷ s.back = s.becomes ∙ ap (λ (x : SeatView C N). s.front ++ x ∷ s.back) (sym is) in
-      act_fits truths v.limit d.few (d.history ++ d.commits) d.new s.front w.at s.back stands d.lawful_now walk walks
+      act_fits truths v.seat_count d.few (d.history ++ d.commits) d.new s.front w.at s.back stands d.lawful_now walk walks
     where
       same_seat : (b : Option (Walk C)) (view : SeatView C N) → view.seat ≡ (view_in view b).seat
       same_seat None view = refl
@@ -121,27 +121,27 @@ module _ {C : Type 0} {N : ℕ} (truths : Truths C) where
       subst (λ n. n ≤ 2) (sym same) (d.lawful_now.waiters_placed.flag view.seat)
 
   -- the section in hand has the row's cells
-  held_cells : (v w : GateView C N) (found : Found) (b : Option (Walk C)) (d : Did truths b found v w) (front back : List (SeatView C N)) (held : Held C N) → d.old.views ≡ front ++ v.at ∷ back → v.at.held ≡ Some held → d.old.row ≡ row_in v.at.held
+  held_cells : (v w : GateView C N) (found : Found) (b : Option (Walk C)) (d : HasStepped truths b found v w) (front back : List (SeatView C N)) (held : Held C N) → d.old.views ≡ front ++ v.at ∷ back → v.at.held ≡ Some held → d.old.row ≡ row_in v.at.held
   held_cells v w found b d front back held stands is =
-      let f = view_fits truths v.limit d.few d.history d.old front v.at back stands d.lawful in
+      let f = view_fits truths v.seat_count d.few d.history d.old front v.at back stands d.lawful in
       sym (ap row_in is ∙ (subst (λ o. SectionFits (standing_after d.history) d.old.row v.at.seat v.at.walk o) is f.section).cells)
 
-  own_row : (v w : GateView C N) (found : Found) (b : Option (Walk C)) (d : Did truths b found v w) (held : Held C N) → (view_in v.at b).held ≡ Some held → d.old.row ≡ row_in v.at.held
-  own_row v w found None d held is = held_cells v w found None d d.made.step.front d.made.step.back held (ap (λ (x : State C N). x.views) (sym d.made.begins) ∙ d.made.step.was) is
+  own_row : (v w : GateView C N) (found : Found) (b : Option (Walk C)) (d : HasStepped truths b found v w) (held : Held C N) → (view_in v.at b).held ≡ Some held → d.old.row ≡ row_in v.at.held
+  own_row v w found None d held is = held_cells v w found None d d.made.step.front d.made.step.back held (ap (λ (x : LockState C N). x.views) (sym d.made.begins) ∙ d.made.step.was) is
   own_row v w found (Some first) d held is = held_cells v w found (Some first) d d.made.begins.front d.made.begins.back held d.made.begins.was is
 
-  own_cell : (b : Option (Walk C)) (found : Found) (i k : ℕ) (v w : GateView C N) (d : Did truths b found v w) (held : Held C N) → (view_in v.at b).held ≡ Some held → k ≡ slice_index d.old.row i → k ≡ slice_index (row_in v.at.held) i
+  own_cell : (b : Option (Walk C)) (found : Found) (i k : ℕ) (v w : GateView C N) (d : HasStepped truths b found v w) (held : Held C N) → (view_in v.at b).held ≡ Some held → k ≡ slice_index d.old.row i → k ≡ slice_index (row_in v.at.held) i
   own_cell b found i k v w d held is at = at ∙ ap (λ row. slice_index row i) (own_row v w found b d held is)
 
   -- the cell that a seat loads as it judges is its section's own
-  pub quiet_cell : (b : Option (Walk C)) (i k : ℕ) (me now : Me (Lists C) (List (GateView C N))) → Stepped truths b (JudgeQuiet i) k me now → k ≡ slice_index (row_in (the me.0).at.held) i
+  pub quiet_cell : (b : Option (Walk C)) (i k : ℕ) (me now : Me (Lists C) (List (GateView C N))) → PerformedWith truths b (JudgeQuiet i) k me now → k ≡ slice_index (row_in (the me.0).at.held) i
   quiet_cell b i k me now s = let h = does b (JudgeQuiet i) _ me now s.made in own_cell b _ i k (the me.0) (the now.0) s.made.did h.0 h.1 s.tells
 
-  pub met_cell : (b : Option (Walk C)) (i k : ℕ) (c : C) (me now : Me (Lists C) (List (GateView C N))) → Stepped truths b (JudgeMet i c) k me now → k ≡ slice_index (row_in (the me.0).at.held) i
+  pub met_cell : (b : Option (Walk C)) (i k : ℕ) (c : C) (me now : Me (Lists C) (List (GateView C N))) → PerformedWith truths b (JudgeMet i c) k me now → k ≡ slice_index (row_in (the me.0).at.held) i
   met_cell b i k c me now s = let h = does b (JudgeMet i c) _ me now s.made in own_cell b _ i k (the me.0) (the now.0) s.made.did h.0 h.1 s.tells
 
   -- the walk that a step goes on with
-  pub walk_is : (b : Option (Walk C)) (found : Found) (walk : Walk C) (v w : GateView C N) (d : Did truths b found v w) → walk_by b v.at.walk ≡ Some walk → d.made.step.walk ≡ walk
+  pub walk_is : (b : Option (Walk C)) (found : Found) (walk : Walk C) (v w : GateView C N) (d : HasStepped truths b found v w) → walk_by b v.at.walk ≡ Some walk → d.made.step.walk ≡ walk
   walk_is None found walk v w d walks = let same = d.made.step.walks in cc
   walk_is (Some other) found walk v w d walks = let same = d.made.step.walks in cc
 

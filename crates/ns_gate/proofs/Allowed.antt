@@ -3,10 +3,10 @@ use Rattle.std.specs.Prelude.{IsSome}
 use Rattle.std.proofs.Common.{◌≡◌, ◌≢◌, ◌⊎◌, inl, inr, ℕ, suc, ◌+◌, ◌<◌, Bool, true, false, cond, eqb, if◌then◌else◌, List, [], ◌∷◌, length, Option, None, Some, set, get_or, refl, ap, sym, ◌∙◌, subst, arith, eq-eqb, length-set, take, drop, slice_set}
 use Rattle.std.proofs.lemmas.Bool.{ne_eqb, cases_eq}
 use Rattle.std.proofs.lemmas.List.{get_or-set_same, get_or-set_other, set-get_or}
-use Rattle.ns_gate.specs.Prelude.{Me, takes, gives, rest, Valid, homes_after, carried_after, Allows, GateView, Views, Homes, Shows, AtHome, Shown, IsRuled, Holds, the, IsOne, walk_by, act_by, MayBegin, CanStep, Did, Stepped, IsLoad, IsStoreOf, IsExchange, MayLoad, MayStore, MayExchange, carried_by, lists_scanned, next_owed, number_by, word_at, standing_after, Truths, QuietKeeps, Event, Read, Write, Mode, Lists, woken_of, seats_of, view_in, number_of, word_of, found_of, exchanged, scanned, owes_more, row_in, before_in, SectionFits, has_some, bits_of, ActFits, CanLeave, CanWait, HasMode, OwesOne, Part, part_of, Effect, newly_held, section_of, exit_for, changed, moves, owed_after, change_found, change_commits, waited_in, meets_at, flags_with, mode_for, want_of, judge_of, has_queues, word_acquired, word_taken, word_returned, word_released, word_released_returning, mode_released, releasing_of, LoadWord, Acquire, TakeQueues, ReturnQueues, Release, ReleaseReturning, WaitReturning, LoadCell, JudgeQuiet, JudgeMet, StoreCell, ArmFlag, PayWake, LoadFlag, Act, QueueSelf, LeaveSelf, WakeWaiters, Change, Saw, Made, Cell, Quiet, Tested, Flag, Paid, Found, Queue, GetLoad, TryLoad, ScanAndRelease, WakeAndReturn, Leave, QueueToWait, TestLast, InQueuing, InLeaving, Subject, OnCondition, OnVariable, Wait, Held, InTry, InAcquire, InRelease, InCells, InWait, InSignal, Walk, Arrival, Writer, QuietWriter, Reader, Releasing, ToChange, ToQueue, Taking, Word}
+use Rattle.ns_gate.specs.Prelude.{Me, takes, gives, rest, Valid, homes_after, carried_after, Allows, GateView, Views, Homes, Shows, AtHome, Underlying, IsRuled, Holds, the, IsOne, walk_by, act_by, MayBegin, CanStep, HasStepped, PerformedWith, IsLoad, IsStoreOf, IsExchange, MayLoad, MayStore, MayExchange, carried_by, lists_scanned, next_owed, content_by, word_at, standing_after, Truths, QuietKeeps, Event, Read, Write, Mode, Lists, woken_of, seats_of, view_in, number_of, word_of, found_of, exchanged, scanned, owes_more, row_in, before_in, SectionFits, has_some, bits_of, ActFits, CanLeave, CanWait, HasMode, OwesOne, Part, part_of, Effect, newly_held, section_of, exit_for, changed, moves, owed_after, change_found, change_commits, waited_in, meets_at, flags_with, mode_for, want_of, judge_of, has_queues, word_acquired, word_taken, word_returned, word_released, word_released_returning, mode_released, releasing_of, LoadWord, Acquire, TakeQueues, ReturnQueues, Release, ReleaseReturning, WaitReturning, LoadCell, JudgeQuiet, JudgeMet, StoreCell, ArmFlag, PayWake, LoadFlag, Act, QueueSelf, LeaveSelf, WakeWaiters, Change, Saw, Made, Cell, Quiet, Tested, Flag, Paid, Found, Queue, GetLoad, TryLoad, ScanAndRelease, WakeAndReturn, Leave, QueueToWait, TestLast, InQueuing, InLeaving, Subject, OnCondition, OnVariable, Wait, Held, InTry, InAcquire, InRelease, InCells, InWait, InSignal, Walk, Arrival, Writer, QuietWriter, Reader, Releasing, ToChange, ToQueue, Taking, Word}
 use Rattle.atomic_table.specs.Table.{Act as TableAct, keeps as keeps_slots}
-use Rattle.ns_gate.proofs.Keeps.{none_takes, its_fit, between, lawful_between, stands_between, walk_in, now, later, did, did_from, ruled}
-use Rattle.ns_gate.proofs.Tells.{meant_by, walk_is}
+use Rattle.ns_gate.proofs.Keeps.{none_takes, one_is, hand_of, its_fit, between, lawful_between, stands_between, walk_in, now, later, did, did_from, ruled}
+use Rattle.ns_gate.proofs.Findings.{meant_by, walk_is}
 use Rattle.ns_model.specs.declared.event.Exit.TheVariants as TheExit
 use Rattle.ns_word.proofs.Acts.{act_fits, view_fits}
 use Rattle.ns_word.proofs.Codes.{decoded, encoded}
@@ -32,24 +32,6 @@ taken_spin : (taking : Taking) (w : Word) → (word_taken taking w).spin ≡ tru
 taken_spin ToChange w = refl
 taken_spin (ToQueue mode arrival) w = refl
 
--- the section in hand
-held_of : {C : Type 0} {N : ℕ} (truths : Truths C) (releasing : Releasing) (o : Option (Held C N)) → CanLeave truths releasing o → (held : Held C N) × (o ≡ Some held) × (held.mode ≡ mode_released releasing)
-held_of truths releasing None p = absurd p
-held_of truths releasing (Some held) p = (held, refl, p.0)
-
-with_mode : {C : Type 0} {N : ℕ} (o : Option (Held C N)) → HasMode Write o → (held : Held C N) × (o ≡ Some held) × (held.mode ≡ Write)
-with_mode None p = absurd p
-with_mode (Some held) p = (held, refl, p)
-
-with_some : {C : Type 0} {N : ℕ} (o : Option (Held C N)) → IsSome o → (held : Held C N) × (o ≡ Some held)
-with_some None p = absurd (cc)
-with_some (Some held) p = (held, refl)
-
--- a seat that waits is about to leave a section in its own mode
-waiting_with : {C : Type 0} {N : ℕ} (truths : Truths C) (wait : Wait C) (again : Bool) (o : Option (Held C N)) → CanWait truths wait again o → (held : Held C N) × (o ≡ Some held) × (held.mode ≡ wait.mode)
-waiting_with truths wait again None p = absurd p
-waiting_with truths wait again (Some held) p = (held, refl, p.mode)
-
 -- who puts the queues back has none
 carried_returned : {C : Type 0} (seat : ℕ) (change : Change) (last : Word) (lists stood : Lists C) (cs : List (ℕ × Lists C)) → carried_by (ReturnQueues change last) (change_found seat change last lists) stood cs ≡ rest cs
 carried_returned seat (QueueSelf mode arrival) last lists stood cs = refl
@@ -68,14 +50,14 @@ returned_effect truths seat (LeaveSelf which) last old same = (refl, same, refl,
 returned_effect truths seat (WakeWaiters waking k) last old same = (refl, same, refl, refl)
 
 -- the words after a flag was stored
-shows_flag : (N : ℕ) (words : List ℕ) (word : Word) (row : List ℕ) (flags : ℕ → ℕ) (who x : ℕ) → Shows N words word row flags → who < 64 → Shows N (set words (who + (N + 1)) x) word row (flags_with flags who x)
-shows_flag N words word row flags who x p below = let width = p.width in record {
-  width = length-set words (who + (N + 1)) x ∙ width;
-  word_is = get_or-set_other words (who + (N + 1)) 0 x 0 (λ e. omega (arith, e)) ∙ p.word_is;
-  cells = λ k low. get_or-set_other words (who + (N + 1)) (k + 1) x 0 (λ e. omega (arith, e, low)) ∙ p.cells k low;
-  flags_are = λ seat low. elim (cases_eq who seat) [
-    | inl e ↦ subst (λ (m : ℕ). get_or (set words (who + (N + 1)) x) (m + (N + 1)) 0 ≡ flags_with flags who x m) e (get_or-set_same words (who + (N + 1)) x 0 (omega (arith, width, below)) ∙ sym (ap (λ (c : Bool). cond c x (flags who)) (eq-eqb who who refl)))
-    | inr ne ↦ get_or-set_other words (who + (N + 1)) (seat + (N + 1)) x 0 (λ e. ne (omega (arith, e))) ∙ (p.flags_are seat low ∙ sym (ap (λ (c : Bool). cond c x (flags seat)) (ne_eqb who seat ne)))
+shows_flag : (N : ℕ) (words : List ℕ) (word : Word) (row : List ℕ) (flags : ℕ → ℕ) (payee x : ℕ) → Shows N words word row flags → payee < 64 → Shows N (set words (payee + (N + 1)) x) word row (flags_with flags payee x)
+shows_flag N words word row flags payee x p below = let width = p.width in record {
+  width = length-set words (payee + (N + 1)) x ∙ width;
+  word_is = get_or-set_other words (payee + (N + 1)) 0 x 0 (λ e. omega (arith, e)) ∙ p.word_is;
+  cells = λ k low. get_or-set_other words (payee + (N + 1)) (k + 1) x 0 (λ e. omega (arith, e, low)) ∙ p.cells k low;
+  flags_are = λ seat low. elim (cases_eq payee seat) [
+    | inl e ↦ subst (λ (m : ℕ). get_or (set words (payee + (N + 1)) x) (m + (N + 1)) 0 ≡ flags_with flags payee x m) e (get_or-set_same words (payee + (N + 1)) x 0 (omega (arith, width, below)) ∙ sym (ap (λ (c : Bool). cond c x (flags payee)) (eq-eqb payee payee refl)))
+    | inr ne ↦ get_or-set_other words (payee + (N + 1)) (seat + (N + 1)) x 0 (λ e. ne (omega (arith, e))) ∙ (p.flags_are seat low ∙ sym (ap (λ (c : Bool). cond c x (flags seat)) (ne_eqb payee seat ne)))
   ];
 }
 
@@ -123,92 +105,91 @@ returning_has (InCells (GetLoad i)) e = absurd (cc)
 returning_has walk e = absurd (cc)
 
 -- who is owed the next wake, where one is owed
-owes_some : (limit : ℕ) (owed : List ℕ) → OwesOne limit owed → (others : List ℕ) × (owed ≡ next_owed owed ∷ others) × (next_owed owed < limit)
-owes_some limit [] one = absurd one
-owes_some limit (woken ∷ others) one = (others, refl, one)
+owes_some : (seat_count : ℕ) (owed : List ℕ) → OwesOne seat_count owed → (others : List ℕ) × (owed ≡ next_owed owed ∷ others) × (next_owed owed < seat_count)
+owes_some seat_count [] one = absurd one
+owes_some seat_count (woken ∷ others) one = (others, refl, one)
 
-module _ {C : Type 0} {N : ℕ} (truths : Truths C) (cells : 0 < N) (quiet : QuietKeeps N truths) (limit id : ℕ) (b : Option (Walk C)) where
+module _ {C : Type 0} {N : ℕ} (truths : Truths C) (cells : 0 < N) (quiet : QuietKeeps N truths) (seat_count id : ℕ) (b : Option (Walk C)) where
   abbrev Slots : Type 0
   Slots = List (ℕ × Lists C)
 
-  -- the step was this act, found this, and told this number
+  -- the step was this act, found this, and told this content
   abbrev Makes : Act C → Found → ℕ → GateView C N → GateView C N → Type 0
-  Makes act found k v w = (d : Did truths b found v w) × (want_of d.made.step.walk ≡ act) × (k ≡ number_by v.at.seat act d.old)
+  Makes act found k v w = (d : HasStepped truths b found v w) × (want_of d.made.step.walk ≡ act) × (k ≡ content_by v.at.seat act d.old)
 
-  -- what is owed of a step that leaves these words, and tells this number
+  -- what is owed of a step that leaves these words, and tells this content
   abbrev Owes : Homes C → Views C N → GateView C N → Slots → List ℕ → Act C → ℕ → Type 0
   Owes homes views v cs words' act k = (w : GateView C N) × (a : TableAct (Lists C)) × Valid homes cs a
-      × ((g : Shown C N) × IsRuled truths limit words' (homes_after homes cs a) (set views id (w ∷ [])) g)
+      × ((g : Underlying C N) × IsRuled truths seat_count words' (homes_after homes cs a) (set views id (w ∷ [])) g)
       × (carried_after cs a ≡ carried_by act (found_of truths act v.at v.stood k) w.stood cs) × Makes act (found_of truths act v.at v.stood k) k v w
 
-  -- the seat may make the act, which changes the word i by f, and tells what t makes of the number that it had
-  abbrev Turns : ℕ → (ℕ → ℕ) → (ℕ → ℕ) → Act C → GateView C N → Slots → Type 0
-  Turns i f t act v cs = (words : List ℕ) (homes : Homes C) (views : Views C N) (g : Shown C N) → IsRuled truths limit words homes views g → get_elem? views id ≡ some (v ∷ []) → Owes homes views v cs (set words i (f (get_or words i 0))) act (t (get_or words i 0))
+  -- the seat may make the act, which changes the word i by f, and tells what t makes of the content that it had
+  abbrev MayChange : ℕ → (ℕ → ℕ) → (ℕ → ℕ) → Act C → GateView C N → Slots → Type 0
+  MayChange i f t act v cs = (words : List ℕ) (homes : Homes C) (views : Views C N) (g : Underlying C N) → IsRuled truths seat_count words homes views g → get_elem? views id ≡ some (v ∷ []) → Owes homes views v cs (set words i (f (get_or words i 0))) act (t (get_or words i 0))
 
-  turn_at : (i : ℕ) (f t : ℕ → ℕ) (act : Act C) (vs : List (GateView C N)) (cs : Slots) → IsOne vs → Turns i f t act (the vs) cs → (words : List ℕ) (homes : Homes C) (views : Views C N) (g : Shown C N) → IsRuled truths limit words homes views g → get_elem? views id ≡ some vs
+  change_at : (i : ℕ) (f t : ℕ → ℕ) (act : Act C) (vs : List (GateView C N)) (cs : Slots) → IsOne vs → MayChange i f t act (the vs) cs → (words : List ℕ) (homes : Homes C) (views : Views C N) (g : Underlying C N) → IsRuled truths seat_count words homes views g → get_elem? views id ≡ some vs
       → Owes homes views (the vs) cs (set words i (f (get_or words i 0))) act (t (get_or words i 0))
-  turn_at i f t act [] cs one turn words homes views g r at = absurd one
-  turn_at i f t act (v ∷ []) cs one turn words homes views g r at = turn words homes views g r at
-  turn_at i f t act (v ∷ x ∷ xs) cs one turn words homes views g r at = absurd one
+  change_at i f t act vs cs one change words homes views g r at = let v = one_is vs one in
+      subst (λ (us : List (GateView C N)). MayChange i f t act (the us) cs → get_elem? views id ≡ some us → Owes homes views (the us) cs (set words i (f (get_or words i 0))) act (t (get_or words i 0))) (sym v.1) (λ may there. may words homes views g r there) change at
 
-  allows : (slots i : ℕ) (f t : ℕ → ℕ) (act : Act C) (me : Me (Lists C) (List (GateView C N))) → CanStep truths b act me → Turns i f t act (the me.0) me.1 → Allows (Holds truths limit) slots id me i f (λ k now. Stepped truths b (act_by b (the me.0)) (t k) me now)
-  allows slots i f t act me can turn s h _ at _ =
-      let r = turn_at i f t act me.0 me.1 can.one turn s.words s.homes s.views h.0 h.1 at in
+  allows : (slots i : ℕ) (f t : ℕ → ℕ) (act : Act C) (me : Me (Lists C) (List (GateView C N))) → CanStep truths b act me → MayChange i f t act (the me.0) me.1 → Allows (Holds truths seat_count) slots id me i f (λ k now. PerformedWith truths b (act_by b (the me.0)) (t k) me now)
+  allows slots i f t act me can change s h _ at _ =
+      let r = change_at i f t act me.0 me.1 can.one change s.words s.homes s.views h.0 h.1 at in
       let d = r.5.0 in (
         r.0 ∷ [],
         r.1,
         r.2,
         r.3,
-        subst (λ a. Stepped truths b a (t (get_or s.words i 0)) me (r.0 ∷ [], carried_after me.1 r.1)) (sym (meant_by truths b act me can))
+        subst (λ a. PerformedWith truths b a (t (get_or s.words i 0)) me (r.0 ∷ [], carried_after me.1 r.1)) (sym (meant_by truths b act me can))
             (record { made = record { one = tt; carried = r.4; did = d; act_is = r.5.1; finds = λ other. ap (found_of truths act (the me.0).at (the me.0).stood) r.5.2 }; tells = r.5.2 }),
       )
 
-  module _ (v : GateView C N) (may : MayBegin truths b v.at) (walk : Walk C) (walks : walk_by b v.at.walk ≡ Some walk) (words : List ℕ) (homes : Homes C) (views : Views C N) (g : Shown C N) (r : IsRuled truths limit words homes views g) (at : get_elem? views id ≡ some (v ∷ [])) (cs : Slots) where
+  module _ (v : GateView C N) (may : MayBegin truths b v.at) (walk : Walk C) (walks : walk_by b v.at.walk ≡ Some walk) (words : List ℕ) (homes : Homes C) (views : Views C N) (g : Underlying C N) (r : IsRuled truths seat_count words homes views g) (at : get_elem? views id ≡ some (v ∷ [])) (cs : Slots) where
     abbrev old : Part C N
     old = part_of g.state v.at.held v.at.owed
 
     -- what the act may count on
-    fits : (act : Act C) → want_of walk ≡ act → ActFits truths limit v.at.seat act old
-    fits act wants = subst (λ a. ActFits truths limit v.at.seat a old) wants (of_seat b may walks refl) where
-      of_seat : (x : Option (Walk C)) → MayBegin truths x v.at → walk_by x v.at.walk ≡ Some walk → x ≡ b → ActFits truths limit v.at.seat (want_of walk) old
+    fits : (act : Act C) → want_of walk ≡ act → ActFits truths seat_count v.at.seat act old
+    fits act wants = subst (λ a. ActFits truths seat_count v.at.seat a old) wants (of_seat b may walks refl) where
+      of_seat : (x : Option (Walk C)) → MayBegin truths x v.at → walk_by x v.at.walk ≡ Some walk → x ≡ b → ActFits truths seat_count v.at.seat (want_of walk) old
       of_seat x may' walks' is =
-          let stands = stands_between truths cells quiet limit words homes views g r id v at b may in
-          let s = between truths cells quiet limit words homes views g r id v at b may in
-          let a = act_fits truths limit r.few g.history s (take v.at.seat s.views) (view_in v.at b) (drop (suc v.at.seat) s.views) (split_at s.views v.at.seat (view_in v.at b) stands) (lawful_between truths cells quiet limit words homes views g r id v at b may) walk (walk_in b v.at ∙ walks) in
+          let stands = stands_between truths cells quiet seat_count words homes views g r id v at b may in
+          let s = between truths cells quiet seat_count words homes views g r id v at b may in
+          let a = act_fits truths seat_count r.few g.history s (take v.at.seat s.views) (view_in v.at b) (drop (suc v.at.seat) s.views) (split_at s.views v.at.seat (view_in v.at b) stands) (lawful_between truths cells quiet seat_count words homes views g r id v at b may) walk (walk_in b v.at ∙ walks) in
           plain b a
         where
-          plain : (x : Option (Walk C)) → ActFits truths limit (view_in v.at x).seat (want_of walk) (part_of (record g.state { views = slice_set g.state.views v.at.seat (view_in v.at x) }) (view_in v.at x).held (view_in v.at x).owed) → ActFits truths limit v.at.seat (want_of walk) (part_of g.state v.at.held v.at.owed)
+          plain : (x : Option (Walk C)) → ActFits truths seat_count (view_in v.at x).seat (want_of walk) (part_of (record g.state { views = slice_set g.state.views v.at.seat (view_in v.at x) }) (view_in v.at x).held (view_in v.at x).owed) → ActFits truths seat_count v.at.seat (want_of walk) (part_of g.state v.at.held v.at.owed)
           plain None p = p
           plain (Some first) p = p
 
     -- a section in hand has the row's cells
     has_row : (held : Held C N) → v.at.held ≡ Some held → row_in v.at.held ≡ g.state.row
     has_row held is =
-        let stands = (its_fit truths cells quiet limit words homes views g r id v at b may).stands in
-        let f = view_fits truths limit r.few g.history g.state (take v.at.seat g.state.views) v.at (drop (suc v.at.seat) g.state.views) (split_at g.state.views v.at.seat v.at stands) r.lawful in
+        let stands = (its_fit truths cells quiet seat_count words homes views g r id v at b may).stands in
+        let f = view_fits truths seat_count r.few g.history g.state (take v.at.seat g.state.views) v.at (drop (suc v.at.seat) g.state.views) (split_at g.state.views v.at.seat v.at stands) r.lawful in
         ap row_in is ∙ (subst (λ o. SectionFits (standing_after g.history) g.state.row v.at.seat v.at.walk o) is f.section).cells
 
     shown : word_of (get_or words 0 0) ≡ g.state.word
     shown = ap word_of r.shows.word_is ∙ decoded g.state.word
 
     -- the step, from its effect
-    finish : (act : Act C) → want_of walk ≡ act → (k : ℕ) (found : Found) (part : Part C N) (commits : List (Event C N)) → Effect truths v.at.seat act old found part commits → found_of truths act v.at v.stood k ≡ found → k ≡ number_by v.at.seat act g.state → (words' : List ℕ) → Shows N words' part.word part.row part.flags
+    finish : (act : Act C) → want_of walk ≡ act → (k : ℕ) (found : Found) (part : Part C N) (commits : List (Event C N)) → Effect truths v.at.seat act old found part commits → found_of truths act v.at v.stood k ≡ found → k ≡ content_by v.at.seat act g.state → (words' : List ℕ) → Shows N words' part.word part.row part.flags
         → (a : TableAct (Lists C)) → Valid homes cs a → AtHome part.word.spin part.lists (homes_after homes cs a) → (part.lists ≡ g.state.lists) ⊎ (part.word.spin ≡ false) → carried_after cs a ≡ carried_by act found part.lists cs → Owes homes views v cs words' act k
     finish act wants k found part commits e is tells words' shows a valid home kept carried =
         let e' : Effect truths v.at.seat (want_of walk) old found part commits = subst (λ x. Effect truths v.at.seat x old found part commits) (sym wants) e in
-        let w = now truths cells quiet limit words homes views g r id v at b may walk walks found part commits e' in
-        let d = did truths cells quiet limit words homes views g r id v at b may walk walks found part commits e' in
-        let was = did_from truths cells quiet limit words homes views g r id v at b may walk walks found part commits e' in (
+        let w = now truths cells quiet seat_count words homes views g r id v at b may walk walks found part commits e' in
+        let d = did truths cells quiet seat_count words homes views g r id v at b may walk walks found part commits e' in
+        let was = did_from truths cells quiet seat_count words homes views g r id v at b may walk walks found part commits e' in (
           w,
           a,
           valid,
-          (later truths cells quiet limit words homes views g r id v at b may walk walks found part commits e', ruled truths cells quiet limit words homes views g r id v at b may walk walks found part commits e' words' (homes_after homes cs a) shows home kept),
+          (later truths cells quiet seat_count words homes views g r id v at b may walk walks found part commits e', ruled truths cells quiet seat_count words homes views g r id v at b may walk walks found part commits e' words' (homes_after homes cs a) shows home kept),
           carried ∙ ap (λ x. carried_by act x part.lists cs) (sym is),
-          subst (λ (x : Found). Makes act x k v w) (sym is) (d, ap want_of (walk_is truths b found walk v w d walks) ∙ wants, tells ∙ ap (number_by v.at.seat act) (sym was)),
+          subst (λ (x : Found). Makes act x k v w) (sym is) (d, ap want_of (walk_is truths b found walk v w d walks) ∙ wants, tells ∙ ap (content_by v.at.seat act) (sym was)),
         )
 
     -- nothing changes
-    stays : (act : Act C) → want_of walk ≡ act → (k : ℕ) (found : Found) → Effect truths v.at.seat act old found old [] → found_of truths act v.at v.stood k ≡ found → k ≡ number_by v.at.seat act g.state → cs ≡ carried_by act found g.state.lists cs → (words' : List ℕ) → words' ≡ words → Owes homes views v cs words' act k
+    stays : (act : Act C) → want_of walk ≡ act → (k : ℕ) (found : Found) → Effect truths v.at.seat act old found old [] → found_of truths act v.at v.stood k ≡ found → k ≡ content_by v.at.seat act g.state → cs ≡ carried_by act found g.state.lists cs → (words' : List ℕ) → words' ≡ words → Owes homes views v cs words' act k
     stays act wants k found e is tells carried words' same = finish act wants k found old [] e is tells words' (subst (λ ws. Shows N ws g.state.word g.state.row g.state.flags) (sym same) r.shows) keeps_slots tt r.home (inl refl) carried
 
     -- ---- a load
@@ -220,12 +201,12 @@ module _ {C : Type 0} {N : ℕ} (truths : Truths C) (cells : 0 < N) (quiet : Qui
         stays (LoadCell i) wants (get_or words (i + 1) 0) (Cell (get_or words (i + 1) 0)) (there, refl, refl) refl there refl (set words (i + 1) (get_or words (i + 1) 0)) (set-get_or words (i + 1) 0)
     loads (JudgeQuiet i) is wants =
         let f = fits (JudgeQuiet i) wants in
-        let h = with_mode v.at.held f.0 in
+        let h = hand_of (λ (o : Option (Held C N)). HasMode Write o) v.at.held (λ e. e) f.0 in
         stays (JudgeQuiet i) wants (get_or words (i + 1) 0) (Quiet (truths.quiet (before_in v.at.held) (row_in v.at.held))) (h.0, h.1, ap (λ (o : Option (Held C N)). truths.quiet (before_in o) (row_in o)) h.1, refl, refl) refl (r.shows.cells i f.1) refl
         (set words (i + 1) (get_or words (i + 1) 0)) (set-get_or words (i + 1) 0)
     loads (JudgeMet i c) is wants =
         let f = fits (JudgeMet i c) wants in
-        let h = with_some v.at.held f.0 in
+        let h = hand_of IsSome v.at.held (λ e. cc) f.0 in
         stays (JudgeMet i c) wants (get_or words (i + 1) 0) (Tested (truths.holds c (row_in v.at.held))) (h.0, h.1, ap (λ (o : Option (Held C N)). truths.holds c (row_in o)) h.1, refl, refl) refl (r.shows.cells i f.1) refl
         (set words (i + 1) (get_or words (i + 1) 0)) (set-get_or words (i + 1) 0)
     loads LoadFlag is wants =
@@ -238,28 +219,28 @@ module _ {C : Type 0} {N : ℕ} (truths : Truths C) (cells : 0 < N) (quiet : Qui
 
     -- ---- a store
 
-    stores : (number : ℕ) (act : Act C) → IsStoreOf number act → want_of walk ≡ act → Owes homes views v cs (set words (word_at act v) number) act number
-    stores number (StoreCell i x) is wants =
+    stores : (content : ℕ) (act : Act C) → IsStoreOf content act → want_of walk ≡ act → Owes homes views v cs (set words (word_at act v) content) act content
+    stores content (StoreCell i x) is wants =
         let f = fits (StoreCell i x) wants in
-        let h = with_mode v.at.held f.0 in
+        let h = hand_of (λ (o : Option (Held C N)). HasMode Write o) v.at.held (λ e. e) f.0 in
         subst (λ n. Owes homes views v cs (set words (i + 1) n) (StoreCell i x) n) (sym is)
         (finish (StoreCell i x) wants x Made (record old { row = set g.state.row i x; held = Some (record h.0 { row = set h.0.row i x }) }) [] (h.0, h.1, h.2, refl, refl) refl refl (set words (i + 1) x)
         (shows_cell N words g.state.word g.state.row g.state.flags i x r.shows f.1 r.lawful.one_history.cells) keeps_slots tt r.home (inl refl) refl)
-    stores number ArmFlag is wants =
+    stores content ArmFlag is wants =
         let below = fits ArmFlag wants in
         let few = r.few in
         subst (λ n. Owes homes views v cs (set words (v.at.seat + (N + 1)) n) ArmFlag n) (sym is)
         (finish ArmFlag wants 1 Made (record old { flags = flags_with g.state.flags v.at.seat 1 }) [] (refl, refl) refl refl (set words (v.at.seat + (N + 1)) 1)
         (shows_flag N words g.state.word g.state.row g.state.flags v.at.seat 1 r.shows (omega (arith, below, few))) keeps_slots tt r.home (inl refl) refl)
-    stores number (PayWake value) is wants =
-        let o = owes_some limit v.at.owed (fits (PayWake value) wants) in
+    stores content (PayWake value) is wants =
+        let o = owes_some seat_count v.at.owed (fits (PayWake value) wants) in
         let below = o.2 in
         let few = r.few in
         let woken = next_owed v.at.owed in
         subst (λ n. Owes homes views v cs (set words (woken + (N + 1)) n) (PayWake value) n) (sym is)
         (finish (PayWake value) wants value (Paid (has_some o.0)) (record old { flags = flags_with g.state.flags woken value; owed = o.0 }) [] (woken, o.0, o.1, refl, refl, refl) (ap owes_more o.1) refl (set words (woken + (N + 1)) value)
         (shows_flag N words g.state.word g.state.row g.state.flags woken value r.shows (omega (arith, below, few))) keeps_slots tt r.home (inl refl) refl)
-    stores number act is wants = absurd is
+    stores content act is wants = absurd is
 
     -- ---- an exchange
 
@@ -271,13 +252,13 @@ module _ {C : Type 0} {N : ℕ} (truths : Truths C) (cells : 0 < N) (quiet : Qui
       kept : (lists ≡ g.state.lists) ⊎ (new.spin ≡ false)
       carried : carried_after cs does ≡ carried_by act made lists cs
 
-    -- the words after an exchange of the one number for the other
+    -- the words after an exchange of the one content for the other
     abbrev swapped : ℕ → ℕ → List ℕ
     swapped x y = set words 0 (either (eqb (get_or words 0 0) x) y (get_or words 0 0))
 
     -- a compare-exchange of the word last seen
     exchanges : (act : Act C) → want_of walk ≡ act → (last : Word) (made : Found) (part : Part C N) (commits : List (Event C N)) (x y : ℕ) → x ≡ number_of last → y ≡ number_of part.word
-        → number_of g.state.word ≡ number_by v.at.seat act g.state
+        → number_of g.state.word ≡ content_by v.at.seat act g.state
         → ((k : ℕ) → found_of truths act v.at v.stood k ≡ exchanged k last made)
         → ((w : Word) → w ≡ g.state.word → w ≢ last → Effect truths v.at.seat act old (Saw w) old [])
         → ((w : Word) → cs ≡ carried_by act (Saw w) g.state.lists cs)
@@ -298,7 +279,7 @@ module _ {C : Type 0} {N : ℕ} (truths : Truths C) (cells : 0 < N) (quiet : Qui
       k : ℕ
       k = get_or words 0 0
 
-      told : k ≡ number_by v.at.seat act g.state
+      told : k ≡ content_by v.at.seat act g.state
       told = r.shows.word_is ∙ tells
 
     -- the slot stays as it is
@@ -307,13 +288,13 @@ module _ {C : Type 0} {N : ℕ} (truths : Truths C) (cells : 0 < N) (quiet : Qui
 
     -- who has the queues knows the lists at home, which are out
     stood_is : has_queues v.at.walk ≡ true → v.stood ≡ g.state.lists
-    stood_is = (its_fit truths cells quiet limit words homes views g r id v at b may).stood
+    stood_is = (its_fit truths cells quiet seat_count words homes views g r id v at b may).stood
 
     out : has_queues v.at.walk ≡ true → homes ≡ none ∷ []
     out has = by_spin g.state.word.spin refl r.home where
       by_spin : (s : Bool) → g.state.word.spin ≡ s → AtHome s g.state.lists homes → homes ≡ none ∷ []
       by_spin true e home = home
-      by_spin false e home = absurd (none_takes g.state.views v.at.seat v.at (r.lawful.spin_held_once ∙ ap (λ s. cond s 1 0) e) (its_fit truths cells quiet limit words homes views g r id v at b may).stands has)
+      by_spin false e home = absurd (none_takes g.state.views v.at.seat v.at (r.lawful.spin_held_once ∙ ap (λ s. cond s 1 0) e) (its_fit truths cells quiet seat_count words homes views g r id v at b may).stands has)
 
     -- the lists in hand go home
     gives_slot : (act : Act C) (done : Found) (new : Word) (lists : Lists C) → has_queues v.at.walk ≡ true → new.spin ≡ false → cs ≡ (0, lists) ∷ [] → rest cs ≡ carried_by act done lists cs → Slotted act done new lists
@@ -328,7 +309,7 @@ module _ {C : Type 0} {N : ℕ} (truths : Truths C) (cells : 0 < N) (quiet : Qui
     -- the queues are put back: what the seat made of what it knows of them is what the machine makes of them
     puts_back : (act : Act C) → want_of walk ≡ act → (last : Word) (Z : Type 0) (mine theirs : Z) → mine ≡ theirs → (lists : Z → Lists C) (found : Z → Found) (word : Z → Word) (held : Option (Held C N)) (owed : List ℕ) (commits : List (Event C N)) (x y : ℕ) → x ≡ number_of last → y ≡ number_of (word mine)
         → has_queues v.at.walk ≡ true → cs ≡ (0, lists mine) ∷ [] → (word theirs).spin ≡ false
-        → number_of g.state.word ≡ number_by v.at.seat act g.state
+        → number_of g.state.word ≡ content_by v.at.seat act g.state
         → ((k : ℕ) → found_of truths act v.at v.stood k ≡ exchanged k last (found mine))
         → ((w : Word) → w ≡ g.state.word → w ≢ last → Effect truths v.at.seat act old (Saw w) old [])
         → ((w : Word) → cs ≡ carried_by act (Saw w) g.state.lists cs)
@@ -339,18 +320,18 @@ module _ {C : Type 0} {N : ℕ} (truths : Truths C) (cells : 0 < N) (quiet : Qui
         exchanges act wants last (found theirs) (record old { word = word theirs; lists = lists theirs; held = held; owed = owed }) commits x y is_x (is_y ∙ ap (λ z. number_of (word z)) same) tells (λ k. is k ∙ ap (λ z. exchanged k last (found z)) same) miss idle hit refl refl
         (λ _. gives_slot act (found theirs) (word theirs) (lists theirs) has clear (carries ∙ ap (λ z. (0, lists z) ∷ []) same) back)
 
-    turns_word : (act : Act C) (last new : Word) (x y : ℕ) → x ≡ number_of last → y ≡ number_of new → (is_returning act ≡ true → has_queues v.at.walk ≡ true) → IsExchange truths act last new v cs → want_of walk ≡ act → Owes homes views v cs (swapped x y) act (get_or words 0 0)
-    turns_word (Acquire aim arrival seen) last new x y is_x is_y has e wants =
+    changes_word : (act : Act C) (last new : Word) (x y : ℕ) → x ≡ number_of last → y ≡ number_of new → (is_returning act ≡ true → has_queues v.at.walk ≡ true) → IsExchange truths act last new v cs → want_of walk ≡ act → Owes homes views v cs (swapped x y) act (get_or words 0 0)
+    changes_word (Acquire aim arrival seen) last new x y is_x is_y has e wants =
         let f = fits (Acquire aim arrival seen) wants in
         exchanges (Acquire aim arrival seen) wants seen Made (record old { word = word_acquired (mode_for aim) arrival seen; held = Some (newly_held aim g.state.row) }) [] x y (is_x ∙ ap number_of (sym e.0)) (is_y ∙ ap number_of e.1) refl
         (λ k. refl) (λ w s ne. (s, ne, refl, refl)) (λ w. refl) (λ same. (same, f.1, f.0, refl, refl)) refl refl
         (λ same. keeps_slot (Acquire aim arrival seen) Made (word_acquired (mode_for aim) arrival seen) (acquired_spin (mode_for aim) arrival seen ∙ ap (λ (w : Word). w.spin) same) refl)
-    turns_word (Release releasing seen) last new x y is_x is_y has e wants =
-        let h = held_of truths releasing v.at.held (fits (Release releasing seen) wants) in
+    changes_word (Release releasing seen) last new x y is_x is_y has e wants =
+        let h = hand_of (CanLeave truths releasing) v.at.held (λ e. e) (fits (Release releasing seen) wants) in
         exchanges (Release releasing seen) wants seen Made (record old { word = word_released releasing seen; held = None }) (section_of truths.holds v.at.seat h.0 TheExit.Plain ∷ []) x y (is_x ∙ ap number_of (sym e.0)) (is_y ∙ ap number_of e.1) refl
-        (λ k. refl) (λ w s ne. (s, ne, refl, refl)) (λ w. refl) (λ same. (h.0, h.1, h.2, same, refl, refl)) refl refl
+        (λ k. refl) (λ w s ne. (s, ne, refl, refl)) (λ w. refl) (λ same. (h.0, h.1, h.2.0, same, refl, refl)) refl refl
         (λ same. keeps_slot (Release releasing seen) Made (word_released releasing seen) (released_spin releasing seen ∙ ap (λ (w : Word). w.spin) same) refl)
-    turns_word (TakeQueues taking seen) last new x y is_x is_y has e wants =
+    changes_word (TakeQueues taking seen) last new x y is_x is_y has e wants =
         let clear = fits (TakeQueues taking seen) wants in
         exchanges (TakeQueues taking seen) wants seen Made (record old { word = word_taken taking seen }) [] x y (is_x ∙ ap number_of (sym e.0)) (is_y ∙ ap number_of e.1) refl
         (λ k. refl) (λ w s ne. (s, ne, refl, refl)) (λ w. refl) (λ same. (same, clear, refl, refl)) refl refl
@@ -362,36 +343,36 @@ module _ {C : Type 0} {N : ℕ} (truths : Truths C) (cells : 0 < N) (quiet : Qui
           kept = inl refl;
           carried = refl;
         })
-    turns_word (ReturnQueues change seen) last new x y is_x is_y has e wants =
+    changes_word (ReturnQueues change seen) last new x y is_x is_y has e wants =
         puts_back (ReturnQueues change seen) wants seen (Lists C) v.stood g.state.lists (stood_is (has refl)) (λ l. changed v.at.seat change seen l) (λ l. change_found v.at.seat change seen l)
         (λ l. word_returned (moves change seen l) (bits_of (changed v.at.seat change seen l).lock) seen) v.at.held (owed_after change seen g.state.lists v.at.owed) (change_commits v.at.seat change g.state.lists) x y (is_x ∙ ap number_of (sym e.0)) (is_y ∙ ap number_of e.1.word) (has refl) e.1.carries refl refl
         (λ k. refl) (λ w s ne. (s, ne, refl, refl)) (λ w. refl) (λ same. returned_effect truths v.at.seat change seen old same) (sym (carried_returned v.at.seat change seen g.state.lists (changed v.at.seat change seen g.state.lists) cs))
-    turns_word (ReleaseReturning releasing seen) last new x y is_x is_y has e wants =
-        let h = held_of truths releasing v.at.held (fits (ReleaseReturning releasing seen) wants).0 in
+    changes_word (ReleaseReturning releasing seen) last new x y is_x is_y has e wants =
+        let h = hand_of (CanLeave truths releasing) v.at.held (λ e. e) (fits (ReleaseReturning releasing seen) wants).0 in
         puts_back (ReleaseReturning releasing seen) wants seen (List ℕ × Lists C) (row_in v.at.held, v.stood) (g.state.row, g.state.lists) (λ i. (has_row h.0 h.1 i, stood_is (has refl) i)) (λ z. lists_scanned truths z.0 z.1) (λ z. scanned truths z.0 z.1.lock)
         (λ z. word_released_returning releasing (has_some (woken_of (meets_at truths z.0) z.1.lock)) (bits_of (lists_scanned truths z.0 z.1).lock) seen) None (seats_of (woken_of (meets_at truths g.state.row) g.state.lists.lock)) (section_of truths.holds v.at.seat h.0 TheExit.Plain ∷ []) x y
-        (is_x ∙ ap number_of (sym e.0)) (is_y ∙ ap number_of e.1.word) (has refl) e.1.carries refl refl (λ k. refl) (λ w s ne. (s, ne, refl, refl)) (λ w. refl) (λ same. (h.0, h.1, h.2, same, refl, refl, refl, refl)) refl
-    turns_word (WaitReturning wait again seen) last new x y is_x is_y has e wants =
-        let h = waiting_with truths wait again v.at.held (fits (WaitReturning wait again seen) wants).0 in
+        (is_x ∙ ap number_of (sym e.0)) (is_y ∙ ap number_of e.1.word) (has refl) e.1.carries refl refl (λ k. refl) (λ w s ne. (s, ne, refl, refl)) (λ w. refl) (λ same. (h.0, h.1, h.2.0, same, refl, refl, refl, refl)) refl
+    changes_word (WaitReturning wait again seen) last new x y is_x is_y has e wants =
+        let h = hand_of (CanWait truths wait again) v.at.held (λ e. e) (fits (WaitReturning wait again seen) wants).0 in
         puts_back (WaitReturning wait again seen) wants seen (List ℕ × Lists C) (row_in v.at.held, v.stood) (g.state.row, g.state.lists) (λ i. (has_row h.0 h.1 i, stood_is (has refl) i)) (λ z. waited_in truths v.at.seat wait again z.0 z.1) (λ z. scanned truths z.0 z.1.lock)
         (λ z. word_released_returning (releasing_of wait.mode) (has_some (woken_of (meets_at truths z.0) z.1.lock)) (bits_of (waited_in truths v.at.seat wait again z.0 z.1).lock) seen) None (seats_of (woken_of (meets_at truths g.state.row) g.state.lists.lock))
-        (if again then [] else section_of truths.holds v.at.seat h.0 (exit_for wait.on) ∷ []) x y (is_x ∙ ap number_of (sym e.0)) (is_y ∙ ap number_of e.1.word) (has refl) e.1.carries refl refl (λ k. refl) (λ w s ne. (s, ne, refl, refl)) (λ w. refl) (λ same. (h.0, h.1, h.2, same, refl, refl, refl, refl)) refl
-    turns_word act last new x y is_x is_y has e wants = absurd e
+        (if again then [] else section_of truths.holds v.at.seat h.0 (exit_for wait.on) ∷ []) x y (is_x ∙ ap number_of (sym e.0)) (is_y ∙ ap number_of e.1.word) (has refl) e.1.carries refl refl (λ k. refl) (λ w s ne. (s, ne, refl, refl)) (λ w. refl) (λ same. (h.0, h.1, h.2.mode, same, refl, refl, refl, refl)) refl
+    changes_word act last new x y is_x is_y has e wants = absurd e
 
 -- ---- as the functions ask it
 
-module _ {C : Type 0} {N : ℕ} (truths : Truths C) (cells : 0 < N) (quiet : QuietKeeps N truths) (limit id slots : ℕ) (me : Me (Lists C) (List (GateView C N))) where
-  pub may_load : (b : Option (Walk C)) (i : ℕ) → MayLoad truths b i me → Allows (Holds truths limit) slots id me i (λ n. n) (λ k now. Stepped truths b (act_by b (the me.0)) k me now)
-  may_load b i m = subst (λ j. Allows (Holds truths limit) slots id me j (λ n. n) (λ k now. Stepped truths b (act_by b (the me.0)) k me now)) (sym m.there)
-      (allows truths cells quiet limit id b slots (word_at m.act (the me.0)) (λ n. n) (λ n. n) m.act me m.can (λ words homes views g r at. loads truths cells quiet limit id b (the me.0) m.can.may m.can.walk m.can.walks words homes views g r at me.1 m.act m.loads m.can.wants))
+module _ {C : Type 0} {N : ℕ} (truths : Truths C) (cells : 0 < N) (quiet : QuietKeeps N truths) (seat_count id slots : ℕ) (me : Me (Lists C) (List (GateView C N))) where
+  pub may_load : (b : Option (Walk C)) (i : ℕ) → MayLoad truths b i me → Allows (Holds truths seat_count) slots id me i (λ n. n) (λ k now. PerformedWith truths b (act_by b (the me.0)) k me now)
+  may_load b i m = subst (λ j. Allows (Holds truths seat_count) slots id me j (λ n. n) (λ k now. PerformedWith truths b (act_by b (the me.0)) k me now)) (sym m.there)
+      (allows truths cells quiet seat_count id b slots (word_at m.act (the me.0)) (λ n. n) (λ n. n) m.act me m.can (λ words homes views g r at. loads truths cells quiet seat_count id b (the me.0) m.can.may m.can.walk m.can.walks words homes views g r at me.1 m.act m.loads m.can.wants))
 
-  pub may_store : (i number : ℕ) → MayStore truths i number me → Allows (Holds truths limit) slots id me i (λ _. number) (λ _ now. Stepped truths None (act_by None (the me.0)) number me now)
-  may_store i number m = subst (λ j. Allows (Holds truths limit) slots id me j (λ _. number) (λ _ now. Stepped truths None (act_by None (the me.0)) number me now)) (sym m.there)
-      (allows truths cells quiet limit id None slots (word_at m.act (the me.0)) (λ _. number) (λ _. number) m.act me m.can (λ words homes views g r at. stores truths cells quiet limit id None (the me.0) m.can.may m.can.walk m.can.walks words homes views g r at me.1 number m.act m.stores m.can.wants))
+  pub may_store : (i content : ℕ) → MayStore truths i content me → Allows (Holds truths seat_count) slots id me i (λ _. content) (λ _ now. PerformedWith truths None (act_by None (the me.0)) content me now)
+  may_store i content m = subst (λ j. Allows (Holds truths seat_count) slots id me j (λ _. content) (λ _ now. PerformedWith truths None (act_by None (the me.0)) content me now)) (sym m.there)
+      (allows truths cells quiet seat_count id None slots (word_at m.act (the me.0)) (λ _. content) (λ _. content) m.act me m.can (λ words homes views g r at. stores truths cells quiet seat_count id None (the me.0) m.can.may m.can.walk m.can.walks words homes views g r at me.1 content m.act m.stores m.can.wants))
 
-  pub may_exchange : (last new : Word) (x y : ℕ) → MayExchange truths last new me → x ≡ number_of last → y ≡ number_of new → Allows (Holds truths limit) slots id me 0 (λ n. either (eqb n x) y n) (λ k now. Stepped truths None (act_by None (the me.0)) k me now)
-  may_exchange last new x y m is_x is_y = allows truths cells quiet limit id None slots 0 (λ n. either (eqb n x) y n) (λ n. n) m.act me m.can
-      (λ words homes views g r at. turns_word truths cells quiet limit id None (the me.0) m.can.may m.can.walk m.can.walks words homes views g r at me.1 m.act last new x y is_x is_y has_now m.exchanges m.can.wants)
+  pub may_exchange : (last new : Word) (x y : ℕ) → MayExchange truths last new me → x ≡ number_of last → y ≡ number_of new → Allows (Holds truths seat_count) slots id me 0 (λ n. either (eqb n x) y n) (λ k now. PerformedWith truths None (act_by None (the me.0)) k me now)
+  may_exchange last new x y m is_x is_y = allows truths cells quiet seat_count id None slots 0 (λ n. either (eqb n x) y n) (λ n. n) m.act me m.can
+      (λ words homes views g r at. changes_word truths cells quiet seat_count id None (the me.0) m.can.may m.can.walk m.can.walks words homes views g r at me.1 m.act last new x y is_x is_y has_now m.exchanges m.can.wants)
     where
       has_now : is_returning m.act ≡ true → has_queues (the me.0).at.walk ≡ true
       has_now back = ap has_queues m.can.walks ∙ returning_has m.can.walk (ap is_returning m.can.wants ∙ back)

@@ -15,7 +15,7 @@ use std::thread::yield_now;
 
 /// What the threads share.
 #[derive(Clone, Copy)]
-pub struct Place<'a> {
+pub struct Commons<'a> {
     /// The lock round the ring.
     pub monitor: &'a RingMonitor,
     /// Where the note is.
@@ -27,13 +27,13 @@ pub struct Place<'a> {
 }
 
 /// Goes round until the seat has seen that the note is made, so that it may use it.
-pub fn get_to_know<R: Wait>(rt: &R, place: Place<'_>, env_seat: &mut EnvSeat)
-    requires { env_seat.old.env ≡ place.env.now }
+pub fn get_to_know<R: Wait>(rt: &R, commons: Commons<'_>, env_seat: &mut EnvSeat)
+    requires { env_seat.old.env ≡ commons.env.now }
     ensures env { env_seat.new.env ≡ env_seat.old.env }
-    ensures made { IsMade env_seat.new.seen place.entry.note.index }
+    ensures made { IsMade env_seat.new.seen commons.entry.note.index }
 {
     for _ in rt.forever() {
-        if place.env.knows(env_seat, place.note) {
+        if commons.env.knows(env_seat, commons.note) {
             return;
         }
         yield_now();
@@ -45,24 +45,24 @@ pub fn get_to_know<R: Wait>(rt: &R, place: Place<'_>, env_seat: &mut EnvSeat)
 /// notified.
 pub fn wait_for<R: Wait>(
     rt: &R,
-    place: Place<'_>,
+    commons: Commons<'_>,
     held: RingHeld,
     wish: Wish,
     env_seat: &mut EnvSeat,
 ) -> (RingHeld, bool)
-    requires of { (held.monitor ≡ place.monitor.now) × (env_seat.old.env ≡ place.env.now) }
-    requires made { IsMade env_seat.old.seen place.note.index }
-    ensures of { (result.0.monitor ≡ place.entry.monitor.now) × (env_seat.new.env ≡ env_seat.old.env) }
-    ensures made { IsMade env_seat.new.seen place.entry.note.index }
+    requires of { (held.monitor ≡ commons.monitor.now) × (env_seat.old.env ≡ commons.env.now) }
+    requires made { IsMade env_seat.old.seen commons.note.index }
+    ensures of { (result.0.monitor ≡ commons.entry.monitor.now) × (env_seat.new.env ≡ env_seat.old.env) }
+    ensures made { IsMade env_seat.new.seen commons.entry.note.index }
     ensures met { result.1 ≡ true → IsMetIn wish result.0.held }
 {
-    let (held, answer) = place.monitor.wait_with_deadline(
+    let (held, answer) = commons.monitor.wait_with_deadline(
         rt,
         held,
         wish,
         None,
-        Some(place.note),
-        place.env,
+        Some(commons.note),
+        commons.env,
         env_seat,
     );
     (held, answer == Answer::Met)

@@ -22,7 +22,7 @@ use Rattle.ns_word.specs.declared.act.Found.{Found}
 use Rattle.ns_word.specs.declared.act.Found.TheVariants.{Saw, Made, Cell, Quiet, Tested, Scanned, Paid, Left, Woke, Flag, Looked}
 use Rattle.ns_word.specs.Walks.{want_of, got_of, walk_after}
 use Rattle.ns_model.specs.Truths.{Truths, QuietKeeps}
-use Rattle.ns_word.specs.Steps.{State, Part, Effect, Step, leave_of, wake_of, change_commits}
+use Rattle.ns_word.specs.Steps.{LockState, Part, Effect, Step, leave_of, wake_of, change_commits}
 use Rattle.ns_word.specs.Begins.{IsFirst, BeginsIf, SeatStep, view_in}
 use Rattle.ns_word.specs.Lawful.{IsLawful}
 use Rattle.ns_model.specs.Beginnings.{BeginsWith}
@@ -99,7 +99,7 @@ module _ {C : Type 0} {N : ℕ} where
   effect_by truths seat (Look limits again) old (Looked cause) new commits e = none_by seat commits e.2
   effect_by truths seat _ old _ new commits e = absurd e
 
-  pub step_by : (truths : Truths C) (old : State C N) (view : SeatView C N) (found : Found) (new : State C N) (commits : List (Event C N)) → Step truths old view found new commits → AreBy view.seat commits
+  pub step_by : (truths : Truths C) (old : LockState C N) (view : SeatView C N) (found : Found) (new : LockState C N) (commits : List (Event C N)) → Step truths old view found new commits → AreBy view.seat commits
   step_by truths old view found new commits step = effect_by truths view.seat (want_of step.walk) _ found _ commits step.effect
 
   -- of a seat's own events all are its own, of another's none
@@ -152,7 +152,7 @@ module _ {C : Type 0} {N : ℕ} where
 
 module _ {C : Type 0} {N : ℕ} (truths : Truths C) where
   -- where a call begins with the step, or goes on
-  led_if : (view : SeatView C N) (begun : Option (Walk C)) (between : State C N) (found : Found) (new : State C N) (commits : List (Event C N)) (old : State C N) → BeginsIf truths old view begun between → (step : Step truths between (view_in view begun) found new commits) →
+  led_if : (view : SeatView C N) (begun : Option (Walk C)) (between : LockState C N) (found : Found) (new : LockState C N) (commits : List (Event C N)) (old : LockState C N) → BeginsIf truths old view begun between → (step : Step truths between (view_in view begun) found new commits) →
       (told : List (Walk C)) → IsLed N told view.walk → All (IsFirst N) (calls_of begun) × IsLed N (told ++ calls_of begun) (walk_after (got_of N step.walk found))
   led_if view None between found new commits old start step told was =
       let led : LedBy N told step.walk = subst (λ walk. IsLed N told walk) step.walks was in
@@ -166,21 +166,21 @@ module _ {C : Type 0} {N : ℕ} (truths : Truths C) where
   seat_in view None = refl
   seat_in view (Some walk) = refl
 
-  pub seat_step_by : (old : State C N) (view : SeatView C N) (begun : Option (Walk C)) (found : Found) (new : State C N) (commits : List (Event C N)) → SeatStep truths old view begun found new commits → AreBy view.seat commits
+  pub seat_step_by : (old : LockState C N) (view : SeatView C N) (begun : Option (Walk C)) (found : Found) (new : LockState C N) (commits : List (Event C N)) → SeatStep truths old view begun found new commits → AreBy view.seat commits
   seat_step_by old view begun found new commits made = subst (λ seat. AreBy seat commits) (seat_in view begun) (step_by truths made.between (view_in view begun) found new commits made.step)
 
 module _ {C : Type 0} {N : ℕ} (truths : Truths C) (cells : 0 < N) (quiet : QuietKeeps N truths) (seats : ℕ) (h : List (Event C N)) (few : seats ≤ 64) where
   -- a lock stays lawful where a call begins, or none does
-  pub begins_if : (old : State C N) (view : SeatView C N) (begun : Option (Walk C)) (between : State C N) → BeginsIf truths old view begun between → IsLawful truths seats h old → IsLawful truths seats h between
+  pub begins_if : (old : LockState C N) (view : SeatView C N) (begun : Option (Walk C)) (between : LockState C N) → BeginsIf truths old view begun between → IsLawful truths seats h old → IsLawful truths seats h between
   begins_if old view None between same p = subst (IsLawful truths seats h) (sym same) p
   begins_if old view (Some walk) between start p = begins truths seats h old view walk between start p
 
-  pub seat_steps_keep : (old : State C N) (view : SeatView C N) (begun : Option (Walk C)) (found : Found) (new : State C N) (commits : List (Event C N)) →
+  pub seat_steps_keep : (old : LockState C N) (view : SeatView C N) (begun : Option (Walk C)) (found : Found) (new : LockState C N) (commits : List (Event C N)) →
       SeatStep truths old view begun found new commits → IsLawful truths seats h old → IsLawful truths seats (h ++ commits) new
   seat_steps_keep old view begun found new commits made p =
       keeps truths cells quiet seats h made.between (view_in view begun) found new commits few made.step (begins_if old view begun made.between made.begins p)
 
-  pub seat_step_tells : (old : State C N) (view : SeatView C N) (begun : Option (Walk C)) (found : Found) (new : State C N) (commits : List (Event C N)) → (made : SeatStep truths old view begun found new commits) → IsLawful truths seats h old →
+  pub seat_step_tells : (old : LockState C N) (view : SeatView C N) (begun : Option (Walk C)) (found : Found) (new : LockState C N) (commits : List (Event C N)) → (made : SeatStep truths old view begun found new commits) → IsLawful truths seats h old →
       (told : Told C N) → IsTold truths.holds seats h view.seat view.walk told →
       IsTold truths.holds seats (h ++ commits) view.seat (walk_after (got_of N made.step.walk found)) (told_after h commits (calls_of begun) told) × BeginsWith (h ++ commits) told.seen
   seat_step_tells old view begun found new commits made p told was =
