@@ -1,12 +1,13 @@
 //! Goods that some threads give and others take, while the rest watch.
 
-ghost use Rattle.std.specs.Prelude.{◌≡◌, ◌<◌};
+ghost use Rattle.std.specs.Prelude.{◌≡◌};
 
 use crate::kit::{Commons, Kit};
 use crate::ring::watch;
-use crate::sections::{do_some, enter, leave};
+use crate::sections::{do_some, leave};
 use crate::waits::wait_until_met;
 use crate::wish::{DONE, GOODS, ROOM, Wish};
+use ns_model::event::Mode;
 use ns_monitor::caller::{Seat, WriteHeld};
 use std::sync::Wait;
 
@@ -20,60 +21,51 @@ fn draw_amount(commons: Commons<'_>, kit: &mut Kit, left: u64) -> u64
     drawn.min(half).min(left)
 }
 
-/// Moves goods from one cell to the other in the section in hand.
-fn transfer(
-    commons: Commons<'_>,
-    held: &mut WriteHeld<Wish, 4>,
-    from: usize,
-    to: usize,
-    amount: u64,
-)
-    requires of { held.old.monitor ≡ commons.monitor.now }
-    requires cells { (from < 4) × (to < 4) }
+/// Which way goods go.
+#[derive(Clone, Copy)]
+pub enum Way {
+    /// They are given.
+    Give,
+    /// They are taken.
+    Take,
+}
+
+impl Way {
+    /// What has to be before so many goods can go: room for them, or that they are there.
+    fn wish(self, amount: u64) -> Wish {
+        match self {
+            Way::Give => Wish::room(amount),
+            Way::Take => Wish::goods(amount),
+        }
+    }
+}
+
+/// Moves so many goods in the section in hand, and counts those that are given.
+fn transfer(commons: Commons<'_>, held: &mut WriteHeld<Wish, 4>, way: Way, amount: u64)
+    requires { held.old.monitor ≡ commons.monitor.now }
     ensures { held.new.monitor ≡ held.old.monitor }
 {
+    let (from, to) = match way {
+        Way::Give => (ROOM, GOODS),
+        Way::Take => (GOODS, ROOM),
+    };
     let less = commons.monitor.get(held, from).wrapping_sub(amount);
     commons.monitor.set(held, from, less);
     let more = commons.monitor.get(held, to).wrapping_add(amount);
     commons.monitor.set(held, to, more);
-}
-
-/// Gives so many goods, some at a time, each time once there is room.
-pub fn give<R: Wait>(
-    rt: &R,
-    commons: Commons<'_>,
-    seat: Seat<Wish, 4>,
-    kit: &mut Kit,
-    goods: u64,
-) -> Seat<Wish, 4>
-    requires { (seat.monitor ≡ commons.monitor.now) × (kit.old.env_seat.env ≡ commons.env.now) }
-    ensures { (result.monitor ≡ commons.entry.monitor.now) × (kit.new.env_seat.env ≡ kit.old.env_seat.env) }
-{
-    let mut seat = seat;
-    let mut left = goods;
-    for _ in 0..goods {
-        seat = do_some(rt, commons, seat, kit);
-        let amount = draw_amount(commons, kit, left);
-        let held = enter(rt, commons, seat, kit);
-        let mut held = wait_until_met(rt, commons, held, Wish::room(amount), kit);
-        transfer(commons, &mut held, ROOM, GOODS, amount);
-        let done = commons.monitor.get(&mut held, DONE).wrapping_add(amount);
-        commons.monitor.set(&mut held, DONE, done);
-        seat = leave(rt, commons, held, kit);
-        left = left.saturating_sub(amount);
-        if left == 0 {
-            break;
-        }
+    if let Way::Give = way {
+        let done = commons.monitor.get(held, DONE).wrapping_add(amount);
+        commons.monitor.set(held, DONE, done);
     }
-    seat
 }
 
-/// Takes so many goods, some at a time, each time once they are there.
-pub fn take<R: Wait>(
+/// Gives or takes so many goods, some at a time, each time once there is room for them or they are there.
+pub fn trade<R: Wait>(
     rt: &R,
     commons: Commons<'_>,
     seat: Seat<Wish, 4>,
     kit: &mut Kit,
+    way: Way,
     goods: u64,
 ) -> Seat<Wish, 4>
     requires { (seat.monitor ≡ commons.monitor.now) × (kit.old.env_seat.env ≡ commons.env.now) }
@@ -84,9 +76,10 @@ pub fn take<R: Wait>(
     for _ in 0..goods {
         seat = do_some(rt, commons, seat, kit);
         let amount = draw_amount(commons, kit, left);
-        let held = enter(rt, commons, seat, kit);
-        let mut held = wait_until_met(rt, commons, held, Wish::goods(amount), kit);
-        transfer(commons, &mut held, GOODS, ROOM, amount);
+        let held = commons.monitor.lock(rt, seat);
+        kit.enter(commons.door, Mode::Write);
+        let mut held = wait_until_met(rt, commons, held, way.wish(amount), kit);
+        transfer(commons, &mut held, way, amount);
         seat = leave(rt, commons, held, kit);
         left = left.saturating_sub(amount);
         if left == 0 {

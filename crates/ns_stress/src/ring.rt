@@ -3,9 +3,10 @@
 ghost use Rattle.std.specs.Prelude.{◌≡◌};
 
 use crate::kit::{Commons, Kit};
-use crate::sections::{do_some, enter, enter_to_read, leave, leave_to_read};
-use crate::waits::{wait_until_met, wait_until_met_to_read};
+use crate::sections::{do_some, leave};
+use crate::waits::wait_until_met;
 use crate::wish::{DONE, Wish};
+use ns_model::event::Mode;
 use ns_monitor::caller::Seat;
 use std::sync::Wait;
 
@@ -20,10 +21,12 @@ pub fn watch<R: Wait>(
     requires { (seat.monitor ≡ commons.monitor.now) × (kit.old.env_seat.env ≡ commons.env.now) }
     ensures { (result.0.monitor ≡ commons.entry.monitor.now) × (kit.new.env_seat.env ≡ kit.old.env_seat.env) }
 {
-    let held = enter_to_read(rt, commons, seat, kit);
-    let mut held = wait_until_met_to_read(rt, commons, held, Wish::done(turns), kit);
+    let held = commons.monitor.rlock(rt, seat);
+    kit.enter(commons.door, Mode::Read);
+    let mut held = wait_until_met(rt, commons, held, Wish::done(turns), kit);
     let done = commons.monitor.get(&mut held, DONE);
-    (leave_to_read(rt, commons, held), done)
+    commons.door.leave(Mode::Read);
+    (commons.monitor.runlock(rt, held), done)
 }
 
 /// Waits for the turn of this number, and hands it on.
@@ -43,7 +46,8 @@ fn take_turn<R: Wait>(
         kit.expect(done == ticket, "a ticket was taken from its reader");
         seat = back;
     }
-    let held = enter(rt, commons, seat, kit);
+    let held = commons.monitor.lock(rt, seat);
+    kit.enter(commons.door, Mode::Write);
     let mut held = wait_until_met(rt, commons, held, Wish::done(ticket), kit);
     let done = commons.monitor.get(&mut held, DONE);
     kit.expect(done == ticket, "a ticket was taken from its writer");

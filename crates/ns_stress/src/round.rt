@@ -5,7 +5,7 @@ ghost use Rattle.std.specs.Thread.{IsSync};
 
 use crate::door::Door;
 use crate::kit::{Commons, Kit};
-use crate::market::{give, take, watch_all};
+use crate::market::{Way, trade, watch_all};
 use crate::ring::take_turns;
 use crate::wish::{ROOM, Wish};
 use ns_monitor::caller::Seat;
@@ -34,10 +34,8 @@ pub enum Verdict {
 enum Role {
     /// To take so many turns, from the first on, each so many behind the last.
     Turns { first: u64, apart: u64, turns: u64 },
-    /// To give so many goods.
-    Give(u64),
-    /// To take so many goods.
-    Take(u64),
+    /// To give or to take so many goods.
+    Trade(Way, u64),
     /// To watch until so many goods were given.
     Watch(u64),
 }
@@ -94,9 +92,9 @@ impl Plan {
                 turns: self.each,
             }
         } else if number < self.givers {
-            Role::Give(self.takers.saturating_mul(self.each))
+            Role::Trade(Way::Give, self.takers.saturating_mul(self.each))
         } else if number < self.givers.saturating_add(self.takers) {
-            Role::Take(self.givers.saturating_mul(self.each))
+            Role::Trade(Way::Take, self.givers.saturating_mul(self.each))
         } else {
             Role::Watch(self.done())
         }
@@ -149,8 +147,7 @@ fn work<R: Wait>(rt: &R, commons: Commons<'_>, job: Job) -> Outcome
             apart,
             turns,
         } => take_turns(rt, commons, seat, &mut kit, first, apart, turns),
-        Role::Give(goods) => give(rt, commons, seat, &mut kit, goods),
-        Role::Take(goods) => take(rt, commons, seat, &mut kit, goods),
+        Role::Trade(way, goods) => trade(rt, commons, seat, &mut kit, way, goods),
         Role::Watch(goods) => watch_all(rt, commons, seat, &mut kit, goods),
     };
     Outcome {

@@ -10,36 +10,6 @@ use ns_note::note::Note;
 use std::sync::Wait;
 use std::thread::yield_now;
 
-/// Locks to write.
-pub fn enter<R: Wait>(
-    rt: &R,
-    commons: Commons<'_>,
-    seat: Seat<Wish, 4>,
-    kit: &mut Kit,
-) -> WriteHeld<Wish, 4>
-    requires { seat.monitor ≡ commons.monitor.now }
-    ensures { (result.monitor ≡ commons.entry.monitor.now) × (kit.new.env_seat ≡ kit.old.env_seat) }
-{
-    let held = commons.monitor.lock(rt, seat);
-    kit.enter(commons.door, Mode::Write);
-    held
-}
-
-/// Locks to read.
-pub fn enter_to_read<R: Wait>(
-    rt: &R,
-    commons: Commons<'_>,
-    seat: Seat<Wish, 4>,
-    kit: &mut Kit,
-) -> ReadHeld<Wish, 4>
-    requires { seat.monitor ≡ commons.monitor.now }
-    ensures { (result.monitor ≡ commons.entry.monitor.now) × (kit.new.env_seat ≡ kit.old.env_seat) }
-{
-    let held = commons.monitor.rlock(rt, seat);
-    kit.enter(commons.door, Mode::Read);
-    held
-}
-
 /// Ends a section that writes; where it is quiet, mostly without looking for those that it could wake.
 pub fn leave<R: Wait>(
     rt: &R,
@@ -59,19 +29,6 @@ pub fn leave<R: Wait>(
     } else {
         commons.monitor.unlock(rt, held)
     }
-}
-
-/// Ends a section that reads.
-pub fn leave_to_read<R: Wait>(
-    rt: &R,
-    commons: Commons<'_>,
-    held: ReadHeld<Wish, 4>,
-) -> Seat<Wish, 4>
-    requires { held.monitor ≡ commons.monitor.now }
-    ensures { result.monitor ≡ commons.entry.monitor.now }
-{
-    commons.door.leave(Mode::Read);
-    commons.monitor.runlock(rt, held)
 }
 
 /// Adds something to the sum in the section in hand, which leaves a quiet section quiet.
@@ -95,71 +52,58 @@ fn add_alone<R: Wait>(
     requires { seat.monitor ≡ commons.monitor.now }
     ensures { (result.monitor ≡ commons.entry.monitor.now) × (kit.new.env_seat ≡ kit.old.env_seat) }
 {
-    let mut held = enter(rt, commons, seat, kit);
+    let mut held = commons.monitor.lock(rt, seat);
+    kit.enter(commons.door, Mode::Write);
     add(commons, &mut held, kit);
     let quiet = commons.monitor.is_quiet(&mut held);
     kit.expect(quiet, "an addition isn't quiet");
     leave(rt, commons, held, kit)
 }
 
-/// Adds to the sum in a section of its own, if a try to lock succeeds.
-fn try_to_add<R: Wait>(
+/// Compares goods and room in the section in hand, which has just begun, and ends it.
+fn look<R: Wait>(
     rt: &R,
     commons: Commons<'_>,
-    seat: Seat<Wish, 4>,
+    held: ReadHeld<Wish, 4>,
     kit: &mut Kit,
 ) -> Seat<Wish, 4>
-    requires { seat.monitor ≡ commons.monitor.now }
+    requires { held.monitor ≡ commons.monitor.now }
     ensures { (result.monitor ≡ commons.entry.monitor.now) × (kit.new.env_seat ≡ kit.old.env_seat) }
 {
-    match commons.monitor.try_lock(seat) {
-        Ok(mut held) => {
-            kit.enter(commons.door, Mode::Write);
-            add(commons, &mut held, kit);
-            leave(rt, commons, held, kit)
-        }
-        Err(seat) => seat,
-    }
-}
-
-/// Compares goods and room in the section in hand.
-fn compare(commons: Commons<'_>, held: &mut ReadHeld<Wish, 4>, kit: &mut Kit)
-    requires { held.old.monitor ≡ commons.monitor.now }
-    ensures { (held.new.monitor ≡ held.old.monitor) × (kit.new.env_seat ≡ kit.old.env_seat) }
-{
-    let goods = commons.monitor.get(held, GOODS);
-    let room = commons.monitor.get(held, ROOM);
+    let mut held = held;
+    kit.enter(commons.door, Mode::Read);
+    let goods = commons.monitor.get(&mut held, GOODS);
+    let room = commons.monitor.get(&mut held, ROOM);
     let right = goods.checked_add(room) == Some(commons.most);
     kit.expect(right, "goods and room are not of one moment");
+    commons.door.leave(Mode::Read);
+    commons.monitor.runlock(rt, held)
 }
 
-/// Reads in a section of its own.
-fn look<R: Wait>(rt: &R, commons: Commons<'_>, seat: Seat<Wish, 4>, kit: &mut Kit) -> Seat<Wish, 4>
-    requires { seat.monitor ≡ commons.monitor.now }
-    ensures { (result.monitor ≡ commons.entry.monitor.now) × (kit.new.env_seat ≡ kit.old.env_seat) }
-{
-    let mut held = enter_to_read(rt, commons, seat, kit);
-    compare(commons, &mut held, kit);
-    leave_to_read(rt, commons, held)
-}
-
-/// Reads in a section of its own, if a try to lock succeeds.
-fn try_to_look<R: Wait>(
+/// Adds to the sum, or looks, in a section of its own in this mode, if a try to lock succeeds.
+fn try_section<R: Wait>(
     rt: &R,
     commons: Commons<'_>,
     seat: Seat<Wish, 4>,
     kit: &mut Kit,
+    mode: Mode,
 ) -> Seat<Wish, 4>
     requires { seat.monitor ≡ commons.monitor.now }
     ensures { (result.monitor ≡ commons.entry.monitor.now) × (kit.new.env_seat ≡ kit.old.env_seat) }
 {
-    match commons.monitor.try_rlock(seat) {
-        Ok(mut held) => {
-            kit.enter(commons.door, Mode::Read);
-            compare(commons, &mut held, kit);
-            leave_to_read(rt, commons, held)
-        }
-        Err(seat) => seat,
+    match mode {
+        Mode::Write => match commons.monitor.try_lock(seat) {
+            Ok(mut held) => {
+                kit.enter(commons.door, mode);
+                add(commons, &mut held, kit);
+                leave(rt, commons, held, kit)
+            }
+            Err(seat) => seat,
+        },
+        Mode::Read => match commons.monitor.try_rlock(seat) {
+            Ok(held) => look(rt, commons, held, kit),
+            Err(seat) => seat,
+        },
     }
 }
 
@@ -202,9 +146,9 @@ fn do_something<R: Wait>(
 {
     match kit.draw(7) {
         0 => return add_alone(rt, commons, seat, kit),
-        1 => return try_to_add(rt, commons, seat, kit),
-        2 => return look(rt, commons, seat, kit),
-        3 => return try_to_look(rt, commons, seat, kit),
+        1 => return try_section(rt, commons, seat, kit, Mode::Write),
+        2 => return look(rt, commons, commons.monitor.rlock(rt, seat), kit),
+        3 => return try_section(rt, commons, seat, kit, Mode::Read),
         4 => tick(commons, kit),
         5 => change_notes(commons, kit),
         _ => yield_now(),

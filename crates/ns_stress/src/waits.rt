@@ -1,30 +1,36 @@
 //! Waits with limits that are drawn, and what they have to answer.
 
 ghost use Rattle.std.specs.Prelude.{◌≡◌, IfSome};
+ghost use Rattle.std.specs.Mem.{FitsInMemory};
+ghost use Rattle.std.proofs.Common.{rules};
 ghost use Rattle.ns_model.specs.Environments.{IsMade};
 
 use crate::kit::{Commons, Kit};
 use crate::wish::{DONE, GOODS, ROOM, SUM, Wish};
 use ns_model::condition::Condition;
-use ns_model::event::{Answer, Mode};
-use ns_monitor::caller::{ReadHeld, WriteHeld};
+use ns_model::event::Answer;
+use ns_monitor::caller::{Caller, ReadHeld, Renewed, WriteHeld};
 use ns_note::note::Note;
 use std::sync::Wait;
 
-/// The row of the section in hand, which writes.
-fn row(commons: Commons<'_>, held: &mut WriteHeld<Wish, 4>) -> [u64; 4]
-    requires { held.old.monitor ≡ commons.monitor.now }
-    ensures { held.new.monitor ≡ held.old.monitor }
-{
-    let goods = commons.monitor.get(held, GOODS);
-    let room = commons.monitor.get(held, ROOM);
-    let done = commons.monitor.get(held, DONE);
-    let sum = commons.monitor.get(held, SUM);
-    [goods, room, done, sum]
+/// What code over sections in either mode knows of the room that one takes.
+pub trait Fits {
+    /// It fits in memory.
+    ghost fits: { FitsInMemory Self.row };
 }
 
-/// The row of the section in hand, which reads.
-fn row_to_read(commons: Commons<'_>, held: &mut ReadHeld<Wish, 4>) -> [u64; 4]
+impl Fits for WriteHeld<Wish, 4> {
+    ghost fits = { Prim.search rules };
+}
+
+impl Fits for ReadHeld<Wish, 4> {
+    ghost fits = { Prim.search rules };
+}
+
+/// The row of the section in hand.
+fn row<H: Renewed<Wish, 4>>(commons: Commons<'_>, held: &mut Caller<H, Wish, 4>) -> [u64; 4]
+where
+    Caller<H, Wish, 4>: Fits,
     requires { held.old.monitor ≡ commons.monitor.now }
     ensures { held.new.monitor ≡ held.old.monitor }
 {
@@ -91,20 +97,22 @@ fn is_right(
     }
 }
 
-/// Waits in a section that writes, with limits that are drawn, and answers whether the condition is true now.
-fn wait_limited<R: Wait>(
+/// Waits in a section, with limits that are drawn, and answers whether the condition is true now.
+fn wait_limited<H: Renewed<Wish, 4>, R: Wait>(
     rt: &R,
     commons: Commons<'_>,
-    held: WriteHeld<Wish, 4>,
+    held: Caller<H, Wish, 4>,
     wish: Wish,
     kit: &mut Kit,
-) -> (WriteHeld<Wish, 4>, bool)
+) -> (Caller<H, Wish, 4>, bool)
+where
+    Caller<H, Wish, 4>: Fits,
     requires { (held.monitor ≡ commons.monitor.now) × (kit.old.env_seat.env ≡ commons.env.now) }
     ensures { (result.0.monitor ≡ commons.entry.monitor.now) × (kit.new.env_seat.env ≡ kit.old.env_seat.env) }
 {
     let deadline = draw_deadline(commons, kit);
     let note = draw_note(commons, kit);
-    commons.door.leave(Mode::Write);
+    commons.door.leave(H::mode());
     let (mut held, answer) = commons.monitor.wait_with_deadline(
         rt,
         held,
@@ -114,7 +122,7 @@ fn wait_limited<R: Wait>(
         commons.env,
         &mut kit.env_seat,
     );
-    kit.enter(commons.door, Mode::Write);
+    kit.enter(commons.door, H::mode());
     let row = row(commons, &mut held);
     let is_met = wish.test(&row);
     let right = is_right(commons, kit, answer, is_met, deadline, note);
@@ -122,14 +130,16 @@ fn wait_limited<R: Wait>(
     (held, is_met)
 }
 
-/// Waits in a section that writes until the condition is true, some times with limits and then with none.
-pub fn wait_until_met<R: Wait>(
+/// Waits in a section until the condition is true, some times with limits and then with none.
+pub fn wait_until_met<H: Renewed<Wish, 4>, R: Wait>(
     rt: &R,
     commons: Commons<'_>,
-    held: WriteHeld<Wish, 4>,
+    held: Caller<H, Wish, 4>,
     wish: Wish,
     kit: &mut Kit,
-) -> WriteHeld<Wish, 4>
+) -> Caller<H, Wish, 4>
+where
+    Caller<H, Wish, 4>: Fits,
     requires { (held.monitor ≡ commons.monitor.now) × (kit.old.env_seat.env ≡ commons.env.now) }
     ensures { (result.monitor ≡ commons.entry.monitor.now) × (kit.new.env_seat.env ≡ kit.old.env_seat.env) }
 {
@@ -141,71 +151,10 @@ pub fn wait_until_met<R: Wait>(
             return held;
         }
     }
-    commons.door.leave(Mode::Write);
+    commons.door.leave(H::mode());
     let mut held = commons.monitor.wait(rt, held, wish);
-    kit.enter(commons.door, Mode::Write);
+    kit.enter(commons.door, H::mode());
     let row = row(commons, &mut held);
-    kit.expect(
-        wish.test(&row),
-        "a wait comes back to a condition that is false",
-    );
-    held
-}
-
-/// Waits in a section that reads, with limits that are drawn, and answers whether the condition is true now.
-fn wait_limited_to_read<R: Wait>(
-    rt: &R,
-    commons: Commons<'_>,
-    held: ReadHeld<Wish, 4>,
-    wish: Wish,
-    kit: &mut Kit,
-) -> (ReadHeld<Wish, 4>, bool)
-    requires { (held.monitor ≡ commons.monitor.now) × (kit.old.env_seat.env ≡ commons.env.now) }
-    ensures { (result.0.monitor ≡ commons.entry.monitor.now) × (kit.new.env_seat.env ≡ kit.old.env_seat.env) }
-{
-    let deadline = draw_deadline(commons, kit);
-    let note = draw_note(commons, kit);
-    commons.door.leave(Mode::Read);
-    let (mut held, answer) = commons.monitor.wait_with_deadline(
-        rt,
-        held,
-        wish,
-        deadline,
-        note,
-        commons.env,
-        &mut kit.env_seat,
-    );
-    kit.enter(commons.door, Mode::Read);
-    let row = row_to_read(commons, &mut held);
-    let is_met = wish.test(&row);
-    let right = is_right(commons, kit, answer, is_met, deadline, note);
-    kit.expect(right, "a wait answers what isn't so");
-    (held, is_met)
-}
-
-/// Waits in a section that reads until the condition is true, some times with limits and then with none.
-pub fn wait_until_met_to_read<R: Wait>(
-    rt: &R,
-    commons: Commons<'_>,
-    held: ReadHeld<Wish, 4>,
-    wish: Wish,
-    kit: &mut Kit,
-) -> ReadHeld<Wish, 4>
-    requires { (held.monitor ≡ commons.monitor.now) × (kit.old.env_seat.env ≡ commons.env.now) }
-    ensures { (result.monitor ≡ commons.entry.monitor.now) × (kit.new.env_seat.env ≡ kit.old.env_seat.env) }
-{
-    let mut held = held;
-    for _ in 0..kit.draw(4) {
-        let (back, is_met) = wait_limited_to_read(rt, commons, held, wish, kit);
-        held = back;
-        if is_met {
-            return held;
-        }
-    }
-    commons.door.leave(Mode::Read);
-    let mut held = commons.monitor.wait(rt, held, wish);
-    kit.enter(commons.door, Mode::Read);
-    let row = row_to_read(commons, &mut held);
     kit.expect(
         wish.test(&row),
         "a wait comes back to a condition that is false",
