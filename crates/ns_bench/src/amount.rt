@@ -36,6 +36,27 @@ impl Count {
     pub fn new() -> Count {
         Count { writes: 0, sum: 0 }
     }
+
+    /// So many sections that wrote.
+    pub fn of_writes(writes: u64) -> Count {
+        Count { writes, sum: 0 }
+    }
+
+    /// One more section that wrote.
+    pub fn with_write(self) -> Count {
+        Count {
+            writes: self.writes.wrapping_add(1),
+            sum: self.sum,
+        }
+    }
+
+    /// A value more in the sum.
+    pub fn with(self, value: u64) -> Count {
+        Count {
+            writes: self.writes,
+            sum: self.sum.wrapping_add(value),
+        }
+    }
 }
 
 /// The sums of the counts.

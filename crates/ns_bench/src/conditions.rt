@@ -4,6 +4,8 @@ ghost use Rattle.std.specs.Prelude.{◌≡◌, ◌==◌, ◌&&◌, bit_and, nat_
 ghost use Rattle.ns_model.specs.Truths.{truths};
 
 use ns_model::condition::Condition;
+use ns_monitor::caller::{Seat, WriteHeld};
+use ns_monitor::monitor::Monitor;
 
 /// The cell with a mark for each waiter, a bit.
 pub const MARKS: usize = 0;
@@ -30,6 +32,15 @@ pub struct Awaited {
     arrived: u64,
     answer: u64,
 }
+
+/// A monitor of six cells, at which threads wait for one another.
+pub type SixCells = Monitor<Awaited, 6>;
+
+/// A seat of it.
+pub type SixSeat = Seat<Awaited, 6>;
+
+/// A section of it that writes.
+pub type SixHeld = WriteHeld<Awaited, 6>;
 
 impl Awaited {
     /// Cell 0 is within these bounds.

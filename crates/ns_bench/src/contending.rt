@@ -1,20 +1,19 @@
 //! The workloads on a row of one cell, for whose threads nobody waits: how they are run.
 
-ghost use Rattle.std.specs.Prelude.{◌≡◌, All};
+ghost use Rattle.std.specs.Prelude.{◌≡◌};
 ghost use Rattle.std.specs.Thread.{IsSync};
 
-use crate::amount::{Amount, Count, total};
+use crate::amount::{Amount, Count};
 use crate::mixed::mix;
-use crate::never::Never;
-use crate::running::{Job, begin, jobs, new_monitor, next_seat};
+use crate::never::{Never, OneCell};
+use crate::running::{Job, begin, crew, play, repeat};
 use crate::sections::{
-    compete, lock, lock_and_work, lock_long, read_lock, try_lock, try_read_lock,
+    add_one, compete, lock, read_lock, read_one, try_lock, try_read_lock, work_long,
 };
-use crate::steps::Steps;
-use ns_monitor::monitor::Monitor;
-use std::alloc::{AllocError, Global};
-use std::sync::{Barrier, Wait};
-use std::thread::{Threads, join, map_vec};
+use crate::steps::{LONG, Steps};
+use std::alloc::Global;
+use std::sync::Wait;
+use std::thread::Threads;
 
 /// The value of the cell that is read.
 const SEVEN: u64 = 7;
@@ -50,13 +49,7 @@ impl Contending {
     }
 
     /// Does what a thread does.
-    fn work<R: Wait>(
-        self,
-        rt: &R,
-        monitor: &Monitor<Never, 1>,
-        job: Job<Never, 1>,
-        amount: Amount,
-    ) -> Count
+    fn work<R: Wait>(self, rt: &R, monitor: &OneCell, job: Job<Never, 1>, amount: Amount) -> Count
         requires { job.seat.monitor ≡ monitor.now }
     {
         let Job { number, seat } = job;
@@ -67,10 +60,28 @@ impl Contending {
             Contending::TryLock => try_lock(rt, monitor, seat, times),
             Contending::ReadLock => read_lock(rt, monitor, seat, times),
             Contending::TryReadLock => try_read_lock(rt, monitor, seat, times),
-            Contending::LockLong => lock_long(rt, monitor, seat, times, steps),
-            Contending::LockAndWork => lock_and_work(rt, monitor, seat, times, steps),
-            Contending::Compete => compete(rt, monitor, seat, amount.operations, steps),
-            Contending::Mix(percent) => mix(rt, monitor, seat, number, times, percent),
+            Contending::LockLong => {
+                repeat(times, seat, |seat| work_long(rt, monitor, seat, steps));
+                Count::of_writes(times)
+            }
+            Contending::LockAndWork => {
+                let (_, sum) = repeat(times, (seat, 0), |(seat, sum)| {
+                    (add_one(rt, monitor, seat), steps.walk(sum, LONG))
+                });
+                Count { writes: times, sum }
+            }
+            Contending::Compete => compete(rt, monitor, seat, amount.operations, steps).1,
+            Contending::Mix(percent) => {
+                let (_, count) = mix(
+                    number,
+                    times,
+                    percent,
+                    seat,
+                    |seat| read_one(rt, monitor, seat),
+                    |seat| add_one(rt, monitor, seat),
+                );
+                count
+            }
         }
     }
 
@@ -87,62 +98,6 @@ impl Contending {
     }
 }
 
-/// Does a job once all others begin theirs.
-fn start_job<R: Wait>(
-    rt: &R,
-    what: Contending,
-    monitor: &Monitor<Never, 1>,
-    start: &Barrier,
-    job: Job<Never, 1>,
-    amount: Amount,
-) -> Count
-    requires { job.seat.monitor ≡ monitor.now }
-{
-    start.wait(rt);
-    what.work(rt, monitor, job, amount)
-}
-
-/// Does all jobs, each in a thread of its own, and answers what each has counted.
-fn do_jobs<R: Threads + Wait + Sync>(
-    rt: &R,
-    what: Contending,
-    monitor: &Monitor<Never, 1>,
-    jobs: Vec<Job<Never, 1>>,
-    amount: Amount,
-) -> Result<Vec<Count>, AllocError>
-    requires { All (λ job. job.seat.monitor ≡ monitor.now) jobs.items }
-{
-    let start = Barrier::new(jobs.len());
-    let start = &start;
-    map_vec(
-        rt,
-        jobs,
-        &|job: Job<Never, 1>| -> Count
-            requires { IsSync R.row × (job.seat.monitor ≡ monitor.now) }
-        { start_job(rt, what, monitor, start, job, amount) },
-    )
-}
-
-/// Does all jobs, none of them in this thread.
-fn play<R: Threads + Wait + Sync>(
-    rt: &R,
-    what: Contending,
-    monitor: &Monitor<Never, 1>,
-    jobs: Vec<Job<Never, 1>>,
-    amount: Amount,
-) -> Result<Vec<Count>, AllocError>
-    requires { All (λ job. job.seat.monitor ≡ monitor.now) jobs.items }
-{
-    let (counts, ()) = join(
-        rt,
-        move || -> Result<Vec<Count>, AllocError>
-            requires { IsSync R.row × All (λ job. job.seat.monitor ≡ monitor.now) jobs.items }
-        { do_jobs(rt, what, monitor, jobs, amount) },
-        || (),
-    );
-    counts
-}
-
 /// Runs a workload, and answers whether it has ended as it must, with a free lock; nothing where it
 /// could not be begun.
 pub fn run<R: Threads + Wait + Sync>(
@@ -151,12 +106,18 @@ pub fn run<R: Threads + Wait + Sync>(
     what: Contending,
     amount: Amount,
 ) -> Option<bool> {
-    let seats = usize::try_from(amount.threads).ok()?.checked_add(1)?;
-    let (monitor, mut seats) = new_monitor::<Never, 1>(alloc, seats)?;
-    let last = next_seat(&monitor, &mut seats)?;
-    let last = begin(rt, &monitor, last, &what.first_row());
-    let jobs = jobs(alloc, &monitor, seats, amount.threads).ok()?;
-    let counts = play(rt, what, &monitor, jobs, amount).ok()?;
-    let closed = monitor.close(last);
-    Some(closed.free && what.is_right(closed.row[0], total(counts.as_slice()), amount))
+    let (monitor, jobs, seat) = crew::<Never, 1>(alloc, amount.threads)?;
+    let seat = begin(rt, &monitor, seat, &what.first_row());
+    let cell = &monitor;
+    let (total, seat) = play(
+        rt,
+        jobs,
+        seat,
+        &|job: Job<Never, 1>| -> Count
+            requires { IsSync R.row × (job.seat.monitor ≡ cell.now) }
+        { what.work(rt, cell, job, amount) },
+        |seat| seat,
+    )?;
+    let closed = monitor.close(seat);
+    Some(closed.free && what.is_right(closed.row[0], total, amount))
 }

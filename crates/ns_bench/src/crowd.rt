@@ -3,9 +3,7 @@
 ghost use Rattle.std.specs.Prelude.{◌≡◌, ◌<◌};
 
 use crate::amount::Amount;
-use crate::conditions::{ANSWER, ARRIVED, Awaited, MARKS, STOP, TICK};
-use ns_monitor::caller::{Seat, WriteHeld};
-use ns_monitor::monitor::Monitor;
+use crate::conditions::{ANSWER, ARRIVED, Awaited, MARKS, STOP, SixCells, SixHeld, SixSeat, TICK};
 use std::sync::Wait;
 
 /// The mark of a number.
@@ -23,7 +21,7 @@ pub fn marks_below(threads: u64) -> u64 {
 }
 
 /// Adds 1 to a cell of the section in hand.
-pub fn add(monitor: &Monitor<Awaited, 6>, held: &mut WriteHeld<Awaited, 6>, i: usize)
+pub fn add(monitor: &SixCells, held: &mut SixHeld, i: usize)
     requires { (held.old.monitor ≡ monitor.now) × (i < 6) }
     ensures { held.new.monitor ≡ held.old.monitor }
 {
@@ -32,7 +30,7 @@ pub fn add(monitor: &Monitor<Awaited, 6>, held: &mut WriteHeld<Awaited, 6>, i: u
 }
 
 /// Comes, waits for a mark, and leaves.
-pub fn wait_once<R: Wait>(rt: &R, monitor: &Monitor<Awaited, 6>, seat: Seat<Awaited, 6>, mask: u64)
+pub fn wait_once<R: Wait>(rt: &R, monitor: &SixCells, seat: SixSeat, mask: u64)
     requires { seat.monitor ≡ monitor.now }
 {
     let mut held = monitor.lock(rt, seat);
@@ -42,12 +40,7 @@ pub fn wait_once<R: Wait>(rt: &R, monitor: &Monitor<Awaited, 6>, seat: Seat<Awai
 }
 
 /// Waits until so many have come.
-pub fn wait_for_all<R: Wait>(
-    rt: &R,
-    monitor: &Monitor<Awaited, 6>,
-    seat: Seat<Awaited, 6>,
-    threads: u64,
-) -> Seat<Awaited, 6>
+pub fn wait_for_all<R: Wait>(rt: &R, monitor: &SixCells, seat: SixSeat, threads: u64) -> SixSeat
     requires { seat.monitor ≡ monitor.now }
     ensures { result.monitor ≡ monitor.now }
 {
@@ -57,12 +50,7 @@ pub fn wait_for_all<R: Wait>(
 }
 
 /// Tells all waiters to go on and to leave.
-pub fn dismiss<R: Wait>(
-    rt: &R,
-    monitor: &Monitor<Awaited, 6>,
-    seat: Seat<Awaited, 6>,
-    threads: u64,
-) -> Seat<Awaited, 6>
+pub fn dismiss<R: Wait>(rt: &R, monitor: &SixCells, seat: SixSeat, threads: u64) -> SixSeat
     requires { seat.monitor ≡ monitor.now }
     ensures { result.monitor ≡ monitor.now }
 {
@@ -72,34 +60,23 @@ pub fn dismiss<R: Wait>(
     monitor.unlock(rt, held)
 }
 
-/// Adds 1 to the cell for which nobody waits, in each of so many sections.
-pub fn tick<R: Wait>(
-    rt: &R,
-    monitor: &Monitor<Awaited, 6>,
-    seat: Seat<Awaited, 6>,
-    times: u64,
-) -> Seat<Awaited, 6>
+/// Adds 1 to a cell in a section of its own.
+pub fn add_one_at<R: Wait>(rt: &R, monitor: &SixCells, seat: SixSeat, i: usize) -> SixSeat
+    requires { (seat.monitor ≡ monitor.now) × (i < 6) }
+    ensures { result.monitor ≡ monitor.now }
+{
+    let mut held = monitor.lock(rt, seat);
+    add(monitor, &mut held, i);
+    monitor.unlock(rt, held)
+}
+
+/// Adds 1 to the cell for which nobody waits, in a section that wakes nobody as long as it is quiet.
+fn tick_once_quietly<R: Wait>(rt: &R, monitor: &SixCells, seat: SixSeat) -> SixSeat
     requires { seat.monitor ≡ monitor.now }
     ensures { result.monitor ≡ monitor.now }
 {
-    let mut seat = seat;
-    for _ in 0..times {
-        let mut held = monitor.lock(rt, seat);
-        add(monitor, &mut held, TICK);
-        seat = monitor.unlock(rt, held);
-    }
-    seat
-}
-
-/// Ends a section without a wakeup, as long as it is quiet.
-fn unlock_quietly<R: Wait>(
-    rt: &R,
-    monitor: &Monitor<Awaited, 6>,
-    mut held: WriteHeld<Awaited, 6>,
-) -> Seat<Awaited, 6>
-    requires { held.monitor ≡ monitor.now }
-    ensures { result.monitor ≡ monitor.now }
-{
+    let mut held = monitor.lock(rt, seat);
+    add(monitor, &mut held, TICK);
     if monitor.is_quiet(&mut held) {
         monitor.unlock_without_wakeup(rt, held)
     } else {
@@ -108,32 +85,20 @@ fn unlock_quietly<R: Wait>(
 }
 
 /// Adds 1 to the cell for which nobody waits, in each of so many sections that wake nobody.
-pub fn tick_quietly<R: Wait>(
-    rt: &R,
-    monitor: &Monitor<Awaited, 6>,
-    seat: Seat<Awaited, 6>,
-    times: u64,
-) -> Seat<Awaited, 6>
+pub fn tick_quietly<R: Wait>(rt: &R, monitor: &SixCells, seat: SixSeat, times: u64) -> SixSeat
     requires { seat.monitor ≡ monitor.now }
     ensures { result.monitor ≡ monitor.now }
 {
     let mut seat = seat;
     for _ in 0..times {
-        let mut held = monitor.lock(rt, seat);
-        add(monitor, &mut held, TICK);
-        seat = unlock_quietly(rt, monitor, held);
+        seat = tick_once_quietly(rt, monitor, seat);
     }
     seat
 }
 
 /// Reads how many have come, in each of so many sections, and puts the sum into the cell for which nobody
 /// waits.
-pub fn read_beside<R: Wait>(
-    rt: &R,
-    monitor: &Monitor<Awaited, 6>,
-    seat: Seat<Awaited, 6>,
-    times: u64,
-) -> Seat<Awaited, 6>
+pub fn read_beside<R: Wait>(rt: &R, monitor: &SixCells, seat: SixSeat, times: u64) -> SixSeat
     requires { seat.monitor ≡ monitor.now }
     ensures { result.monitor ≡ monitor.now }
 {
@@ -151,13 +116,7 @@ pub fn read_beside<R: Wait>(
 
 /// Comes, and waits for a mark, takes it off and answers, so many times at most, until it is told to
 /// leave.
-pub fn wait_and_answer<R: Wait>(
-    rt: &R,
-    monitor: &Monitor<Awaited, 6>,
-    seat: Seat<Awaited, 6>,
-    mask: u64,
-    times: u64,
-)
+pub fn wait_and_answer<R: Wait>(rt: &R, monitor: &SixCells, seat: SixSeat, mask: u64, times: u64)
     requires { seat.monitor ≡ monitor.now }
 {
     let mut held = monitor.lock(rt, seat);
@@ -177,12 +136,7 @@ pub fn wait_and_answer<R: Wait>(
 }
 
 /// Marks one and waits for the answer.
-fn ask<R: Wait>(
-    rt: &R,
-    monitor: &Monitor<Awaited, 6>,
-    seat: Seat<Awaited, 6>,
-    mask: u64,
-) -> Seat<Awaited, 6>
+fn ask<R: Wait>(rt: &R, monitor: &SixCells, seat: SixSeat, mask: u64) -> SixSeat
     requires { seat.monitor ≡ monitor.now }
     ensures { result.monitor ≡ monitor.now }
 {
@@ -197,11 +151,11 @@ fn ask<R: Wait>(
 /// Marks one and waits for the answer, in each of the operations: always the first, or each in turn.
 pub fn ask_often<R: Wait>(
     rt: &R,
-    monitor: &Monitor<Awaited, 6>,
-    seat: Seat<Awaited, 6>,
+    monitor: &SixCells,
+    seat: SixSeat,
     amount: Amount,
     is_each: bool,
-) -> Seat<Awaited, 6>
+) -> SixSeat
     requires { seat.monitor ≡ monitor.now }
     ensures { result.monitor ≡ monitor.now }
 {

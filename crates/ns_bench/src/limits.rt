@@ -1,15 +1,14 @@
 //! Waits that end at once, since their deadline has come or their note is notified.
 
-ghost use Rattle.std.specs.Prelude.{◌≡◌};
+ghost use Rattle.std.specs.Prelude.{◌≡◌, IfSome};
 ghost use Rattle.std.specs.Thread.{IsSync};
 ghost use Rattle.ns_model.specs.Environments.{IsMade};
 
-use crate::never::Never;
+use crate::never::{Never, OneCell, OneSeat};
 use crate::notes::{alone as alone_at_notes, notified};
 use crate::pairs::alone;
 use ns_model::event::Answer;
-use ns_monitor::caller::{Seat, WriteHeld};
-use ns_monitor::monitor::Monitor;
+use ns_monitor::caller::WriteHeld;
 use ns_note::env::Env;
 use ns_note::note::Note;
 use ns_note::seat::EnvSeat;
@@ -26,85 +25,46 @@ pub enum EarlyEnd {
     Note,
 }
 
-/// Waits so many times in one section, with a deadline that has come, and counts how often it has timed
-/// out.
-fn time_out<R: Wait>(
+/// Waits until the deadline or for the note, whichever is given, and answers whether that has ended it.
+fn is_ended<R: Wait>(
     rt: &R,
-    monitor: &Monitor<Never, 1>,
-    seat: Seat<Never, 1>,
-    env: &Env,
-    env_seat: &mut EnvSeat,
-    times: u64,
-) -> (Seat<Never, 1>, u64)
-    requires { (seat.monitor ≡ monitor.now) × (env_seat.old.env ≡ env.now) }
-    ensures { result.0.monitor ≡ monitor.now }
-{
-    let mut held = monitor.lock(rt, seat);
-    let mut count = 0u64;
-    for _ in 0..times {
-        let (back, answer) = monitor.wait_with_deadline(
-            rt,
-            held,
-            Never,
-            Some(0),
-            None,
-            env,
-            env_seat,
-        );
-        held = back;
-        if matches!(answer, Answer::TimedOut) {
-            count = count.wrapping_add(1);
-        }
-    }
-    (monitor.unlock(rt, held), count)
-}
-
-/// Waits with a note, and answers whether that has ended it.
-fn is_canceled<R: Wait>(
-    rt: &R,
-    monitor: &Monitor<Never, 1>,
+    monitor: &OneCell,
     held: WriteHeld<Never, 1>,
     env: &Env,
     env_seat: &mut EnvSeat,
-    note: Note,
+    deadline: Option<u64>,
+    note: Option<Note>,
 ) -> (WriteHeld<Never, 1>, bool)
     requires of { (held.monitor ≡ monitor.now) × (env_seat.old.env ≡ env.now) }
-    requires made { IsMade env_seat.old.seen note.index }
+    requires made { IfSome note (λ n. IsMade env_seat.old.seen n.index) }
     ensures of { (result.0.monitor ≡ monitor.now) × (env_seat.new.env ≡ env_seat.old.env) }
-    ensures made { IsMade env_seat.new.seen note.index }
+    ensures made { IfSome note (λ n. IsMade env_seat.new.seen n.index) }
 {
-    let (held, answer) = monitor.wait_with_deadline(
-        rt,
-        held,
-        Never,
-        None,
-        Some(note),
-        env,
-        env_seat,
-    );
-    (held, matches!(answer, Answer::Canceled))
+    let (held, answer) = monitor.wait_with_deadline(rt, held, Never, deadline, note, env, env_seat);
+    (held, answer != Answer::Met)
 }
 
-/// Waits so many times in one section, with a note, and counts how often that has ended it.
-fn cancel<R: Wait>(
+/// Waits so many times in one section, and counts how often the deadline or the note has ended it.
+fn count_ended<R: Wait>(
     rt: &R,
-    monitor: &Monitor<Never, 1>,
-    seat: Seat<Never, 1>,
+    monitor: &OneCell,
+    seat: OneSeat,
     env: &Env,
     env_seat: &mut EnvSeat,
-    note: Note,
+    deadline: Option<u64>,
+    note: Option<Note>,
     times: u64,
-) -> (Seat<Never, 1>, u64)
+) -> (OneSeat, u64)
     requires of { (seat.monitor ≡ monitor.now) × (env_seat.old.env ≡ env.now) }
-    requires made { IsMade env_seat.old.seen note.index }
+    requires made { IfSome note (λ n. IsMade env_seat.old.seen n.index) }
     ensures { result.0.monitor ≡ monitor.now }
 {
     let mut held = monitor.lock(rt, seat);
     let mut count = 0u64;
     for _ in 0..times {
-        let (back, canceled) = is_canceled(rt, monitor, held, env, env_seat, note);
+        let (back, ended) = is_ended(rt, monitor, held, env, env_seat, deadline, note);
         held = back;
-        if canceled {
+        if ended {
             count = count.wrapping_add(1);
         }
     }
@@ -114,18 +74,18 @@ fn cancel<R: Wait>(
 /// Waits so many times, and counts how often the limit has ended it.
 fn count_waits<R: Wait>(
     rt: &R,
-    monitor: &Monitor<Never, 1>,
-    seat: Seat<Never, 1>,
+    monitor: &OneCell,
+    seat: OneSeat,
     env: &Env,
     env_seat: &mut EnvSeat,
     early_end: EarlyEnd,
     times: u64,
-) -> (Seat<Never, 1>, u64)
+) -> (OneSeat, u64)
     requires { (seat.monitor ≡ monitor.now) × (env_seat.old.env ≡ env.now) }
     ensures { result.0.monitor ≡ monitor.now }
 {
     if matches!(early_end, EarlyEnd::Deadline) {
-        return time_out(rt, monitor, seat, env, env_seat, times);
+        return count_ended(rt, monitor, seat, env, env_seat, Some(0), None, times);
     }
     let Some(note) = notified(env, env_seat) else {
         return (seat, 0);
@@ -133,25 +93,25 @@ fn count_waits<R: Wait>(
     if !env.knows(env_seat, note) {
         return (seat, 0);
     }
-    cancel(rt, monitor, seat, env, env_seat, note, times)
+    count_ended(rt, monitor, seat, env, env_seat, None, Some(note), times)
 }
 
 /// Waits so many times in a thread of its own.
 fn count_in_thread<R: Threads + Wait + Sync>(
     rt: &R,
-    monitor: &Monitor<Never, 1>,
-    seat: Seat<Never, 1>,
+    monitor: &OneCell,
+    seat: OneSeat,
     env: &Env,
     mut env_seat: EnvSeat,
     early_end: EarlyEnd,
     times: u64,
-) -> (Seat<Never, 1>, u64)
+) -> (OneSeat, u64)
     requires { (seat.monitor ≡ monitor.now) × (env_seat.env ≡ env.now) }
     ensures { result.0.monitor ≡ monitor.now }
 {
     let (counted, ()) = join(
         rt,
-        move || -> (Seat<Never, 1>, u64)
+        move || -> (OneSeat, u64)
             requires { IsSync R.row × (seat.monitor ≡ monitor.now) × (env_seat.env ≡ env.now) }
             ensures { result.0.monitor ≡ monitor.entry.now }
         { count_waits(rt, monitor, seat, env, &mut env_seat, early_end, times) },

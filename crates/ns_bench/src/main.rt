@@ -38,6 +38,7 @@ mod mixed;
 mod never;
 mod notes;
 mod pairs;
+mod ring;
 mod running;
 mod sections;
 mod steps;
@@ -130,7 +131,6 @@ fn at_six_cells(workload: &str) -> Option<Waiting> {
         "ccs_true_same" => Some(Waiting::Answer(Marked::Same)),
         "ccs_true_each" => Some(Waiting::Answer(Marked::Each)),
         "ccs_pp" => Some(Waiting::Turns),
-        "live" => Some(Waiting::Ring),
         "mixlong99" => Some(Waiting::MixLong(99)),
         "wlat" => Some(Waiting::OneWriter),
         _ => None,
@@ -185,10 +185,10 @@ fn run<R: AllocGlobal + Print + Clock + Threads + Wait + Sync>(
         return Ok(Ended::of(contending::run(rt, rt.alloc(), what, amount)));
     }
     if let Some(what) = at_six_cells(asked.workload) {
-        if !what.is_for(asked.threads) {
-            return Ok(Ended::Lacks);
-        }
         return Ok(Ended::of(waiting::run(rt, rt.alloc(), what, amount)));
+    }
+    if asked.workload == "live" {
+        return Ok(Ended::of(ring::run(rt, rt.alloc(), amount)));
     }
     if asked.threads == 1 {
         run_alone(rt, asked)

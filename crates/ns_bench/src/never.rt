@@ -4,10 +4,18 @@ ghost use Rattle.std.specs.Prelude.{false};
 ghost use Rattle.ns_model.specs.Truths.{truths};
 
 use ns_model::condition::Condition;
+use ns_monitor::caller::Seat;
+use ns_monitor::monitor::Monitor;
 
 /// A condition that is never true, of rows of one cell: no workload waits for one.
 #[derive(Clone, Copy)]
 pub struct Never;
+
+/// A monitor of one cell, at which nobody waits for a condition.
+pub type OneCell = Monitor<Never, 1>;
+
+/// A seat of it.
+pub type OneSeat = Seat<Never, 1>;
 
 impl Condition<1> for Never {
     ghost use Rattle.std.proofs.Common.{rules};

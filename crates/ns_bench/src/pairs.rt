@@ -2,8 +2,7 @@
 
 ghost use Rattle.std.specs.Prelude.{◌≡◌, ◌<◌, ◌≤◌, IfOk, IfSome, length};
 
-use crate::never::Never;
-use ns_monitor::caller::Seat;
+use crate::never::{OneCell, OneSeat};
 use ns_monitor::monitor::Monitor;
 use std::alloc::Global;
 use std::io;
@@ -44,7 +43,7 @@ fn each_took(time: Duration, pairs: u64) -> u64 {
 /// How a pair acquires.
 pub trait Way {
     /// Acquires and releases, and gives the seat back.
-    fn pair<R: Wait>(rt: &R, monitor: &Monitor<Never, 1>, seat: Seat<Never, 1>) -> Seat<Never, 1>
+    fn pair<R: Wait>(rt: &R, monitor: &OneCell, seat: OneSeat) -> OneSeat
         requires { seat.monitor ≡ monitor.now }
         ensures { result.monitor ≡ monitor.now };
 }
@@ -53,7 +52,7 @@ pub trait Way {
 pub struct ByTry;
 
 impl Way for ByTry {
-    fn pair<R: Wait>(rt: &R, monitor: &Monitor<Never, 1>, seat: Seat<Never, 1>) -> Seat<Never, 1> {
+    fn pair<R: Wait>(rt: &R, monitor: &OneCell, seat: OneSeat) -> OneSeat {
         match monitor.try_lock(seat) {
             Ok(held) => monitor.unlock(rt, held),
             Err(seat) => seat,
@@ -65,7 +64,7 @@ impl Way for ByTry {
 pub struct ByLock;
 
 impl Way for ByLock {
-    fn pair<R: Wait>(rt: &R, monitor: &Monitor<Never, 1>, seat: Seat<Never, 1>) -> Seat<Never, 1> {
+    fn pair<R: Wait>(rt: &R, monitor: &OneCell, seat: OneSeat) -> OneSeat {
         let held = monitor.lock(rt, seat);
         monitor.unlock(rt, held)
     }
@@ -85,7 +84,7 @@ fn pair_by_hand(word: &AtomicU64) {
 }
 
 /// A monitor of one cell, and its only seat.
-pub fn alone(alloc: Global) -> Option<(Monitor<Never, 1>, Seat<Never, 1>)>
+pub fn alone(alloc: Global) -> Option<(OneCell, OneSeat)>
     ensures { IfSome result (λ r. r.1.monitor ≡ r.0) }
 {
     let (monitor, mut seats) = Monitor::new(alloc, 1).ok()?;
@@ -96,10 +95,10 @@ pub fn alone(alloc: Global) -> Option<(Monitor<Never, 1>, Seat<Never, 1>)>
 /// A batch of pairs of a monitor, and how long it took.
 fn batch<W: Way, R: Wait + Clock>(
     rt: &R,
-    monitor: &Monitor<Never, 1>,
-    seat: Seat<Never, 1>,
+    monitor: &OneCell,
+    seat: OneSeat,
     pairs: u64,
-) -> io::Result<(Seat<Never, 1>, Duration)>
+) -> io::Result<(OneSeat, Duration)>
     requires { seat.monitor ≡ monitor.now }
     ensures { IfOk result (λ r. r.0.monitor ≡ monitor.now) }
 {
@@ -147,8 +146,8 @@ fn share(pairs: u64, batch: usize) -> u64 {
 /// Needs one pair.
 fn measured<W: Way, R: Wait + Clock>(
     rt: &R,
-    monitor: &Monitor<Never, 1>,
-    seat: Seat<Never, 1>,
+    monitor: &OneCell,
+    seat: OneSeat,
     pairs: u64,
 ) -> io::Result<Medians>
     requires { (seat.monitor ≡ monitor.now) × (0 < pairs) }

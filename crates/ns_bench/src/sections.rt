@@ -1,16 +1,14 @@
-//! Sections that follow one another: of one thread alone, or of several that contend for the lock.
+//! Sections on a row of one cell: of one thread alone, or of several that contend for the lock.
 
 ghost use Rattle.std.specs.Prelude.{◌≡◌};
 
 use crate::amount::Count;
-use crate::never::Never;
+use crate::never::{OneCell, OneSeat};
 use crate::steps::{LONG, SHORT, Steps};
-use ns_monitor::caller::Seat;
-use ns_monitor::monitor::Monitor;
 use std::sync::Wait;
 
-/// Adds 1 to cell 0 in a section of its own.
-pub fn add_one<R: Wait>(rt: &R, monitor: &Monitor<Never, 1>, seat: Seat<Never, 1>) -> Seat<Never, 1>
+/// Adds 1 to the cell.
+pub fn add_one<R: Wait>(rt: &R, monitor: &OneCell, seat: OneSeat) -> OneSeat
     requires { seat.monitor ≡ monitor.now }
     ensures { result.monitor ≡ monitor.now }
 {
@@ -20,12 +18,8 @@ pub fn add_one<R: Wait>(rt: &R, monitor: &Monitor<Never, 1>, seat: Seat<Never, 1
     monitor.unlock(rt, held)
 }
 
-/// Reads cell 0 in a section of its own.
-pub fn read_one<R: Wait>(
-    rt: &R,
-    monitor: &Monitor<Never, 1>,
-    seat: Seat<Never, 1>,
-) -> (Seat<Never, 1>, u64)
+/// Reads the cell.
+pub fn read_one<R: Wait>(rt: &R, monitor: &OneCell, seat: OneSeat) -> (OneSeat, u64)
     requires { seat.monitor ≡ monitor.now }
     ensures { result.0.monitor ≡ monitor.now }
 {
@@ -34,27 +28,22 @@ pub fn read_one<R: Wait>(
     (monitor.runlock(rt, held), value)
 }
 
-/// Adds 1 to cell 0 in each of so many sections.
-pub fn lock<R: Wait>(rt: &R, monitor: &Monitor<Never, 1>, seat: Seat<Never, 1>, times: u64) -> Count
+/// Adds 1 to the cell in each of so many sections.
+///
+/// Of the loops that are measured with one thread each is one by hand: [`repeat`](crate::running::repeat)
+/// costs a section four instructions more.
+pub fn lock<R: Wait>(rt: &R, monitor: &OneCell, seat: OneSeat, times: u64) -> Count
     requires { seat.monitor ≡ monitor.now }
 {
     let mut seat = seat;
     for _ in 0..times {
         seat = add_one(rt, monitor, seat);
     }
-    Count {
-        writes: times,
-        sum: 0,
-    }
+    Count::of_writes(times)
 }
 
-/// Adds 1 to cell 0 in each of so many sections that are tried for; counts the tries that succeed.
-pub fn try_lock<R: Wait>(
-    rt: &R,
-    monitor: &Monitor<Never, 1>,
-    seat: Seat<Never, 1>,
-    times: u64,
-) -> Count
+/// Adds 1 to the cell in each of so many sections that are tried for; counts the tries that succeed.
+pub fn try_lock<R: Wait>(rt: &R, monitor: &OneCell, seat: OneSeat, times: u64) -> Count
     requires { seat.monitor ≡ monitor.now }
 {
     let mut seat = seat;
@@ -64,7 +53,7 @@ pub fn try_lock<R: Wait>(
             Ok(mut held) => {
                 let value = monitor.get(&mut held, 0);
                 monitor.set(&mut held, 0, value.wrapping_add(1));
-                count.writes = count.writes.wrapping_add(1);
+                count = count.with_write();
                 monitor.unlock(rt, held)
             }
             Err(back) => back,
@@ -73,13 +62,8 @@ pub fn try_lock<R: Wait>(
     count
 }
 
-/// Adds up cell 0, read in each of so many sections.
-pub fn read_lock<R: Wait>(
-    rt: &R,
-    monitor: &Monitor<Never, 1>,
-    seat: Seat<Never, 1>,
-    times: u64,
-) -> Count
+/// Adds up the cell, read in each of so many sections.
+pub fn read_lock<R: Wait>(rt: &R, monitor: &OneCell, seat: OneSeat, times: u64) -> Count
     requires { seat.monitor ≡ monitor.now }
 {
     let mut seat = seat;
@@ -87,18 +71,13 @@ pub fn read_lock<R: Wait>(
     for _ in 0..times {
         let (back, value) = read_one(rt, monitor, seat);
         seat = back;
-        count.sum = count.sum.wrapping_add(value);
+        count = count.with(value);
     }
     count
 }
 
-/// Adds up cell 0, read in each of so many sections that are tried for.
-pub fn try_read_lock<R: Wait>(
-    rt: &R,
-    monitor: &Monitor<Never, 1>,
-    seat: Seat<Never, 1>,
-    times: u64,
-) -> Count
+/// Adds up the cell, read in each of so many sections that are tried for.
+pub fn try_read_lock<R: Wait>(rt: &R, monitor: &OneCell, seat: OneSeat, times: u64) -> Count
     requires { seat.monitor ≡ monitor.now }
 {
     let mut seat = seat;
@@ -106,7 +85,7 @@ pub fn try_read_lock<R: Wait>(
     for _ in 0..times {
         seat = match monitor.try_rlock(seat) {
             Ok(mut held) => {
-                count.sum = count.sum.wrapping_add(monitor.get(&mut held, 0));
+                count = count.with(monitor.get(&mut held, 0));
                 monitor.runlock(rt, held)
             }
             Err(back) => back,
@@ -115,58 +94,19 @@ pub fn try_read_lock<R: Wait>(
     count
 }
 
-/// Makes so many sections, each with long work on the cell.
-pub fn lock_long<R: Wait>(
-    rt: &R,
-    monitor: &Monitor<Never, 1>,
-    seat: Seat<Never, 1>,
-    times: u64,
-    steps: Steps,
-) -> Count
+/// Works long on the cell.
+pub fn work_long<R: Wait>(rt: &R, monitor: &OneCell, seat: OneSeat, steps: Steps) -> OneSeat
     requires { seat.monitor ≡ monitor.now }
+    ensures { result.monitor ≡ monitor.now }
 {
-    let mut seat = seat;
-    for _ in 0..times {
-        let mut held = monitor.lock(rt, seat);
-        let value = monitor.get(&mut held, 0);
-        monitor.set(&mut held, 0, steps.walk(value, LONG));
-        seat = monitor.unlock(rt, held);
-    }
-    Count {
-        writes: times,
-        sum: 0,
-    }
+    let mut held = monitor.lock(rt, seat);
+    let value = monitor.get(&mut held, 0);
+    monitor.set(&mut held, 0, steps.walk(value, LONG));
+    monitor.unlock(rt, held)
 }
 
-/// Adds 1 to cell 0 in each of so many sections, with long work of its own between them.
-pub fn lock_and_work<R: Wait>(
-    rt: &R,
-    monitor: &Monitor<Never, 1>,
-    seat: Seat<Never, 1>,
-    times: u64,
-    steps: Steps,
-) -> Count
-    requires { seat.monitor ≡ monitor.now }
-{
-    let mut seat = seat;
-    let mut value = 0;
-    for _ in 0..times {
-        seat = add_one(rt, monitor, seat);
-        value = steps.walk(value, LONG);
-    }
-    Count {
-        writes: times,
-        sum: value,
-    }
-}
-
-/// Adds 1 to cell 0 in a section of its own, where it is less than this; answers whether it was.
-fn add_below<R: Wait>(
-    rt: &R,
-    monitor: &Monitor<Never, 1>,
-    seat: Seat<Never, 1>,
-    most: u64,
-) -> (Seat<Never, 1>, bool)
+/// Adds 1 to the cell where it is less than this; answers whether it was.
+fn add_below<R: Wait>(rt: &R, monitor: &OneCell, seat: OneSeat, most: u64) -> (OneSeat, bool)
     requires { seat.monitor ≡ monitor.now }
     ensures { result.0.monitor ≡ monitor.now }
 {
@@ -178,14 +118,14 @@ fn add_below<R: Wait>(
     (monitor.unlock(rt, held), value < most)
 }
 
-/// Adds 1 to cell 0 in sections of its own until it is this, with short work between them.
+/// Adds 1 to the cell in sections that follow one another until it is this, with short work between them.
 pub fn compete<R: Wait>(
     rt: &R,
-    monitor: &Monitor<Never, 1>,
-    seat: Seat<Never, 1>,
+    monitor: &OneCell,
+    seat: OneSeat,
     most: u64,
     steps: Steps,
-) -> Count
+) -> (OneSeat, Count)
     requires { seat.monitor ≡ monitor.now }
 {
     let mut seat = seat;
@@ -199,5 +139,5 @@ pub fn compete<R: Wait>(
         count.writes = count.writes.wrapping_add(1);
         count.sum = steps.walk(count.sum, SHORT);
     }
-    count
+    (seat, count)
 }

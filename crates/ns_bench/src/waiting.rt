@@ -1,20 +1,20 @@
 //! The workloads on a row of six cells, most of whose threads wait for one another: how they are run.
 
-ghost use Rattle.std.specs.Prelude.{◌≡◌, All};
+ghost use Rattle.std.specs.Prelude.{◌≡◌};
 ghost use Rattle.std.specs.Thread.{IsSync};
 
-use crate::amount::{Amount, Count, total};
-use crate::conditions::{Awaited, TICK};
+use crate::amount::{Amount, Count};
+use crate::conditions::{Awaited, SixCells, SixSeat, TICK};
 use crate::crowd;
-use crate::hand_over::{consume, produce, take_turns};
-use crate::long_reads::{mix_long, read_until_told, write_beside};
-use crate::running::{Job, jobs, new_monitor, next_seat};
+use crate::crowd::add_one_at;
+use crate::hand_over::take_turn;
+use crate::long_reads::{read_long, read_until_told, write_beside, write_long};
+use crate::mixed::mix;
+use crate::running::{Job, crew, play, repeat};
 use crate::steps::Steps;
-use ns_monitor::caller::Seat;
-use ns_monitor::monitor::Monitor;
-use std::alloc::{AllocError, Global};
-use std::sync::{Barrier, Wait};
-use std::thread::{Threads, join, map_vec};
+use std::alloc::Global;
+use std::sync::Wait;
+use std::thread::Threads;
 
 /// What is done beside waiters of which none can go on.
 #[derive(Clone, Copy)]
@@ -47,8 +47,6 @@ pub enum Waiting {
     Answer(Marked),
     /// They hand a turn to and fro.
     Turns,
-    /// Half of them put goods into a ring, and the others take them.
-    Ring,
     /// They make long sections, of which so many of a hundred read.
     MixLong(u64),
     /// One writes, and the others read.
@@ -71,35 +69,18 @@ impl Marked {
     }
 }
 
-/// Half of the amount's share, for the threads of which one half does as much as the other.
-fn half_share(number: u64, amount: Amount) -> u64 {
-    let half = Amount {
-        threads: amount.threads / 2,
-        operations: amount.operations,
-    };
-    half.share(number.checked_rem(half.threads).unwrap_or(0))
-}
-
 impl Waiting {
     /// Whether so many threads can do it, none of which is left waiting in the end.
-    pub fn is_for(self, threads: u64) -> bool {
+    fn is_for(self, threads: u64) -> bool {
         match self {
             Waiting::Crowd(Marked::Odd, _) | Waiting::Answer(Marked::Odd) => threads >= 2,
             Waiting::Turns => threads == 2,
-            Waiting::Ring => threads % 2 == 0,
             _ => true,
         }
     }
 
     /// Does what a thread does that waits in the crowd.
-    fn wait<R: Wait>(
-        self,
-        rt: &R,
-        monitor: &Monitor<Awaited, 6>,
-        seat: Seat<Awaited, 6>,
-        number: u64,
-        amount: Amount,
-    )
+    fn wait<R: Wait>(self, rt: &R, monitor: &SixCells, seat: SixSeat, number: u64, amount: Amount)
         requires { seat.monitor ≡ monitor.now }
     {
         match self {
@@ -118,22 +99,32 @@ impl Waiting {
     fn work<R: Wait>(
         self,
         rt: &R,
-        monitor: &Monitor<Awaited, 6>,
+        monitor: &SixCells,
         job: Job<Awaited, 6>,
         amount: Amount,
     ) -> Count
         requires { job.seat.monitor ≡ monitor.now }
     {
         let Job { number, seat } = job;
-        let times = amount.share(number);
         let steps = Steps::of_run(amount.operations);
         match self {
-            Waiting::Turns => take_turns(rt, monitor, seat, number, amount.operations / 2),
-            Waiting::Ring if number < amount.threads / 2 => {
-                produce(rt, monitor, seat, half_share(number, amount))
+            Waiting::Turns => {
+                let times = amount.operations / 2;
+                repeat(times, seat, |seat| take_turn(rt, monitor, seat, number));
+                Count::of_writes(times)
             }
-            Waiting::Ring => consume(rt, monitor, seat, half_share(number, amount)),
-            Waiting::MixLong(percent) => mix_long(rt, monitor, seat, number, times, percent, steps),
+            Waiting::MixLong(percent) => mix(
+                number,
+                amount.share(number),
+                percent,
+                seat,
+                |seat| {
+                    let (seat, value, _) = read_long(rt, monitor, seat, steps);
+                    (seat, value)
+                },
+                |seat| write_long(rt, monitor, seat, steps),
+            )
+            .1,
             Waiting::OneWriter if number == 0 => {
                 write_beside(rt, monitor, seat, amount.operations, steps)
             }
@@ -146,13 +137,7 @@ impl Waiting {
     }
 
     /// Does what is done beside the threads, once all wait, and then lets them leave.
-    fn lead<R: Wait>(
-        self,
-        rt: &R,
-        monitor: &Monitor<Awaited, 6>,
-        seat: Seat<Awaited, 6>,
-        amount: Amount,
-    ) -> Seat<Awaited, 6>
+    fn lead<R: Wait>(self, rt: &R, monitor: &SixCells, seat: SixSeat, amount: Amount) -> SixSeat
         requires { seat.monitor ≡ monitor.now }
         ensures { result.monitor ≡ monitor.now }
     {
@@ -161,7 +146,14 @@ impl Waiting {
             Waiting::Crowd(_, beside) => {
                 let seat = crowd::wait_for_all(rt, monitor, seat, amount.threads);
                 match beside {
-                    Beside::Tick => crowd::tick(rt, monitor, seat, times),
+                    Beside::Tick => repeat(
+                        times,
+                        seat,
+                        |seat: SixSeat| -> SixSeat
+                            requires { seat.monitor ≡ monitor.now }
+                            ensures { result.monitor ≡ monitor.entry.now }
+                        { add_one_at(rt, monitor, seat, TICK) },
+                    ),
                     Beside::TickQuietly => crowd::tick_quietly(rt, monitor, seat, times),
                     Beside::Read => crowd::read_beside(rt, monitor, seat, times),
                 }
@@ -183,86 +175,36 @@ impl Waiting {
             }
             Waiting::Crowd(..) | Waiting::Answer(_) => row[TICK] == amount.operations,
             Waiting::Turns => row[0] == 0,
-            Waiting::Ring => row[0] == 0 && total.sum == 0,
             Waiting::MixLong(_) | Waiting::OneWriter => row[0] == total.writes,
         }
     }
 }
 
-/// Does a job once all others begin theirs.
-fn start_job<R: Wait>(
-    rt: &R,
-    what: Waiting,
-    monitor: &Monitor<Awaited, 6>,
-    start: &Barrier,
-    job: Job<Awaited, 6>,
-    amount: Amount,
-) -> Count
-    requires { job.seat.monitor ≡ monitor.now }
-{
-    start.wait(rt);
-    what.work(rt, monitor, job, amount)
-}
-
-/// Does all jobs, each in a thread of its own, and answers what each has counted.
-fn do_jobs<R: Threads + Wait + Sync>(
-    rt: &R,
-    what: Waiting,
-    monitor: &Monitor<Awaited, 6>,
-    jobs: Vec<Job<Awaited, 6>>,
-    amount: Amount,
-) -> Result<Vec<Count>, AllocError>
-    requires { All (λ job. job.seat.monitor ≡ monitor.now) jobs.items }
-{
-    let start = Barrier::new(jobs.len());
-    let start = &start;
-    map_vec(
-        rt,
-        jobs,
-        &|job: Job<Awaited, 6>| -> Count
-            requires { IsSync R.row × (job.seat.monitor ≡ monitor.now) }
-        { start_job(rt, what, monitor, start, job, amount) },
-    )
-}
-
-/// Does all jobs, none of them in this thread, and what is to be done beside them.
-fn play<R: Threads + Wait + Sync>(
-    rt: &R,
-    what: Waiting,
-    monitor: &Monitor<Awaited, 6>,
-    jobs: Vec<Job<Awaited, 6>>,
-    seat: Seat<Awaited, 6>,
-    amount: Amount,
-) -> (Result<Vec<Count>, AllocError>, Seat<Awaited, 6>)
-    requires { All (λ job. job.seat.monitor ≡ monitor.now) jobs.items × (seat.monitor ≡ monitor.now) }
-    ensures { result.1.monitor ≡ monitor.now }
-{
-    join(
-        rt,
-        move || -> Result<Vec<Count>, AllocError>
-            requires { IsSync R.row × All (λ job. job.seat.monitor ≡ monitor.now) jobs.items }
-        { do_jobs(rt, what, monitor, jobs, amount) },
-        move || -> Seat<Awaited, 6>
-            requires { IsSync R.row × (seat.monitor ≡ monitor.now) }
-            ensures { result.monitor ≡ monitor.entry.now }
-        { what.lead(rt, monitor, seat, amount) },
-    )
-}
-
 /// Runs a workload, and answers whether it has ended as it must, with a free lock; nothing where it
-/// could not be begun.
+/// could not be begun, or isn't for so many threads.
 pub fn run<R: Threads + Wait + Sync>(
     rt: &R,
     alloc: Global,
     what: Waiting,
     amount: Amount,
 ) -> Option<bool> {
-    let seats = usize::try_from(amount.threads).ok()?.checked_add(1)?;
-    let (monitor, mut seats) = new_monitor::<Awaited, 6>(alloc, seats)?;
-    let last = next_seat(&monitor, &mut seats)?;
-    let jobs = jobs(alloc, &monitor, seats, amount.threads).ok()?;
-    let (counts, last) = play(rt, what, &monitor, jobs, last, amount);
-    let counts = counts.ok()?;
-    let closed = monitor.close(last);
-    Some(closed.free && what.is_right(&closed.row, total(counts.as_slice()), amount))
+    if !what.is_for(amount.threads) {
+        return None;
+    }
+    let (monitor, jobs, seat) = crew::<Awaited, 6>(alloc, amount.threads)?;
+    let cells = &monitor;
+    let (total, seat) = play(
+        rt,
+        jobs,
+        seat,
+        &|job: Job<Awaited, 6>| -> Count
+            requires { IsSync R.row × (job.seat.monitor ≡ cells.now) }
+        { what.work(rt, cells, job, amount) },
+        |seat: SixSeat| -> SixSeat
+            requires { IsSync R.row × (seat.monitor ≡ cells.now) }
+            ensures { result.monitor ≡ cells.entry.now }
+        { what.lead(rt, cells, seat, amount) },
+    )?;
+    let closed = monitor.close(seat);
+    Some(closed.free && what.is_right(&closed.row, total, amount))
 }

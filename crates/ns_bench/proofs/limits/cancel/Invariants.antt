@@ -1,7 +1,0 @@
--- The section in hand is of this monitor, and the seat of clock and notes of this environment; it has seen the note made.
-use Rattle.std.proofs.Common.{◌≡◌}
-use Rattle.ns_model.specs.Environments.{IsMade}
-use Rattle.ns_bench.proofs.limits.cancel.Given as goal
-
-abbrev pub invariant-loop : goal.invariant-loop
-invariant-loop g l = (l.held.monitor ≡ l.monitor) × (l.env_seat.env ≡ l.initial.env_seat.env) × IsMade l.env_seat.seen l.note.index
