@@ -71,7 +71,7 @@ fn count_ended<R: Wait>(
     (monitor.unlock(rt, held), count)
 }
 
-/// Waits so many times, and counts how often the limit has ended it.
+/// Waits so many times, and counts how often the deadline or the note has ended it.
 fn count_waits<R: Wait>(
     rt: &R,
     monitor: &OneCell,
@@ -120,7 +120,7 @@ fn count_in_thread<R: Threads + Wait + Sync>(
     counted
 }
 
-/// Whether the limit ends each of so many waits, and the lock is free in the end; nothing where it could
+/// Whether the deadline or the note ends each of so many waits, and the lock is free in the end; nothing where it could
 /// not be begun.
 pub fn run<R: Threads + Wait + Sync>(
     rt: &R,

@@ -1,5 +1,5 @@
 -- The rounds of a wait for a condition: where it goes by what it tests and sees.
-use Rattle.std.proofs.Common.{◌≡◌, ℕ, ◌-◌, Bool, true, false, cond, List, [], ◌∷◌, ◌++◌, append-nil, ◌⊎◌, inl, inr, option_map, Option, None, Some, refl, ap, sym, ◌∙◌, subst}
+use Rattle.std.proofs.Common.{⊎_elim, ◌≡◌, ◌||◌, is_some, ℕ, ◌-◌, Bool, true, false, cond, List, [], ◌∷◌, ◌++◌, append-nil, ◌⊎◌, inl, inr, option_map, Option, None, Some, refl, ap, sym, ◌∙◌, subst}
 use Rattle.ns_gate.proofs.Calls.{goes}
 use Rattle.ns_gate.proofs.Findings.{does}
 use Rattle.ns_gate.proofs.Keeps.{hand_of}
@@ -108,8 +108,8 @@ pub fits_fresh : {C : Type 0} (N : ℕ) (mode : Mode) (held : Option (Held C N))
 fits_fresh N mode held fits each h = let section = hand_of (IsFreshIn N mode) held (λ e. e) h in subst fits (sym section.1) (each section.0 section.2)
 
 -- it was told the note's number, and left its section only once a look had shown nothing, to a seat that has seen this
-pub looked_by : (P : Type 0) (note : Option Note) (deadline number : Option ℕ) (old new : EnvKnown) (seen : List EnvEvent) → seen ≡ new.seen → number ≡ option_map (λ n. n.index) note → (is_limited (record { deadline = deadline; note = number }) ≡ true → P ⊎ LookShows note (record { deadline = deadline; note = number }) old new None) → is_limited (limits_of deadline note) ≡ true → P ⊎ HadLooked note deadline old.seen seen
-looked_by P given deadline number old new seen same is before limited = by_case (before (ap (λ o. is_limited (record { deadline = deadline; note = o })) is ∙ limited)) where
-  by_case : P ⊎ LookShows given (record { deadline = deadline; note = number }) old new None → P ⊎ HadLooked given deadline old.seen seen
-  by_case (inl kept) = inl kept
-  by_case (inr shown) = inr (subst (HadLooked given deadline old.seen) (sym same) (record { none = shown }))
+pub looked_by : (P : Type 0) (note : Option Note) (deadline number : Option ℕ) (old new : EnvKnown) (seen : List EnvEvent) → seen ≡ new.seen → number ≡ option_map (λ n. n.index) note → (is_limited (record { deadline = deadline; note = number }) ≡ true → P ⊎ LookShows note (record { deadline = deadline; note = number }) old new None) → is_some deadline || is_some note ≡ true → P ⊎ HadLooked note deadline old.seen seen
+looked_by P given deadline number old new seen same is before limited = ⊎_elim (λ kept. inl kept) (λ shown. inr (subst (HadLooked given deadline old.seen) (sym same) (record { none = shown }))) (before (ap (λ o. is_limited (record { deadline = deadline; note = o })) is ∙ named given limited)) where
+  named : (o : Option Note) → is_some deadline || is_some o ≡ true → is_limited (limits_of deadline o) ≡ true
+  named None l = l
+  named (Some n) l = l

@@ -1,10 +1,10 @@
 //! The waits, and the rounds of a wait for a condition: it looks, queues, is woken or ended, comes back
 //! and tests.
 
-ghost use Rattle.std.specs.Prelude.{◌≡◌, ◌⊎◌, None, Some, IfSome, false, true};
+ghost use Rattle.std.specs.Prelude.{◌≡◌, ◌⊎◌, ◌||◌, is_some, None, Some, IfSome, false, true};
 ghost use Rattle.ns_gate.specs.Prelude.{IsMade, row_in, is_limited, look_or_queue, wait_first, Await, Load, OnCondition, InQueuing, Answered, InWait, HasAnswered, HasSince, IsAtPlace, HasReached, the};
 ghost use Rattle.ns_note.specs.Known.{Grows as EnvGrows};
-ghost use Rattle.ns_monitor.specs.Prelude.{EndedBy, Grows, HadLooked, HasWaitedFor, IfAnswered, IsFreshIn, IsNumberOf, QueuesOrEnds, limits_of, waiting, waits_by};
+ghost use Rattle.ns_monitor.specs.Prelude.{EndedBy, Grows, HadLooked, HasWaitedFor, IfAnswered, IsFreshIn, IsNumberOf, QueuesOrEnds, waiting, waits_by};
 
 use crate::caller::{Caller, Renewed};
 use crate::monitor::Monitor;
@@ -166,8 +166,8 @@ impl<C: Gated<N>, const N: usize> Monitor<C, N> {
     ///
     /// `Met` says that the condition is true of the section that it returns with; else `Canceled` that
     /// the note was notified, and `TimedOut` that the deadline had come while the note wasn't. Where that
-    /// is so as the call begins, nothing is released: it leaves its section only after a look that showed
-    /// neither.
+    /// is so as the call begins, nothing is released: it looks before it leaves its section. (That it has
+    /// looked is a clause; that it did so first is how it is written.)
     ///
     /// Needs the environment's own seat, and a note, if one is given, that it has seen made. While it
     /// waits with a deadline or a note it goes round between its wake and a look.
@@ -189,7 +189,7 @@ impl<C: Gated<N>, const N: usize> Monitor<C, N> {
         ensures env_grows { EnvGrows env_seat.old env_seat.new }
         ensures env_mine { env_seat.new.mine ≡ env_seat.old.mine }
         ensures ended { EndedBy note deadline env_seat.old.seen env_seat.new.seen result.1 }
-        ensures looked { is_limited (limits_of deadline note) ≡ true → (result.0.mine ≡ held.mine) ⊎ HadLooked note deadline env_seat.old.seen env_seat.new.seen }
+        ensures looked { (is_some deadline || is_some note) ≡ true → (result.0.mine ≡ held.mine) ⊎ HadLooked note deadline env_seat.old.seen env_seat.new.seen }
     {
         let limits = Limits {
             deadline,

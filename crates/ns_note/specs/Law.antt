@@ -1,4 +1,4 @@
--- The rule of an environment's table, whose words stand as `places.rt` names them: the clock at CLOCK, the next note's number at NEXT, and the notes from NOTES on.
+-- The rule of an environment's table, whose words stand as `table_words.rt` names them: the clock at CLOCK, the next note's number at NEXT, and the notes from NOTES on.
 use Rattle.std.specs.Prelude.{◌≡◌, ℕ, suc, zero, ◌+◌, ◌^◌, ◌<◌, ◌≤◌, min, Bool, true, false, ◌==◌, List, [], ◌∷◌, length, Some, slice_index}
 use Rattle.atomic_table.specs.Table.{State as TableState}
 use Rattle.ns_model.specs.declared.environment.EnvEvent.{EnvEvent}

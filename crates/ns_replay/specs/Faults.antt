@@ -7,7 +7,7 @@ use Rattle.ns_replay.specs.declared.path.ScriptPath.TheVariants as at
 use Rattle.ns_replay.specs.declared.fault.Fault.{Fault}
 use Rattle.ns_replay.specs.declared.fault.Fault.TheVariants.{OutOfMemory, NotJson, BadScript, TooMany, StepLimit, Read, Write}
 
--- a place as a path
+-- a path, as it is printed
 abbrev pub path_text : ScriptPath → List ℕ
 path_text at.Root = codes "/"
 path_text at.Version = codes "/version"
@@ -41,7 +41,7 @@ abbrev pub ◌>>=◌ : {A B : Type 0} → Result A Fault → (A → Result B Fau
 (Ok x) >>= f = f x
 (Err fault) >>= f = Err fault
 
--- what is there, or a bad script at the place
+-- what is there, or a bad script at the path
 abbrev pub need : {A : Type 0} → ScriptPath → Option A → Result A Fault
 need path None = Err (BadScript path)
 need path (Some x) = Ok x

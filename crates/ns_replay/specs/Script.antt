@@ -31,7 +31,7 @@ abbrev pub list_of : Items → List Data
 list_of no_items = []
 list_of (item d ds) = d ∷ list_of ds
 
--- a list, if it has at most so many elements, and else too much at the place
+-- a list, if it has at most so many elements, and else too much at the path
 abbrev pub at_most : {A : Type 0} → ℕ → ScriptPath → List A → Result (List A) Fault
 at_most most path xs = if nat_le (length xs) most then Ok xs else Err (TooMany path)
 

@@ -1,11 +1,11 @@
-//! Places in a script, as paths.
+//! Paths in a script.
 //!
-//! A path is the member that it names, with its places as numbers, so a fault that holds one
+//! A path is kept as the member that it names, with the numbers in it, so a fault that holds one
 //! takes no memory.
 
 use std::fmt;
 
-/// A place in a script.
+/// A path in a script: where something stands.
 #[derive(Clone, Copy, Debug, Drop, PartialEq, Eq)]
 pub enum ScriptPath {
     /// The whole text.

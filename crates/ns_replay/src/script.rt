@@ -33,7 +33,7 @@ pub struct Script {
     pub schedule: Vec<Turn>,
 }
 
-/// The list that stands at the place, of at most so many values.
+/// The list that stands at the path, of at most so many values.
 #[tactic(auto, unfolding(crate::specs::Script::list_in))]
 fn list<'a>(value: Option<&'a Value>, path: ScriptPath, most: usize) -> Result<&'a [Value], Fault>
     ensures { Gives (λ x. map view x.now) result (list_in most path (option_map (λ v. view v.now) value.entry)) }

@@ -29,7 +29,7 @@ pub fn watch<R: Wait>(
     (commons.monitor.runlock(rt, held), done)
 }
 
-/// Waits for the turn of this number, and hands it on.
+/// Waits until this ticket's turn has come, and hands the turn on.
 fn take_turn<R: Wait>(
     rt: &R,
     commons: Commons<'_>,
@@ -43,14 +43,14 @@ fn take_turn<R: Wait>(
     let mut seat = seat;
     if kit.draw(3) == 0 {
         let (back, done) = watch(rt, commons, seat, kit, ticket);
-        kit.expect(done == ticket, "a ticket was taken from its reader");
+        kit.expect(done == ticket, "a turn was taken from its reader");
         seat = back;
     }
     let held = commons.monitor.lock(rt, seat);
     kit.enter(commons.door, Mode::Write);
     let mut held = wait_until_met(rt, commons, held, Wish::done(ticket), kit);
     let done = commons.monitor.get(&mut held, DONE);
-    kit.expect(done == ticket, "a ticket was taken from its writer");
+    kit.expect(done == ticket, "a turn was taken from its writer");
     commons
         .monitor
         .set(&mut held, DONE, ticket.saturating_add(1));

@@ -31,7 +31,7 @@ content_at seat (LoadCell i) s = slice_index s.row i
 content_at seat LoadFlag s = s.flags seat
 content_at seat act s = number_of s.word
 
--- what an exchange finds at this number: that it is made, or the word that is there
+-- what an exchange finds at this content: that it is made, or the word that is there
 abbrev pub exchanged : ℕ → Word → Found → Found
 exchanged number last made = if number_of last == number then made else Saw (word_of number)
 
@@ -44,7 +44,7 @@ abbrev pub owes_more : List ℕ → Found
 owes_more [] = Paid false
 owes_more (woken ∷ rest) = Paid (has_some rest)
 
--- What the act of a seat finds: of the number that it loads or compares, of the seat's section and wakes, and of the lists, if it has them in hand. What a look shows stands in no word of the lock.
+-- What the act of a seat finds: of the content that it loads or compares, of the seat's section and wakes, and of the lists, if it has them in hand. What a look shows stands in no word of the lock.
 abbrev pub found_of : {C : Type 0} {N : ℕ} → Truths C → Act C → SeatView C N → Lists C → ℕ → Found
 found_of truths LoadWord view lists number = Saw (word_of number)
 found_of truths (Acquire aim arrival last) view lists number = exchanged number last Made
