@@ -7,8 +7,8 @@
 
 ghost use Rattle.std.specs.Prelude.{◌≡◌, false};
 
-use ns_command::{Console, Ending, Prints, finish_live, run, without_words};
-use ns_live::live;
+use ns_command::{Answer, Console, Ending, NoSum, Prints, finish_live, run, without_words};
+use ns_live::{LiveFault, live};
 use ns_replay::{OverRead, OverWrite, Sink};
 use std::sync::Wait;
 use std::thread::Threads;
@@ -28,13 +28,16 @@ fn run_live<R: AllocGlobal + Threads + Wait + Sync, W: Sink, P: Prints>(
 ) -> Ending
     requires { W.has_failed sink.old ≡ false }
 {
-    let outcome = live(rt, rt.alloc(), u64::from(items));
+    let outcome = live(rt, rt.alloc(), u64::from(items)).map_err(|fault| match fault {
+        LiveFault::OutOfMemory => NoSum::OutOfMemory,
+        LiveFault::NoThread => NoSum::NoThread,
+    });
     finish_live(rt.alloc(), items, outcome, sink, printer)
 }
 
 fn main(rt: HostRuntime) -> Ending {
     let mut console = Console::new(&rt);
-    let ending = match words(&rt) {
+    let answer = match words(&rt) {
         Ok(words) => {
             let mut source = OverRead::new(rt.stdin());
             let mut sink = OverWrite::new(rt.stdout());
@@ -46,13 +49,13 @@ fn main(rt: HostRuntime) -> Ending {
                 &mut console,
             )
         }
-        Err(error) => without_words(&mut console, &error),
+        Err(error) => Answer::Ended(without_words(&mut console, &error)),
     };
-    match ending {
-        Ending::LiveAsked(items) => {
+    match answer {
+        Answer::LiveAsked(items) => {
             let mut sink = OverWrite::new(rt.stdout());
             run_live(&rt, items, &mut sink, &mut console)
         }
-        ending => ending,
+        Answer::Ended(ending) => ending,
     }
 }

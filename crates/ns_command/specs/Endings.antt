@@ -9,7 +9,7 @@ use Rattle.ns_replay.specs.declared.fault.Fault.{Fault}
 use Rattle.ns_replay.specs.declared.fault.Fault.TheVariants.{OutOfMemory, NotJson, BadScript, TooMany, StepLimit, Read, Write}
 use Rattle.ns_replay.specs.Faults.{fault_text}
 use Rattle.ns_command.specs.declared.ending.Ending.{Ending}
-use Rattle.ns_command.specs.declared.ending.Ending.TheVariants.{Replayed, LiveAsked, Lived, NoThread, Failed, HelpShown, Misused}
+use Rattle.ns_command.specs.declared.ending.Ending.TheVariants.{Replayed, Lived, NoThread, Failed, HelpShown, Misused}
 use Rattle.ns_command.specs.Printing.{PrintsSome, is_mistake, is_request}
 
 -- 4 where a stream is at fault, and else 3
@@ -25,7 +25,6 @@ fault_status Write = 4
 -- the exit status
 abbrev pub status_of : Ending → ℕ
 status_of Replayed = 0
-status_of (LiveAsked items) = 0
 status_of Lived = 0
 status_of NoThread = 3
 status_of (Failed fault) = fault_status fault
@@ -50,7 +49,6 @@ no_thread_line = codes "refused 12: no thread\n"
 abbrev pub Says : Bool → Option (List ℕ) → Option (List ℕ) → Ending → Type 0
 Says true old new ending = Unit {0}
 Says false old new Replayed = Keeps old new
-Says false old new (LiveAsked items) = Keeps old new
 Says false old new Lived = Keeps old new
 Says false old new NoThread = Appends old new no_thread_line
 Says false old new (Failed fault) = Appends old new (fault_line fault)
@@ -61,7 +59,6 @@ Says false old new Misused = PrintsSome old new
 -- it before a failure.
 abbrev pub Shows : Option (List ℕ) → Option (List ℕ) → Ending → Type 0
 Shows old new Replayed = Keeps old new
-Shows old new (LiveAsked items) = Keeps old new
 Shows old new Lived = Keeps old new
 Shows old new NoThread = Keeps old new
 Shows old new (Failed Write) = PrintsSome old new
@@ -72,7 +69,6 @@ Shows old new Misused = Keeps old new
 -- the ending where clap says this of the words
 abbrev pub EndsFor : ErrorKind → Ending → Type 0
 EndsFor what Replayed = ⊥
-EndsFor what (LiveAsked items) = ⊥
 EndsFor what Lived = ⊥
 EndsFor what NoThread = ⊥
 EndsFor what (Failed OutOfMemory) = what ≡ kind.OutOfMemory
@@ -85,7 +81,6 @@ EndsFor what Misused = is_mistake what ≡ true
 -- the words alone has made threads.
 abbrev pub EndsForOneOf : Kinds → Ending → Type 0
 EndsForOneOf kinds Replayed = kinds ≡ []
-EndsForOneOf kinds (LiveAsked items) = kinds ≡ []
 EndsForOneOf kinds Lived = ⊥
 EndsForOneOf kinds NoThread = ⊥
 EndsForOneOf kinds (Failed OutOfMemory) = Unit {0}

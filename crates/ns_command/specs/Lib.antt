@@ -1,3 +1,4 @@
+pub mod Answers
 pub mod Asked
 pub mod Endings
 pub mod Lives

@@ -1,11 +1,11 @@
 -- What is printed of live threads, and how a run of them ends.
 use Rattle.std.specs.Prelude.{◌≡◌, ◌⊎◌, ℕ, ⊤, List, ◌++◌, codes, decimal, Option, Result, Ok, Err}
 use Rattle.std.specs.Io.KnownBytes.{Appends, Keeps}
-use Rattle.ns_live.specs.declared.fault.LiveFault.{LiveFault}
-use Rattle.ns_live.specs.declared.fault.LiveFault.TheVariants as live
 use Rattle.ns_replay.specs.declared.fault.Fault.{Fault}
 use Rattle.ns_replay.specs.declared.fault.Fault.TheVariants.{OutOfMemory, Write}
 use Rattle.ns_replay.specs.Transfer.{WritesFront}
+use Rattle.ns_command.specs.declared.living.NoSum.{NoSum}
+use Rattle.ns_command.specs.declared.living.NoSum.TheVariants as none
 use Rattle.ns_command.specs.declared.ending.Ending.{Ending}
 use Rattle.ns_command.specs.declared.ending.Ending.TheVariants.{Lived, NoThread, Failed}
 
@@ -21,13 +21,13 @@ WritesLines old new lines (Err Write) = WritesFront old new lines
 WritesLines old new lines (Err fault) = ⊥
 
 -- The ending by what the threads answered. A sum may still meet want of memory, or a failed write.
-abbrev pub EndsLive : Result ℕ LiveFault → Ending → Type 0
+abbrev pub EndsLive : Result ℕ NoSum → Ending → Type 0
 EndsLive (Ok sum) ending = (ending ≡ Lived) ⊎ (ending ≡ Failed OutOfMemory) ⊎ (ending ≡ Failed Write)
-EndsLive (Err live.OutOfMemory) ending = ending ≡ Failed OutOfMemory
-EndsLive (Err live.NoThread) ending = ending ≡ NoThread
+EndsLive (Err none.OutOfMemory) ending = ending ≡ Failed OutOfMemory
+EndsLive (Err none.NoThread) ending = ending ≡ NoThread
 
 -- What was written: the lines of the sum, or a front of them, by the ending.
-abbrev pub WritesLive : Option (List ℕ) → Option (List ℕ) → ℕ → Result ℕ LiveFault → Ending → Type 0
+abbrev pub WritesLive : Option (List ℕ) → Option (List ℕ) → ℕ → Result ℕ NoSum → Ending → Type 0
 WritesLive old new items (Ok sum) Lived = Appends old new (live_lines items sum)
 WritesLive old new items (Ok sum) (Failed Write) = WritesFront old new (live_lines items sum)
 WritesLive old new items outcome ending = Keeps old new

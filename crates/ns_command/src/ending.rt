@@ -8,8 +8,6 @@ use std::process::{ExitCode, Termination};
 pub enum Ending {
     /// The script was replayed, and its text or its picture was written.
     Replayed,
-    /// The words ask for live threads, and so many items. Nothing was done yet.
-    LiveAsked(u32),
     /// Live threads have ended, and how many items they had and their sum were printed.
     Lived,
     /// A live thread could not be made, and a line on the error side says so.
@@ -32,7 +30,7 @@ impl Ending {
         ensures { result ≡ status_of self }
     {
         match self {
-            Ending::Replayed | Ending::LiveAsked(_) | Ending::Lived | Ending::HelpShown => 0,
+            Ending::Replayed | Ending::Lived | Ending::HelpShown => 0,
             Ending::Misused => 2,
             Ending::Failed(Fault::Read | Fault::Write) => 4,
             Ending::NoThread | Ending::Failed(_) => 3,

@@ -8,9 +8,17 @@ ghost use Rattle.ns_command.specs.Lives.{EndsLive, WritesLines, WritesLive, live
 use crate::ending::Ending;
 use crate::finishing::finish;
 use crate::prints::Prints;
-use ns_live::LiveFault;
 use ns_replay::{Fault, Sink, write_all};
 use std::alloc::{AllocError, Global};
+
+/// Why live threads have no sum.
+#[derive(Clone, Copy, Debug, Drop, PartialEq, Eq)]
+pub enum NoSum {
+    /// An allocation was refused.
+    OutOfMemory,
+    /// A thread could not be made.
+    NoThread,
+}
 
 /// What is printed where so many items had this sum.
 fn live_text(alloc: Global, items: u32, sum: u64) -> Result<String, AllocError>
@@ -38,7 +46,7 @@ fn write_sum<W: Sink>(alloc: Global, sink: &mut W, items: u32, sum: u64) -> Resu
 pub fn finish_live<W: Sink, P: Prints>(
     alloc: Global,
     items: u32,
-    outcome: Result<u64, LiveFault>,
+    outcome: Result<u64, NoSum>,
     sink: &mut W,
     printer: &mut P,
 ) -> Ending
@@ -54,10 +62,10 @@ pub fn finish_live<W: Sink, P: Prints>(
             Ok(()) => Ending::Lived,
             Err(fault) => finish(printer, Err(fault)),
         },
-        Err(LiveFault::OutOfMemory) => finish(printer, Err(Fault::OutOfMemory)),
-        Err(LiveFault::NoThread) => {
+        Err(NoSum::OutOfMemory) => finish(printer, Err(Fault::OutOfMemory)),
+        Err(NoSum::NoThread) => {
             // Where the error side is at fault, nobody is left to be told of it.
-            let _ = printer.error_line(LiveFault::NoThread);
+            let _ = printer.error_line("refused 12: no thread");
             Ending::NoThread
         }
     }

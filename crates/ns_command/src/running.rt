@@ -1,16 +1,19 @@
-//! A run of the program, from its words to its ending.
+//! A run of the program, from its words to its end.
 
+ghost use Rattle.std.specs.Io.KnownBytes.{Keeps};
 ghost use Rattle.std.specs.Prelude.{◌≡◌, ◌≢◌, ◌⊎◌, [], ℕ, map, true, false, string_bytes, IfErr};
 ghost use Rattle.clap.specs.Words.{kind_of};
 ghost use Rattle.ns_replay.specs.Transfer.{Gave, IsReadFault, IsWriteFault};
 ghost use Rattle.ns_replay.specs.Replaying.{Answers, IsText, WasRead};
 ghost use Rattle.ns_timeline.specs.Pictures.{IsPicture};
 ghost use Rattle.ns_command.specs.Words.{kinds_of};
+ghost use Rattle.ns_command.specs.Answers.{ByAnswer};
 ghost use Rattle.ns_command.specs.Asked.{asked_by};
 ghost use Rattle.ns_replay.specs.declared.options.Options.{Options};
 ghost use Rattle.ns_command.specs.declared.wanted.Wanted.TheVariants as TheWanted;
 ghost use Rattle.ns_command.specs.Endings.{Says, Shows, EndsFor, EndsForOneOf, outcome_of};
 
+use crate::answer::Answer;
 use crate::command::asked;
 use crate::ending::Ending;
 use crate::finishing::finish;
@@ -48,7 +51,7 @@ fn answered<P: Prints>(printer: &mut P, answer: Error) -> Ending
 /// the program's name, and writes the text of its run to the sink, or a picture of it where the words ask
 /// for that.
 ///
-/// Where the words ask for live threads, it answers with the number of items, for the caller to make
+/// Where the words ask for live threads, it answers that, with the number of items, for the caller to make
 /// them. Where they are wrong, or ask for help, clap answers them. In both cases the source and the sink
 /// stay as they are. The line of a fault goes to the error side; where printing fails there, the ending is the
 /// same. Help that can't be printed is a failed write.
@@ -60,56 +63,61 @@ pub fn run<S: Source, W: Sink, P: Prints>(
     source: &mut S,
     sink: &mut W,
     printer: &mut P,
-) -> Ending
+) -> Answer
     requires source { S.has_failed source.old ≡ false }
     requires sink { W.has_failed sink.old ≡ false }
     // The words decide whether there is a replay, and else what is said.
-    ensures heeded { EndsForOneOf (kinds_of (map string_bytes words.now)) result }
+    ensures heeded { let kinds = kinds_of (map string_bytes words.now) in
+        ByAnswer result (EndsForOneOf kinds) (λ items. kinds ≡ []) }
     ensures unread { kinds_of (map string_bytes words.now) ≢ [] → source.new ≡ source.old }
     ensures unwritten { kinds_of (map string_bytes words.now) ≢ [] → sink.new ≡ sink.old }
     // A replay is made by the options that the words give.
     ensures replayed { (options : Options) → kinds_of (map string_bytes words.now) ≡ []
         → asked_by (map string_bytes words.now) ≡ TheWanted.Replay options
-        → Gave (S.to_come source.old) (S.to_come source.new) (λ bytes.
-        WasRead bytes (S.to_come source.new) (outcome_of result)
-        × Answers (W.taken sink.old) (W.taken sink.new) (IsText options) options.limit bytes (outcome_of result)) }
+        → ByAnswer result (λ ending. Gave (S.to_come source.old) (S.to_come source.new) (λ bytes.
+        WasRead bytes (S.to_come source.new) (outcome_of ending)
+        × Answers (W.taken sink.old) (W.taken sink.new) (IsText options) options.limit bytes (outcome_of ending)))
+        (λ items. ⊥) }
     // A picture is drawn within the limit that the words give.
     ensures drawn { (limit : ℕ) → kinds_of (map string_bytes words.now) ≡ []
         → asked_by (map string_bytes words.now) ≡ TheWanted.Timeline limit
-        → Gave (S.to_come source.old) (S.to_come source.new) (λ bytes.
-        WasRead bytes (S.to_come source.new) (outcome_of result)
-        × Answers (W.taken sink.old) (W.taken sink.new) (IsPicture limit) limit bytes (outcome_of result)) }
+        → ByAnswer result (λ ending. Gave (S.to_come source.old) (S.to_come source.new) (λ bytes.
+        WasRead bytes (S.to_come source.new) (outcome_of ending)
+        × Answers (W.taken sink.old) (W.taken sink.new) (IsPicture limit) limit bytes (outcome_of ending)))
+        (λ items. ⊥) }
     // Live threads are left to the caller, by the number of items that the words give.
     ensures live { (items : ℕ) → kinds_of (map string_bytes words.now) ≡ []
         → asked_by (map string_bytes words.now) ≡ TheWanted.Live items
-        → ((result ≡ Ending.LiveAsked items) ⊎ (result ≡ Ending.Failed Fault.OutOfMemory))
+        → ((result ≡ Answer.LiveAsked items) ⊎ (result ≡ Answer.Ended (Ending.Failed Fault.OutOfMemory)))
         × (source.new ≡ source.old) × (sink.new ≡ sink.old) }
-    ensures untouched { IfErr (outcome_of result) (λ fault. fault ≢ Fault.Write
-        → sink.new ≡ sink.old) }
+    ensures untouched { ByAnswer result (λ ending. IfErr (outcome_of ending) (λ fault. fault ≢ Fault.Write
+        → sink.new ≡ sink.old)) (λ items. sink.new ≡ sink.old) }
     // A read or a write that failed is told, and not tried again.
-    ensures failed_read { S.has_failed source.new ≡ true → result ≡ Ending.Failed Fault.Read }
-    ensures failed_write { W.has_failed sink.new ≡ true → result ≡ Ending.Failed Fault.Write }
-    ensures read_fault { result ≡ Ending.Failed Fault.Read
+    ensures failed_read { S.has_failed source.new ≡ true → result ≡ Answer.Ended (Ending.Failed Fault.Read) }
+    ensures failed_write { W.has_failed sink.new ≡ true → result ≡ Answer.Ended (Ending.Failed Fault.Write) }
+    ensures read_fault { result ≡ Answer.Ended (Ending.Failed Fault.Read)
         → IsReadFault (S.has_failed source.new) (S.asked source.old) (S.asked source.new) }
-    ensures write_fault { result ≡ Ending.Failed Fault.Write
+    ensures write_fault { result ≡ Answer.Ended (Ending.Failed Fault.Write)
         → IsWriteFault (W.has_failed sink.new) (W.stuck sink.old) (W.stuck sink.new)
         ⊎ (P.has_failed_output printer.new ≡ true) }
     // The line of a fault is printed where there is one, at most a text where the words are wrong, and
     // nothing else.
     ensures said { let failed = P.has_failed printer.new in
-        Says failed (P.errors printer.old) (P.errors printer.new) result }
-    ensures shown { Shows (P.output printer.old) (P.output printer.new) result }
+        ByAnswer result (Says failed (P.errors printer.old) (P.errors printer.new))
+        (λ items. Keeps (P.errors printer.old) (P.errors printer.new)) }
+    ensures shown { ByAnswer result (Shows (P.output printer.old) (P.output printer.new))
+        (λ items. Keeps (P.output printer.old) (P.output printer.new)) }
 {
     match asked(alloc, words) {
-        Ok(Wanted::Live(items)) => Ending::LiveAsked(items),
+        Ok(Wanted::Live(items)) => Answer::LiveAsked(items),
         Ok(Wanted::Replay(options)) => {
             let outcome = replay(alloc, source, sink, options);
-            finish(printer, outcome)
+            Answer::Ended(finish(printer, outcome))
         }
         Ok(Wanted::Timeline(limit)) => {
             let outcome = timeline(alloc, source, sink, limit);
-            finish(printer, outcome)
+            Answer::Ended(finish(printer, outcome))
         }
-        Err(answer) => answered(printer, answer),
+        Err(answer) => Answer::Ended(answered(printer, answer)),
     }
 }

@@ -5,5 +5,5 @@ use Rattle.ns_live.specs.declared.fault.LiveFault.TheVariants.{OutOfMemory, NoTh
 
 -- a fault as it prints
 abbrev pub live_fault_text : LiveFault → List ℕ
-live_fault_text OutOfMemory = codes "refused 2: out of memory"
-live_fault_text NoThread = codes "refused 12: no thread"
+live_fault_text OutOfMemory = codes "out of memory"
+live_fault_text NoThread = codes "a thread could not be made"

@@ -3,7 +3,7 @@
 use std::fmt;
 use thiserror::Error;
 
-/// Why there is no sum. Each prints as one line of text.
+/// Why there is no sum. Each prints as a few words on one line.
 #[derive(Clone, Copy, Debug, Drop, PartialEq, Eq, Error)]
 pub enum LiveFault {
     /// An allocation was refused.
@@ -20,8 +20,8 @@ impl fmt::Display for LiveFault {
 
     fn fmt<W: fmt::Write>(&self, f: &mut fmt::Formatter<W>) -> fmt::Result {
         match self {
-            LiveFault::OutOfMemory => write!(f, "refused 2: out of memory"),
-            LiveFault::NoThread => write!(f, "refused 12: no thread"),
+            LiveFault::OutOfMemory => write!(f, "out of memory"),
+            LiveFault::NoThread => write!(f, "a thread could not be made"),
         }
     }
 }

@@ -3,7 +3,7 @@
 ghost use Rattle.std.specs.Prelude.{◌≡◌, false};
 
 use crate::memory::{Collected, Printed};
-use ns_command::{Ending, finish_live};
+use ns_command::{Ending, NoSum, finish_live};
 use ns_live::{LiveFault, live};
 use ns_replay::Fault;
 use std::alloc::Global;
@@ -21,7 +21,7 @@ struct Wanted {
 }
 
 /// Whether a run of ten items whose threads answered so is seen to end as it must.
-fn is_seen(alloc: Global, outcome: Result<u64, LiveFault>, sink: Collected, wanted: Wanted) -> bool
+fn is_seen(alloc: Global, outcome: Result<u64, NoSum>, sink: Collected, wanted: Wanted) -> bool
     requires { sink.has_failed ≡ false }
 {
     let mut sink = sink;
@@ -73,8 +73,8 @@ fn ends(rt: HostRuntime) {
     };
     for (outcome, wanted) in [
         (Ok(55), lived),
-        (Err(LiveFault::NoThread), no_thread),
-        (Err(LiveFault::OutOfMemory), no_memory),
+        (Err(NoSum::NoThread), no_thread),
+        (Err(NoSum::OutOfMemory), no_memory),
     ] {
         let sink = Collected::new(rt.alloc());
         assert!(rt;

@@ -3,8 +3,8 @@
 ghost use Rattle.std.specs.Prelude.{◌≡◌, false};
 
 use crate::memory::{Collected, Given, Printed};
-use ns_command::{Ending, finish_live, run};
-use ns_live::live;
+use ns_command::{Answer, Ending, NoSum, finish_live, run};
+use ns_live::{LiveFault, live};
 use std::alloc::{AllocError, Global};
 use std::rt::Files;
 use std::sync::Wait;
@@ -65,7 +65,10 @@ fn run_live<R: AllocGlobal + Threads + Wait + Sync>(
     printer: &mut Printed,
 ) -> (Ending, Vec<u8>) {
     let mut sink = Collected::new(rt.alloc());
-    let outcome = live(rt, rt.alloc(), u64::from(items));
+    let outcome = live(rt, rt.alloc(), u64::from(items)).map_err(|fault| match fault {
+        LiveFault::OutOfMemory => NoSum::OutOfMemory,
+        LiveFault::NoThread => NoSum::NoThread,
+    });
     let ending = finish_live(rt.alloc(), items, outcome, &mut sink, printer);
     (ending, sink.into_bytes())
 }
@@ -84,15 +87,15 @@ pub fn run_seen<R: AllocGlobal + Threads + Wait + Sync>(
     let mut source = source;
     let mut sink = sink;
     let mut printer = printer;
-    let ending = run(rt.alloc(), words, &mut source, &mut sink, &mut printer);
+    let answer = run(rt.alloc(), words, &mut source, &mut sink, &mut printer);
     let mut output = sink.into_bytes();
-    let ending = match ending {
-        Ending::LiveAsked(items) => {
+    let ending = match answer {
+        Answer::LiveAsked(items) => {
             let (ending, written) = run_live(rt, items, &mut printer);
             output.extend_from_slice(&written)?;
             ending
         }
-        ending => ending,
+        Answer::Ended(ending) => ending,
     };
     output.extend_from_slice(printer.output.as_bytes())?;
     Ok(Seen {
