@@ -1,5 +1,5 @@
 -- A count over the seats, one seat at a time.
-use Rattle.std.proofs.Common.{◌≡◌, ℕ, zero, suc, ◌+◌, ◌≤◌, ◌<◌, Bool, true, false, ◌&&◌, cond, eqb, inl, inr, refl, arith, add-one}
+use Rattle.std.proofs.Common.{◌≡◌, ℕ, zero, suc, ◌+◌, ◌≤◌, ◌<◌, Bool, true, false, ◌&&◌, cond, eqb, inl, inr, Fits, w8, refl, ap, ◌∙◌, arith, add-one}
 use Rattle.std.proofs.lemmas.Bool.{cases_eq, ne_eqb, eq-eqb}
 use Rattle.ns_model.specs.Tallies.{one_if}
 use Rattle.ns_model.specs.Phases.{count_below}
@@ -17,6 +17,24 @@ unfolding count_below
 count_most p zero = omega arith
 count_most p (suc n) =
     elim (p n) as (λ b. count_below n p + cond b 1 0 ≤ suc n) [ true ↦ omega (arith, count_most p n) | false ↦ omega (arith, count_most p n) ]
+
+-- ---- a loop that counts up to seat 64
+
+-- whether a seat is counted, by the phase that was found of it
+pub count_told : {P : Type 0} (p : ℕ → P → Bool) (phases : ℕ → P) (seat : ℕ) (phase : P) (told : Bool) → told ≡ p seat phase → phase ≡ phases seat → told ≡ p seat (phases seat)
+count_told p phases seat phase told is same = is ∙ ap (p seat) same
+
+pub count_yes : (p : ℕ → Bool) (n count : ℕ) (told : Bool) → told ≡ p n → told ≡ true → count ≡ count_below n p → count + 1 ≡ count_below (n + 1) p
+count_yes p n count told is one before = rw (count_more p n, ← is, one, ← before) refl
+
+pub count_no : (p : ℕ → Bool) (n count : ℕ) (told : Bool) → told ≡ p n → told ≡ false → count ≡ count_below n p → count ≡ count_below (n + 1) p
+count_no p n count told is none before = rw (count_more p n, ← is, none, ← before) (omega arith)
+
+pub count_fits : (p : ℕ → Bool) (n count : ℕ) → n < 64 → count ≡ count_below n p → Fits w8 (count + 1)
+count_fits p n count low is = omega (arith, count_most p n, is, low)
+
+pub count_whole : (p : ℕ → Bool) (n count : ℕ) → 64 ≤ n → n ≤ 64 → count ≡ count_below n p → count ≡ count_below 64 p
+count_whole p n count over most is = let end : n ≡ 64 = omega (arith, over, most) in is ∙ ap (λ m. count_below m p) end
 
 -- ---- counts of other tests
 

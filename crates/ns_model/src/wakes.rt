@@ -38,7 +38,6 @@ fn is_counted<C: Copy>(who: Counted, k: u8, woken: Seats, seat: u8, phase: &Phas
 }
 
 /// How many of the seats the count is of.
-#[tactic(auto, using(crate::proofs::Counts::count_none, crate::proofs::Counts::count_more, crate::proofs::Counts::count_most))]
 fn count<C: Copy, const N: usize>(who: Counted, k: u8, woken: Seats, past: &[Event<C, N>]) -> u8
     ensures { result ≡ count_seats 64 (is_counted who k woken) (standing_after past.now).phases }
 {

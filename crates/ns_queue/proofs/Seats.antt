@@ -1,10 +1,11 @@
 -- How often a seat stands in lists, and how many waiters a list can have.
-use Rattle.std.proofs.Common.{◌≡◌, ℕ, zero, suc, ◌+◌, ◌≤◌, ◌<◌, inl, inr, Bool, cond, eqb, ltb, List, [], ◌∷◌, ◌++◌, length, refl, subst, arith}
+use Rattle.std.proofs.Common.{◌≡◌, ◌≢◌, ◌↔◌, ℕ, zero, suc, ◌+◌, ◌≤◌, ◌<◌, inl, inr, Bool, false, IsTrue, cond, eqb, ltb, List, [], ◌∷◌, ◌++◌, length, get_or, take, refl, ap, sym, ◌∙◌, subst, arith}
 use Rattle.std.specs.List.{count_by}
-use Rattle.std.proofs.lemmas.List.Sums.{sum_by-cons, sum_by-append}
+use Rattle.std.proofs.lemmas.List.{length-map, length-take-le, map_more, take_all}
+use Rattle.std.proofs.lemmas.List.Sums.{sum_by-cons, sum_by-append, sum_by_more_le, count_by_more_no}
 use Rattle.std.proofs.lemmas.Bool.{ne_eqb, eq-eqb, cases_eq, cases_lt, lt-ltb, le-ltb}
 use Rattle.ns_queue.specs.declared.waiter.Waiter.{Waiter}
-use Rattle.ns_queue.specs.Waiters.{times_in}
+use Rattle.ns_queue.specs.Waiters.{is_of, seats_of, times_in}
 
 -- 1 where it is true, else 0
 abbrev pub one_if : Bool → ℕ
@@ -32,6 +33,37 @@ module _ {C : Type 0} where
 
   pub times_in_push : (ws : List (Waiter C)) (w : Waiter C) (seat : ℕ) → times_in seat (ws ++ w ∷ []) ≡ times_in seat ws + one_if (eqb w.seat seat)
   times_in_push ws w seat = omega (arith, times_in-append seat ws (w ∷ []), times_in-cons seat w [])
+
+  -- ---- a walk along a list that looks for a seat
+
+  pub found_in : (ws : List (Waiter C)) (i : ℕ) (w : Waiter C) (seat : ℕ) → i < length ws → w ≡ get_or ws i w → w.seat ≡ seat → 0 < times_in seat ws
+  found_in ws i w seat within is here =
+      let one : one_if (is_of seat (get_or ws i w)) ≡ 1 = rw (← is) (rw (eq-eqb w.seat seat here) refl) in
+      omega (arith, one, sum_by_more_le (λ (v : Waiter C). one_if (is_of seat v)) ws i w within)
+
+  pub not_here : (ws : List (Waiter C)) (i : ℕ) (w : Waiter C) (seat : ℕ) → i < length ws → w ≡ get_or ws i w → w.seat ≢ seat → times_in seat (take i ws) ≡ 0 → times_in seat (take (i + 1) ws) ≡ 0
+  not_here ws i w seat within is other before =
+      count_by_more_no (is_of seat) ws i w within (rw (← is) (ne_eqb w.seat seat other)) ∙ before
+
+  -- at the end of the list
+  pub nowhere_in : (ws : List (Waiter C)) (i seat : ℕ) → length ws ≤ i → times_in seat (take i ws) ≡ 0 → IsTrue false ↔ (0 < times_in seat ws)
+  nowhere_in ws i seat over before =
+      let none : times_in seat ws ≡ 0 = sym (ap (times_in seat) (take_all i ws over)) ∙ before in
+      (λ is. absurd (cc), λ some. absurd (omega (arith, none, some)))
+
+  -- ---- a walk along a list that gathers its seats
+
+  pub seats_so_far : (ws : List (Waiter C)) (i : ℕ) (got : List ℕ) → i < length ws → length ws ≤ 64 → got ≡ seats_of (take i ws) → length got < 64
+  seats_so_far ws i got within most is =
+      rw (is, length-map, length-take-le i ws (omega arith)) (omega arith)
+
+  pub seats_more : (ws : List (Waiter C)) (i : ℕ) (w : Waiter C) (got got' : List ℕ) → i < length ws → w ≡ get_or ws i w → got' ≡ got ++ w.seat ∷ [] → got ≡ seats_of (take i ws) → got' ≡ seats_of (take (i + 1) ws)
+  seats_more ws i w got got' within is push before =
+      let here : w.seat ≡ (get_or ws i w).seat = ap (λ (v : Waiter C). v.seat) is in
+      rw (push, before, here) (sym (map_more (λ (v : Waiter C). v.seat) ws i w within))
+
+  pub seats_all : (ws : List (Waiter C)) (i : ℕ) (got : List ℕ) → length ws ≤ i → got ≡ seats_of (take i ws) → got ≡ seats_of ws
+  seats_all ws i got over is = is ∙ ap seats_of (take_all i ws over)
 
   -- how many have a seat below n
   abbrev low : ℕ → List (Waiter C) → ℕ

@@ -1,4 +1,5 @@
-use Rattle.std.proofs.Common.{◌<◌, length, sym, arith}
+use Rattle.ns_queue.proofs.Orders.{list_small}
+use Rattle.std.proofs.Common.{ℕ, ◌≤◌, ◌<◌, length, sym, arith}
 use Rattle.ns_queue.proofs.Marking.{pushed_on, skipped_on, marked_yes, marked_no}
 use Rattle.ns_queue.proofs.marks.marked.Goals as goal
 use Rattle.ns_queue.proofs.marks.marked.Goals.{then-marks-i, else-marks-i}
@@ -16,3 +17,12 @@ loop-i-preserved g c =
         few = omega (arith, c.loop-i.invariant.few);
       })
     ]
+
+pub new-taken-requires : goal.new-taken-requires
+new-taken-requires g c = list_small _ g.met.C.Queueable.list_fits
+
+room : (got i n : ℕ) → got ≤ i → i < n → n ≤ 64 → got < 64
+room got i n few within most = omega arith
+
+pub push-requires : goal.push-requires
+push-requires g c = (list_small _ g.met.C.Queueable.list_fits, room _ c.loop-i.i _ c.loop-i.invariant.few c.loop-i-test.true c.requires.most)

@@ -1,9 +1,39 @@
-use Rattle.std.proofs.Common.{◌≢◌, ◌<◌, ◌∙◌, length, get_or, refl, arith}
+use borrow.Author.Rules.{scaled_Fits}
+use Rattle.std.proofs.Common.{◌≡◌, ◌≢◌, ℕ, ◌≤◌, ◌<◌, ◌∙◌, length, get_or, refl, arith, rules}
 use Rattle.std.proofs.lemmas.Bool.{ne_eqb, eq-eqb}
 use Rattle.std.proofs.lemmas.List.{get_or_default}
-use Rattle.std.proofs.lemmas.List.Filters.{FiltersInPlace-more_no, FiltersInPlace-more_set, FiltersInPlace-more_here}
+use Rattle.std.proofs.lemmas.List.Filters.{FiltersInPlace-all, FiltersInPlace-more_no, FiltersInPlace-more_set, FiltersInPlace-more_here}
 use Rattle.ns_queue.proofs.queues.keep_others.Goals as goal
 use Rattle.ns_queue.proofs.queues.keep_others.Goals.{then-waiters-i, else-waiters-i, then-kept-i, else-kept-i}
+
+-- each place up to the loop's is one of the list's
+inside : (i n m : ℕ) → i < n → m ≡ n → i < m
+inside i n m low same = omega arith
+
+kept_inside : (kept i n m : ℕ) → kept ≤ i → i < n → m ≡ n → kept < m
+kept_inside kept i n m behind low same = omega arith
+
+pub bounds-waiters-i : goal.bounds-waiters-i
+bounds-waiters-i g c = inside _ _ _ c.loop-i-test.true c.loop-i.auto.waiters
+
+pub bounds-waiters-i-in-loop-i : goal.bounds-waiters-i-in-loop-i
+bounds-waiters-i-in-loop-i g c = inside _ _ _ c.loop-i-test.true c.loop-i.auto.waiters
+
+pub bounds-waiters-i-then-kept-i : goal.bounds-waiters-i-then-kept-i
+bounds-waiters-i-then-kept-i g c = inside _ _ _ c.loop-i-test.true c.loop-i.auto.waiters
+
+pub bounds-waiters-kept : goal.bounds-waiters-kept
+bounds-waiters-kept g c = kept_inside _ _ _ _ c.loop-i.invariant.behind c.loop-i-test.true c.loop-i.auto.waiters
+
+-- where a place lies, in bytes: `search` finds how many bytes the whole slice takes
+pub offset_bounds-waiters-i : goal.offset_bounds-waiters-i
+offset_bounds-waiters-i g c = scaled_Fits _ (length c.args.waiters.now) _ c.loop-i-test.true (search rules)
+
+pub offset_bounds-waiters-i-then-kept-i : goal.offset_bounds-waiters-i-then-kept-i
+offset_bounds-waiters-i-then-kept-i g c = scaled_Fits _ (length c.args.waiters.now) _ c.loop-i-test.true (search rules)
+
+pub offset_bounds-waiters-kept : goal.offset_bounds-waiters-kept
+offset_bounds-waiters-kept g c = scaled_Fits _ (length c.args.waiters.now) _ (kept_inside _ _ _ _ c.loop-i.invariant.behind c.loop-i-test.true refl) (search rules)
 
 pub loop-i-preserved : goal.loop-i-preserved
 loop-i-preserved g c =
@@ -20,3 +50,6 @@ loop-i-preserved g c =
           ]
       | else-waiters-i w ↦ rw (w.waiters-is, w.kept-is) (FiltersInPlace-more_no c.loop-i.invariant inside (rw (eq-eqb _ _ w.if-waiters-i.false) refl) here)
     ]
+
+pub returns : goal.returns
+returns g c = FiltersInPlace-all c.loop-i.invariant c.loop-i-test.false

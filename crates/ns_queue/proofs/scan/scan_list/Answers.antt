@@ -1,4 +1,5 @@
 use Rattle.std.proofs.Common.{rules, ◌≡◌, ◌∙◌, ap, sym, refl, arith, length, None}
+use Rattle.ns_queue.proofs.Orders.{list_small}
 use Rattle.ns_queue.specs.Marks.{in_front, tests_seeking}
 use Rattle.ns_queue.specs.Waiters.{seats_of}
 use Rattle.ns_queue.proofs.Meaning.{chosen_fit, chosen_takes, chosen_leaves}
@@ -11,7 +12,7 @@ pub marked_seats-woken-requires-clause-same : goal.marked_seats-woken-requires-c
 marked_seats-woken-requires-clause-same g c = chosen_fit (λ d. g.C.Condition.means.holds d c.args.row.now) _ _ _ _ _ c.as_slice-2.ensures.value c.as_slice-3.ensures.value c.as_slice-4.ensures.value c.choose-choice.ensures.marks
 
 pub drop_marked-requires : goal.drop_marked-requires
-drop_marked-requires g c = (omega (arith, g.met.C.Queueable.list_fits), chosen_fit (λ d. g.C.Condition.means.holds d c.args.row.now) _ c.args.waiters.now.items _ _ c.args.waiters.now.items c.as_slice-2.ensures.value refl c.as_slice-5.ensures.value c.choose-choice.ensures.marks)
+drop_marked-requires g c = (list_small _ g.met.C.Queueable.list_fits, chosen_fit (λ d. g.C.Condition.means.holds d c.args.row.now) _ c.args.waiters.now.items _ _ c.args.waiters.now.items c.as_slice-2.ensures.value refl c.as_slice-5.ensures.value c.choose-choice.ensures.marks)
 
 pub returns-clause-woken : goal.returns-clause-woken
 returns-clause-woken g c = c.marked_seats-woken.ensures ∙ ap seats_of (chosen_takes (λ d. g.C.Condition.means.holds d c.args.row.now) _ _ _ _ _ c.as_slice-2.ensures.value c.as_slice-3.ensures.value c.as_slice-4.ensures.value c.choose-choice.ensures.marks)

@@ -1,11 +1,11 @@
 use Rattle.std.proofs.Common.{◌<◌, arith}
-use Rattle.ns_queue.proofs.Orders.{offset_fits}
+use Rattle.ns_queue.proofs.Orders.{offset_fits, list_small}
 use Rattle.ns_queue.proofs.Inside.{lock_has_room, list_has_room, lock_pushed, list_pushed, list_at, list_put}
 use Rattle.ns_queue.proofs.queues.Queues.push_back.Goals as goal
 
 pub push-requires : goal.push-requires
 push-requires g c =
-    (omega (arith, g.met.C.Queueable.list_fits), lock_has_room _ _ c.args.waiter c.self.invariant c.requires.below (rw (← c.self.view_is) at c.requires.free))
+    (list_small _ g.met.C.Queueable.list_fits, lock_has_room _ _ c.args.waiter c.self.invariant c.requires.below (rw (← c.self.view_is) at c.requires.free))
 
 pub invariant_of-self : goal.invariant_of-self
 invariant_of-self g c = lock_pushed _ _ _ c.args.waiter c.self.invariant c.requires.below (rw (← c.self.view_is) at c.requires.free) c.push.ensures.items
@@ -17,7 +17,7 @@ offset_bounds-self-inside-k g c =
 pub push-requires-in-Cv : goal.push-requires-in-Cv
 push-requires-in-Cv g c =
     let low : c.in-Cv.k < 4 = rw c.in-Cv.is at c.requires.list in
-    (omega (arith, g.met.C.Queueable.list_fits), list_has_room _ _ _ _ c.args.waiter c.self.invariant low c.requires.below (rw (← c.self.view_is) at c.requires.free))
+    (list_small _ g.met.C.Queueable.list_fits, list_has_room _ _ _ _ c.args.waiter c.self.invariant low c.requires.below (rw (← c.self.view_is) at c.requires.free))
 
 pub invariant_of-self-in-Cv : goal.invariant_of-self-in-Cv
 invariant_of-self-in-Cv g c =

@@ -1,6 +1,6 @@
 use Rattle.std.proofs.Common.{ap, arith}
 use Rattle.ns_queue.specs.Waiters.{times_in}
-use Rattle.ns_queue.proofs.Orders.{offset_fits}
+use Rattle.ns_queue.proofs.Orders.{offset_fits, list_small}
 use Rattle.ns_queue.proofs.Inside.{list_put, list_lessened}
 use Rattle.ns_queue.proofs.queues.Queues.take_all.Goals as goal
 
@@ -12,3 +12,9 @@ invariant_of-self g c = list_lessened c.self.inside.lock.items c.self.inside.cvs
 
 pub returns-clause-left : goal.returns-clause-left
 returns-clause-left g c = rw (← c.self.view_is, ← c.clear.ensures) (list_put _ _ c.args.k _)
+
+pub copied-taken-requires : goal.copied-taken-requires
+copied-taken-requires g c = list_small _ g.met.C.Queueable.list_fits
+
+pub clear-requires : goal.clear-requires
+clear-requires g c = list_small _ g.met.C.Queueable.list_fits
