@@ -1,4 +1,4 @@
-use Rattle.std.proofs.Common.{rules, ◌≡◌, ◌∙◌, ap, sym, refl, arith, length, None}
+use Rattle.std.proofs.Common.{rules, ◌≡◌, ◌∙◌, ap, sym, refl, length, None}
 use Rattle.ns_queue.proofs.Orders.{list_small}
 use Rattle.ns_queue.specs.Marks.{in_front, tests_seeking}
 use Rattle.ns_queue.specs.Waiters.{seats_of}

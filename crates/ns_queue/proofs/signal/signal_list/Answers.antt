@@ -1,4 +1,4 @@
-use Rattle.std.proofs.Common.{◌∙◌, refl, arith}
+use Rattle.std.proofs.Common.{◌∙◌, refl}
 use Rattle.ns_queue.proofs.Orders.{list_small}
 use Rattle.ns_queue.proofs.Meaning.{signaled_fit, signaled_takes, signaled_leaves}
 use Rattle.ns_queue.proofs.signal.signal_list.Goals as goal

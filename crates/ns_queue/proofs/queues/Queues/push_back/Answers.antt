@@ -1,4 +1,4 @@
-use Rattle.std.proofs.Common.{◌<◌, arith}
+use Rattle.std.proofs.Common.{◌<◌}
 use Rattle.ns_queue.proofs.Orders.{offset_fits, list_small}
 use Rattle.ns_queue.proofs.Inside.{lock_has_room, list_has_room, lock_pushed, list_pushed, list_at, list_put}
 use Rattle.ns_queue.proofs.queues.Queues.push_back.Goals as goal
