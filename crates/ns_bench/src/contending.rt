@@ -8,7 +8,7 @@ use crate::mixed::mix;
 use crate::never::{Never, OneCell};
 use crate::running::{Job, begin, crew, play, repeat};
 use crate::sections::{
-    add_one, compete, lock, read_lock, read_one, try_lock, try_read_lock, work_long,
+    add_one, compete, lock, read_lock, read_one, signal, try_lock, try_read_lock, work_long,
 };
 use crate::steps::{LONG, Steps};
 use std::alloc::Global;
@@ -37,6 +37,8 @@ pub enum Contending {
     Compete,
     /// Locks to read, so many of a hundred times, and else locks and adds 1.
     Mix(u64),
+    /// Signals a variable for which nobody waits, without a section.
+    Signal,
 }
 
 impl Contending {
@@ -82,6 +84,7 @@ impl Contending {
                 );
                 count
             }
+            Contending::Signal => signal(rt, monitor, seat, times),
         }
     }
 
@@ -93,6 +96,7 @@ impl Contending {
             }
             Contending::LockLong => total.writes == amount.operations,
             Contending::Mix(_) => cell == total.writes,
+            Contending::Signal => cell == 0 && total.sum == amount.operations,
             _ => cell == amount.operations && total.writes == amount.operations,
         }
     }

@@ -21,6 +21,8 @@ use std::thread::{Threads, join};
 pub enum EarlyEnd {
     /// A deadline that has come.
     Deadline,
+    /// The same, of a wait for a condition variable.
+    DeadlineAtVariable,
     /// A note that is notified.
     Note,
 }
@@ -71,6 +73,38 @@ fn count_ended<R: Wait>(
     (monitor.unlock(rt, held), count)
 }
 
+/// Waits for a variable so many times in one section, and counts how often a deadline that has come has ended it.
+fn count_timed_out<R: Wait>(
+    rt: &R,
+    monitor: &OneCell,
+    seat: OneSeat,
+    env: &Env,
+    env_seat: &mut EnvSeat,
+    times: u64,
+) -> (OneSeat, u64)
+    requires { (seat.monitor ≡ monitor.now) × (env_seat.old.env ≡ env.now) }
+    ensures { result.0.monitor ≡ monitor.now }
+{
+    let mut held = monitor.lock(rt, seat);
+    let mut count = 0u64;
+    for _ in 0..times {
+        let (back, answer) = monitor.cv_wait_with_deadline(
+            rt,
+            held,
+            0,
+            Some(0),
+            None,
+            env,
+            env_seat,
+        );
+        held = back;
+        if answer == Answer::TimedOut {
+            count = count.wrapping_add(1);
+        }
+    }
+    (monitor.unlock(rt, held), count)
+}
+
 /// Waits so many times, and counts how often the deadline or the note has ended it.
 fn count_waits<R: Wait>(
     rt: &R,
@@ -84,8 +118,14 @@ fn count_waits<R: Wait>(
     requires { (seat.monitor ≡ monitor.now) × (env_seat.old.env ≡ env.now) }
     ensures { result.0.monitor ≡ monitor.now }
 {
-    if matches!(early_end, EarlyEnd::Deadline) {
-        return count_ended(rt, monitor, seat, env, env_seat, Some(0), None, times);
+    match early_end {
+        EarlyEnd::Deadline => {
+            return count_ended(rt, monitor, seat, env, env_seat, Some(0), None, times);
+        }
+        EarlyEnd::DeadlineAtVariable => {
+            return count_timed_out(rt, monitor, seat, env, env_seat, times);
+        }
+        EarlyEnd::Note => (),
     }
     let Some(note) = notified(env, env_seat) else {
         return (seat, 0);

@@ -15,7 +15,9 @@
 //!   false, which are one, or one and another, or each another; `ccs_false_rd`: a section that reads;
 //!   `ccs_silent`: a release without a wakeup; `ccs_true_same`, `ccs_true_each`: one of the waiters is
 //!   asked and answers.
-//! * `to0_mu`, `to0_note`, `cancel0`: a wait whose deadline has come, or whose note is notified;
+//! * `cv_pp`, `live_cv`: as `ccs_pp` and `live`, but by condition variables; `cv_bcast`: a broadcast to all
+//!   threads, the last of which signals that it is through; `cv_signal`: a signal with nobody waiting.
+//! * `to0_mu`, `to0_cv`, `to0_note`, `cancel0`: a wait whose deadline has come, or whose note is notified;
 //!   `note_no`, `note_yes`, `note_child`: a look at a note.
 //! * `pairs`: one thread makes so many pairs of an acquire by a try and a release, and as many by hand on
 //!   one word, and prints the medians of both in nanoseconds a pair, and how many times as long one takes
@@ -31,6 +33,7 @@ mod asked;
 mod conditions;
 mod contending;
 mod crowd;
+mod env_crew;
 mod hand_over;
 mod limits;
 mod long_reads;
@@ -39,9 +42,12 @@ mod never;
 mod notes;
 mod pairs;
 mod ring;
+mod ring_variables;
 mod running;
 mod sections;
+mod signals;
 mod steps;
+mod variables;
 mod waiting;
 
 use crate::amount::Amount;
@@ -50,6 +56,7 @@ use crate::contending::Contending;
 use crate::limits::EarlyEnd;
 use crate::notes::Looks;
 use crate::pairs::{ByLock, ByTry, Medians};
+use crate::variables::Signaling;
 use crate::waiting::{Beside, Marked, Waiting};
 use std::process::ExitCode;
 use std::sync::Wait;
@@ -116,6 +123,7 @@ fn at_one_cell(workload: &str) -> Option<Contending> {
         "fair" => Some(Contending::Compete),
         "mix90" => Some(Contending::Mix(90)),
         "mix99" => Some(Contending::Mix(99)),
+        "cv_signal" => Some(Contending::Signal),
         _ => None,
     }
 }
@@ -137,6 +145,15 @@ fn at_six_cells(workload: &str) -> Option<Waiting> {
     }
 }
 
+/// What is done at condition variables and a row of six cells in the workload of this name.
+fn at_variables(workload: &str) -> Option<Signaling> {
+    match workload {
+        "cv_pp" => Some(Signaling::Turns),
+        "cv_bcast" => Some(Signaling::Rounds),
+        _ => None,
+    }
+}
+
 /// How a note is looked at in the workload of this name.
 fn at_notes(workload: &str) -> Option<Looks> {
     match workload {
@@ -152,6 +169,7 @@ fn at_notes(workload: &str) -> Option<Looks> {
 fn at_limits(workload: &str) -> Option<EarlyEnd> {
     match workload {
         "to0_mu" => Some(EarlyEnd::Deadline),
+        "to0_cv" => Some(EarlyEnd::DeadlineAtVariable),
         "cancel0" => Some(EarlyEnd::Note),
         _ => None,
     }
@@ -187,13 +205,14 @@ fn run<R: AllocGlobal + Print + Clock + Threads + Wait + Sync>(
     if let Some(what) = at_six_cells(asked.workload) {
         return Ok(Ended::of(waiting::run(rt, rt.alloc(), what, amount)));
     }
-    if asked.workload == "live" {
-        return Ok(Ended::of(ring::run(rt, rt.alloc(), amount)));
+    if let Some(what) = at_variables(asked.workload) {
+        return Ok(Ended::of(variables::run(rt, rt.alloc(), what, amount)));
     }
-    if asked.threads == 1 {
-        run_alone(rt, asked)
-    } else {
-        Ok(Ended::Lacks)
+    match asked.workload {
+        "live" => Ok(Ended::of(ring::run(rt, rt.alloc(), amount))),
+        "live_cv" => Ok(Ended::of(ring_variables::run(rt, rt.alloc(), amount))),
+        _ if asked.threads == 1 => run_alone(rt, asked),
+        _ => Ok(Ended::Lacks),
     }
 }
 

@@ -94,6 +94,19 @@ pub fn try_read_lock<R: Wait>(rt: &R, monitor: &OneCell, seat: OneSeat, times: u
     count
 }
 
+/// Signals a variable so many times, each without a section, and adds them up.
+pub fn signal<R: Wait>(rt: &R, monitor: &OneCell, seat: OneSeat, times: u64) -> Count
+    requires { seat.monitor ≡ monitor.now }
+{
+    let mut seat = seat;
+    let mut count = Count::new();
+    for _ in 0..times {
+        monitor.signal(rt, &mut seat, 0);
+        count = count.with(1);
+    }
+    count
+}
+
 /// Works long on the cell.
 pub fn work_long<R: Wait>(rt: &R, monitor: &OneCell, seat: OneSeat, steps: Steps) -> OneSeat
     requires { seat.monitor ≡ monitor.now }

@@ -3,7 +3,7 @@ use Rattle.std.specs.Prelude.{IsSome}
 use Rattle.std.proofs.Common.{◌≡◌, ◌≢◌, ◌⊎◌, inl, inr, ℕ, suc, ◌+◌, ◌<◌, Bool, true, false, cond, eqb, if◌then◌else◌, List, [], ◌∷◌, length, Option, None, Some, set, get_or, refl, ap, sym, ◌∙◌, subst, arith, eq-eqb, length-set, take, drop, slice_set}
 use Rattle.std.proofs.lemmas.Bool.{ne_eqb, cases_eq}
 use Rattle.std.proofs.lemmas.List.{get_or-set_same, get_or-set_other, set-get_or}
-use Rattle.ns_gate.specs.Prelude.{Me, takes, gives, rest, Valid, homes_after, carried_after, Allows, GateView, Views, Homes, Shows, AtHome, Underlying, IsRuled, Holds, the, IsOne, walk_by, act_by, MayBegin, CanStep, HasStepped, PerformedWith, IsLoad, IsStoreOf, IsExchange, MayLoad, MayStore, MayExchange, carried_by, lists_scanned, next_owed, content_by, word_at, standing_after, Truths, QuietKeeps, Event, Read, Write, Mode, Lists, woken_of, seats_of, view_in, number_of, word_of, found_of, exchanged, scanned, owes_more, row_in, before_in, SectionFits, has_some, bits_of, ActFits, CanLeave, CanWait, HasMode, OwesOne, Part, part_of, Effect, newly_held, section_of, exit_for, changed, moves, owed_after, change_found, change_commits, waited_in, meets_at, flags_with, mode_for, want_of, judge_of, has_queues, word_acquired, word_taken, word_returned, word_released, word_released_returning, mode_released, releasing_of, LoadWord, Acquire, TakeQueues, ReturnQueues, Release, ReleaseReturning, WaitReturning, LoadCell, JudgeQuiet, JudgeMet, StoreCell, ArmFlag, PayWake, LoadFlag, Act, QueueSelf, LeaveSelf, WakeWaiters, Change, Saw, Made, Cell, Quiet, Tested, Flag, Paid, Found, Queue, GetLoad, TryLoad, ScanAndRelease, WakeAndReturn, Leave, QueueToWait, TestLast, InQueuing, InLeaving, Subject, OnCondition, OnVariable, Wait, Held, InTry, InAcquire, InRelease, InCells, InWait, InSignal, Walk, Arrival, Writer, QuietWriter, Reader, Releasing, ToChange, ToQueue, Taking, Word}
+use Rattle.ns_gate.specs.Prelude.{Me, takes, gives, rest, Valid, homes_after, carried_after, Allows, GateView, Views, Homes, Shows, AtHome, Underlying, IsRuled, Holds, the, IsOne, walk_by, act_by, MayBegin, CanStep, HasStepped, PerformedWith, IsLoad, IsStoreOf, IsExchange, MayLoad, MayStore, MayExchange, carried_by, lists_scanned, next_owed, content_by, word_at, standing_after, Truths, QuietKeeps, Event, Read, Write, Mode, Lists, woken_of, seats_of, view_in, number_of, word_of, found_of, exchanged, scanned, owes_more, row_in, before_in, SectionFits, has_some, bits_of, ActFits, CanLeave, CanWait, HasMode, OwesOne, Part, part_of, Effect, newly_held, section_of, exit_for, changed, moves, owed_after, change_found, change_commits, waited_in, meets_at, flags_with, mode_for, want_of, judge_of, has_queues, word_acquired, word_taken, word_returned, word_released, word_released_returning, mode_released, releasing_of, LoadWord, Acquire, TakeQueues, ReturnQueues, Release, ReleaseReturning, WaitReturning, LoadCell, JudgeQuiet, JudgeMet, StoreCell, ArmFlag, PayWake, LoadFlag, Act, QueueSelf, LeaveSelf, WakeWaiters, Nothing, Change, Saw, Made, Cell, Quiet, Tested, Flag, Paid, Found, Queue, GetLoad, TryLoad, ScanAndRelease, WakeAndReturn, ReturnShown, Leave, QueueToWait, TestLast, InQueuing, InLeaving, Subject, OnCondition, OnVariable, Wait, Held, InTry, InAcquire, InRelease, InCells, InWait, InSignal, InShow, Walk, Arrival, Writer, QuietWriter, Reader, Releasing, ToChange, ToQueue, Taking, Word}
 use Rattle.atomic_table.specs.Table.{Act as TableAct, keeps as keeps_slots}
 use Rattle.ns_gate.proofs.Keeps.{none_takes, one_is, hand_of, its_fit, between, lawful_between, stands_between, walk_in, now, later, did, did_from, ruled}
 use Rattle.ns_gate.proofs.Findings.{meant_by, walk_is}
@@ -37,6 +37,7 @@ carried_returned : {C : Type 0} (seat : ℕ) (change : Change) (last : Word) (li
 carried_returned seat (QueueSelf mode arrival) last lists stood cs = refl
 carried_returned seat (LeaveSelf which) last lists stood cs = refl
 carried_returned seat (WakeWaiters waking k) last lists stood cs = refl
+carried_returned seat Nothing last lists stood cs = refl
 
 -- what is left as they are put back, with the lists changed
 abbrev returned : {C : Type 0} {N : ℕ} → ℕ → Change → Word → Part C N → Part C N
@@ -48,6 +49,7 @@ returned_effect : {C : Type 0} {N : ℕ} (truths : Truths C) (seat : ℕ) (chang
 returned_effect truths seat (QueueSelf mode arrival) last old same = (refl, same, refl, refl)
 returned_effect truths seat (LeaveSelf which) last old same = (refl, same, refl, refl)
 returned_effect truths seat (WakeWaiters waking k) last old same = (refl, same, refl, refl)
+returned_effect truths seat Nothing last old same = (refl, same, refl, refl)
 
 -- the words after a flag was stored
 shows_flag : (N : ℕ) (words : List ℕ) (word : Word) (row : List ℕ) (flags : ℕ → ℕ) (payee x : ℕ) → Shows N words word row flags → payee < 64 → Shows N (set words (payee + (N + 1)) x) word row (flags_with flags payee x)
@@ -99,6 +101,7 @@ returning_has (InRelease releasing (ScanAndRelease last)) e = refl
 returning_has (InWait wait (InQueuing again (QueueToWait last))) e = refl
 returning_has (InWait wait (InLeaving cause (Leave last))) e = refl
 returning_has (InSignal waking k (WakeAndReturn last)) e = refl
+returning_has (InShow (ReturnShown last)) e = refl
 returning_has (InWait wait (TestLast visit i)) e = let n = no_judge_returns wait.on i in absurd (cc)
 returning_has (InTry mode TryLoad) e = absurd (cc)
 returning_has (InCells (GetLoad i)) e = absurd (cc)

@@ -1,7 +1,7 @@
 -- A step takes its call on, as its caller follows it.
 use Rattle.std.proofs.Common.{◌≡◌, ℕ, ◌≤◌, true, false, arith, List, [], ◌∷◌, ◌++◌, length, Option, None, Some, refl, ap, sym, ◌∙◌, subst}
 use Rattle.std.proofs.lemmas.List.{append_assoc, append-nil}
-use Rattle.ns_gate.specs.Prelude.{Event, SeatOf, IsTrueToHistory, IsWide, IsAtRest, OwesBelow, HasSince, IsAtPlace, HasReached, GateView, the, IsOne, walk_by, course_by, carried_by, CanStep, HasStepped, Performed, Standing, row_after, standing_after, Truths, asked_of, CallGoes, SectionFits, has_some, Course, PlaceFits, ActFits, OwesOne, part_of, PayWake, Pay, PayTheWoken, PayInWait, InTry, InAcquire, InRelease, InCells, InWait, InSignal, Told, IsTold, want_of, got_of, walk_after, pays, has_queues, Act, Found, Held, SeatView, On, Idle, Done, Next, Walk}
+use Rattle.ns_gate.specs.Prelude.{Event, SeatOf, IsTrueToHistory, IsWide, IsAtRest, OwesBelow, HasSince, IsAtPlace, HasReached, GateView, the, IsOne, walk_by, course_by, carried_by, CanStep, HasStepped, Performed, Standing, row_after, standing_after, Truths, asked_of, CallGoes, SectionFits, has_some, Course, PlaceFits, ActFits, OwesOne, part_of, PayWake, Pay, PayTheWoken, PayInWait, InTry, InAcquire, InRelease, InCells, InWait, InSignal, InShow, Told, IsTold, want_of, got_of, walk_after, pays, has_queues, Act, Found, Held, SeatView, On, Idle, Done, Next, Walk}
 use Rattle.ns_gate.proofs.Findings.{fits_now, walk_is}
 use Rattle.ns_model.proofs.Beginnings.{begins_itself, begins_through}
 
@@ -24,6 +24,7 @@ pays_wants (InSignal waking k _) e = absurd (cc)
 pays_wants (InTry mode place) e = absurd (cc)
 pays_wants (InAcquire aim place) e = absurd (cc)
 pays_wants (InCells place) e = absurd (cc)
+pays_wants (InShow place) e = absurd (cc)
 
 below_by : (seat_count : ℕ) (owed : List ℕ) → seat_count ≤ 64 → (has_some owed ≡ true → OwesOne seat_count owed) → OwesBelow owed
 below_by seat_count [] few one = tt

@@ -7,3 +7,4 @@ pub mod Starts
 pub mod Stays
 pub mod Findings
 pub mod Allowed
+pub mod Wakes

@@ -25,7 +25,7 @@ module _ {C : Type 0} {N : ℕ} where
 
 module _ {C : Type 0} {N : ℕ} (truths : Truths C) where
   -- what a step of a call in progress does to the state that it found
-  effect_of : (act : Act C) (found : Found) (me now : SeatOf C N) (p : Performed truths None act found me now) → Effect truths (the me.0).at.seat act (part_of p.did.old (the me.0).at.held (the me.0).at.owed) found (part_of p.did.new p.did.made.step.held p.did.made.step.owed) p.did.commits
+  pub effect_of : (act : Act C) (found : Found) (me now : SeatOf C N) (p : Performed truths None act found me now) → Effect truths (the me.0).at.seat act (part_of p.did.old (the me.0).at.held (the me.0).at.owed) found (part_of p.did.new p.did.made.step.held p.did.made.step.owed) p.did.commits
   effect_of act found me now p =
       let d = p.did in
       subst (λ s. Effect truths (the me.0).at.seat act (part_of s (the me.0).at.held (the me.0).at.owed) found (part_of d.new d.made.step.held d.made.step.owed) d.commits) d.made.begins (does truths None act found me now p)

@@ -5,4 +5,6 @@ pub mod Meetings
 pub mod Performing
 pub mod Prelude
 pub mod Room
+pub mod Showing
 pub mod Steps
+pub mod Wakes

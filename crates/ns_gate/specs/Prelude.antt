@@ -7,7 +7,9 @@ pub use Rattle.ns_gate.specs.Law.{AtHome, Fits, GateView, HasCome, Holds, Homes,
 pub use Rattle.ns_gate.specs.Meetings.{AreOfOneHistory, ArePair, HasLearned, HaveLearned, HaveMet, SawAllOf, ShareTheLock, the_second}
 pub use Rattle.ns_gate.specs.Performing.{IsOnWord, IsTurned, Needs}
 pub use Rattle.ns_gate.specs.Room.{QueuesFit, queues_fit}
+pub use Rattle.ns_gate.specs.Showing.{ShowsLists}
 pub use Rattle.ns_gate.specs.Steps.{CanStep, Carries, HasLooked, HasStepped, HasUnchangedQueues, HasUseFor, IsExchange, IsLoad, IsOne, IsOwedNext, IsStoreOf, MayBegin, MayExchange, MayLoad, MayStore, Performed, PerformedWith, act_by, act_of, act_returning, carried_by, content_by, course_by, first_said, found_returned, lists_returned, lists_scanned, made_by, next_owed, some_returned, the, tried, tried_for, walk_by, word_at, word_returning}
+pub use Rattle.ns_gate.specs.Wakes.{lists_left, lists_woken, owed_woken, taken_from, turned_to, without_each}
 pub use Rattle.ns_model.specs.Beginnings.{BeginsWith}
 pub use Rattle.ns_model.specs.Environments.{IsMade}
 pub use Rattle.ns_model.specs.Histories.{IsBySeats, Standing, row_after, standing_after}
@@ -22,9 +24,9 @@ pub use Rattle.ns_model.specs.declared.event.Event.{Event}
 pub use Rattle.ns_model.specs.declared.event.Exit.TheVariants.{CondWait}
 pub use Rattle.ns_model.specs.declared.event.Mode.{Mode}
 pub use Rattle.ns_model.specs.declared.event.Mode.TheVariants.{Read, Write}
-pub use Rattle.ns_queue.specs.Queues.{IsList, Lists, times, waiters_of}
+pub use Rattle.ns_queue.specs.Queues.{IsList, IsOrderly, Lists, times, waiters_of, with_waiters, without}
 pub use Rattle.ns_queue.specs.Scans.{is_eligible, is_satisfied, left_of, tests_of, woken_of}
-pub use Rattle.ns_queue.specs.Waiters.{has_condition, reads, seats_of, times_in, writes}
+pub use Rattle.ns_queue.specs.Waiters.{HaveSeats, has_condition, reads, seats_of, times_in, writes}
 pub use Rattle.ns_queue.specs.declared.waiter.Waiter.{Waiter}
 pub use Rattle.ns_queue.specs.declared.waiter.Which.{Which}
 pub use Rattle.ns_word.specs.Asked.{asked_of}
@@ -36,7 +38,7 @@ pub use Rattle.ns_word.specs.Lawful.{IsLawful, OneWriter, SectionFits, ViewFits}
 pub use Rattle.ns_word.specs.Lists.{bits_of, has_some}
 pub use Rattle.ns_word.specs.Meanings.{ConditionWaitMeans, Course, HasWaited, InHand, Unchanged, WaitMeans, course_from}
 pub use Rattle.ns_word.specs.Places.{ActFits, CanLeave, CanWait, HasMode, IsInRange, IsSettled, OwesOne, PlaceFits, Tests}
-pub use Rattle.ns_word.specs.Steps.{Effect, LockState, MayShow, Part, Step, change_commits, change_found, changed, exit_for, flags_with, held_after, held_by, meets_at, moves, newly_held, owed_after, part_of, section_of, waited_in, waits_at, with_lock}
+pub use Rattle.ns_word.specs.Steps.{Effect, LockState, MayShow, Part, Step, change_commits, change_found, changed, exit_for, flags_with, held_after, held_by, kept_by, meets_at, moved_to, moves, newly_held, owed_after, part_of, section_of, taken_by, waited_in, waits_at, with_lock}
 pub use Rattle.ns_word.specs.Told.{IsTold, Told, calls_of, told_after}
 pub use Rattle.ns_word.specs.Views.{is_reading, is_writing, readers, takers, writers}
 pub use Rattle.ns_word.specs.Waits.{answer_of, arrival_of, home_of, is_limited, mode_for, outcome_taken, woken_by}
@@ -46,9 +48,11 @@ pub use Rattle.ns_word.specs.declared.acquire_walk.AcquirePlace.TheVariants.{Acq
 pub use Rattle.ns_word.specs.declared.act.Act.{Act}
 pub use Rattle.ns_word.specs.declared.act.Act.TheVariants.{Acquire, ArmFlag, JudgeMet, JudgeQuiet, LoadCell, LoadFlag, LoadWord, Look, PayWake, Release, ReleaseReturning, ReturnQueues, StoreCell, TakeQueues, WaitReturning}
 pub use Rattle.ns_word.specs.declared.act.Change.{Change}
-pub use Rattle.ns_word.specs.declared.act.Change.TheVariants.{LeaveSelf, QueueSelf, WakeWaiters}
+pub use Rattle.ns_word.specs.declared.act.Change.TheVariants.{LeaveSelf, Nothing, QueueSelf, WakeWaiters}
 pub use Rattle.ns_word.specs.declared.act.Found.{Found}
-pub use Rattle.ns_word.specs.declared.act.Found.TheVariants.{Cell, Flag, Looked, Made, Paid, Quiet, Saw, Tested}
+pub use Rattle.ns_word.specs.declared.act.Found.TheVariants.{Cell, Flag, Looked, Made, Paid, Quiet, Saw, Tested, Woke}
+pub use Rattle.ns_word.specs.declared.act.Waking.{Waking}
+pub use Rattle.ns_word.specs.declared.act.Waking.TheVariants.{Broadcasting, Signaling}
 pub use Rattle.ns_word.specs.declared.cell_walk.CellPlace.TheVariants.{GetLoad, QuietCells, QuietLast, SetStore}
 pub use Rattle.ns_word.specs.declared.cell_walk.Judging.TheVariants.{ToTell}
 pub use Rattle.ns_word.specs.declared.limits.Cause.{Cause}
@@ -57,6 +61,7 @@ pub use Rattle.ns_word.specs.declared.limits.Limits.{Limits}
 pub use Rattle.ns_word.specs.declared.release_walk.ReleasePlace.TheVariants.{Pay, ReleaseLoad, ScanAndRelease, ScanCells}
 pub use Rattle.ns_word.specs.declared.request.Request.{Request}
 pub use Rattle.ns_word.specs.declared.request.Request.TheVariants.{Await, Get, IsQuiet, Set, TryLock}
+pub use Rattle.ns_word.specs.declared.show_walk.ShowPlace.TheVariants.{ReturnShown}
 pub use Rattle.ns_word.specs.declared.signal_walk.SignalPlace.TheVariants.{PayTheWoken, SignalLoad, WakeAndReturn}
 pub use Rattle.ns_word.specs.declared.try_walk.TryPlace.TheVariants.{TryAcquire, TryLoad}
 pub use Rattle.ns_word.specs.declared.view.Held.{Held}
@@ -76,7 +81,7 @@ pub use Rattle.ns_word.specs.declared.walk.Next.{Next}
 pub use Rattle.ns_word.specs.declared.walk.Next.TheVariants.{Done, Idle, On}
 pub use Rattle.ns_word.specs.declared.walk.Reply.TheVariants.{Answered, Busy, Is, Number, Succeeded}
 pub use Rattle.ns_word.specs.declared.walk.Walk.{Walk}
-pub use Rattle.ns_word.specs.declared.walk.Walk.TheVariants.{InAcquire, InCells, InRelease, InSignal, InTry, InWait}
+pub use Rattle.ns_word.specs.declared.walk.Walk.TheVariants.{InAcquire, InCells, InRelease, InShow, InSignal, InTry, InWait}
 pub use Rattle.ns_word.specs.declared.word.Arrival.{Arrival}
 pub use Rattle.ns_word.specs.declared.word.Arrival.TheVariants.{AsFresh}
 pub use Rattle.ns_word.specs.declared.word.Bits.{Bits}

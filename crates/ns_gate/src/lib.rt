@@ -16,4 +16,6 @@ pub mod plays;
 pub mod queues;
 pub mod room;
 pub mod saying;
+pub mod showing;
 pub mod view;
+pub mod waking;

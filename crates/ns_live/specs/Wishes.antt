@@ -10,10 +10,14 @@ use Rattle.ns_live.specs.declared.wish.Wish.TheVariants.{Room, Item}
 abbrev pub items_in : List ℕ → ℕ
 items_in row = slice_index row 5
 
+-- so many items leave room in the ring, or are some
+abbrev pub is_met_by : Wish → ℕ → Bool
+is_met_by Room items = nat_lt items 4
+is_met_by Item items = nat_lt 0 items
+
 -- the ring isn't full, or it isn't empty
 abbrev pub is_met : Wish → List ℕ → Bool
-is_met Room row = nat_lt (items_in row) 4
-is_met Item row = nat_lt 0 (items_in row)
+is_met wish row = is_met_by wish (items_in row)
 
 -- both are for the same
 abbrev pub is_same : Wish → Wish → Bool

@@ -18,6 +18,8 @@
 //! put(&ring, &mut held, 7);
 //! let seat = ring.unlock(&rt, held);
 //! ```
+//!
+//! Who waits for condition variables instead asks [`is_met`] after each wake.
 #![tactic(auto)]
 
 mod commons;
@@ -30,6 +32,6 @@ mod running;
 mod wish;
 
 pub use fault::LiveFault;
-pub use ring::{RingHeld, RingMonitor, RingSeat, put, take};
+pub use ring::{RingHeld, RingMonitor, RingSeat, is_met, put, take};
 pub use running::live;
 pub use wish::Wish;

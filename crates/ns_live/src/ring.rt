@@ -4,7 +4,7 @@ ghost use Rattle.std.specs.Prelude.{◌≡◌, ◌++◌, [], ◌∷◌, Some, sl
 ghost use Rattle.ns_word.specs.Meanings.{InHand};
 ghost use Rattle.ns_live.specs.declared.wish.Wish.TheVariants.{Item, Room};
 ghost use Rattle.ns_live.specs.Rings.{queue_in, with_item, without_first};
-ghost use Rattle.ns_live.specs.Wishes.{IsMetIn};
+ghost use Rattle.ns_live.specs.Wishes.{IsMetIn, is_met as is_met_at};
 
 use crate::wish::Wish;
 use ns_monitor::caller::{Seat, WriteHeld};
@@ -69,6 +69,16 @@ pub fn take(monitor: &RingMonitor, held: &mut RingHeld) -> u64
     let taken = monitor.get(held, TAKEN);
     monitor.set(held, TAKEN, taken.wrapping_add(1));
     item
+}
+
+/// Whether the wish is met in the section in hand, so that an item may be put, or taken: what a wait for a
+/// condition variable, whose wake tells nothing of the ring, is followed by.
+pub fn is_met(monitor: &RingMonitor, held: &mut RingHeld, wish: Wish) -> bool
+    requires { held.old.monitor ≡ monitor.now }
+    ensures of { (held.new.monitor ≡ held.old.monitor) × (held.new.held ≡ held.old.held) }
+    ensures met { InHand held.new.held (λ section. is_met_at wish section.row ≡ result) }
+{
+    wish.is_met_by(monitor.get(held, LENGTH))
 }
 
 /// How many items were taken by now.

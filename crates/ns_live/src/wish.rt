@@ -1,5 +1,8 @@
 //! What the threads wait for.
 
+ghost use Rattle.std.specs.Prelude.{◌≡◌};
+ghost use Rattle.ns_live.specs.Wishes.{is_met_by};
+
 use crate::ring::{LENGTH, RING, ROW};
 use ns_model::condition::Condition;
 
@@ -12,6 +15,18 @@ pub enum Wish {
     Item,
 }
 
+impl Wish {
+    /// Whether it is met where so many items are in the ring.
+    pub(crate) fn is_met_by(self, items: u64) -> bool
+        ensures { result ≡ is_met_by self items }
+    {
+        match self {
+            Wish::Room => items < RING,
+            Wish::Item => 0 < items,
+        }
+    }
+}
+
 impl Condition<ROW> for Wish {
     ghost use Rattle.std.proofs.Common.{rules};
     ghost use Rattle.ns_live.specs.Laws.{quiet_wishes, same_wishes};
@@ -20,10 +35,7 @@ impl Condition<ROW> for Wish {
     ghost means = { wishes };
 
     fn test(&self, row: &[u64; ROW]) -> bool {
-        match self {
-            Wish::Room => row[LENGTH] < RING,
-            Wish::Item => 0 < row[LENGTH],
-        }
+        self.is_met_by(row[LENGTH])
     }
 
     fn same(&self, other: &Self) -> bool {

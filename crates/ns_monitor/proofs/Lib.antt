@@ -6,6 +6,9 @@ pub mod Meetings
 pub mod Releases
 pub mod Returns
 pub mod Saves
+pub mod Shows
 pub mod Standing
 pub mod Tests
+pub mod VariableWaits
 pub mod Waits
+pub mod Wakes

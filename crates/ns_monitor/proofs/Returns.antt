@@ -3,7 +3,7 @@ use Rattle.std.proofs.Common.{⊎_elim, ◌≡◌, ◌||◌, is_some, ℕ, ◌-�
 use Rattle.ns_gate.proofs.Calls.{goes}
 use Rattle.ns_gate.proofs.Findings.{does}
 use Rattle.ns_gate.proofs.Keeps.{hand_of}
-use Rattle.ns_gate.specs.Prelude.{SeatOf, HasAnswered, HasSince, IsAtPlace, IsWide, HasReached, the, Performed, Truths, Answer, Met, TimedOut, Canceled, Mode, TableId, row_after, EnvEvent, Event, CondWait, Course, ConditionWaitMeans, HasWaited, InHand, Unchanged, WaitMeans, Walk, HasMode, PlaceFits, Tests, held_after, held_by, section_of, Part, answer_of, is_limited, back_with, got_queuing, look_or_queue, test_place, unmet_by, Look, Looked, Cause, Expired, Notified, Limits, Await, Held, SeatView, ForWait, Outcome, Load, LookIn, Subject, OnCondition, Visit, OnReturn, Wait, InQueuing, TestCells, TestLast, On, Answered, InWait, IsInRange}
+use Rattle.ns_gate.specs.Prelude.{SeatOf, HasAnswered, HasSince, IsAtPlace, IsWide, HasReached, the, Performed, Truths, Answer, Met, TimedOut, Canceled, Mode, TableId, row_after, EnvEvent, Event, CondWait, Course, ConditionWaitMeans, HasWaited, InHand, Unchanged, WaitMeans, Walk, HasMode, PlaceFits, Tests, held_after, held_by, section_of, Part, answer_of, is_limited, back_with, got_queuing, look_or_queue, test_place, Look, Looked, Cause, Expired, Notified, Limits, Await, Held, SeatView, ForWait, Outcome, Load, LookIn, Subject, OnCondition, Visit, OnReturn, Wait, InQueuing, TestCells, TestLast, On, Answered, InWait, IsInRange}
 use Rattle.ns_monitor.specs.Prelude.{HadLooked, HasAcquired, HasComeBack, HasRow, HasStayed, HasTested, HasWaitedFor, IfAnswered, IsFresh, IsFreshIn, Known, LookShows, QueuesOrEnds, WaitTells, known_of, limits_of, tested_by}
 use Rattle.ns_note.specs.Known.{EnvKnown}
 use Rattle.ns_note.specs.declared.note.Note.{Note}

@@ -2,7 +2,7 @@
 use Rattle.std.proofs.Common.{◌≡◌, ℕ, ◌<◌, Bool, true, false, cond, List, [], ◌++◌, append-nil, ◌∷◌, Option, None, Some, refl, ap, sym, ◌∙◌, subst}
 use Rattle.ns_gate.proofs.Calls.{begins, can_go, goes, goes_on, since}
 use Rattle.ns_gate.proofs.Findings.{does}
-use Rattle.ns_gate.specs.Prelude.{SeatOf, HasSince, IsAtPlace, IsAtRest, HasReached, OwesBelow, GateView, rest_of, rest, the, act_returning, carried_by, Carries, found_returned, lists_returned, some_returned, CanStep, HasStepped, IsOwedNext, Performed, standing_after, view_in, woken_of, seats_of, row_in, SectionFits, changed, meets_at, moves, Change, Bits, Request, Held, Queue, Leave, QueueToWait, Truths, Event, Lists, asked_of, IsPackable, number_of, word_of, owes_more, bits_of, has_some, Effect, LockState, Part, part_of, Told, got_of, has_queues, want_of, release_has_queues, scan_place, word_taken, Act, LoadWord, LoadFlag, PayWake, TakeQueues, Acquire, Release, ReturnQueues, ReleaseReturning, WaitReturning, Found, Saw, Made, Flag, Paid, AcquireLoad, ReleaseLoad, ScanCells, ScanAndRelease, SignalLoad, SeatView, ForLock, ForWait, LeaveLoad, Load, InQueuing, InLeaving, On, Idle, Walk, InTry, InAcquire, InRelease, InCells, InWait, InSignal, Taking, ToChange, ToQueue, Word}
+use Rattle.ns_gate.specs.Prelude.{SeatOf, HasSince, IsAtPlace, IsAtRest, HasReached, OwesBelow, GateView, rest_of, rest, the, act_returning, carried_by, Carries, found_returned, lists_returned, some_returned, CanStep, HasStepped, IsOwedNext, Performed, standing_after, view_in, woken_of, seats_of, row_in, SectionFits, changed, meets_at, moves, Change, Bits, Request, Held, Queue, Leave, QueueToWait, Truths, Event, Lists, asked_of, IsPackable, number_of, word_of, owes_more, bits_of, has_some, Effect, LockState, Part, part_of, Told, got_of, has_queues, want_of, release_has_queues, scan_place, word_taken, Act, LoadWord, LoadFlag, PayWake, TakeQueues, Acquire, Release, ReturnQueues, ReleaseReturning, WaitReturning, Found, Saw, Made, Flag, Paid, AcquireLoad, ReleaseLoad, ScanCells, ScanAndRelease, SignalLoad, SeatView, ForLock, ForWait, LeaveLoad, Load, InQueuing, InLeaving, On, Idle, Walk, InTry, InAcquire, InRelease, InCells, InWait, InSignal, InShow, ReturnShown, Taking, ToChange, ToQueue, Word}
 use Rattle.ns_gate.specs.declared.queues.Returning.{Returning}
 use Rattle.ns_gate.specs.declared.queues.Returning.TheVariants.{Changed, Released, Waited}
 use Rattle.ns_gate.specs.declared.queues.Turned.{Turned}
@@ -82,6 +82,7 @@ decides_at N (InSignal waking k SignalLoad) d = record { wants = refl; free = re
 decides_at N (InSignal waking k place) d = absurd d
 decides_at N (InTry mode place) d = absurd d
 decides_at N (InCells place) d = absurd d
+decides_at N (InShow place) d = absurd d
 
 -- one that its word lets go may go without the queues
 pub goes_alone : {C : Type 0} (going : Going C) (word : Word) → may_go going word ≡ true → MayGoAlone going
@@ -117,6 +118,8 @@ module _ {C : Type 0} where
   puts_at N (InSignal waking k place) last puts = absurd puts
   puts_at N (InTry mode place) last puts = absurd puts
   puts_at N (InCells place) last puts = absurd puts
+  puts_at N (InShow (ReturnShown other)) last puts = record { wants = refl; has = λ word. refl; missed = λ word. refl; made = λ truths seat row stood. refl; same = λ truths first seat row stood. refl; empties = λ truths seat row stood now slots. refl; asked = refl }
+  puts_at N (InShow place) last puts = absurd puts
 
   -- the slot stays as it was where another word was found
   saw_slots : (returning : Returning C) (last word : Word) (now : Lists C) (slots : List (ℕ × Lists C)) → carried_by (act_returning returning last) (Saw word) now slots ≡ slots
@@ -130,7 +133,7 @@ same_owed truths (Released releasing) start me owed s is = is ∙ (λ i. seats_o
 same_owed truths (Waited wait again) start me owed s is = is ∙ (λ i. seats_of (woken_of (meets_at truths (row_in (s.held i))) (s.stood i).lock))
 
 -- what saw another word has changed nothing
-saw_keeps : {C : Type 0} {N : ℕ} (truths : Truths C) (seat : ℕ) (act : Act C) (old new : Part C N) (word : Word) (commits : List (Event C N)) → Effect truths seat act old (Saw word) new commits → new ≡ old
+pub saw_keeps : {C : Type 0} {N : ℕ} (truths : Truths C) (seat : ℕ) (act : Act C) (old new : Part C N) (word : Word) (commits : List (Event C N)) → Effect truths seat act old (Saw word) new commits → new ≡ old
 saw_keeps truths seat LoadWord old new word commits e = e.1
 saw_keeps truths seat (Acquire aim arrival last) old new word commits e = e.2
 saw_keeps truths seat (TakeQueues taking last) old new word commits e = e.2

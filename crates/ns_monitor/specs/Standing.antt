@@ -11,7 +11,7 @@ use Rattle.ns_queue.specs.Waiters.{seats_of}
 use Rattle.ns_queue.specs.declared.waiter.Which.TheVariants.{Lock}
 use Rattle.ns_word.specs.Finds.{row_in}
 use Rattle.ns_word.specs.Steps.{meets_at}
-use Rattle.ns_word.specs.declared.act.Change.TheVariants.{QueueSelf, LeaveSelf}
+use Rattle.ns_word.specs.declared.act.Change.TheVariants.{QueueSelf, LeaveSelf, Nothing}
 use Rattle.ns_word.specs.declared.act.Found.{Found}
 use Rattle.ns_monitor.specs.declared.going.Going.{Going}
 use Rattle.ns_monitor.specs.declared.going.Going.TheVariants.{Acquiring, Leaving, Changing}
@@ -31,6 +31,7 @@ use Rattle.ns_word.specs.declared.request.Request.TheVariants as TheRequest
 use Rattle.ns_word.specs.declared.wait.Aim.{Aim}
 use Rattle.ns_word.specs.declared.word.Arrival.{Arrival}
 use Rattle.ns_word.specs.declared.word.Releasing.{Releasing}
+use Rattle.ns_word.specs.declared.show_walk.ShowPlace.TheVariants.{ReturnShown}
 use Rattle.ns_word.specs.declared.signal_walk.SignalPlace.TheVariants.{SignalLoad, TakeToWake, WakeAndReturn}
 use Rattle.ns_word.specs.declared.wait.LeavePlace.TheVariants.{LeaveLoad, TakeToLeave, Leave}
 use Rattle.ns_word.specs.declared.wait.QueuePlace.TheVariants.{Load, Take, ArmToWait, QueueToWait}
@@ -39,7 +40,7 @@ use Rattle.ns_word.specs.declared.walk.Next.{Next}
 use Rattle.ns_word.specs.declared.walk.Next.TheVariants.{On, Idle, Done}
 use Rattle.ns_word.specs.declared.walk.Reply.TheVariants.{Succeeded}
 use Rattle.ns_word.specs.declared.walk.Walk.{Walk}
-use Rattle.ns_word.specs.declared.walk.Walk.TheVariants.{InAcquire, InRelease, InWait, InSignal}
+use Rattle.ns_word.specs.declared.walk.Walk.TheVariants.{InAcquire, InRelease, InWait, InSignal, InShow}
 use Rattle.ns_word.specs.declared.word.Taking.{Taking}
 use Rattle.ns_word.specs.declared.word.Taking.TheVariants.{ToChange, ToQueue}
 use Rattle.ns_word.specs.declared.word.Word.{Word}
@@ -156,12 +157,13 @@ WentAtOnce {C} {N} truths walk (Some last) now = IsPackable (word_of last) × Ha
 
 -- ---- with the queues in hand
 
--- A call puts the queues back at this place: one that acquires, or that waits, with itself in its list or without, or that releases.
+-- A call puts the queues back at this place: one that acquires, or that waits, with itself in its list or without, or that releases, or that shows.
 abbrev pub PutsBack : {C : Type 0} → Walk C → Type 0
 PutsBack (InAcquire aim (Queue arrival last)) = Unit {0}
 PutsBack (InRelease releasing (ScanAndRelease last)) = Unit {0}
 PutsBack (InWait wait (InQueuing again (QueueToWait last))) = Unit {0}
 PutsBack (InWait wait (InLeaving cause (Leave last))) = Unit {0}
+PutsBack (InShow (ReturnShown last)) = Unit {0}
 PutsBack walk = ⊥
 
 -- what for; another place puts back none
@@ -170,6 +172,7 @@ returning_of (InAcquire aim (Queue arrival last)) = Changed (QueueSelf (mode_for
 returning_of (InRelease releasing place) = Released releasing
 returning_of (InWait wait (InQueuing again place)) = Waited wait again
 returning_of (InWait wait place) = Changed (LeaveSelf (home_of wait.on))
+returning_of (InShow place) = Changed Nothing
 returning_of walk = Changed (LeaveSelf Lock)
 
 -- the same place, by another word
@@ -178,6 +181,7 @@ returning_at (InAcquire aim (Queue arrival last)) word = InAcquire aim (Queue ar
 returning_at (InRelease releasing place) word = InRelease releasing (ScanAndRelease word)
 returning_at (InWait wait (InQueuing again place)) word = InWait wait (InQueuing again (QueueToWait word))
 returning_at (InWait wait (InLeaving cause place)) word = InWait wait (InLeaving cause (Leave word))
+returning_at (InShow place) word = InShow (ReturnShown word)
 returning_at walk word = walk
 
 -- the seat has in hand what is put back for this, whatever the word is; this tells of it

@@ -5,7 +5,7 @@ use Rattle.ns_word.specs.declared.cell_walk.CellPlace.TheVariants.{GetLoad, SetL
 use Rattle.ns_note.specs.declared.note.Note.{Note}
 use Rattle.ns_word.specs.Walks.{quiet_first, wait_first}
 use Rattle.ns_word.specs.declared.limits.Limits.{Limits}
-use Rattle.ns_word.specs.declared.wait.Subject.TheVariants.{OnCondition}
+use Rattle.ns_word.specs.declared.wait.Subject.TheVariants.{OnCondition, OnVariable}
 use Rattle.ns_word.specs.declared.wait.Wait.{Wait}
 use Rattle.ns_word.specs.declared.cell_walk.Judging.TheVariants.{ToTell}
 use Rattle.ns_word.specs.declared.release_walk.ReleasePlace.TheVariants.{ReleaseLoad}
@@ -14,7 +14,10 @@ use Rattle.ns_word.specs.declared.wait.Aim.TheVariants.{ForLock}
 use Rattle.ns_word.specs.declared.word.Arrival.TheVariants.{AsFresh}
 use Rattle.ns_word.specs.declared.try_walk.TryPlace.TheVariants.{TryLoad}
 use Rattle.ns_word.specs.declared.walk.Walk.{Walk}
-use Rattle.ns_word.specs.declared.walk.Walk.TheVariants.{InTry, InAcquire, InRelease, InCells}
+use Rattle.ns_word.specs.declared.act.Waking.{Waking}
+use Rattle.ns_word.specs.declared.show_walk.ShowPlace.TheVariants.{ShowLoad}
+use Rattle.ns_word.specs.declared.signal_walk.SignalPlace.TheVariants.{SignalLoad}
+use Rattle.ns_word.specs.declared.walk.Walk.TheVariants.{InTry, InAcquire, InRelease, InCells, InSignal, InShow}
 use Rattle.ns_word.specs.declared.word.Releasing.{Releasing}
 
 -- a try for this mode
@@ -52,3 +55,19 @@ waits_by mode c limits = record { mode = mode; on = OnCondition c; limits = limi
 -- such a wait with this deadline and this note, over a row of N cells
 abbrev pub waiting : {C : Type 0} → ℕ → Mode → C → Option ℕ → Option Note → Walk C
 waiting N mode c deadline note = wait_first N (waits_by mode c (limits_of deadline note))
+
+-- what a wait in this mode is for this variable, with these limits
+abbrev pub waits_for_variable : {C : Type 0} → Mode → ℕ → Limits → Wait C
+waits_for_variable mode k limits = record { mode = mode; on = OnVariable k; limits = limits }
+
+-- such a wait with this deadline and this note, over a row of N cells
+abbrev pub variable_waiting : {C : Type 0} → ℕ → Mode → ℕ → Option ℕ → Option Note → Walk C
+variable_waiting N mode k deadline note = wait_first N (waits_for_variable mode k (limits_of deadline note))
+
+-- a signal or a broadcast of this variable
+abbrev pub waking_by : {C : Type 0} → Waking → ℕ → Walk C
+waking_by waking k = InSignal waking k SignalLoad
+
+-- a call that shows how the monitor stands
+abbrev pub showing : {C : Type 0} → Walk C
+showing = InShow ShowLoad

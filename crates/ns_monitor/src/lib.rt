@@ -24,16 +24,22 @@
 //! read section and a release in the wrong mode don't compile. Many readers may hold the lock beside
 //! each other, or one writer alone.
 //!
-//! What is promised: there is one legal history of all sections, that begins with what each caller has
-//! seen, and in which its own events are just the sections that it has released. A section begins at
-//! the row after that history. Two callers compare what they have seen by [`Monitor::meet`], or, with
+//! What is promised: there is one legal history of all sections and wakes, that begins with what each
+//! caller has seen, and in which its own events are just what it has done: the sections that it has
+//! released or left by a wait, its signals and broadcasts, and that it has left a variable. A section
+//! begins at the row after that history. Two callers compare what they have seen by [`Monitor::meet`], or, with
 //! sections that read, by [`Monitor::both_read`]; between callers that never met, nothing is said of
 //! the order. The words that say so in contracts are in `Rattle.ns_monitor.specs`.
 //!
 //! [`Monitor::wait`] leaves a section until a condition on the row is true, and comes back with
 //! another in the same mode; the one with a deadline may be ended by that or by a note of ns_note, and
-//! says which. The behaviour is that of nsync's `nsync_mu` and `nsync_mu_wait`: waiters queue, one
-//! designated waker is enough, and conditions are tested by whoever releases.
+//! says which. [`Monitor::cv_wait_with_deadline`] waits for one of four condition variables, by number,
+//! until [`Monitor::signal`] or [`Monitor::broadcast`] wakes the caller, or it is ended likewise.
+//! [`Monitor::debug_state_and_waiters`] tells how the lock stands, and who waits.
+//!
+//! The behaviour is that of nsync's `nsync_mu`, `nsync_mu_wait` and `nsync_cv`: waiters queue, one
+//! designated waker is enough, conditions are tested by whoever releases, and who is signalled while the
+//! lock is held is moved to the waiters for it.
 #![tactic(auto)]
 
 mod acquiring;
@@ -44,13 +50,19 @@ mod loops;
 pub mod monitor;
 mod releasing;
 mod rounds;
+pub mod showing;
+mod variables;
 mod waiting;
+mod waking;
 mod watching;
 
-pub use caller::{Caller, ReadHeld, Renewed, Seat, Section, WriteHeld};
+pub use caller::{Caller, Hand, ReadHeld, Renewed, Seat, Section, WriteHeld};
 pub use monitor::Monitor;
 pub use ns_gate::closed::Closed;
 pub use ns_gate::fault::Fault;
 pub use ns_gate::room::Gated;
 pub use ns_model::condition::Condition;
 pub use ns_model::event::{Answer, Mode};
+pub use ns_queue::waiter::Shown;
+pub use ns_word::word::Word;
+pub use showing::DebugState;

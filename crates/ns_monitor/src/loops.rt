@@ -2,7 +2,7 @@
 //! which is for the proof alone: no code reads it.
 
 ghost use Rattle.std.specs.Prelude.{◌≡◌, ◌≢◌, None, Some, false};
-ghost use Rattle.ns_gate.specs.Prelude.{HasSince, IsAtPlace, HasReached, the, asked_of, IsPackable, has_some, got_of};
+ghost use Rattle.ns_gate.specs.Prelude.{HasSince, IsAtPlace, IsAtRest, IsFirst, HasReached, PlaceFits, the, asked_of, IsPackable, has_some, got_of};
 ghost use Rattle.ns_monitor.specs.Prelude.{Decides, HasInHand, HasTakenAt, IsNumberOf, OwesTheWoken, Pays, PutsBack, Sleeps, WentOrTook, found_back, going_of, returning_at, returning_of};
 ghost use Rattle.ns_monitor.specs.declared.going.Going.TheVariants.{Changing};
 
@@ -73,6 +73,30 @@ impl<C: Gated<N>, const N: usize> Monitor<C, N> {
     {
         let first = self.gate.load(seat, None);
         match self.go_or_take(rt, seat, Going::Changing, _walk, first) {
+            Some(word) => word,
+            None => unreachable!(),
+        }
+    }
+
+    /// Begins a call that has to change the lists, and takes the queues. Answers the word then.
+    pub(crate) fn begin_to_take<R: Wait>(
+        &self,
+        rt: &R,
+        seat: &mut GateSeat<C, N>,
+        walk: Walk<C>,
+    ) -> Word
+        requires of { seat.old.table_id ≡ self.now }
+        requires rest { IsAtRest C.means seat.old.me }
+        requires decides { Decides walk }
+        requires going { going_of walk ≡ Changing }
+        requires first { IsFirst N walk }
+        requires fits { PlaceFits C.means (Some walk) (the seat.old.me.0).at.held }
+        ensures seat { seat.new.table_id ≡ self.now }
+        ensures since { HasSince (Some walk) (the seat.old.me.0) (the seat.new.me.0) }
+        ensures taken { HasTakenAt C.means walk result seat.old.me seat.new.me }
+    {
+        let first = self.gate.load(seat, Some(walk));
+        match self.go_or_take(rt, seat, Going::Changing, walk, first) {
             Some(word) => word,
             None => unreachable!(),
         }

@@ -1,5 +1,5 @@
-//! The waits, and the rounds of a wait for a condition: it looks, queues, is woken or ended, comes back
-//! and tests.
+//! The waits for a condition, and their rounds: one looks, queues, is woken or ended, comes back and
+//! tests.
 
 ghost use Rattle.std.specs.Prelude.{◌≡◌, ◌⊎◌, ◌||◌, is_some, None, Some, IfSome, false, true};
 ghost use Rattle.ns_gate.specs.Prelude.{IsMade, row_in, is_limited, look_or_queue, wait_first, Await, Load, OnCondition, InQueuing, Answered, InWait, HasAnswered, HasSince, IsAtPlace, HasReached, the};
@@ -16,7 +16,7 @@ use ns_note::env::Env;
 use ns_note::note::{Note, index_of};
 use ns_note::seat::EnvSeat;
 use ns_word::limits::{Cause, Limits};
-use ns_word::wait::{Aim, Outcome, Subject, Visit, Wait as Waiting, answer_of};
+use ns_word::wait::{Outcome, Subject, Visit, Wait as Waiting, answer_of};
 use ns_word::walk::Walk;
 use std::sync::Wait;
 
@@ -80,8 +80,7 @@ impl<C: Gated<N>, const N: usize> Monitor<C, N> {
         let mut again = false;
         for _ in rt.forever() {
             self.queue_to_wait(rt, seat, number, wait, again, row);
-            let (arrival, outcome) = self.await_in(rt, seat, number, wait, watch);
-            self.acquire(rt, seat, number, Aim::ForWait(wait, outcome), arrival);
+            let outcome = self.come_back(rt, seat, number, wait, watch);
             let visit = Visit::OnReturn(outcome);
             if self.test(seat, None, wait, condition, visit, row) {
                 return Answer::Met;

@@ -2,7 +2,7 @@
 
 ghost use Rattle.std.specs.Prelude.{◌≡◌, ◌≢◌, None, Some, IfErr, IfSome, true};
 ghost use Rattle.ns_gate.specs.Prelude.{row_in, IsInRange, is_limited, AcquireLoad, ForWait, LeaveLoad, Load, AwaitWakeInWait, InLeaving, InQueuing, InAcquire, InWait, HasSince, IsAtPlace, the};
-ghost use Rattle.ns_monitor.specs.Prelude.{HasRow, IfEnded, IsNumberOf, WokenOrEnded, lacks_row};
+ghost use Rattle.ns_monitor.specs.Prelude.{HasAcquired, HasRow, HasTakenAt, IfEnded, IsNumberOf, WokenOrEnded, lacks_row};
 
 use crate::monitor::Monitor;
 use crate::watching::Watch;
@@ -13,7 +13,7 @@ use ns_gate::room::Gated;
 use ns_word::act::Change;
 use ns_word::limits::Cause;
 use ns_word::wait::{
-    LeavePlace, Outcome, QueuePlace, Subject, Wait as Waiting, WaitPlace, arrival_of,
+    Aim, LeavePlace, Outcome, QueuePlace, Subject, Wait as Waiting, WaitPlace, arrival_of,
 };
 use ns_word::walk::Walk;
 use ns_word::word::{Arrival, Word};
@@ -53,6 +53,29 @@ impl<C: Gated<N>, const N: usize> Monitor<C, N> {
     {
         let place = Walk::InWait(wait, WaitPlace::InQueuing(again, QueuePlace::Load));
         let word = self.take(rt, seat, place);
+        self.leave_section(rt, seat, number, wait, again, word, row);
+    }
+
+    /// The same with the queues in hand, taken at this word.
+    pub(crate) fn leave_section<R: Wait>(
+        &self,
+        rt: &R,
+        seat: &mut GateSeat<C, N>,
+        number: u8,
+        wait: Waiting<C>,
+        again: bool,
+        word: Word,
+        row: &mut [u64; N],
+    )
+        requires of { seat.old.table_id ≡ self.now }
+        requires number { IsNumberOf number seat.old.me }
+        requires range { IsInRange wait.on }
+        requires taken { HasTakenAt C.means (InWait wait (InQueuing again Load)) word seat.old.me seat.old.me }
+        requires row { HasRow wait.on row.old (row_in (the seat.old.me.0).at.held) }
+        ensures seat { seat.new.table_id ≡ self.now }
+        ensures since { HasSince None (the seat.old.me.0) (the seat.new.me.0) }
+        ensures waits { IsAtPlace C.means (InWait wait AwaitWakeInWait) seat.new.me }
+    {
         self.gate.arm_flag(seat, number);
         let loads = QueuePlace::LoadToScan(word, 0);
         let place = Walk::InWait(wait, WaitPlace::InQueuing(again, loads));
@@ -117,7 +140,7 @@ impl<C: Gated<N>, const N: usize> Monitor<C, N> {
 
     /// Waits until a wait is woken, or has left its list since something has ended it. Answers how it
     /// comes to acquire then, and what came of it.
-    pub(crate) fn await_in<R: Wait, W: Watch>(
+    fn await_in<R: Wait, W: Watch>(
         &self,
         rt: &R,
         seat: &mut GateSeat<C, N>,
@@ -145,6 +168,32 @@ impl<C: Gated<N>, const N: usize> Monitor<C, N> {
             Ok(flag) => (arrival_of(0, flag), wait.on.woken_by(flag)),
             Err(cause) => self.leave(rt, seat, number, wait, cause),
         }
+    }
+
+    /// Waits until a wait is woken, or has left its list since something has ended it, and acquires the
+    /// lock again. Answers what came of it.
+    pub(crate) fn come_back<R: Wait, W: Watch>(
+        &self,
+        rt: &R,
+        seat: &mut GateSeat<C, N>,
+        number: u8,
+        wait: Waiting<C>,
+        watch: &mut W,
+    ) -> Outcome
+        requires of { seat.old.table_id ≡ self.now }
+        requires number { IsNumberOf number seat.old.me }
+        requires range { IsInRange wait.on }
+        requires watches { W.watches watch.old wait.limits }
+        requires at { IsAtPlace C.means (InWait wait AwaitWakeInWait) seat.old.me }
+        ensures seat { seat.new.table_id ≡ self.now }
+        ensures since { HasSince None (the seat.old.me.0) (the seat.new.me.0) }
+        ensures looked { W.since watch.old watch.new }
+        ensures ended { IfEnded result (λ cause. (is_limited wait.limits ≡ true) × W.shows watch.old watch.new wait.limits (Some cause)) }
+        ensures acquired { HasAcquired C.means (ForWait wait result) seat.new.me }
+    {
+        let (arrival, outcome) = self.await_in(rt, seat, number, wait, watch);
+        self.acquire(rt, seat, number, Aim::ForWait(wait, outcome), arrival);
+        outcome
     }
 
     /// Goes round between the seat's flag and a look, until the flag is cleared, whose value it answers

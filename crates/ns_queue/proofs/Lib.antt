@@ -8,6 +8,7 @@ pub mod Orders
 pub mod Parts
 pub mod Seats
 pub mod Seeking
+pub mod Shown
 pub mod Taken
 pub mod Wakes
 pub mod Woken

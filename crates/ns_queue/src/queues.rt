@@ -4,10 +4,10 @@ ghost use Rattle.std.specs.Prelude.{◌≡◌, ℕ, ◌+◌, ◌<◌, ◌≤◌,
 ghost use Rattle.std.specs.Bool.{OnFalse, OnTrue};
 ghost use Rattle.std.specs.List.{list_any};
 ghost use Rattle.ns_queue.specs.Queues.{IsList, IsOrderly, times, waiters_of, with_waiters, without};
-ghost use Rattle.ns_queue.specs.Waiters.{HaveSeats, has_condition, is_long, times_in, without_in, writes};
+ghost use Rattle.ns_queue.specs.Waiters.{HaveSeats, has_condition, is_long, shown_of, times_in, without_in, writes};
 
 use crate::room::Queueable;
-use crate::waiter::{LONG_TRIES, Waiter, Which};
+use crate::waiter::{LONG_TRIES, Shown, Waiter, Which};
 use arrayvec::ArrayVec;
 use std::marker::Model;
 
@@ -56,6 +56,20 @@ impl<C: Queueable<N>, const N: usize> Queues<C, N> {
         match list {
             Which::Lock => copied(&self.lock),
             Which::Cv(k) => copied(&self.cvs[k as usize]),
+        }
+    }
+
+    /// The waiters of a list, front first, in the form in which they are shown. None is copied.
+    ///
+    /// Needs a list that there is: a variable's number below 4.
+    pub fn shown(&self, list: Which) -> ArrayVec<Shown, 64>
+        requires { IsList list }
+        ensures shown { result.items ≡ map shown_of (waiters_of self.now list) }
+        ensures orderly { IsOrderly self.now }
+    {
+        match list {
+            Which::Lock => shown_all(self.lock.as_slice()),
+            Which::Cv(k) => shown_all(self.cvs[k as usize].as_slice()),
         }
     }
 
@@ -253,6 +267,18 @@ pub(crate) fn copied<C: Queueable<N>, const N: usize>(
     let mut copy = ArrayVec::new();
     let _ = copy.try_extend_from_slice(waiters.as_slice());
     copy
+}
+
+/// Waiters in the form in which they are shown.
+fn shown_all<C: Queueable<N>, const N: usize>(waiters: &[Waiter<C>]) -> ArrayVec<Shown, 64>
+    requires { length waiters.now ≤ 64 }
+    ensures { result.items ≡ map shown_of waiters.now }
+{
+    let mut all = ArrayVec::new();
+    for waiter in waiters {
+        all.push(waiter.shown());
+    }
+    all
 }
 
 /// Whether the seat stands in the list.

@@ -1,4 +1,4 @@
-//! Who is inside a section, counted beside the monitor.
+//! Who is inside a section, and who still works, counted beside the monitor.
 
 use ns_model::event::Mode;
 use std::sync::atomic::AtomicU64;
@@ -8,18 +8,30 @@ use std::sync::atomic::Ordering::SeqCst;
 const WRITER: u64 = 1 << 32;
 
 /// Counts those who say that they are inside: each says so just after it has acquired the lock, and that
-/// it leaves just before it releases it.
+/// it leaves just before it releases it. It also counts the threads whose work isn't done.
 #[derive(Drop)]
 pub struct Door {
     inside: AtomicU64,
+    busy: AtomicU64,
 }
 
 impl Door {
-    /// A door with nobody inside.
-    pub fn new() -> Door {
+    /// A door with nobody inside, and so many threads that work.
+    pub fn new(threads: u64) -> Door {
         Door {
             inside: AtomicU64::new(0),
+            busy: AtomicU64::new(threads),
         }
+    }
+
+    /// A thread's work is done.
+    pub fn finish(&self) {
+        self.busy.fetch_sub(1, SeqCst);
+    }
+
+    /// Whether nobody works any more.
+    pub fn is_quiet(&self) -> bool {
+        self.busy.load(SeqCst) == 0
     }
 
     /// Somebody enters in this mode; answers whether nobody is inside with whom it can't be.

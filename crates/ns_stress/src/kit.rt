@@ -18,7 +18,7 @@ pub struct Commons<'a> {
     pub monitor: &'a Monitor<Wish, 4>,
     /// The clock and the notes.
     pub env: &'a Env,
-    /// Who is inside a section.
+    /// Who is inside a section, and how many still work.
     pub door: &'a Door,
     /// How many goods there may be.
     pub most: u64,
@@ -33,6 +33,10 @@ pub struct Kit {
     pub draws: Pcg32,
     /// How much it has added to the sum.
     pub added: u64,
+    /// How many sleepers its calls have woken.
+    pub called: u64,
+    /// How often it was woken as it slept.
+    pub woken: u64,
     /// The first thing that was not as it has to be.
     pub wrong: Option<&'static str>,
 }

@@ -3,20 +3,24 @@
 //!     ns_stress SEED ROUNDS
 //!
 //! In each round 3 to 6 threads share a monitor, a clock and notes. They hand a turn round, or give and
-//! take goods, by waits with and without limits, and between that make sections of all kinds. What they
-//! do is drawn from the seed; in which order it happens is left to the machine. Whatever that is, each
-//! wait comes to an end, and the counts of a round are known beforehand.
+//! take goods, by waits with and without limits, or sleep at condition variables until one of them calls;
+//! and between that they make sections of all kinds, and wait for variables by which one thread more rouses
+//! them until their work is done. What they do is drawn from the seed; in which order it happens is left to
+//! the machine. Whatever that is, each wait comes to an end, and the counts of a round are known beforehand,
+//! or, of wakes, have to agree: who is called is woken, and nobody else.
 //!
 //! The last line is `seed SEED ok`, with status 0, or `seed SEED round ROUND wrong: WHAT`, with status 3.
 //! Where memory is refused, the status is 4, and where the words are wrong, 2.
 #![tactic(auto)]
 
 mod asked;
+mod calls;
 mod door;
 mod kit;
 mod market;
 mod ring;
 mod round;
+mod rousing;
 mod sections;
 mod waits;
 mod wish;

@@ -3,6 +3,8 @@
 ghost use Rattle.std.specs.Prelude.{◌≡◌};
 
 use crate::kit::{Commons, Kit};
+use crate::rousing::rouse;
+use crate::waits::wait_to_be_roused;
 use crate::wish::{GOODS, ROOM, SUM, Wish};
 use ns_model::event::Mode;
 use ns_monitor::caller::{ReadHeld, Seat, WriteHeld};
@@ -10,7 +12,11 @@ use ns_note::note::Note;
 use std::sync::Wait;
 use std::thread::yield_now;
 
-/// Ends a section that writes; where it is quiet, mostly without looking for those that it could wake.
+/// No clock is moved to a later moment.
+pub const LAST_MOMENT: u64 = 1 << 50;
+
+/// Ends a section that writes; where it is quiet, mostly without looking for those that it could wake. Some
+/// rouse those who wait for a variable.
 pub fn leave<R: Wait>(
     rt: &R,
     commons: Commons<'_>,
@@ -21,6 +27,9 @@ pub fn leave<R: Wait>(
     ensures { (result.monitor ≡ commons.entry.monitor.now) × (kit.new.env_seat ≡ kit.old.env_seat) }
 {
     let mut held = held;
+    if kit.draw(8) == 0 {
+        rouse(rt, commons, &mut held, kit);
+    }
     let plainly = kit.draw(4) == 0;
     let quiet = commons.monitor.is_quiet(&mut held);
     commons.door.leave(Mode::Write);
@@ -107,13 +116,41 @@ fn try_section<R: Wait>(
     }
 }
 
+/// Waits in a section of its own in this mode until it is roused.
+fn doze<R: Wait>(
+    rt: &R,
+    commons: Commons<'_>,
+    seat: Seat<Wish, 4>,
+    kit: &mut Kit,
+    mode: Mode,
+) -> Seat<Wish, 4>
+    requires { (seat.monitor ≡ commons.monitor.now) × (kit.old.env_seat.env ≡ commons.env.now) }
+    ensures { (result.monitor ≡ commons.entry.monitor.now) × (kit.new.env_seat.env ≡ kit.old.env_seat.env) }
+{
+    match mode {
+        Mode::Write => {
+            let held = commons.monitor.lock(rt, seat);
+            kit.enter(commons.door, mode);
+            let held = wait_to_be_roused(rt, commons, held, kit);
+            leave(rt, commons, held, kit)
+        }
+        Mode::Read => {
+            let held = commons.monitor.rlock(rt, seat);
+            kit.enter(commons.door, mode);
+            let held = wait_to_be_roused(rt, commons, held, kit);
+            commons.door.leave(mode);
+            commons.monitor.runlock(rt, held)
+        }
+    }
+}
+
 /// Moves the clock on by a tick.
-fn tick(commons: Commons<'_>, kit: &mut Kit)
+pub fn tick(commons: Commons<'_>, kit: &mut Kit)
     requires { kit.old.env_seat.env ≡ commons.env.now }
     ensures { kit.new.env_seat.env ≡ kit.old.env_seat.env }
 {
     let now = commons.env.now(&mut kit.env_seat);
-    if now < 1 << 30 {
+    if now < LAST_MOMENT {
         commons.env.advance(&mut kit.env_seat, now + 1);
     }
 }
@@ -144,13 +181,17 @@ fn do_something<R: Wait>(
     requires { (seat.monitor ≡ commons.monitor.now) × (kit.old.env_seat.env ≡ commons.env.now) }
     ensures { (result.monitor ≡ commons.entry.monitor.now) × (kit.new.env_seat.env ≡ kit.old.env_seat.env) }
 {
-    match kit.draw(7) {
+    let mut seat = seat;
+    match kit.draw(10) {
         0 => return add_alone(rt, commons, seat, kit),
         1 => return try_section(rt, commons, seat, kit, Mode::Write),
         2 => return look(rt, commons, commons.monitor.rlock(rt, seat), kit),
         3 => return try_section(rt, commons, seat, kit, Mode::Read),
         4 => tick(commons, kit),
         5 => change_notes(commons, kit),
+        6 => return doze(rt, commons, seat, kit, Mode::Write),
+        7 => return doze(rt, commons, seat, kit, Mode::Read),
+        8 => rouse(rt, commons, &mut seat, kit),
         _ => yield_now(),
     }
     seat

@@ -6,17 +6,22 @@ ghost use Rattle.std.proofs.Common.{rules};
 ghost use Rattle.ns_model.specs.Environments.{IsMade};
 
 use crate::kit::{Commons, Kit};
+use crate::rousing::draw_variable;
 use crate::wish::{DONE, GOODS, ROOM, SUM, Wish};
 use ns_model::condition::Condition;
 use ns_model::event::Answer;
-use ns_monitor::caller::{Caller, ReadHeld, Renewed, WriteHeld};
+use ns_monitor::caller::{Caller, ReadHeld, Renewed, Seat, WriteHeld};
 use ns_note::note::Note;
 use std::sync::Wait;
 
-/// What code over sections in either mode knows of the room that one takes.
+/// What code over sections in either mode, or seats, knows of the room that one takes.
 pub trait Fits {
     /// It fits in memory.
     ghost fits: { FitsInMemory Self.row };
+}
+
+impl Fits for Seat<Wish, 4> {
+    ghost fits = { Prim.search rules };
 }
 
 impl Fits for WriteHeld<Wish, 4> {
@@ -130,6 +135,38 @@ where
     (held, is_met)
 }
 
+/// Waits in a section for a variable by which somebody is roused again and again, with limits that are drawn.
+pub fn wait_to_be_roused<H: Renewed<Wish, 4>, R: Wait>(
+    rt: &R,
+    commons: Commons<'_>,
+    held: Caller<H, Wish, 4>,
+    kit: &mut Kit,
+) -> Caller<H, Wish, 4>
+where
+    Caller<H, Wish, 4>: Fits,
+    requires { (held.monitor ≡ commons.monitor.now) × (kit.old.env_seat.env ≡ commons.env.now) }
+    ensures { (result.monitor ≡ commons.entry.monitor.now) × (kit.new.env_seat.env ≡ kit.old.env_seat.env) }
+{
+    let variable = draw_variable(kit);
+    let deadline = draw_deadline(commons, kit);
+    let note = draw_note(commons, kit);
+    commons.door.leave(H::mode());
+    let (held, answer) = commons.monitor.cv_wait_with_deadline(
+        rt,
+        held,
+        variable,
+        deadline,
+        note,
+        commons.env,
+        &mut kit.env_seat,
+    );
+    kit.enter(commons.door, H::mode());
+    let is_woken = answer == Answer::Met;
+    let right = is_right(commons, kit, answer, is_woken, deadline, note);
+    kit.expect(right, "a wait for a variable answers what isn't so");
+    held
+}
+
 /// Waits in a section until the condition is true, some times with limits and then with none.
 pub fn wait_until_met<H: Renewed<Wish, 4>, R: Wait>(
     rt: &R,
@@ -145,6 +182,9 @@ where
 {
     let mut held = held;
     for _ in 0..kit.draw(4) {
+        if kit.draw(4) == 0 {
+            held = wait_to_be_roused(rt, commons, held, kit);
+        }
         let (back, is_met) = wait_limited(rt, commons, held, wish, kit);
         held = back;
         if is_met {

@@ -10,6 +10,8 @@
 //! program runs in.
 #![tactic(auto)]
 
+#[cfg(test)]
+mod barging;
 mod compare;
 #[cfg(test)]
 mod crowd;
@@ -32,7 +34,11 @@ mod queue;
 mod replay;
 mod row;
 #[cfg(test)]
+mod showing;
+#[cfg(test)]
 mod tests;
+#[cfg(test)]
+mod variables;
 #[cfg(test)]
 mod waits;
 #[cfg(test)]

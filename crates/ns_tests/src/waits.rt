@@ -19,8 +19,9 @@ use std::thread::{Threads, join, yield_now};
 
 /// The first cell is at least this. A change is quiet where that cell has not risen.
 #[derive(Clone, Copy)]
-struct AtLeast {
-    least: u64,
+pub struct AtLeast {
+    /// How much.
+    pub least: u64,
 }
 
 impl Condition<2> for AtLeast {
@@ -50,16 +51,16 @@ impl Condition<2> for AtLeast {
 }
 
 /// How often a thread tries that has to succeed.
-const MANY_TRIES: u32 = 1_000_000;
+pub const MANY_TRIES: u32 = 1_000_000;
 
 /// The tick at which a wait gives up.
-const TICK: u64 = 10;
+pub const TICK: u64 = 10;
 
 /// How often each of two threads hands the first cell to the other.
 const TURNS: u64 = 1_000;
 
 /// A monitor and its two seats.
-fn two_seats(alloc: Global) -> Option<(Monitor<AtLeast, 2>, Seat<AtLeast, 2>, Seat<AtLeast, 2>)>
+pub fn two_seats(alloc: Global) -> Option<(Monitor<AtLeast, 2>, Seat<AtLeast, 2>, Seat<AtLeast, 2>)>
     ensures { IfSome result (λ r. (r.1.monitor ≡ r.0) × (r.2.monitor ≡ r.0)) }
 {
     let (monitor, mut seats) = Monitor::<AtLeast, 2>::new(alloc, 2).ok()?;
@@ -79,7 +80,7 @@ pub fn two_env_seats(alloc: Global) -> Option<(Env, EnvSeat, EnvSeat)>
 }
 
 /// Sets the first cell in a section of its own.
-fn set<R: Wait>(
+pub fn set<R: Wait>(
     rt: &R,
     monitor: &Monitor<AtLeast, 2>,
     seat: Seat<AtLeast, 2>,
@@ -172,7 +173,7 @@ fn wait_to_tick<R: Wait>(
 }
 
 /// Has a section, which begins only when a wait has left its own, and then moves the clock to the tick.
-fn advance_behind<R: Wait>(
+pub fn advance_behind<R: Wait>(
     rt: &R,
     monitor: &Monitor<AtLeast, 2>,
     seat: Seat<AtLeast, 2>,
@@ -255,7 +256,7 @@ fn wait_for_note<R: Wait>(
 
 /// Has a section, which begins only when a wait has left its own, and then notifies the note, once the
 /// seat has seen that it is made.
-fn notify_behind<R: Wait>(
+pub fn notify_behind<R: Wait>(
     rt: &R,
     monitor: &Monitor<AtLeast, 2>,
     seat: Seat<AtLeast, 2>,

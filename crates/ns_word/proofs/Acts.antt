@@ -18,9 +18,10 @@ use Rattle.ns_word.specs.declared.try_walk.TryPlace.TheVariants.{TryLoad, TryAcq
 use Rattle.ns_word.specs.declared.acquire_walk.AcquirePlace.TheVariants.{AcquireLoad, AcquireExchange, TakeToQueue, Arm, Queue, AwaitWake}
 use Rattle.ns_word.specs.declared.release_walk.ReleasePlace.TheVariants.{ReleaseLoad, ReleaseExchange, TakeToScan, ScanCells, ScanAndRelease, Pay}
 use Rattle.ns_word.specs.declared.cell_walk.CellPlace.TheVariants.{GetLoad, SetLoad, SetStore, QuietCells, QuietLast}
+use Rattle.ns_word.specs.declared.show_walk.ShowPlace.TheVariants.{ShowLoad, TakeToShow, ReturnShown}
 use Rattle.ns_word.specs.declared.signal_walk.SignalPlace.TheVariants.{SignalLoad, TakeToWake, WakeAndReturn, PayTheWoken}
 use Rattle.ns_word.specs.declared.walk.Walk.{Walk}
-use Rattle.ns_word.specs.declared.walk.Walk.TheVariants.{InTry, InAcquire, InRelease, InCells, InWait, InSignal}
+use Rattle.ns_word.specs.declared.walk.Walk.TheVariants.{InTry, InAcquire, InRelease, InCells, InWait, InSignal, InShow}
 use Rattle.ns_word.specs.Lists.{has_some, times_among}
 use Rattle.ns_word.specs.Waits.{home_of}
 use Rattle.ns_word.specs.Walks.{judge_of, want_waiting, want_of, awaits, pays}
@@ -71,6 +72,7 @@ module _ {C : Type 0} {N : ℕ} (truths : Truths C) where
   list_there (InCells place) held p = tt
   list_there (InWait wait place) held p = wait_in_range wait place held p.0
   list_there (InSignal waking k place) held p = p.1
+  list_there (InShow place) held p = tt
 
 -- ---- each act
 
@@ -143,6 +145,9 @@ module _ {C : Type 0} {N : ℕ} (truths : Truths C) (seats : ℕ) (few : seats �
   fits_at (InSignal waking k (TakeToWake last)) e place owes = place.0
   fits_at (InSignal waking k (WakeAndReturn last)) e place owes = (view_fits.in_range, place.1)
   fits_at (InSignal waking k PayTheWoken) e place owes = owes_one view.owed refl owes
+  fits_at (InShow ShowLoad) e place owes = tt
+  fits_at (InShow (TakeToShow last)) e place owes = place.0
+  fits_at (InShow (ReturnShown last)) e place owes = (view_fits.in_range, tt)
 
   -- The act that the seat's walk wants may be made.
   pub act_fits : (walk : Walk C) → view.walk ≡ Some walk → ActFits truths seats view.seat (want_of walk) (part_of s view.held view.owed)

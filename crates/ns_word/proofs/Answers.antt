@@ -38,11 +38,13 @@ use Rattle.ns_word.specs.declared.release_walk.ReleasePlace.{ReleasePlace}
 use Rattle.ns_word.specs.declared.release_walk.ReleasePlace.TheVariants.{ReleaseLoad, ReleaseExchange, TakeToScan, ScanCells, ScanAndRelease, Pay}
 use Rattle.ns_word.specs.declared.cell_walk.CellPlace.{CellPlace}
 use Rattle.ns_word.specs.declared.cell_walk.CellPlace.TheVariants.{GetLoad, SetLoad, SetStore, QuietCells, QuietLast}
+use Rattle.ns_word.specs.declared.show_walk.ShowPlace.{ShowPlace}
+use Rattle.ns_word.specs.declared.show_walk.ShowPlace.TheVariants.{ShowLoad, TakeToShow, ReturnShown}
 use Rattle.ns_word.specs.declared.signal_walk.SignalPlace.{SignalPlace}
 use Rattle.ns_word.specs.declared.signal_walk.SignalPlace.TheVariants.{SignalLoad, TakeToWake, WakeAndReturn, PayTheWoken}
 use Rattle.ns_word.specs.declared.act.Waking.{Waking}
 use Rattle.ns_word.specs.declared.walk.Walk.{Walk}
-use Rattle.ns_word.specs.declared.walk.Walk.TheVariants.{InTry, InAcquire, InRelease, InCells, InWait, InSignal}
+use Rattle.ns_word.specs.declared.walk.Walk.TheVariants.{InTry, InAcquire, InRelease, InCells, InWait, InSignal, InShow}
 use Rattle.ns_word.specs.declared.act.Act.{Act}
 use Rattle.ns_word.specs.declared.act.Act.TheVariants.{LoadWord, Acquire, TakeQueues, ReturnQueues, Release, ReleaseReturning, WaitReturning, LoadCell, JudgeQuiet, JudgeMet, StoreCell, ArmFlag, PayWake, LoadFlag, Look}
 use Rattle.ns_word.specs.declared.act.Found.{Found}
@@ -52,7 +54,7 @@ use Rattle.ns_word.specs.declared.walk.Reply.TheVariants.{Answered}
 use Rattle.ns_word.specs.declared.walk.Next.{Next}
 use Rattle.ns_word.specs.declared.walk.Next.TheVariants.{On, Done}
 use Rattle.ns_word.specs.Waits.{answer_of, answer_of_wait, is_limited, mode_for}
-use Rattle.ns_word.specs.Walks.{judge_of, want_waiting, want_trying, want_acquiring, want_releasing, want_in_cells, want_leaving, want_signaling, want_of, got_waiting, got_acquiring, got_of, reply_of, acquire_by, back_with, unmet_by, look_or_queue}
+use Rattle.ns_word.specs.Walks.{judge_of, want_waiting, want_trying, want_acquiring, want_releasing, want_in_cells, want_leaving, want_signaling, want_showing, want_of, got_waiting, got_acquiring, got_of, reply_of, acquire_by, back_with, unmet_by, look_or_queue}
 use Rattle.ns_word.specs.Words.{may_acquire}
 use Rattle.ns_model.specs.Truths.{Truths}
 use Rattle.ns_word.specs.Steps.{LockState, Part, Effect, Step, part_of, newly_held, entry_of, opening_by, held_after}
@@ -313,6 +315,11 @@ signal_looks_not C waking k (TakeToWake last) = refl
 signal_looks_not C waking k (WakeAndReturn last) = refl
 signal_looks_not C waking k PayTheWoken = refl
 
+pub show_looks_not : (C : Type 0) (place : ShowPlace) → look_of_act {C = C} (want_showing place) ≡ None
+show_looks_not C ShowLoad = refl
+show_looks_not C (TakeToShow last) = refl
+show_looks_not C (ReturnShown last) = refl
+
 looks_none : {C : Type 0} (act : Act C) → look_of_act act ≡ None → looks_again act ≡ false
 looks_none (Look limits again) e = absurd (cc)
 looks_none act e = refl
@@ -338,6 +345,7 @@ looks_by {C} (InRelease releasing place) e = looks_none (want_releasing releasin
 looks_by {C} (InCells place) e = looks_none (want_in_cells place) (cells_look_not C place)
 looks_by (InWait wait place) e = looks_at wait place e
 looks_by {C} (InSignal waking k place) e = looks_none (want_signaling waking k place) (signal_looks_not C waking k place)
+looks_by {C} (InShow place) e = looks_none (want_showing place) (show_looks_not C place)
 
 module _ {C : Type 0} {N : ℕ} where
   -- what a section says of how it began is the same

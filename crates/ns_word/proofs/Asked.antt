@@ -32,10 +32,12 @@ use Rattle.ns_word.specs.declared.cell_walk.Judging.{Judging}
 use Rattle.ns_word.specs.declared.cell_walk.Judging.TheVariants.{ToTell, ToRelease}
 use Rattle.ns_word.specs.declared.cell_walk.CellPlace.{CellPlace}
 use Rattle.ns_word.specs.declared.cell_walk.CellPlace.TheVariants.{GetLoad, SetLoad, SetStore, QuietCells, QuietLast}
+use Rattle.ns_word.specs.declared.show_walk.ShowPlace.{ShowPlace}
+use Rattle.ns_word.specs.declared.show_walk.ShowPlace.TheVariants.{ShowLoad, TakeToShow, ReturnShown}
 use Rattle.ns_word.specs.declared.signal_walk.SignalPlace.{SignalPlace}
 use Rattle.ns_word.specs.declared.signal_walk.SignalPlace.TheVariants.{SignalLoad, TakeToWake, WakeAndReturn, PayTheWoken}
 use Rattle.ns_word.specs.declared.walk.Walk.{Walk}
-use Rattle.ns_word.specs.declared.walk.Walk.TheVariants.{InTry, InAcquire, InRelease, InCells, InWait, InSignal}
+use Rattle.ns_word.specs.declared.walk.Walk.TheVariants.{InTry, InAcquire, InRelease, InCells, InWait, InSignal, InShow}
 use Rattle.ns_word.specs.declared.walk.Next.{Next}
 use Rattle.ns_word.specs.declared.walk.Next.TheVariants.{On, Idle, Done}
 use Rattle.ns_word.specs.declared.walk.Reply.TheVariants.{Answered}
@@ -45,10 +47,10 @@ use Rattle.ns_word.specs.declared.act.Act.TheVariants.{Release}
 use Rattle.ns_word.specs.declared.act.Found.{Found}
 use Rattle.ns_word.specs.declared.act.Found.TheVariants.{Saw, Made, Cell, Quiet, Tested, Scanned, Paid, Left, Woke, Flag, Looked}
 use Rattle.ns_word.specs.declared.request.Request.{Request}
-use Rattle.ns_word.specs.declared.request.Request.TheVariants.{TryLock, Release, Await, Wake}
+use Rattle.ns_word.specs.declared.request.Request.TheVariants.{TryLock, Release, Await, Wake, Show}
 use Rattle.ns_word.specs.Words.{may_acquire, needs_scan}
 use Rattle.ns_word.specs.Waits.{arrival_of, is_limited, mode_for, outcome_taken, woken_by}
-use Rattle.ns_word.specs.Walks.{got_of, got_trying, got_acquiring, got_releasing, got_in_cells, got_waiting, got_queuing, got_leaving, got_signaling, walk_after, acquire_by, acquired_for, back_with, release_by, quiet_place, test_place, unmet_by, look_or_queue, rest_or_look}
+use Rattle.ns_word.specs.Walks.{got_of, got_trying, got_acquiring, got_releasing, got_in_cells, got_waiting, got_queuing, got_leaving, got_signaling, got_showing, walk_after, acquire_by, acquired_for, back_with, release_by, quiet_place, test_place, unmet_by, look_or_queue, rest_or_look}
 use Rattle.ns_word.specs.Asked.{asked_to_judge, asked_in_cells, asked_of}
 
 -- it goes on as it was asked, if it goes on
@@ -180,6 +182,14 @@ module _ (C : Type 0) where
   signaling_asks waking k PayTheWoken (Paid owes) = one_of _ owes (On (InSignal waking k PayTheWoken)) _ refl tt
   signaling_asks waking k place found = refl
 
+  showing_asks : (place : ShowPlace) (found : Found) → Asks {C = C} Show (got_showing place found)
+  showing_asks ShowLoad (Saw word) = one_of _ word.spin (Idle (InShow ShowLoad)) (On (InShow (TakeToShow word))) refl refl
+  showing_asks (TakeToShow last) (Saw word) = one_of _ word.spin (Idle (InShow ShowLoad)) (On (InShow (TakeToShow word))) refl refl
+  showing_asks (TakeToShow last) Made = refl
+  showing_asks (ReturnShown last) (Saw word) = refl
+  showing_asks (ReturnShown last) Made = tt
+  showing_asks place found = refl
+
   pub asks_on : (N : ℕ) (walk : Walk C) (found : Found) → Asks (asked_of walk) (got_of N walk found)
   asks_on N (InTry mode place) found = try_asks mode place found
   asks_on N (InAcquire aim place) found = acquiring_asks N aim place found
@@ -187,6 +197,7 @@ module _ (C : Type 0) where
   asks_on N (InCells place) found = cells_ask N place found
   asks_on N (InWait wait place) found = waiting_asks N wait place found
   asks_on N (InSignal waking k place) found = signaling_asks waking k place found
+  asks_on N (InShow place) found = showing_asks place found
 
   asked_after : (request : Request C) (next : Next C) (walk : Walk C) → walk_after next ≡ Some walk → Asks request next → asked_of walk ≡ request
   asked_after request (On one) walk e p = let same : one ≡ walk = cc in sym (ap asked_of same) ∙ p

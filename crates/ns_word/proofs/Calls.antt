@@ -11,7 +11,7 @@ use Rattle.ns_queue.proofs.Parts.{read_back}
 use Rattle.ns_queue.specs.Queues.{Lists, waiters_of, with_waiters}
 use Rattle.ns_queue.specs.declared.waiter.Waiter.{Waiter}
 use Rattle.ns_queue.specs.declared.waiter.Which.TheVariants.{Cv}
-use Rattle.ns_word.proofs.Answers.{acquire_looks_not, cells_look_not, judge_looks_not, leaver_looks_not, look_of_act, release_looks_not, signal_looks_not, try_looks_not}
+use Rattle.ns_word.proofs.Answers.{acquire_looks_not, cells_look_not, judge_looks_not, leaver_looks_not, look_of_act, release_looks_not, signal_looks_not, show_looks_not, try_looks_not}
 use Rattle.ns_word.proofs.Keeps.{none_of}
 use Rattle.ns_word.proofs.Numbers.{split_at}
 use Rattle.ns_word.proofs.Views.{each_parts}
@@ -21,7 +21,7 @@ use Rattle.ns_word.specs.Places.{PlaceFits}
 use Rattle.ns_word.specs.Lawful.{EachFits, IsLawful}
 use Rattle.ns_word.specs.Steps.{Effect, Part, LockState, Step, changed, kept_by, moved_to, part_of, taken_by, wake_of}
 use Rattle.ns_word.specs.Waits.{arrival_of, is_limited, mode_for, outcome_taken, woken_by}
-use Rattle.ns_word.specs.Walks.{acquire_by, acquired_for, back_with, got_acquiring, got_in_cells, got_leaving, got_of, got_queuing, got_releasing, got_signaling, got_trying, got_waiting, is_arrival_woken, judge_of, look_or_queue, pays, release_by, rest_or_look, test_place, unmet_by, walk_after, want_acquiring, want_in_cells, want_leaving, want_of, want_releasing, want_signaling, want_trying, want_waiting, was_woken}
+use Rattle.ns_word.specs.Walks.{acquire_by, acquired_for, back_with, got_acquiring, got_in_cells, got_leaving, got_of, got_queuing, got_releasing, got_signaling, got_showing, got_trying, got_waiting, is_arrival_woken, judge_of, look_or_queue, pays, release_by, rest_or_look, test_place, unmet_by, walk_after, want_acquiring, want_in_cells, want_leaving, want_of, want_releasing, want_signaling, want_showing, want_trying, want_waiting, was_woken}
 use Rattle.ns_word.specs.Words.{is_held, is_woken, may_acquire, needs_scan}
 use Rattle.ns_word.specs.declared.acquire_walk.AcquirePlace.{AcquirePlace}
 use Rattle.ns_word.specs.declared.acquire_walk.AcquirePlace.TheVariants.{AcquireExchange, AcquireLoad, Arm, AwaitWake, Queue, TakeToQueue}
@@ -40,6 +40,8 @@ use Rattle.ns_word.specs.declared.limits.Limits.{Limits}
 use Rattle.ns_word.specs.declared.release_walk.ReleasePlace.{ReleasePlace}
 use Rattle.ns_word.specs.declared.release_walk.ReleasePlace.TheVariants.{Pay, ReleaseExchange, ReleaseLoad, ScanAndRelease, ScanCells, TakeToScan}
 use Rattle.ns_word.specs.declared.request.Request.TheVariants.{Await, Wake}
+use Rattle.ns_word.specs.declared.show_walk.ShowPlace.{ShowPlace}
+use Rattle.ns_word.specs.declared.show_walk.ShowPlace.TheVariants.{ShowLoad, TakeToShow, ReturnShown}
 use Rattle.ns_word.specs.declared.signal_walk.SignalPlace.{SignalPlace}
 use Rattle.ns_word.specs.declared.signal_walk.SignalPlace.TheVariants.{PayTheWoken, SignalLoad, TakeToWake, WakeAndReturn}
 use Rattle.ns_word.specs.declared.try_walk.TryPlace.{TryPlace}
@@ -63,7 +65,7 @@ use Rattle.ns_word.specs.declared.walk.Next.{Next}
 use Rattle.ns_word.specs.declared.walk.Next.TheVariants.{Done, Idle, On}
 use Rattle.ns_word.specs.declared.walk.Reply.TheVariants.{Answered, Busy, Noisy, Succeeded}
 use Rattle.ns_word.specs.declared.walk.Walk.{Walk}
-use Rattle.ns_word.specs.declared.walk.Walk.TheVariants.{InAcquire, InCells, InRelease, InSignal, InTry, InWait}
+use Rattle.ns_word.specs.declared.walk.Walk.TheVariants.{InAcquire, InCells, InRelease, InShow, InSignal, InTry, InWait}
 use Rattle.ns_word.specs.declared.word.Arrival.{Arrival}
 use Rattle.ns_word.specs.declared.word.Arrival.TheVariants.{AsFresh, AsWoken}
 use Rattle.ns_word.specs.declared.word.Releasing.{Releasing}
@@ -128,6 +130,7 @@ module _ (C : Type 0) (N : ℕ) (truths : Truths C) (seat : ℕ) (waking : Wakin
   wakes_by (InSignal other j place) found old new commits asked fits four e =
       let one : other ≡ waking = cc in let two : j ≡ k = cc in
       wakes_at place found old new commits (subst (λ n. n < 4) two fits.1) four (subst (λ n. Effect truths seat (want_signaling waking n place) old found new commits) two (subst (λ w. Effect truths seat (want_signaling w j place) old found new commits) one e))
+  wakes_by (InShow place) found old new commits asked fits four e = absurd (cc)
 
 -- A step of a call that wakes commits whom the rule takes, or nothing.
 pub wakes_by_rule : {C : Type 0} {N : ℕ} (truths : Truths C) (seats : ℕ) (h : List (Event C N)) (old new : LockState C N) (view : SeatView C N) (found : Found) (commits : List (Event C N)) (waking : Waking) (k : ℕ) → (step : Step truths old view found new commits) → IsLawful truths seats h old → asked_of step.walk ≡ Wake waking k →
@@ -171,6 +174,7 @@ module _ {C : Type 0} (limits : Limits) (again : Bool) where
   looks_by_asked (InCells place) e = absurd (no_look (want_in_cells place) (cells_look_not C place) e)
   looks_by_asked (InWait wait place) e = wait_looks wait place e
   looks_by_asked (InSignal waking k place) e = absurd (no_look (want_signaling waking k place) (signal_looks_not C waking k place) e)
+  looks_by_asked (InShow place) e = absurd (no_look (want_showing place) (show_looks_not C place) e)
 
 -- A wait that something may end early looks where it finds its flag set.
 pub set_flag_looks : {C : Type 0} (N : ℕ) (wait : Wait C) → is_limited wait.limits ≡ true → (next : Walk C) × (walk_after (got_of N (InWait wait AwaitWakeInWait) (Flag 1)) ≡ Some next) × (want_of next ≡ Look wait.limits false)
@@ -318,6 +322,14 @@ module _ (C : Type 0) (N : ℕ) where
   signal_calls waking k PayTheWoken (Paid owes) = neither _ _ owes (On (InSignal waking k PayTheWoken)) (Done Succeeded) refl refl
   signal_calls waking k place found = not_there _ _ _ refl
 
+  show_calls : (place : ShowPlace) (found : Found) → IsCalled (InShow place) found (got_showing place found)
+  show_calls ShowLoad (Saw word) = neither _ _ word.spin (Idle (InShow ShowLoad)) (On (InShow (TakeToShow word))) refl refl
+  show_calls (TakeToShow last) (Saw word) = neither _ _ word.spin (Idle (InShow ShowLoad)) (On (InShow (TakeToShow word))) refl refl
+  show_calls (TakeToShow last) Made = not_there _ _ _ refl
+  show_calls (ReturnShown last) (Saw word) = not_there _ _ _ refl
+  show_calls (ReturnShown last) Made = not_there _ _ _ refl
+  show_calls place found = not_there _ _ _ refl
+
   every_call : (walk : Walk C) (found : Found) → IsCalled walk found (got_of N walk found)
   every_call (InTry mode place) found = try_calls mode place found
   every_call (InAcquire aim place) found = acquire_calls aim place found
@@ -325,6 +337,7 @@ module _ (C : Type 0) (N : ℕ) where
   every_call (InCells place) found = cells_call place found
   every_call (InWait wait place) found = wait_calls wait place found
   every_call (InSignal waking k place) found = signal_calls waking k place found
+  every_call (InShow place) found = show_calls place found
 
 -- Who acquires as woken was called.
 pub woken_was_called : (C : Type 0) (N : ℕ) (walk : Walk C) (found : Found) → was_woken (walk_after (got_of N walk found)) ≡ true → (was_woken (Some walk) ≡ true) ⊎ ((want_of walk ≡ LoadFlag) × (found ≡ Flag 0))

@@ -24,7 +24,7 @@ use Rattle.ns_word.specs.Meanings.{ConditionWaitMeans, Course, HasLocked, HasRel
 use Rattle.ns_word.specs.Places.{AimFits, CanLeave, CanWait, CellFits, ComesBack, IsForCondition, IsLeft, MayWait, PlaceFits, QueueFits, ReleaseFits, Tests, WaitFits}
 use Rattle.ns_word.specs.Steps.{LockState, Step, part_of, Effect, MayShow, Part, entry_of, exit_for, held_after, held_by, leave_of, newly_held, opening_by, section_of, taken_by, wake_of}
 use Rattle.ns_word.specs.Waits.{answer_of, answer_of_wait, arrival_of, cause_in, home_of, is_limited, mode_for, outcome_taken, woken_by}
-use Rattle.ns_word.specs.Walks.{acquire_by, acquired_for, armed_place, back_with, got_acquiring, got_in_cells, got_leaving, got_of, got_queuing, got_releasing, got_signaling, got_trying, got_waiting, judge_of, leave_by, load_place, look_or_queue, pay_releasing, pay_waiting, pay_woken, queue_by, quiet_place, release_by, rest_or_look, scan_place, signal_by, test_place, unmet_by, want_acquiring, want_in_cells, want_leaving, want_of, want_queuing, want_releasing, want_signaling, want_trying, want_waiting}
+use Rattle.ns_word.specs.Walks.{acquire_by, acquired_for, armed_place, back_with, got_acquiring, got_in_cells, got_leaving, got_of, got_queuing, got_releasing, got_signaling, got_showing, got_trying, got_waiting, judge_of, leave_by, load_place, look_or_queue, pay_releasing, pay_waiting, pay_woken, queue_by, quiet_place, release_by, rest_or_look, scan_place, signal_by, show_by, test_place, unmet_by, want_acquiring, want_in_cells, want_leaving, want_of, want_queuing, want_releasing, want_signaling, want_showing, want_trying, want_waiting}
 use Rattle.ns_word.specs.Words.{is_held, is_woken, may_acquire, mode_released, needs_scan, tries_of, word_taken}
 use Rattle.ns_word.specs.declared.acquire_walk.AcquirePlace.{AcquirePlace}
 use Rattle.ns_word.specs.declared.acquire_walk.AcquirePlace.TheVariants.{AcquireExchange, AcquireLoad, Arm, AwaitWake, Queue, TakeToQueue}
@@ -41,7 +41,9 @@ use Rattle.ns_word.specs.declared.limits.Limits.{Limits}
 use Rattle.ns_word.specs.declared.release_walk.ReleasePlace.{ReleasePlace}
 use Rattle.ns_word.specs.declared.release_walk.ReleasePlace.TheVariants.{Pay, ReleaseExchange, ReleaseLoad, ScanAndRelease, ScanCells, TakeToScan}
 use Rattle.ns_word.specs.declared.request.Request.{Request}
-use Rattle.ns_word.specs.declared.request.Request.TheVariants.{Await, Get, IsQuiet, Release, Set, TryLock, Wake}
+use Rattle.ns_word.specs.declared.request.Request.TheVariants.{Await, Get, IsQuiet, Release, Set, TryLock, Wake, Show}
+use Rattle.ns_word.specs.declared.show_walk.ShowPlace.{ShowPlace}
+use Rattle.ns_word.specs.declared.show_walk.ShowPlace.TheVariants.{ShowLoad, TakeToShow, ReturnShown}
 use Rattle.ns_word.specs.declared.signal_walk.SignalPlace.{SignalPlace}
 use Rattle.ns_word.specs.declared.signal_walk.SignalPlace.TheVariants.{PayTheWoken, SignalLoad, TakeToWake, WakeAndReturn}
 use Rattle.ns_word.specs.declared.try_walk.TryPlace.{TryPlace}
@@ -67,7 +69,7 @@ use Rattle.ns_word.specs.declared.walk.Next.{Next}
 use Rattle.ns_word.specs.declared.walk.Next.TheVariants.{Done, Idle, On}
 use Rattle.ns_word.specs.declared.walk.Reply.TheVariants.{Answered, Busy, Is, Noisy, Number, Succeeded}
 use Rattle.ns_word.specs.declared.walk.Walk.{Walk}
-use Rattle.ns_word.specs.declared.walk.Walk.TheVariants.{InAcquire, InCells, InRelease, InSignal, InTry, InWait}
+use Rattle.ns_word.specs.declared.walk.Walk.TheVariants.{InAcquire, InCells, InRelease, InShow, InSignal, InTry, InWait}
 use Rattle.ns_word.specs.declared.word.Arrival.{Arrival}
 use Rattle.ns_word.specs.declared.word.Arrival.TheVariants.{AsFresh}
 use Rattle.ns_word.specs.declared.word.Releasing.{Releasing}
@@ -155,6 +157,10 @@ module _ (C : Type 0) (N : ℕ) (truths : Truths C) (seat : ℕ) (row : List ℕ
   -- of a call that wakes
   signal_comes : (request : Request C) (course : Course C N) (held : Option (Held C N)) (waking : Waking) (k : ℕ) (word : Word) → Unchanged course held → Comes request course (signal_by waking k word) held
   signal_comes request course held waking k word so_far = either request course held word.spin (Idle (InSignal waking k SignalLoad)) (On (InSignal waking k (TakeToWake word))) (λ b. so_far) (λ b. so_far)
+
+  -- of a call that shows
+  show_comes : (request : Request C) (course : Course C N) (held : Option (Held C N)) (word : Word) → Unchanged course held → Comes request course (show_by word) held
+  show_comes request course held word so_far = either request course held word.spin (Idle (InShow ShowLoad)) (On (InShow (TakeToShow word))) (λ b. so_far) (λ b. so_far)
 
   -- of a release that has loaded cells
   scan_so_far : (course : Course C N) (held : Option (Held C N)) (releasing : Releasing) (last : Word) (loaded : ℕ) → Unchanged course held → SoFar truths seat course (InRelease releasing (scan_place N last loaded)) held
@@ -597,6 +603,16 @@ module _ (C : Type 0) (N : ℕ) (truths : Truths C) (seat : ℕ) (row : List ℕ
         finds (Wake waking k) (Paid owes) (pay_woken waking k owes) refl (ap (λ p. p.held) e.3) e.5 (either (Wake waking k) course part.held owes (On (InSignal waking k PayTheWoken)) (Done Succeeded) (λ b. was) (λ b. was))
     signals_on waking k _ _ e was = absurd e
 
+    shows_on : (place : ShowPlace) (found : Found) → Effect truths seat (want_showing place) part found next commits → Unchanged course part.held → Comes Show (course_after found commits course) (got_showing place found) next.held
+    shows_on ShowLoad (Saw word) e was = finds Show (Saw word) (show_by word) refl (held_in part e.1) e.2 (show_comes Show course part.held word was)
+    shows_on (TakeToShow last) (Saw word) e was = finds Show (Saw word) (show_by word) refl (held_in part e.2) e.3 (show_comes Show course part.held word was)
+    shows_on (TakeToShow last) Made e was = finds Show Made (On (InShow (ReturnShown (word_taken ToChange last)))) refl (ap (λ p. p.held) e.2) e.3 was
+    shows_on (ReturnShown last) (Saw word) e was = finds Show (Saw word) (On (InShow (ReturnShown word))) refl (held_in part e.2) e.3 was
+    shows_on (ReturnShown last) Made e was = finds Show Made (Done Succeeded) refl (ap (λ p. p.held) e.2) e.3 was
+    shows_on (ReturnShown last) (Left stood) e was = let other : Made ≡ Left stood = e.0 in absurd (cc)
+    shows_on (ReturnShown last) (Woke owes) e was = let other : Made ≡ Woke owes = e.0 in absurd (cc)
+    shows_on _ _ e was = absurd e
+
     -- every step leads its call on
     comes_on : (walk : Walk C) (found : Found) → Effect truths seat (want_of walk) part found next commits → PlaceFits truths (Some walk) part.held → SoFar truths seat course walk part.held →
         Comes (asked_of walk) (course_after found commits course) (got_of N walk found) next.held
@@ -606,6 +622,7 @@ module _ (C : Type 0) (N : ℕ) (truths : Truths C) (seat : ℕ) (row : List ℕ
     comes_on (InCells place) found e fits so_far = cells_on place found e fits.0 so_far
     comes_on (InWait wait place) found e fits so_far = waits_on wait place found e fits.0 fits.1 so_far
     comes_on (InSignal waking k place) found e fits so_far = signals_on waking k place found e so_far
+    comes_on (InShow place) found e fits so_far = shows_on place found e so_far
 
   -- what the law says of the seat's part of the state
   stands_by : (seats : ℕ) (h : List (Event C N)) (s : LockState C N) (view : SeatView C N) (commits : List (Event C N)) → (commits ≡ [] → row_after h ≡ row) → IsLawful truths seats h s → ViewFits truths seats (standing_after h) s.row view → Stands (part_of s view.held view.owed) commits
@@ -655,4 +672,5 @@ begins_unchanged C N truths seat held walk first = go walk first where
     queued wait true e looked = absurd (cc)
     queued wait false e looked = (none_yet, looked)
   go (InSignal waking k SignalLoad) first = none_yet
+  go (InShow ShowLoad) first = none_yet
   go walk first = absurd first

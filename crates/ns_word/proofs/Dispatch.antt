@@ -50,10 +50,12 @@ use Rattle.ns_word.specs.declared.try_walk.TryPlace.TheVariants.{TryLoad, TryAcq
 use Rattle.ns_word.specs.declared.acquire_walk.AcquirePlace.TheVariants.{AcquireLoad, AcquireExchange, TakeToQueue, Arm, Queue, AwaitWake}
 use Rattle.ns_word.specs.declared.release_walk.ReleasePlace.TheVariants.{ReleaseLoad, ReleaseExchange, TakeToScan, ScanCells, ScanAndRelease, Pay}
 use Rattle.ns_word.specs.declared.cell_walk.CellPlace.TheVariants.{GetLoad, SetLoad, SetStore, QuietCells, QuietLast}
+use Rattle.ns_word.specs.declared.show_walk.ShowPlace.{ShowPlace}
+use Rattle.ns_word.specs.declared.show_walk.ShowPlace.TheVariants.{ShowLoad, TakeToShow, ReturnShown}
 use Rattle.ns_word.specs.declared.signal_walk.SignalPlace.{SignalPlace}
 use Rattle.ns_word.specs.declared.signal_walk.SignalPlace.TheVariants.{SignalLoad, TakeToWake, WakeAndReturn, PayTheWoken}
 use Rattle.ns_word.specs.declared.walk.Walk.{Walk}
-use Rattle.ns_word.specs.declared.walk.Walk.TheVariants.{InTry, InAcquire, InRelease, InCells, InWait, InSignal}
+use Rattle.ns_word.specs.declared.walk.Walk.TheVariants.{InTry, InAcquire, InRelease, InCells, InWait, InSignal, InShow}
 use Rattle.ns_word.specs.declared.act.Act.TheVariants.{ReturnQueues, WaitReturning}
 use Rattle.ns_word.specs.declared.act.Change.TheVariants.{WakeWaiters}
 use Rattle.ns_word.specs.declared.act.Waking.{Waking}
@@ -65,7 +67,7 @@ use Rattle.ns_word.specs.declared.walk.Next.TheVariants.{On, Idle}
 use Rattle.ns_word.specs.Words.{is_held, is_woken, tries_of, mode_released, releasing_of, may_acquire, needs_scan, word_acquired, word_released, word_taken, word_returned, word_released_returning}
 use Rattle.ns_word.specs.Lists.{has_some, bits_of, queued, times_among}
 use Rattle.ns_word.specs.Waits.{IsWokenBy, OutcomeFits, arrival_of, cause_in, home_of, mode_for, outcome_taken, phase_for, phase_kept, variable_by, woken_by}
-use Rattle.ns_word.specs.Walks.{want_waiting, want_signaling, judge_of, want_of, got_waiting, got_leaving, got_signaling, got_of, walk_after, acquired_for, armed_place, pay_waiting, pay_woken, rest_or_look, pay_releasing, wait_has_queues, place_awaits, has_queues, is_queuing, has_armed, waits_in, awaits, was_woken, calls_from_lock, pays, is_on_way, phase_by, expected_for}
+use Rattle.ns_word.specs.Walks.{want_waiting, want_signaling, want_showing, judge_of, want_of, got_waiting, got_leaving, got_signaling, got_showing, got_of, walk_after, acquired_for, armed_place, pay_waiting, pay_woken, rest_or_look, pay_releasing, wait_has_queues, place_awaits, has_queues, is_queuing, has_armed, waits_in, awaits, was_woken, calls_from_lock, pays, is_on_way, phase_by, expected_for}
 use Rattle.ns_word.specs.Views.{NoneIs}
 use Rattle.ns_model.specs.Truths.{Truths, QuietKeeps}
 use Rattle.ns_word.specs.Steps.{LockState, Part, Effect, Step, MayShow, section_of, opening_for, newly_held, held_after, flags_with, meets_at, with_lock, waited_in, taken_by, kept_by, moved_to, changed, moves, owed_after, change_found, wake_of, leave_of}
@@ -82,7 +84,7 @@ use Rattle.ns_word.proofs.Ranges.{lists_orderly}
 use Rattle.ns_word.proofs.Safes.{section, same_section}
 use Rattle.ns_word.proofs.Seen.{packable, found_fits, seen_next}
 use Rattle.ns_word.proofs.Keeps.{Same, Stays, none_of, rests, acquires, stores, releases, takes, arms, enqueues, withdraws, returns, leaves as leaves_variable, scans, waits, waits_on, waits_for, wakes, sees, wakes_waiters}
-use Rattle.ns_word.proofs.Leads.{Leads, none_settled, shown_settled, try_leads, acquire_leads, acquired_leads, test_leads, met_leads, shown_section, queue_leads, leave_leads, rest_leads, pay_waiting_leads, release_leads, scan_leads, taken_leads, quiet_leads, judged_leads, pay_leads, calm_release, load_leads, armed_leads, signal_leads, pay_woken_leads}
+use Rattle.ns_word.proofs.Leads.{Leads, none_settled, shown_settled, try_leads, acquire_leads, acquired_leads, test_leads, met_leads, shown_section, queue_leads, leave_leads, rest_leads, pay_waiting_leads, release_leads, scan_leads, taken_leads, quiet_leads, judged_leads, pay_leads, calm_release, load_leads, armed_leads, signal_leads, pay_woken_leads, show_leads}
 
 -- whether one that leaves found itself in the list
 abbrev stood_in : Found → Bool
@@ -519,6 +521,29 @@ module _ {C : Type 0} {N : ℕ} (truths : Truths C) (seats : ℕ) (h : List (Eve
       (subst (λ owed. Groups truths seats h (at (record part { owed = owed }) (Some walk))) e.2 p)))
   by_signal waking k _ _ part next commits few e p = absurd e
 
+  -- ---- calls that show
+
+  by_show : (at_place : ShowPlace) (found : Found) (part next : Part C N) (commits : List (Event C N)) →
+      Effect truths who (want_showing at_place) part found next commits → Groups truths seats h (at part (Some (InShow at_place))) → Kept commits next (walk_after (got_showing at_place found))
+  by_show ShowLoad (Saw word) part next commits e p =
+      finds (InShow ShowLoad) _ part next commits e.1 e.2 refl (show_leads truths word part.held (place (InShow ShowLoad) part p).1) p
+  by_show (TakeToShow last) (Saw word) part next commits e p =
+      finds (InShow (TakeToShow last)) _ part next commits e.2 e.3 refl (show_leads truths word part.held (place (InShow (TakeToShow last)) part p).1) p
+  by_show (ReturnShown last) (Saw word) part next commits e p =
+      finds (InShow (ReturnShown last)) _ part next commits e.2 e.3 refl (place (InShow (ReturnShown last)) part p, (refl, refl, refl, refl), refl, λ flag n f. f, λ none. refl) p
+  by_show (TakeToShow last) Made part next commits e p =
+      let walk = InShow (TakeToShow last) in
+      let to = InShow (ReturnShown (word_taken ToChange last)) in
+      took walk to ToChange last part next commits e.0 e.1 e.2 e.3 (tt, (place walk part p).1) refl refl refl refl refl (λ none. refl)
+      (λ apart homed known. known_rests truths.holds front who (Some walk) part.held part.owed (Some to) part.held part.owed back part.word (word_taken ToChange part.word) (standing_after h).row part.lists.lock part.flags apart (λ seat. refl) refl refl refl refl refl refl (λ flag n f. f) known) p
+  by_show (ReturnShown last) Made part next commits e p =
+      moved None (record part { word = word_returned false (bits_of part.lists.lock) part.word }) next [] commits (e.2 ∙ ap (λ word. record part { word = word_returned false (bits_of part.lists.lock) word }) e.1) e.3
+      (none_more _ (returns truths seats h front who (Some (InShow (ReturnShown last))) None back part.word part.row part.lists part.flags part.held part.owed refl
+      (place (InShow (ReturnShown last)) part p).1 refl refl refl refl refl refl refl (λ flag n f. f) (λ none. refl) p))
+  by_show (ReturnShown last) (Left stood) part next commits e p = let never : Made ≡ Left stood = e.0 in absurd (cc)
+  by_show (ReturnShown last) (Woke owes) part next commits e p = let never : Made ≡ Woke owes = e.0 in absurd (cc)
+  by_show _ _ part next commits e p = absurd e
+
   by_walk : (walk : Walk C) (found : Found) (part next : Part C N) (commits : List (Event C N)) → seats ≤ 64 → 0 < N → QuietKeeps N truths →
       Effect truths who (want_of walk) part found next commits → Groups truths seats h (at part (Some walk)) → Kept commits next (walk_after (got_of N walk found))
   -- found and no more
@@ -614,6 +639,7 @@ module _ {C : Type 0} {N : ℕ} (truths : Truths C) (seats : ℕ) (h : List (Eve
       (subst (λ owed. Groups truths seats h (at (record part { owed = owed }) (Some (InRelease releasing Pay)))) e.2 p)))
   by_walk (InWait wait at_place) found part next commits few some quiet e p = by_wait wait at_place found part next commits few some e p
   by_walk (InSignal waking k at_place) found part next commits few some quiet e p = by_signal waking k at_place found part next commits few e p
+  by_walk (InShow at_place) found part next commits few some quiet e p = by_show at_place found part next commits e p
   by_walk _ _ part next commits few some quiet e p = absurd e
 
 pub keeps : {C : Type 0} {N : ℕ} (truths : Truths C) → 0 < N → QuietKeeps N truths → (seats : ℕ) (h : List (Event C N)) (old : LockState C N) (view : SeatView C N) (found : Found) (new : LockState C N) (commits : List (Event C N)) → seats ≤ 64 →

@@ -7,9 +7,10 @@ use Rattle.ns_word.specs.declared.wait.QueuePlace.TheVariants.{Load}
 use Rattle.ns_word.specs.declared.try_walk.TryPlace.TheVariants.{TryLoad}
 use Rattle.ns_word.specs.declared.acquire_walk.AcquirePlace.TheVariants.{AcquireLoad}
 use Rattle.ns_word.specs.declared.release_walk.ReleasePlace.TheVariants.{ReleaseLoad}
+use Rattle.ns_word.specs.declared.show_walk.ShowPlace.TheVariants.{ShowLoad}
 use Rattle.ns_word.specs.declared.signal_walk.SignalPlace.TheVariants.{SignalLoad}
 use Rattle.ns_word.specs.declared.walk.Walk.{Walk}
-use Rattle.ns_word.specs.declared.walk.Walk.TheVariants.{InTry, InAcquire, InRelease, InCells, InWait, InSignal}
+use Rattle.ns_word.specs.declared.walk.Walk.TheVariants.{InTry, InAcquire, InRelease, InCells, InWait, InSignal, InShow}
 use Rattle.ns_word.specs.Answers.{cause_kept, has_come_back}
 use Rattle.ns_word.specs.Begins.{IsFirst}
 use Rattle.ns_word.specs.Seen.{word_seen}
@@ -30,4 +31,5 @@ module _ {C : Type 0} (N : ℕ) where
   first_is_bare (InWait wait (TestLast OnEntry i)) p = record { unseen = refl; unkept = refl; out = refl }
   first_is_bare (InWait wait (InQueuing again Load)) p = record { unseen = refl; unkept = refl; out = refl }
   first_is_bare (InSignal waking k SignalLoad) p = record { unseen = refl; unkept = refl; out = refl }
+  first_is_bare (InShow ShowLoad) p = record { unseen = refl; unkept = refl; out = refl }
   first_is_bare _ p = absurd p

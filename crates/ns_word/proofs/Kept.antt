@@ -30,11 +30,13 @@ use Rattle.ns_word.specs.declared.acquire_walk.AcquirePlace.TheVariants.{Acquire
 use Rattle.ns_word.specs.declared.release_walk.ReleasePlace.TheVariants.{ReleaseLoad, ReleaseExchange, TakeToScan, ScanCells, ScanAndRelease, Pay}
 use Rattle.ns_word.specs.declared.cell_walk.Judging.TheVariants.{ToTell, ToRelease}
 use Rattle.ns_word.specs.declared.cell_walk.CellPlace.TheVariants.{GetLoad, SetLoad, SetStore, QuietCells, QuietLast}
+use Rattle.ns_word.specs.declared.show_walk.ShowPlace.{ShowPlace}
+use Rattle.ns_word.specs.declared.show_walk.ShowPlace.TheVariants.{ShowLoad, TakeToShow, ReturnShown}
 use Rattle.ns_word.specs.declared.signal_walk.SignalPlace.{SignalPlace}
 use Rattle.ns_word.specs.declared.signal_walk.SignalPlace.TheVariants.{SignalLoad, TakeToWake, WakeAndReturn, PayTheWoken}
 use Rattle.ns_word.specs.declared.act.Waking.{Waking}
 use Rattle.ns_word.specs.declared.walk.Walk.{Walk}
-use Rattle.ns_word.specs.declared.walk.Walk.TheVariants.{InTry, InAcquire, InRelease, InCells, InWait, InSignal}
+use Rattle.ns_word.specs.declared.walk.Walk.TheVariants.{InTry, InAcquire, InRelease, InCells, InWait, InSignal, InShow}
 use Rattle.ns_word.specs.declared.act.Found.{Found}
 use Rattle.ns_word.specs.declared.act.Found.TheVariants.{Saw, Made, Cell, Quiet, Tested, Scanned, Paid, Left, Woke, Flag, Looked}
 use Rattle.ns_word.specs.declared.walk.Reply.{Reply}
@@ -43,7 +45,7 @@ use Rattle.ns_word.specs.declared.walk.Next.{Next}
 use Rattle.ns_word.specs.declared.walk.Next.TheVariants.{On, Idle, Done}
 use Rattle.ns_word.specs.Words.{may_acquire, needs_scan}
 use Rattle.ns_word.specs.Waits.{answer_of, cause_in, is_limited, mode_for, outcome_taken}
-use Rattle.ns_word.specs.Walks.{want_of, got_waiting, got_signaling, got_of, walk_after, unmet_by, look_or_queue, test_place, load_place, armed_place, acquire_by, back_with, acquired_for, release_by}
+use Rattle.ns_word.specs.Walks.{want_of, got_waiting, got_signaling, got_showing, got_of, walk_after, unmet_by, look_or_queue, test_place, load_place, armed_place, acquire_by, back_with, acquired_for, release_by}
 use Rattle.ns_model.specs.Truths.{Truths}
 use Rattle.ns_word.specs.Steps.{LockState, Part, Effect, Step, part_of}
 use Rattle.ns_word.specs.Answers.{comes_back, place_has_come_back, has_come_back, is_back, cause_for, cause_by, place_cause_kept, cause_kept}
@@ -110,6 +112,15 @@ signaling_shown C waking k (WakeAndReturn last) (Saw word) = none_shown _ _
 signaling_shown C waking k (WakeAndReturn last) (Woke owes) = either_shown None _ owes _ _ (none_shown _ _) (none_shown _ _)
 signaling_shown C waking k PayTheWoken (Paid owes) = either_shown None _ owes _ _ (none_shown _ _) (none_shown _ _)
 signaling_shown C waking k place found = none_shown None found
+
+-- nor does one that shows
+showing_shown : (C : Type 0) (place : ShowPlace) (found : Found) → KeptOrFoundNext None found (got_showing {C = C} place found)
+showing_shown C ShowLoad (Saw word) = either_shown None _ word.spin _ _ (none_shown _ _) (none_shown _ _)
+showing_shown C (TakeToShow last) (Saw word) = either_shown None _ word.spin _ _ (none_shown _ _) (none_shown _ _)
+showing_shown C (TakeToShow last) Made = none_shown _ _
+showing_shown C (ReturnShown last) (Saw word) = none_shown _ _
+showing_shown C (ReturnShown last) Made = none_shown _ _
+showing_shown C place found = none_shown None found
 
 module _ {C : Type 0} (N : ℕ) where
   -- the tests keep the cause that they were begun with
@@ -198,6 +209,7 @@ module _ {C : Type 0} (N : ℕ) where
   shown_by (InCells (SetStore i v)) Made = none_shown _ _
   shown_by (InWait wait place) found = waiting_shown wait place found
   shown_by (InSignal waking k place) found = signaling_shown C waking k place found
+  shown_by (InShow place) found = showing_shown C place found
   shown_by walk found = stays_shown (cause_kept walk) found
 
   goes_with : (next : Next C) (walk : Walk C) → walk_after next ≡ Some walk → next_cause next ≡ cause_kept walk
@@ -244,6 +256,14 @@ signaling_out C waking k (WakeAndReturn last) (Saw word) = refl
 signaling_out C waking k (WakeAndReturn last) (Woke owes) = either_out owes _ _ refl refl
 signaling_out C waking k PayTheWoken (Paid owes) = either_out owes _ _ refl refl
 signaling_out C waking k place found = refl
+
+showing_out : (C : Type 0) (place : ShowPlace) (found : Found) → Out (got_showing {C = C} place found)
+showing_out C ShowLoad (Saw word) = either_out word.spin _ _ refl refl
+showing_out C (TakeToShow last) (Saw word) = either_out word.spin _ _ refl refl
+showing_out C (TakeToShow last) Made = refl
+showing_out C (ReturnShown last) (Saw word) = refl
+showing_out C (ReturnShown last) Made = refl
+showing_out C place found = refl
 
 -- nor does one that loads cells for its scan look
 either_place_out : (again b : Bool) (one other : QueuePlace) → place_has_come_back (InQueuing again one) ≡ false → place_has_come_back (InQueuing again other) ≡ false → place_has_come_back (InQueuing again (cond b one other)) ≡ false
@@ -322,6 +342,7 @@ module _ {C : Type 0} (N : ℕ) where
   out_by (InCells (SetStore i v)) Made e a = refl
   out_by (InWait wait place) found e a = waiting_out wait place found e
   out_by (InSignal waking k place) found e a = signaling_out C waking k place found
+  out_by (InShow place) found e a = showing_out C place found
   out_by walk found e a = e
 
 module _ {C : Type 0} {N : ℕ} (truths : Truths C) where

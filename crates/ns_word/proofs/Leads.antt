@@ -35,14 +35,15 @@ use Rattle.ns_word.specs.declared.cell_walk.Judging.TheVariants.{ToTell, ToRelea
 use Rattle.ns_word.specs.declared.cell_walk.CellPlace.TheVariants.{QuietCells, QuietLast}
 use Rattle.ns_word.specs.declared.walk.Walk.{Walk}
 use Rattle.ns_word.specs.declared.act.Waking.{Waking}
+use Rattle.ns_word.specs.declared.show_walk.ShowPlace.TheVariants.{ShowLoad, TakeToShow}
 use Rattle.ns_word.specs.declared.signal_walk.SignalPlace.TheVariants.{SignalLoad, TakeToWake}
-use Rattle.ns_word.specs.declared.walk.Walk.TheVariants.{InTry, InAcquire, InRelease, InCells, InWait, InSignal}
+use Rattle.ns_word.specs.declared.walk.Walk.TheVariants.{InTry, InAcquire, InRelease, InCells, InWait, InSignal, InShow}
 use Rattle.ns_word.specs.declared.walk.Next.TheVariants.{On, Idle, Done}
 use Rattle.ns_word.specs.declared.walk.Reply.TheVariants.{Busy, Answered}
 use Rattle.ns_word.specs.Words.{mode_released, may_acquire, needs_scan}
 use Rattle.ns_word.specs.Lists.{has_eligible}
 use Rattle.ns_word.specs.Waits.{IsWokenBy, is_limited, mode_for, phase_kept}
-use Rattle.ns_word.specs.Walks.{after_judging, walk_after, acquire_by, back_with, acquired_for, load_place, armed_place, signal_by, pay_woken, expected_for, calls_from_lock, was_woken, release_by, quiet_place, scan_place, pay_releasing, test_place, unmet_by, queue_by, pay_waiting, rest_or_look, leave_by, has_queues, is_queuing, has_armed, waits_in, pays, phase_by}
+use Rattle.ns_word.specs.Walks.{after_judging, walk_after, acquire_by, back_with, acquired_for, load_place, armed_place, signal_by, show_by, pay_woken, expected_for, calls_from_lock, was_woken, release_by, quiet_place, scan_place, pay_releasing, test_place, unmet_by, queue_by, pay_waiting, rest_or_look, leave_by, has_queues, is_queuing, has_armed, waits_in, pays, phase_by}
 use Rattle.ns_model.specs.Truths.{Truths, QuietKeeps}
 use Rattle.ns_word.specs.Answers.{cause_by}
 use Rattle.ns_word.specs.Steps.{MayShow, newly_held, opening_by, held_after, meets_at}
@@ -264,6 +265,15 @@ module _ {C : Type 0} {N : ℕ} (truths : Truths C) where
       (k < 4 → IsSettled truths held → PlaceFits truths next held) × (pays next ≡ b) × (has_queues next ≡ false) × (waits_in next ≡ None) × (has_armed next ≡ false) × (is_queuing next ≡ false) × Way None next × (phase_by next ≡ phase_by {C = C} None) × (was_woken next ≡ false)
   pay_woken_leads waking k held true = (λ low p. (tt, low, p), refl, refl, refl, refl, refl, λ flag n f. f, refl, refl)
   pay_woken_leads waking k held false = (λ low p. p, refl, refl, refl, refl, refl, λ flag n f. f, refl, refl)
+
+  -- ---- calls that show
+
+  show_place : (word : Word) (held : Option (Held C N)) (b : Bool) → word.spin ≡ b → IsSettled truths held → Leads None (walk_after (cond b (Idle (InShow ShowLoad)) (On (InShow (TakeToShow word))))) held
+  show_place word held true e p = ((tt, p), (refl, refl, refl, refl), refl, λ flag n f. f, λ none. refl)
+  show_place word held false e p = ((e, p), (refl, refl, refl, refl), refl, λ flag n f. f, λ none. refl)
+
+  pub show_leads : (word : Word) (held : Option (Held C N)) → IsSettled truths held → Leads None (walk_after (show_by word)) held
+  show_leads word held p = show_place word held word.spin refl p
 
   -- a section whose wait a look has ended is settled
   pub shown_settled : (wait : Wait C) (again : Bool) (cause : Cause) (held : Option (Held C N)) → CanWait truths wait again held → IsSettled truths (held_after again (Some cause) held)

@@ -23,6 +23,8 @@ use Rattle.ns_word.specs.declared.release_walk.ReleasePlace.{ReleasePlace}
 use Rattle.ns_word.specs.declared.release_walk.ReleasePlace.TheVariants.{ReleaseLoad, ReleaseExchange, TakeToScan, ScanCells, ScanAndRelease, Pay}
 use Rattle.ns_word.specs.declared.cell_walk.CellPlace.{CellPlace}
 use Rattle.ns_word.specs.declared.cell_walk.CellPlace.TheVariants.{GetLoad, SetLoad, SetStore, QuietCells, QuietLast}
+use Rattle.ns_word.specs.declared.show_walk.ShowPlace.{ShowPlace}
+use Rattle.ns_word.specs.declared.show_walk.ShowPlace.TheVariants.{ShowLoad, TakeToShow, ReturnShown}
 use Rattle.ns_word.specs.declared.signal_walk.SignalPlace.{SignalPlace}
 use Rattle.ns_word.specs.declared.signal_walk.SignalPlace.TheVariants.{SignalLoad, TakeToWake, WakeAndReturn, PayTheWoken}
 use Rattle.ns_word.specs.declared.word.Releasing.{Releasing}
@@ -30,7 +32,7 @@ use Rattle.ns_word.specs.declared.act.Waking.{Waking}
 use Rattle.ns_word.specs.declared.view.Held.{Held}
 use Rattle.ns_word.specs.declared.view.SeatView.{SeatView}
 use Rattle.ns_word.specs.declared.walk.Walk.{Walk}
-use Rattle.ns_word.specs.declared.walk.Walk.TheVariants.{InTry, InAcquire, InRelease, InCells, InWait, InSignal}
+use Rattle.ns_word.specs.declared.walk.Walk.TheVariants.{InTry, InAcquire, InRelease, InCells, InWait, InSignal, InShow}
 use Rattle.ns_word.specs.declared.act.Act.{Act}
 use Rattle.ns_word.specs.declared.act.Act.TheVariants.{LoadWord, Acquire, TakeQueues, ReturnQueues, Release, ReleaseReturning, WaitReturning, LoadCell, JudgeQuiet, JudgeMet, StoreCell, ArmFlag, PayWake, LoadFlag, Look}
 use Rattle.ns_word.specs.declared.act.Found.{Found}
@@ -38,7 +40,7 @@ use Rattle.ns_word.specs.declared.act.Found.TheVariants.{Saw, Made, Cell, Quiet,
 use Rattle.ns_word.specs.declared.limits.Cause.{Cause}
 use Rattle.ns_word.specs.Words.{is_woken, may_acquire}
 use Rattle.ns_word.specs.Waits.{mode_for}
-use Rattle.ns_word.specs.Walks.{want_of, judge_of, want_releasing, want_in_cells, want_queuing, want_leaving, want_waiting, want_signaling, was_woken}
+use Rattle.ns_word.specs.Walks.{want_of, judge_of, want_releasing, want_in_cells, want_queuing, want_leaving, want_waiting, want_signaling, want_showing, was_woken}
 use Rattle.ns_word.specs.Steps.{LockState, Part, Effect, Step, part_of, held_after}
 
 -- such a word is acquired by one that was woken alone
@@ -142,6 +144,11 @@ module _ (C : Type 0) where
   signal_gains_not waking k (WakeAndReturn last) word g = g
   signal_gains_not waking k PayTheWoken word g = g
 
+  show_gains_not : (place : ShowPlace) (word : Word) → Gains (want_showing {C = C} place) word → ⊥
+  show_gains_not ShowLoad word g = g
+  show_gains_not (TakeToShow last) word g = g
+  show_gains_not (ReturnShown last) word g = g
+
   passes : (walk : Walk C) (word : Word) → word.long ≡ true → Gains (want_of walk) word → was_woken (Some walk) ≡ true
   passes (InTry mode TryLoad) word long g = absurd g
   passes (InTry mode (TryAcquire last)) word long g = absurd (both_ways false refl (long_shuts mode AsFresh last (ap (λ w. w.long) g.0 ∙ long) g.1))
@@ -155,6 +162,7 @@ module _ (C : Type 0) where
   passes (InCells place) word long g = absurd (cell_gains_not place word g)
   passes (InWait wait place) word long g = absurd (wait_gains_not wait place word g)
   passes (InSignal waking k place) word long g = absurd (signal_gains_not waking k place word g)
+  passes (InShow place) word long g = absurd (show_gains_not place word g)
 
 pub woken_pass : {C : Type 0} {N : ℕ} (truths : Truths C) (old : LockState C N) (view : SeatView C N) (found : Found) (new : LockState C N) (commits : List (Event C N)) (held : Held C N) → (step : Step truths old view found new commits) → old.word.long ≡ true → view.held ≡ None → step.held ≡ Some held → was_woken (Some step.walk) ≡ true
 woken_pass truths old view found new commits held step long none some =

@@ -35,10 +35,12 @@ use Rattle.ns_word.specs.declared.release_walk.ReleasePlace.TheVariants.{Release
 use Rattle.ns_word.specs.declared.cell_walk.Judging.TheVariants.{ToTell, ToRelease}
 use Rattle.ns_word.specs.declared.cell_walk.CellPlace.{CellPlace}
 use Rattle.ns_word.specs.declared.cell_walk.CellPlace.TheVariants.{GetLoad, SetLoad, SetStore, QuietCells, QuietLast}
+use Rattle.ns_word.specs.declared.show_walk.ShowPlace.{ShowPlace}
+use Rattle.ns_word.specs.declared.show_walk.ShowPlace.TheVariants.{ShowLoad, TakeToShow, ReturnShown}
 use Rattle.ns_word.specs.declared.signal_walk.SignalPlace.{SignalPlace}
 use Rattle.ns_word.specs.declared.signal_walk.SignalPlace.TheVariants.{SignalLoad, TakeToWake, WakeAndReturn, PayTheWoken}
 use Rattle.ns_word.specs.declared.walk.Walk.{Walk}
-use Rattle.ns_word.specs.declared.walk.Walk.TheVariants.{InTry, InAcquire, InRelease, InCells, InWait, InSignal}
+use Rattle.ns_word.specs.declared.walk.Walk.TheVariants.{InTry, InAcquire, InRelease, InCells, InWait, InSignal, InShow}
 use Rattle.ns_word.specs.declared.walk.Next.{Next}
 use Rattle.ns_word.specs.declared.walk.Next.TheVariants.{On, Idle, Done}
 use Rattle.ns_word.specs.declared.walk.Reply.TheVariants.{Answered}
@@ -52,7 +54,7 @@ use Rattle.ns_word.specs.Codec.{IsPackable}
 use Rattle.ns_word.specs.Words.{may_acquire, needs_scan, word_taken}
 use Rattle.ns_word.specs.Waits.{arrival_of, is_limited, mode_for, outcome_taken, woken_by}
 use Rattle.ns_word.specs.Views.{readers}
-use Rattle.ns_word.specs.Walks.{got_of, got_trying, got_acquiring, got_releasing, got_in_cells, got_waiting, got_queuing, got_leaving, got_signaling, walk_after, acquire_by, acquired_for, back_with, release_by, scan_place, test_place, load_place, armed_place, unmet_by, look_or_queue, queue_by, leave_by, signal_by, rest_or_look}
+use Rattle.ns_word.specs.Walks.{got_of, got_trying, got_acquiring, got_releasing, got_in_cells, got_waiting, got_queuing, got_leaving, got_signaling, got_showing, walk_after, acquire_by, acquired_for, back_with, release_by, scan_place, test_place, load_place, armed_place, unmet_by, look_or_queue, queue_by, leave_by, signal_by, show_by, rest_or_look}
 use Rattle.ns_word.specs.Steps.{Part, LockState, Effect}
 use Rattle.ns_word.specs.Seen.{word_seen, HasNumber}
 use Rattle.ns_word.specs.Lawful.{IsLawful}
@@ -107,6 +109,12 @@ module _ (C : Type 0) where
   signal_by_seen : (waking : Waking) (k : ℕ) (word : Word) → IsPackable word → Seen (walk_after (signal_by waking k word))
   signal_by_seen waking k word p = go word.spin where
     go : (b : Bool) → Seen (walk_after (cond b (Idle (InSignal waking k SignalLoad)) (On (InSignal waking k (TakeToWake word)))))
+    go true = tt
+    go false = p
+
+  show_by_seen : (word : Word) → IsPackable word → Seen (walk_after (show_by word))
+  show_by_seen word p = go word.spin where
+    go : (b : Bool) → Seen (walk_after (cond b (Idle (InShow ShowLoad)) (On (InShow (TakeToShow word)))))
     go true = tt
     go false = p
 
@@ -240,6 +248,14 @@ module _ (C : Type 0) where
   signal_next waking k PayTheWoken (Paid owes) f p = after owes (On (InSignal waking k PayTheWoken)) _ tt tt
   signal_next waking k place found f p = p
 
+  show_next : (place : ShowPlace) (found : Found) → FoundFits found → Seen (Some (InShow place)) → Seen (walk_after (got_showing place found))
+  show_next ShowLoad (Saw word) f p = show_by_seen word f
+  show_next (TakeToShow last) (Saw word) f p = show_by_seen word f
+  show_next (TakeToShow last) Made f p = taken_packable ToChange last p
+  show_next (ReturnShown last) (Saw word) f p = f
+  show_next (ReturnShown last) Made f p = tt
+  show_next place found f p = p
+
   -- the word last seen has a number after a step, where it had one before and the word found has
   pub seen_next : (N : ℕ) (walk : Walk C) (found : Found) → FoundFits found → Seen (Some walk) → Seen (walk_after (got_of N walk found))
   seen_next N (InTry mode place) found f p = try_next mode place found f p
@@ -248,6 +264,7 @@ module _ (C : Type 0) where
   seen_next N (InCells place) found f p = cell_next N place found
   seen_next N (InWait wait place) found f p = wait_next N wait place found f p
   seen_next N (InSignal waking k place) found f p = signal_next waking k place found f p
+  seen_next N (InShow place) found f p = show_next place found f p
 
 -- what a step finds is the lock's word, if it finds one
 pub found_fits : {C : Type 0} {N : ℕ} (truths : Truths C) (seat : ℕ) (act : Act C) (old : Part C N) (found : Found) (new : Part C N) (commits : List (Event C N)) → IsPackable old.word → Effect truths seat act old found new commits → FoundFits found

@@ -19,6 +19,7 @@ use Rattle.ns_word.specs.declared.wait.Visit.TheVariants.{OnEntry}
 use Rattle.ns_word.specs.declared.view.Held.{Held}
 use Rattle.ns_word.specs.declared.wait.WaitPlace.TheVariants.{TestCells, TestLast, InQueuing}
 use Rattle.ns_word.specs.declared.wait.QueuePlace.TheVariants.{Load}
+use Rattle.ns_word.specs.declared.show_walk.ShowPlace.TheVariants.{ShowLoad}
 use Rattle.ns_word.specs.declared.signal_walk.SignalPlace.TheVariants.{SignalLoad}
 use Rattle.ns_word.specs.declared.try_walk.TryPlace.TheVariants.{TryLoad}
 use Rattle.ns_word.specs.declared.acquire_walk.AcquirePlace.TheVariants.{AcquireLoad}
@@ -26,7 +27,7 @@ use Rattle.ns_word.specs.declared.release_walk.ReleasePlace.TheVariants.{Release
 use Rattle.ns_word.specs.declared.cell_walk.Judging.{Judging}
 use Rattle.ns_word.specs.declared.cell_walk.CellPlace.TheVariants.{QuietCells, QuietLast}
 use Rattle.ns_word.specs.declared.walk.Walk.{Walk}
-use Rattle.ns_word.specs.declared.walk.Walk.TheVariants.{InTry, InAcquire, InRelease, InCells, InWait, InSignal}
+use Rattle.ns_word.specs.declared.walk.Walk.TheVariants.{InTry, InAcquire, InRelease, InCells, InWait, InSignal, InShow}
 use Rattle.ns_word.specs.Walks.{has_armed, quiet_first, first_for, wait_first}
 use Rattle.ns_word.specs.Views.{writers, readers, takers, queuers, owed_to, walk_at, NoneIs, AreApart}
 use Rattle.ns_model.specs.Truths.{Truths}
@@ -155,6 +156,7 @@ module _ {C : Type 0} {N : ℕ} (truths : Truths C) (seats : ℕ) (h : List (Eve
   first_place (InWait wait (InQueuing false Load)) held e p = (p, (refl, refl, refl, refl), refl, λ flag n f. absurd (cc), λ none. absurd (subst (λ x. CanWait truths wait false x) none p.0.0))
   first_place (InWait wait (InQueuing true Load)) held e p = let never : true ≡ false = e.0 in absurd (cc)
   first_place (InSignal waking k SignalLoad) held e p = (p, (refl, refl, refl, refl), refl, λ flag n f. absurd (cc), λ none. refl)
+  first_place (InShow ShowLoad) held e p = (p, (refl, refl, refl, refl), refl, λ flag n f. absurd (cc), λ none. refl)
   first_place _ held e p = absurd e
 
   pub begins : (old : LockState C N) (view : SeatView C N) (walk : Walk C) (new : LockState C N) → Begins truths old view walk new → IsLawful truths seats h old → IsLawful truths seats h new

@@ -15,7 +15,7 @@ use Rattle.ns_queue.specs.declared.waiter.Waiter.{Waiter}
 use Rattle.ns_word.specs.declared.act.Waking.{Waking}
 use Rattle.ns_word.specs.declared.act.Waking.TheVariants.{Signaling, Broadcasting}
 use Rattle.ns_word.specs.declared.act.Change.{Change}
-use Rattle.ns_word.specs.declared.act.Change.TheVariants.{QueueSelf, LeaveSelf, WakeWaiters}
+use Rattle.ns_word.specs.declared.act.Change.TheVariants.{QueueSelf, LeaveSelf, WakeWaiters, Nothing}
 use Rattle.ns_word.specs.declared.act.Act.{Act}
 use Rattle.ns_word.specs.declared.act.Act.TheVariants.{LoadWord, Acquire, TakeQueues, ReturnQueues, Release, ReleaseReturning, WaitReturning, LoadCell, JudgeQuiet, JudgeMet, StoreCell, ArmFlag, PayWake, LoadFlag, Look}
 use Rattle.ns_word.specs.declared.act.Found.{Found}
@@ -60,6 +60,7 @@ change_by : {C : Type 0} (N : ℕ) (seat : ℕ) (change : Change) (lists : Lists
 change_by N seat (QueueSelf mode arrival) lists = tt
 change_by {C} N seat (LeaveSelf which) lists = left_by C N seat which _
 change_by N seat (WakeWaiters waking k) lists = (woken_by N seat waking k _, tt)
+change_by N seat Nothing lists = tt
 
 module _ {C : Type 0} {N : ℕ} where
   none_by : (seat : ℕ) (commits : List (Event C N)) → commits ≡ [] → AreBy seat commits

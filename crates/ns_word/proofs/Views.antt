@@ -17,7 +17,7 @@ use Rattle.ns_word.specs.declared.wait.Aim.{Aim}
 use Rattle.ns_word.specs.declared.wait.Aim.TheVariants.{ForLock, ForWait}
 use Rattle.ns_word.specs.declared.view.Opening.{Opening}
 use Rattle.ns_word.specs.declared.view.Opening.TheVariants.{Locked, CameBack}
-use Rattle.ns_word.specs.declared.walk.Walk.TheVariants.{InTry, InAcquire, InRelease, InCells, InWait, InSignal}
+use Rattle.ns_word.specs.declared.walk.Walk.TheVariants.{InTry, InAcquire, InRelease, InCells, InWait, InSignal, InShow}
 use Rattle.ns_word.specs.Waits.{phase_kept, phase_for}
 use Rattle.ns_word.specs.declared.view.Held.{Held}
 use Rattle.ns_word.specs.declared.view.SeatView.{SeatView}
@@ -200,6 +200,7 @@ module _ {C : Type 0} where
   expected_woken (Some (InCells place)) now p = either_woken false Idle now (λ e. refl) p
   expected_woken (Some (InWait wait place)) now p = subject_woken wait.on wait.mode now p
   expected_woken (Some (InSignal waking k place)) now p = either_woken false Idle now (λ e. refl) p
+  expected_woken (Some (InShow place)) now p = either_woken false Idle now (λ e. refl) p
 
 module _ {C : Type 0} {N : ℕ} (truths : Truths C) (seats : ℕ) where
   section_woken : (now next : Standing C) (row : List ℕ) (who : ℕ) (walk : Option (Walk C)) (held : Option (Held C N)) →

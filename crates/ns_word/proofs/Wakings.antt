@@ -3,11 +3,11 @@ use Rattle.std.proofs.Common.{◌≡◌, ◌≢◌, ◌⊎◌, inl, inr, ℕ, Bo
 use Rattle.std.proofs.lemmas.Bool.{ne_eqb}
 use Rattle.ns_model.specs.declared.event.Mode.{Mode}
 use Rattle.ns_model.specs.declared.event.Mode.TheVariants.{Read}
-use Rattle.ns_word.proofs.Answers.{acquire_looks_not, cells_look_not, judge_looks_not, leaver_looks_not, release_looks_not, signal_looks_not, try_looks_not}
+use Rattle.ns_word.proofs.Answers.{acquire_looks_not, cells_look_not, judge_looks_not, leaver_looks_not, release_looks_not, signal_looks_not, show_looks_not, try_looks_not}
 use Rattle.ns_word.proofs.Calls.{no_look}
 use Rattle.ns_word.specs.Answers.{cause_kept}
 use Rattle.ns_word.specs.Waits.{answer_of, arrival_of, outcome_taken, woken_by}
-use Rattle.ns_word.specs.Walks.{calls_from_lock, got_of, judge_of, rest_or_look, walk_after, want_acquiring, want_in_cells, want_leaving, want_of, want_queuing, want_releasing, want_signaling, want_trying, want_waiting}
+use Rattle.ns_word.specs.Walks.{calls_from_lock, got_of, judge_of, rest_or_look, walk_after, want_acquiring, want_in_cells, want_leaving, want_of, want_queuing, want_releasing, want_signaling, want_showing, want_trying, want_waiting}
 use Rattle.ns_word.specs.Words.{may_acquire}
 use Rattle.ns_word.specs.declared.acquire_walk.AcquirePlace.{AcquirePlace}
 use Rattle.ns_word.specs.declared.acquire_walk.AcquirePlace.TheVariants.{AcquireExchange, AcquireLoad, Arm, AwaitWake, Queue, TakeToQueue}
@@ -22,6 +22,8 @@ use Rattle.ns_word.specs.declared.limits.Cause.{Cause}
 use Rattle.ns_word.specs.declared.limits.Limits.{Limits}
 use Rattle.ns_word.specs.declared.release_walk.ReleasePlace.{ReleasePlace}
 use Rattle.ns_word.specs.declared.release_walk.ReleasePlace.TheVariants.{Pay, ReleaseExchange, ReleaseLoad, ScanAndRelease, ScanCells, TakeToScan}
+use Rattle.ns_word.specs.declared.show_walk.ShowPlace.{ShowPlace}
+use Rattle.ns_word.specs.declared.show_walk.ShowPlace.TheVariants.{ShowLoad, TakeToShow, ReturnShown}
 use Rattle.ns_word.specs.declared.signal_walk.SignalPlace.{SignalPlace}
 use Rattle.ns_word.specs.declared.signal_walk.SignalPlace.TheVariants.{PayTheWoken, SignalLoad, TakeToWake, WakeAndReturn}
 use Rattle.ns_word.specs.declared.try_walk.TryPlace.{TryPlace}
@@ -41,7 +43,7 @@ use Rattle.ns_word.specs.declared.walk.Next.{Next}
 use Rattle.ns_word.specs.declared.walk.Next.TheVariants.{Done, Idle, On}
 use Rattle.ns_word.specs.declared.walk.Reply.TheVariants.{Answered, Busy}
 use Rattle.ns_word.specs.declared.walk.Walk.{Walk}
-use Rattle.ns_word.specs.declared.walk.Walk.TheVariants.{InAcquire, InCells, InRelease, InSignal, InTry, InWait}
+use Rattle.ns_word.specs.declared.walk.Walk.TheVariants.{InAcquire, InCells, InRelease, InShow, InSignal, InTry, InWait}
 use Rattle.ns_word.specs.declared.word.Arrival.{Arrival}
 use Rattle.ns_word.specs.declared.word.Arrival.TheVariants.{AsFresh, AsWoken}
 use Rattle.ns_word.specs.declared.word.Releasing.{Releasing}
@@ -120,6 +122,11 @@ module _ (C : Type 0) where
   signal_pays waking k (WakeAndReturn last) value e = absurd (pays_not (want_signaling waking k (WakeAndReturn last)) value refl e)
   signal_pays waking k PayTheWoken value e = pays_it (PayWake 2) 2 value refl e
 
+  show_pays_not : (place : ShowPlace) → paid_by {C = C} (want_showing place) ≡ None
+  show_pays_not ShowLoad = refl
+  show_pays_not (TakeToShow last) = refl
+  show_pays_not (ReturnShown last) = refl
+
   pub wake_tells : (walk : Walk C) (value : ℕ) → want_of walk ≡ PayWake value → value ≡ cond (calls_from_lock (Some walk)) 0 2
   wake_tells (InTry mode place) value e = absurd (pays_not (want_trying mode place) value (try_pays_not mode place) e)
   wake_tells (InAcquire aim place) value e = absurd (pays_not (want_acquiring aim place) value (acquire_pays_not aim place) e)
@@ -127,6 +134,7 @@ module _ (C : Type 0) where
   wake_tells (InCells place) value e = absurd (pays_not (want_in_cells place) value (cells_pay_not place) e)
   wake_tells (InWait wait place) value e = wait_pays wait place value e
   wake_tells (InSignal waking k place) value e = signal_pays waking k place value e
+  wake_tells (InShow place) value e = absurd (pays_not (want_showing place) value (show_pays_not place) e)
 
 -- ---- tries, and readers
 
@@ -201,6 +209,9 @@ module _ (C : Type 0) (N : ℕ) where
   woken_acquires (InSignal waking k (TakeToWake last)) v e ne = absurd (cc)
   woken_acquires (InSignal waking k (WakeAndReturn last)) v e ne = absurd (cc)
   woken_acquires (InSignal waking k PayTheWoken) v e ne = absurd (cc)
+  woken_acquires (InShow ShowLoad) v e ne = absurd (cc)
+  woken_acquires (InShow (TakeToShow last)) v e ne = absurd (cc)
+  woken_acquires (InShow (ReturnShown last)) v e ne = absurd (cc)
 
   -- a look that shows something ends its wait
   abbrev Ends : Cause → Next C → Type 0
@@ -224,3 +235,4 @@ module _ (C : Type 0) (N : ℕ) where
   shown_ends (InWait wait AwaitWakeInWait) limits again cause e = absurd (cc)
   shown_ends (InWait wait (InLeaving kept place)) limits again cause e = absurd (no_look limits again (want_leaving wait place) (leaver_looks_not wait place) e)
   shown_ends (InSignal waking k place) limits again cause e = absurd (no_look limits again (want_signaling waking k place) (signal_looks_not C waking k place) e)
+  shown_ends (InShow place) limits again cause e = absurd (no_look limits again (want_showing place) (show_looks_not C place) e)

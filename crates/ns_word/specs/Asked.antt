@@ -7,9 +7,9 @@ use Rattle.ns_word.specs.declared.cell_walk.Judging.TheVariants.{ToTell, ToRelea
 use Rattle.ns_word.specs.declared.cell_walk.CellPlace.{CellPlace}
 use Rattle.ns_word.specs.declared.cell_walk.CellPlace.TheVariants.{GetLoad, SetLoad, SetStore, QuietCells, QuietLast}
 use Rattle.ns_word.specs.declared.walk.Walk.{Walk}
-use Rattle.ns_word.specs.declared.walk.Walk.TheVariants.{InTry, InAcquire, InRelease, InCells, InWait, InSignal}
+use Rattle.ns_word.specs.declared.walk.Walk.TheVariants.{InTry, InAcquire, InRelease, InCells, InWait, InSignal, InShow}
 use Rattle.ns_word.specs.declared.request.Request.{Request}
-use Rattle.ns_word.specs.declared.request.Request.TheVariants.{Lock, TryLock, Release, Get, Set, IsQuiet, Await, Wake}
+use Rattle.ns_word.specs.declared.request.Request.TheVariants.{Lock, TryLock, Release, Get, Set, IsQuiet, Await, Wake, Show}
 
 -- what a call was asked that judges the section
 abbrev pub asked_to_judge : {C : Type 0} → Judging → Request C
@@ -37,3 +37,4 @@ asked_of (InRelease releasing place) = Release releasing
 asked_of (InCells place) = asked_in_cells place
 asked_of (InWait wait place) = Await wait
 asked_of (InSignal waking k place) = Wake waking k
+asked_of (InShow place) = Show

@@ -10,6 +10,7 @@ use Rattle.ns_word.specs.declared.wait.WaitPlace.TheVariants.{TestCells, TestLas
 use Rattle.ns_word.specs.declared.wait.QueuePlace.TheVariants.{Load}
 use Rattle.ns_word.specs.declared.wait.Subject.{Subject}
 use Rattle.ns_word.specs.declared.wait.Subject.TheVariants.{OnCondition, OnVariable}
+use Rattle.ns_word.specs.declared.show_walk.ShowPlace.TheVariants.{ShowLoad}
 use Rattle.ns_word.specs.declared.signal_walk.SignalPlace.TheVariants.{SignalLoad}
 use Rattle.ns_word.specs.declared.word.Arrival.TheVariants.{AsFresh}
 use Rattle.ns_word.specs.declared.try_walk.TryPlace.TheVariants.{TryLoad}
@@ -17,7 +18,7 @@ use Rattle.ns_word.specs.declared.acquire_walk.AcquirePlace.TheVariants.{Acquire
 use Rattle.ns_word.specs.declared.release_walk.ReleasePlace.TheVariants.{ReleaseLoad}
 use Rattle.ns_word.specs.declared.cell_walk.CellPlace.TheVariants.{GetLoad, SetLoad, QuietCells, QuietLast}
 use Rattle.ns_word.specs.declared.walk.Walk.{Walk}
-use Rattle.ns_word.specs.declared.walk.Walk.TheVariants.{InTry, InAcquire, InRelease, InCells, InWait, InSignal}
+use Rattle.ns_word.specs.declared.walk.Walk.TheVariants.{InTry, InAcquire, InRelease, InCells, InWait, InSignal, InShow}
 use Rattle.ns_word.specs.declared.act.Found.{Found}
 use Rattle.ns_model.specs.Truths.{Truths}
 use Rattle.ns_word.specs.Steps.{LockState, Step}
@@ -54,6 +55,7 @@ IsFirst N (InWait wait (TestCells OnEntry i)) = i ≡ 0
 IsFirst N (InWait wait (TestLast OnEntry i)) = i ≡ 0
 IsFirst N (InWait wait (InQueuing again Load)) = (again ≡ false) × IsForVariable wait.on
 IsFirst N (InSignal waking k SignalLoad) = Unit {0}
+IsFirst N (InShow ShowLoad) = Unit {0}
 IsFirst N walk = ⊥
 
 -- A seat whose last call is over begins one whose need is met: its place in a call changes, and nothing else.

@@ -28,7 +28,7 @@ use Rattle.ns_word.specs.declared.act.Found.{Found}
 use Rattle.ns_word.specs.declared.act.Found.TheVariants.{Looked}
 use Rattle.ns_word.specs.declared.request.Request.{Request}
 use Rattle.ns_word.specs.declared.walk.Walk.{Walk}
-use Rattle.ns_word.specs.declared.walk.Walk.TheVariants.{InTry, InAcquire, InRelease, InCells, InWait, InSignal}
+use Rattle.ns_word.specs.declared.walk.Walk.TheVariants.{InTry, InAcquire, InRelease, InCells, InWait, InSignal, InShow}
 use Rattle.ns_word.specs.declared.walk.Next.{Next}
 use Rattle.ns_word.specs.declared.walk.Next.TheVariants.{On, Idle, Done}
 use Rattle.ns_word.specs.Asked.{asked_of}
@@ -124,6 +124,7 @@ SoFar truths seat course (InRelease releasing place) held = ReleaseSoFar truths 
 SoFar truths seat course (InCells place) held = Unchanged course held
 SoFar truths seat course (InWait wait place) held = WaitSoFar truths seat wait place course held
 SoFar truths seat course (InSignal waking k place) held = SignalSoFar seat waking k place course held
+SoFar truths seat course (InShow place) held = Unchanged course held
 
 -- ---- where a step leads
 

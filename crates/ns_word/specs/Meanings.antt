@@ -157,4 +157,5 @@ Means truths seat row (TheRequest.Release releasing) course Succeeded held = Has
 Means truths seat row (TheRequest.Release QuietWriter) course Noisy held = Unchanged course held × IsQuietSection truths false held
 Means truths seat row (TheRequest.Await wait) course (Answered answer) held = InHand held (λ back. WaitMeans truths seat row wait.mode wait.on wait.limits course answer back)
 Means truths seat row (TheRequest.Wake waking k) course Succeeded held = HasWoken seat waking k course held
+Means truths seat row TheRequest.Show course Succeeded held = Unchanged course held
 Means truths seat row request course reply held = ⊥

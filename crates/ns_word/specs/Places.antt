@@ -31,13 +31,15 @@ use Rattle.ns_word.specs.declared.release_walk.ReleasePlace.TheVariants.{Release
 use Rattle.ns_word.specs.declared.cell_walk.CellPlace.{CellPlace}
 use Rattle.ns_word.specs.declared.cell_walk.CellPlace.TheVariants.{GetLoad, SetLoad, SetStore, QuietCells, QuietLast}
 use Rattle.ns_word.specs.declared.walk.Walk.{Walk}
+use Rattle.ns_word.specs.declared.show_walk.ShowPlace.{ShowPlace}
+use Rattle.ns_word.specs.declared.show_walk.ShowPlace.TheVariants.{TakeToShow}
 use Rattle.ns_word.specs.declared.signal_walk.SignalPlace.{SignalPlace}
 use Rattle.ns_word.specs.declared.signal_walk.SignalPlace.TheVariants.{TakeToWake}
-use Rattle.ns_word.specs.declared.walk.Walk.TheVariants.{InTry, InAcquire, InRelease, InCells, InWait, InSignal}
+use Rattle.ns_word.specs.declared.walk.Walk.TheVariants.{InTry, InAcquire, InRelease, InCells, InWait, InSignal, InShow}
 use Rattle.ns_word.specs.declared.view.Opening.{Opening}
 use Rattle.ns_word.specs.declared.view.Opening.TheVariants.{Locked, CameBack}
 use Rattle.ns_word.specs.declared.act.Change.{Change}
-use Rattle.ns_word.specs.declared.act.Change.TheVariants.{QueueSelf, LeaveSelf, WakeWaiters}
+use Rattle.ns_word.specs.declared.act.Change.TheVariants.{QueueSelf, LeaveSelf, WakeWaiters, Nothing}
 use Rattle.ns_word.specs.declared.act.Act.{Act}
 use Rattle.ns_word.specs.declared.act.Act.TheVariants.{LoadWord, Acquire, TakeQueues, ReturnQueues, Release, ReleaseReturning, WaitReturning, LoadCell, JudgeQuiet, JudgeMet, StoreCell, ArmFlag, PayWake, LoadFlag, Look}
 use Rattle.ns_word.specs.Words.{mode_released, may_acquire, needs_scan}
@@ -158,6 +160,11 @@ abbrev pub SignalFits : SignalPlace → Type 0
 SignalFits (TakeToWake last) = last.spin ≡ false
 SignalFits place = Unit {0}
 
+-- what a call that shows has seen
+abbrev pub ShowFits : ShowPlace → Type 0
+ShowFits (TakeToShow last) = last.spin ≡ false
+ShowFits place = Unit {0}
+
 -- what a wait has seen that leaves
 abbrev pub LeaveFits : LeavePlace → Type 0
 LeaveFits (TakeToLeave last) = last.spin ≡ false
@@ -180,6 +187,7 @@ PlaceFits truths (Some (InRelease releasing place)) held = ReleaseFits truths re
 PlaceFits truths (Some (InCells place)) held = CellFits place held × IsSettled truths held
 PlaceFits truths (Some (InWait wait place)) held = WaitFits truths wait place held × MayShow wait.limits (place_cause_kept place)
 PlaceFits truths (Some (InSignal waking k place)) held = SignalFits place × (k < 4) × IsSettled truths held
+PlaceFits truths (Some (InShow place)) held = ShowFits place × IsSettled truths held
 
 -- the lists that the walk names are ones that there are
 abbrev pub HasList : {C : Type 0} → Walk C → Type 0
@@ -197,6 +205,7 @@ abbrev pub ChangeFits : {C : Type 0} {N : ℕ} → ℕ → Change → Part C N �
 ChangeFits seat (QueueSelf mode arrival) part = times seat part.lists ≡ 0
 ChangeFits seat (LeaveSelf which) part = IsList which
 ChangeFits seat (WakeWaiters waking k) part = k < 4
+ChangeFits seat Nothing part = Unit {0}
 
 -- What an act needs, that it may be made by one of so many seats on its part of the state.
 abbrev pub ActFits : {C : Type 0} {N : ℕ} → Truths C → ℕ → ℕ → Act C → Part C N → Type 0

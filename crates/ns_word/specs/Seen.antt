@@ -13,10 +13,12 @@ use Rattle.ns_word.specs.declared.acquire_walk.AcquirePlace.{AcquirePlace}
 use Rattle.ns_word.specs.declared.acquire_walk.AcquirePlace.TheVariants.{AcquireExchange, TakeToQueue, Arm, Queue}
 use Rattle.ns_word.specs.declared.release_walk.ReleasePlace.{ReleasePlace}
 use Rattle.ns_word.specs.declared.release_walk.ReleasePlace.TheVariants.{ReleaseExchange, TakeToScan, ScanCells, ScanAndRelease}
+use Rattle.ns_word.specs.declared.show_walk.ShowPlace.{ShowPlace}
+use Rattle.ns_word.specs.declared.show_walk.ShowPlace.TheVariants.{TakeToShow, ReturnShown}
 use Rattle.ns_word.specs.declared.signal_walk.SignalPlace.{SignalPlace}
 use Rattle.ns_word.specs.declared.signal_walk.SignalPlace.TheVariants.{TakeToWake, WakeAndReturn}
 use Rattle.ns_word.specs.declared.walk.Walk.{Walk}
-use Rattle.ns_word.specs.declared.walk.Walk.TheVariants.{InTry, InAcquire, InRelease, InWait, InSignal}
+use Rattle.ns_word.specs.declared.walk.Walk.TheVariants.{InTry, InAcquire, InRelease, InWait, InSignal, InShow}
 use Rattle.ns_word.specs.Codec.{IsPackable}
 
 abbrev pub try_seen : TryPlace → Option Word
@@ -59,6 +61,11 @@ signal_seen (TakeToWake last) = Some last
 signal_seen (WakeAndReturn last) = Some last
 signal_seen place = None
 
+abbrev pub show_seen : ShowPlace → Option Word
+show_seen (TakeToShow last) = Some last
+show_seen (ReturnShown last) = Some last
+show_seen place = None
+
 -- the word that the place keeps, if it keeps one
 abbrev pub word_seen : {C : Type 0} → Option (Walk C) → Option Word
 word_seen (Some (InTry mode place)) = try_seen place
@@ -66,6 +73,7 @@ word_seen (Some (InAcquire aim place)) = acquire_seen place
 word_seen (Some (InRelease releasing place)) = release_seen place
 word_seen (Some (InWait wait place)) = wait_seen place
 word_seen (Some (InSignal waking k place)) = signal_seen place
+word_seen (Some (InShow place)) = show_seen place
 word_seen walk = None
 
 -- a word that is kept has a number, so an exchange can compare it with the lock's

@@ -46,7 +46,7 @@ use Rattle.ns_word.specs.declared.signal_walk.SignalPlace.{SignalPlace}
 use Rattle.ns_word.specs.declared.signal_walk.SignalPlace.TheVariants.{WakeAndReturn}
 use Rattle.ns_word.specs.declared.walk.Walk.TheVariants.{InAcquire, InRelease, InWait, InSignal}
 use Rattle.ns_word.specs.declared.act.Change.{Change}
-use Rattle.ns_word.specs.declared.act.Change.TheVariants.{QueueSelf, LeaveSelf, WakeWaiters}
+use Rattle.ns_word.specs.declared.act.Change.TheVariants.{QueueSelf, LeaveSelf, WakeWaiters, Nothing}
 use Rattle.ns_word.specs.declared.act.Waking.{Waking}
 use Rattle.ns_word.specs.declared.act.Waking.TheVariants.{Signaling, Broadcasting}
 use Rattle.ns_word.specs.declared.act.Act.{Act}
@@ -152,6 +152,7 @@ changed seat (QueueSelf mode arrival) last lists = with_lock lists (queued seat 
 changed seat (LeaveSelf which) last lists = with_waiters lists which (without_in seat (waiters_of lists which))
 changed seat (WakeWaiters waking k) last lists =
     moved_to (is_held last) (taken_by waking (waiters_of lists (Cv k))) (with_waiters lists (Cv k) (kept_by waking (waiters_of lists (Cv k))))
+changed seat Nothing last lists = lists
 
 -- whether somebody is moved to the lock list
 abbrev pub moves : {C : Type 0} → Change → Word → Lists C → Bool
@@ -168,6 +169,7 @@ abbrev pub change_found : {C : Type 0} → ℕ → Change → Word → Lists C �
 change_found seat (QueueSelf mode arrival) last lists = Made
 change_found seat (LeaveSelf which) last lists = Left (nat_lt 0 (times_in seat (waiters_of lists which)))
 change_found seat (WakeWaiters waking k) last lists = Woke (not (is_held last) && has_some (taken_by waking (waiters_of lists (Cv k))))
+change_found seat Nothing last lists = Made
 
 -- the event that a call is which wakes these
 abbrev pub wake_of : {C : Type 0} {N : ℕ} → ℕ → Waking → ℕ → List (Waiter C) → Event C N
@@ -184,6 +186,7 @@ abbrev pub change_commits : {C : Type 0} {N : ℕ} → ℕ → Change → Lists 
 change_commits seat (QueueSelf mode arrival) lists = []
 change_commits seat (LeaveSelf which) lists = leave_of seat which (nat_lt 0 (times_in seat (waiters_of lists which)))
 change_commits seat (WakeWaiters waking k) lists = wake_of seat waking k (taken_by waking (waiters_of lists (Cv k))) ∷ []
+change_commits seat Nothing lists = []
 
 -- a waiter of its own list, with its condition if it waits for one
 abbrev pub waits_at : {C : Type 0} → Subject C → ℕ → Mode → Bool → Lists C → Lists C

@@ -38,10 +38,12 @@ use Rattle.ns_word.specs.declared.cell_walk.Judging.TheVariants.{ToTell, ToRelea
 use Rattle.ns_word.specs.declared.cell_walk.CellPlace.{CellPlace}
 use Rattle.ns_word.specs.declared.cell_walk.CellPlace.TheVariants.{GetLoad, SetLoad, SetStore, QuietCells, QuietLast}
 use Rattle.ns_word.specs.declared.walk.Walk.{Walk}
+use Rattle.ns_word.specs.declared.show_walk.ShowPlace.{ShowPlace}
+use Rattle.ns_word.specs.declared.show_walk.ShowPlace.TheVariants.{ShowLoad, TakeToShow, ReturnShown}
 use Rattle.ns_word.specs.declared.signal_walk.SignalPlace.{SignalPlace}
 use Rattle.ns_word.specs.declared.signal_walk.SignalPlace.TheVariants.{SignalLoad, TakeToWake, WakeAndReturn, PayTheWoken}
-use Rattle.ns_word.specs.declared.walk.Walk.TheVariants.{InTry, InAcquire, InRelease, InCells, InWait, InSignal}
-use Rattle.ns_word.specs.declared.act.Change.TheVariants.{QueueSelf, LeaveSelf, WakeWaiters}
+use Rattle.ns_word.specs.declared.walk.Walk.TheVariants.{InTry, InAcquire, InRelease, InCells, InWait, InSignal, InShow}
+use Rattle.ns_word.specs.declared.act.Change.TheVariants.{QueueSelf, LeaveSelf, WakeWaiters, Nothing}
 use Rattle.ns_word.specs.declared.act.Waking.{Waking}
 use Rattle.ns_word.specs.declared.act.Act.{Act}
 use Rattle.ns_word.specs.declared.act.Act.TheVariants.{LoadWord, Acquire, TakeQueues, ReturnQueues, Release, ReleaseReturning, WaitReturning, LoadCell, JudgeQuiet, JudgeMet, StoreCell, ArmFlag, PayWake, LoadFlag, Look}
@@ -125,6 +127,12 @@ want_signaling waking k (TakeToWake last) = TakeQueues ToChange last
 want_signaling waking k (WakeAndReturn last) = ReturnQueues (WakeWaiters waking k) last
 want_signaling waking k PayTheWoken = PayWake 2
 
+-- the step that a call wants that shows the lock
+abbrev pub want_showing : {C : Type 0} → ShowPlace → Act C
+want_showing ShowLoad = LoadWord
+want_showing (TakeToShow last) = TakeQueues ToChange last
+want_showing (ReturnShown last) = ReturnQueues Nothing last
+
 -- the step that the place wants
 abbrev pub want_of : {C : Type 0} → Walk C → Act C
 want_of (InTry mode place) = want_trying mode place
@@ -133,6 +141,7 @@ want_of (InRelease releasing place) = want_releasing releasing place
 want_of (InCells place) = want_in_cells place
 want_of (InWait wait place) = want_waiting wait place
 want_of (InSignal waking k place) = want_signaling waking k place
+want_of (InShow place) = want_showing place
 
 -- ---- the decisions
 
@@ -227,6 +236,10 @@ signal_by waking k word = if word.spin then Idle (InSignal waking k SignalLoad) 
 -- where a call that wakes goes that owes wakes, or none
 abbrev pub pay_woken : {C : Type 0} → Waking → ℕ → Bool → Next C
 pay_woken waking k owes = if owes then On (InSignal waking k PayTheWoken) else Done Succeeded
+
+-- where a call that shows goes by the word last seen
+abbrev pub show_by : {C : Type 0} → Word → Next C
+show_by word = if word.spin then Idle (InShow ShowLoad) else On (InShow (TakeToShow word))
 
 -- the first place of a wait for this: one for a condition tests it
 abbrev pub first_for : {C : Type 0} → ℕ → Subject C → Wait C → Walk C
@@ -329,6 +342,15 @@ got_signaling waking k (WakeAndReturn last) (Woke owes) = pay_woken waking k owe
 got_signaling waking k PayTheWoken (Paid owes) = pay_woken waking k owes
 got_signaling waking k place found = On (InSignal waking k place)
 
+-- where a call that shows goes
+abbrev pub got_showing : {C : Type 0} → ShowPlace → Found → Next C
+got_showing ShowLoad (Saw word) = show_by word
+got_showing (TakeToShow last) (Saw word) = show_by word
+got_showing (TakeToShow last) Made = On (InShow (ReturnShown (word_taken ToChange last)))
+got_showing (ReturnShown last) (Saw word) = On (InShow (ReturnShown word))
+got_showing (ReturnShown last) Made = Done Succeeded
+got_showing place found = On (InShow place)
+
 -- where a place goes with what its step found, over a row of N cells
 abbrev pub got_of : {C : Type 0} → ℕ → Walk C → Found → Next C
 got_of N (InTry mode place) found = got_trying mode place found
@@ -337,6 +359,7 @@ got_of N (InRelease releasing place) found = got_releasing N releasing place fou
 got_of N (InCells place) found = got_in_cells N place found
 got_of N (InWait wait place) found = got_waiting N wait place found
 got_of N (InSignal waking k place) found = got_signaling waking k place found
+got_of N (InShow place) found = got_showing place found
 
 -- the place after, if the call goes on
 abbrev pub walk_after : {C : Type 0} → Next C → Option (Walk C)
@@ -383,12 +406,18 @@ abbrev pub signal_has_queues : SignalPlace → Bool
 signal_has_queues (WakeAndReturn last) = true
 signal_has_queues place = false
 
+-- a call that shows has the queues
+abbrev pub show_has_queues : ShowPlace → Bool
+show_has_queues (ReturnShown last) = true
+show_has_queues place = false
+
 -- it has the queues
 abbrev pub has_queues : {C : Type 0} → Option (Walk C) → Bool
 has_queues (Some (InAcquire aim place)) = acquire_has_queues place
 has_queues (Some (InRelease releasing place)) = release_has_queues place
 has_queues (Some (InWait wait place)) = wait_has_queues place
 has_queues (Some (InSignal waking k place)) = signal_has_queues place
+has_queues (Some (InShow place)) = show_has_queues place
 has_queues walk = false
 
 -- it has taken the queues to queue, which the word tells already, and doesn't stand in the list yet

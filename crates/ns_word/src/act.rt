@@ -20,6 +20,8 @@ pub enum Change {
     /// Those whom this takes leave the list of the variable. Where the lock is held they go to the
     /// back of the lock list, in the order taken; else they are owed their wakes.
     WakeWaiters(Waking, u8),
+    /// The lists are put back as they stood.
+    Nothing,
 }
 
 /// Whom a call on a condition variable wakes.

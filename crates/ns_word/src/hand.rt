@@ -12,6 +12,7 @@ ghost use Rattle.ns_word.specs.Walks.{acquire_has_queues, release_has_queues, wa
 use crate::acquire_walk::AcquirePlace;
 use crate::act::{Change, Waking};
 use crate::release_walk::ReleasePlace;
+use crate::show_walk::ShowPlace;
 use crate::signal_walk::SignalPlace;
 use crate::wait::{Aim, LeavePlace, QueuePlace, Subject, Wait, WaitPlace};
 use crate::walk::Walk;
@@ -261,6 +262,7 @@ pub fn change_in_hand<C: Queueable<N>, const N: usize>(
         Walk::InCells(_) => (),
         Walk::InWait(wait, place) => change_waiting(queues, seat, wait, place, row),
         Walk::InSignal(waking, k, place) => change_signaling(queues, waking, k, place),
+        Walk::InShow(_) => (),
     }
 }
 
@@ -308,6 +310,7 @@ pub fn has_queues<C: Queueable<N>, const N: usize>(walk: Option<Walk<C>>) -> boo
         Some(Walk::InRelease(_, place)) => release_has_queues(place),
         Some(Walk::InWait(_, place)) => wait_has_queues(place),
         Some(Walk::InSignal(_, _, place)) => matches!(place, SignalPlace::WakeAndReturn(_)),
+        Some(Walk::InShow(place)) => matches!(place, ShowPlace::ReturnShown(_)),
         _ => false,
     }
 }

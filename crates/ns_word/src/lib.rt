@@ -44,6 +44,7 @@ pub mod queue_law;
 pub mod release_walk;
 pub mod request;
 pub mod room;
+pub mod show_walk;
 pub mod signal_walk;
 pub mod try_walk;
 pub mod view;

@@ -30,6 +30,8 @@ pub enum Request<C> {
     Await(Wait<C>),
     /// To wake one or more, or all, of those who wait for the variable of this number.
     Wake(Waking, u8),
+    /// To show the lock word and the waiter lists.
+    Show,
 }
 
 impl<C: Copy> Clone for Request<C> {
@@ -55,6 +57,7 @@ impl<C: Copy> Walk<C> {
             Walk::InCells(place) => place.asked(),
             Walk::InWait(wait, _) => Request::Await(wait),
             Walk::InSignal(waking, k, _) => Request::Wake(waking, k),
+            Walk::InShow(_) => Request::Show,
         }
     }
 }

@@ -1,10 +1,10 @@
 //! The walks of the calls, one atomic step at a time.
 //!
-//! A walk is a group of places: a try, an acquire, a release, a call on the cells, or a wait. A word
-//! in a place is the one last seen; *fresh* and *woken* say how a seat came to acquire. A
-//! compare-exchange that finds another word leads to the decision of its walk with that word, and
-//! loads nothing; but a try is over then, and the exchanges that put the queues back are tried again,
-//! on the word found.
+//! A walk is a group of places: a try, an acquire, a release, a call on the cells, a wait, a call
+//! that wakes, or one that shows the lock. A word in a place is the one last seen; *fresh* and
+//! *woken* say how a seat came to acquire. A compare-exchange that finds another word leads to the
+//! decision of its walk with that word, and loads nothing; but a try is over then, and the exchanges
+//! that put the queues back are tried again, on the word found.
 //!
 //! | group, and what all its places know | place | knows besides | wants | where an answer leads |
 //! |---|---|---|---|---|
@@ -30,6 +30,9 @@
 //! | | `TakeToWake` | nobody has the queues | set the spinlock bit | `WakeAndReturn` |
 //! | | `WakeAndReturn` | has the queues | put back what is left once the waiters are taken, and commit whom it took: moved to the lock list where the word put back is held, else owed their wakes | `PayTheWoken` if wakes are owed, else `Succeeded` |
 //! | | `PayTheWoken` | owes wakes | clear the flag of the next who is owed one, to 2 | again while wakes are owed, then `Succeeded` |
+//! | **show**: a section or none | `ShowLoad` | | load the word | `TakeToShow`; idle, and again while another has the queues |
+//! | | `TakeToShow` | nobody has the queues | set the spinlock bit | `ReturnShown`; what is shown is the word that this exchange compared, and the lists of that state |
+//! | | `ReturnShown` | has the queues | put them back as they were, and clear the spinlock bit | `Succeeded` |
 //!
 //! The acquire's decision, by a word: `AcquireExchange` where it may be acquired; else idle and from
 //! `AcquireLoad` again where another has the queues; else `TakeToQueue`. The release's decision:
@@ -48,6 +51,7 @@ use crate::acquire_walk::AcquirePlace;
 use crate::act::{Act, Found, Waking};
 use crate::cell_walk::{CellPlace, Judging, quiet_place};
 use crate::release_walk::ReleasePlace;
+use crate::show_walk::ShowPlace;
 use crate::signal_walk::SignalPlace;
 use crate::try_walk::TryPlace;
 use crate::wait::{Aim, QueuePlace, Subject, Visit, Wait, WaitPlace};
@@ -71,6 +75,8 @@ pub enum Walk<C> {
     InWait(Wait<C>, WaitPlace),
     /// A call that wakes those who wait for the variable of this number.
     InSignal(Waking, u8, SignalPlace),
+    /// A call that shows the lock word and the waiter lists.
+    InShow(ShowPlace),
 }
 
 impl<C: Copy> Clone for Walk<C> {
@@ -217,6 +223,14 @@ impl<C: Copy> Walk<C> {
         Walk::InSignal(waking, k, SignalPlace::SignalLoad)
     }
 
+    /// The first place of a call that shows the lock word and the waiter lists.
+    pub fn show() -> Walk<C>
+        ensures first { result ≡ Walk.InShow ShowPlace.ShowLoad }
+        ensures asked { asked_of result ≡ TheRequest.Show }
+    {
+        Walk::InShow(ShowPlace::ShowLoad)
+    }
+
     /// The step that the walk wants next.
     pub fn want(&self) -> Act<C>
         ensures { result ≡ want_of self.now }
@@ -228,6 +242,7 @@ impl<C: Copy> Walk<C> {
             Walk::InCells(place) => place.want(),
             Walk::InWait(wait, place) => place.want(wait),
             Walk::InSignal(waking, k, place) => place.want(waking, k),
+            Walk::InShow(place) => place.want(),
         }
     }
 
@@ -246,6 +261,7 @@ impl<C: Copy> Walk<C> {
             Walk::InCells(place) => place.got::<C, N>(found),
             Walk::InWait(wait, place) => place.got::<C, N>(wait, found),
             Walk::InSignal(waking, k, place) => place.got(waking, k, found),
+            Walk::InShow(place) => place.got(found),
         }
     }
 }

@@ -2,7 +2,6 @@ pub mod Busy
 pub mod Counted
 pub mod EnvGrows
 pub mod Fresh
-pub mod Lists
 pub mod Looking
 pub mod Mapped
 pub mod Placed

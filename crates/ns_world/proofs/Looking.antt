@@ -35,8 +35,9 @@ use Rattle.ns_word.specs.declared.env_walk.EnvWalk.TheVariants.{ClockLoad, NoteL
 use Rattle.ns_word.specs.declared.env_walk.EnvNext.{EnvNext}
 use Rattle.ns_word.specs.declared.env_walk.EnvNext.TheVariants.{Go, LookOver}
 use Rattle.ns_word.specs.declared.walk.Walk.{Walk}
+use Rattle.ns_word.specs.declared.show_walk.ShowPlace.TheVariants.{ShowLoad, TakeToShow, ReturnShown}
 use Rattle.ns_word.specs.declared.signal_walk.SignalPlace.TheVariants.{SignalLoad, TakeToWake, WakeAndReturn, PayTheWoken}
-use Rattle.ns_word.specs.declared.walk.Walk.TheVariants.{InTry, InAcquire, InRelease, InCells, InWait, InSignal}
+use Rattle.ns_word.specs.declared.walk.Walk.TheVariants.{InTry, InAcquire, InRelease, InCells, InWait, InSignal, InShow}
 use Rattle.ns_word.specs.declared.walk.Next.{Next}
 use Rattle.ns_word.specs.declared.walk.Next.TheVariants.{On}
 use Rattle.ns_word.specs.declared.act.Act.{Act}
@@ -49,8 +50,8 @@ use Rattle.ns_word.specs.declared.env_act.EnvFound.{EnvFound}
 use Rattle.ns_word.specs.declared.env_act.EnvFound.TheVariants.{NextNumber, Taken, Stored, Clock, Note}
 use Rattle.ns_word.specs.EnvWalks.{standing_of, env_want_of, env_got_of, passed, up_to, stopped}
 use Rattle.ns_word.specs.EnvSteps.{EnvPlain, EnvEffect, IfMade, IsFirstAsk, events_of}
-use Rattle.ns_word.proofs.Answers.{look_of_act, try_looks_not, acquire_looks_not, release_looks_not, cells_look_not, leaver_looks_not, judge_looks_not, signal_looks_not}
-use Rattle.ns_word.specs.Walks.{want_trying, want_acquiring, want_releasing, want_in_cells, want_leaving, want_signaling, judge_of, want_of, got_of, got_waiting, walk_after, acquire_by, acquired_for, back_with, release_by, test_place, unmet_by}
+use Rattle.ns_word.proofs.Answers.{look_of_act, try_looks_not, acquire_looks_not, release_looks_not, cells_look_not, leaver_looks_not, judge_looks_not, signal_looks_not, show_looks_not}
+use Rattle.ns_word.specs.Walks.{want_trying, want_acquiring, want_releasing, want_in_cells, want_leaving, want_signaling, want_showing, judge_of, want_of, got_of, got_waiting, walk_after, acquire_by, acquired_for, back_with, release_by, test_place, unmet_by}
 use Rattle.ns_word.specs.Words.{may_acquire, needs_scan}
 use Rattle.ns_word.specs.Waits.{is_limited, mode_for}
 use Rattle.ns_model.specs.Truths.{Truths}
@@ -154,6 +155,11 @@ module _ {C : Type 0} (N : ℕ) (P : Option ℕ → Type 0) where
   walk_noted (InSignal waking k (WakeAndReturn last)) (Saw word) none p = record { note = none }
   walk_noted (InSignal waking k (WakeAndReturn last)) (Woke owes) none p = by_two owes (record { note = none }) (record { note = none })
   walk_noted (InSignal waking k PayTheWoken) (Paid owes) none p = by_two owes (record { note = none }) (record { note = none })
+  walk_noted (InShow ShowLoad) (Saw word) none p = by_two word.spin (record { note = none }) (record { note = none })
+  walk_noted (InShow (TakeToShow last)) (Saw word) none p = by_two word.spin (record { note = none }) (record { note = none })
+  walk_noted (InShow (TakeToShow last)) Made none p = record { note = none }
+  walk_noted (InShow (ReturnShown last)) (Saw word) none p = record { note = none }
+  walk_noted (InShow (ReturnShown last)) Made none p = record { note = none }
   walk_noted walk found none p = record { note = p }
 
   pub noted : (walk : Walk C) (found : Found) → P None → P (note_in (Some walk)) → P (note_in (walk_after (got_of N walk found)))
@@ -213,6 +219,7 @@ module _ {C : Type 0} where
   first_look notes (InRelease releasing place) p = no_look notes (want_releasing releasing place) (release_looks_not C releasing place)
   first_look notes (InCells place) p = no_look notes (want_in_cells place) (cells_look_not C place)
   first_look notes (InSignal waking k place) p = no_look notes (want_signaling waking k place) (signal_looks_not C waking k place)
+  first_look notes (InShow place) p = no_look notes (want_showing place) (show_looks_not C place)
 
   pub first_if : (notes : ℕ → NoteStanding) (walk : Option (Walk C)) → IfMade notes (note_in walk) → FirstIf notes (look_of walk)
   first_if notes None p = tt

@@ -19,7 +19,7 @@ use Rattle.ns_word.specs.declared.wait.Subject.TheVariants.{OnCondition, OnVaria
 use Rattle.ns_word.specs.declared.wait.Wait.{Wait}
 use Rattle.ns_word.specs.declared.view.Held.{Held}
 use Rattle.ns_word.specs.declared.act.Change.{Change}
-use Rattle.ns_word.specs.declared.act.Change.TheVariants.{QueueSelf, LeaveSelf, WakeWaiters}
+use Rattle.ns_word.specs.declared.act.Change.TheVariants.{QueueSelf, LeaveSelf, WakeWaiters, Nothing}
 use Rattle.ns_word.specs.declared.act.Waking.{Waking}
 use Rattle.ns_word.specs.declared.act.Waking.TheVariants.{Signaling, Broadcasting}
 use Rattle.ns_word.specs.declared.word.Arrival.{Arrival}
@@ -38,6 +38,12 @@ pub queued_back : {C : Type 0} {N : ℕ} (truths : Truths C) (seat : ℕ) (mode 
     last ≡ word → queues' ≡ changed seat (QueueSelf mode arrival) last queues → bits ≡ bits_of queues'.lock → word' ≡ word_returned false bits last →
     Effect truths seat (ReturnQueues (QueueSelf mode arrival) last) (part word row queues flags held owed) Made (part word' row queues' flags held owed) []
 queued_back truths seat mode arrival last word word' row flags owed held queues queues' bits same lists tell becomes = (refl, same, rw (becomes, tell, lists) refl, refl)
+
+-- one that has changed nothing put them back
+pub unchanged_back : {C : Type 0} {N : ℕ} (truths : Truths C) (seat : ℕ) (last word word' : Word) (row flags owed : List ℕ) (held : Option (Held C N)) (queues : Lists C) (bits : Bits) →
+    last ≡ word → bits ≡ bits_of queues.lock → word' ≡ word_returned false bits last →
+    Effect truths seat (ReturnQueues Nothing last) (part word row queues flags held owed) Made (part word' row queues flags held owed) []
+unchanged_back truths seat last word word' row flags owed held queues bits same tell becomes = (refl, same, rw (becomes, tell) refl, refl)
 
 -- a call takes somebody where somebody stands there
 pub some_taken : {C : Type 0} (waking : Waking) (ws : List (Waiter C)) → has_some (taken_by waking ws) ≡ has_some ws
@@ -81,6 +87,7 @@ pub fits_there : {C : Type 0} {N : ℕ} (seat : ℕ) (change : Change) (word : W
 fits_there seat (QueueSelf mode arrival) word row row' flags flags' held owed queues p = p
 fits_there seat (LeaveSelf which) word row row' flags flags' held owed queues p = p
 fits_there seat (WakeWaiters waking k) word row row' flags flags' held owed queues p = p
+fits_there seat Nothing word row row' flags flags' held owed queues p = p
 
 -- ---- one that queues
 

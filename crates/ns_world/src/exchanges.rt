@@ -200,6 +200,21 @@ fn return_waking<C: Seated<N>, const N: usize>(
     Ok(Found::Woke { owes: !held & some })
 }
 
+/// Puts the queues back as they stood, which clears the spinlock bit.
+fn return_unchanged<C: Seated<N>, const N: usize>(
+    word: &mut Word,
+    queues: &Queues<C, N>,
+    last: Word,
+) -> Found
+    ensures { (seat : ℕ) (row flags owed : List ℕ) (held : _) → Effect {N = N} C.means seat (Act.ReturnQueues Change.Nothing last) (part word.old row queues.now flags held owed) result (part word.new row queues.now flags held owed) [] }
+{
+    if !word.is_same(last) {
+        return Found::Saw(*word);
+    }
+    *word = last.returned(false, bits(queues));
+    Found::Made
+}
+
 /// Changes the lists in hand, and puts the queues back, which clears the spinlock bit. Where the
 /// change is an event that is refused, nothing has changed.
 pub(crate) fn return_queues<C: Seated<N>, const N: usize>(
@@ -229,6 +244,7 @@ pub(crate) fn return_queues<C: Seated<N>, const N: usize>(
         Change::WakeWaiters(waking, k) => {
             return_waking(word, queues, seat, history, waking, k, last)
         }
+        Change::Nothing => Ok(return_unchanged(word, queues, last)),
     }
 }
 

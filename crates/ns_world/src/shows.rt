@@ -1,8 +1,7 @@
 //! What a world shows of its queues and its owed wakes.
 
 ghost use Rattle.std.specs.Prelude.{◌≡◌, ◌≤◌, ◌<◌, ◌++◌, ◌+◌, ℕ, Some, IfSome, true, length, map, slice_get};
-ghost use Rattle.ns_queue.specs.Queues.{IsList, times, waiters_of};
-ghost use Rattle.ns_queue.specs.Waiters.{shown_of};
+ghost use Rattle.ns_queue.specs.Queues.{times};
 ghost use Rattle.ns_word.specs.Places.{HasList};
 ghost use Rattle.ns_word.specs.Steps.{in_hand};
 ghost use Rattle.ns_word.specs.Walks.{has_queues, has_armed};
@@ -13,7 +12,6 @@ use crate::room::Seated;
 use crate::seat::Seat;
 use arrayvec::ArrayVec;
 use ns_queue::queues::Queues;
-use ns_queue::waiter::{Shown, Waiter, Which};
 use ns_word::hand::{change_in_hand, has_queues};
 use ns_word::walk::Walk;
 
@@ -34,30 +32,6 @@ fn in_hand<C: Seated<N>, const N: usize>(
         change_in_hand(&mut hand, seat, place, row);
     }
     hand
-}
-
-/// Waiters in the form in which they are shown.
-fn shown_all<C: Seated<N>, const N: usize>(waiters: &[Waiter<C>]) -> ArrayVec<Shown, 64>
-    requires { length waiters.now ≤ 64 }
-    ensures { result.items ≡ map shown_of waiters.now }
-{
-    let mut all = ArrayVec::new();
-    for waiter in waiters {
-        all.push(waiter.shown());
-    }
-    all
-}
-
-/// The waiters of a list, in the form in which they are shown.
-pub(crate) fn shown<C: Seated<N>, const N: usize>(
-    queues: &Queues<C, N>,
-    list: Which,
-) -> ArrayVec<Shown, 64>
-    requires { IsList list }
-    ensures { result.items ≡ map shown_of (waiters_of queues.now list) }
-{
-    let waiters = queues.waiters(list);
-    shown_all(waiters.as_slice())
 }
 
 /// The queues as the seat that has them has them in hand, else as they stand at home.

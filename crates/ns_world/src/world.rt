@@ -16,7 +16,7 @@ use crate::fault::Fault;
 use crate::room::Seated;
 use crate::seat::Seat;
 use crate::seats::{busy_seats, new_seats};
-use crate::shows::{owed_wakes, shown, shown_queues};
+use crate::shows::{owed_wakes, shown_queues};
 use crate::step::{Begun, Step, begin_at, step_at};
 use arrayvec::ArrayVec;
 use ns_model::condition::Condition;
@@ -175,12 +175,12 @@ impl<C: Seated<N>, const N: usize> World<C, N> {
         let queues = shown_queues(&self.queues, &self.seats, &self.row);
         State {
             word: unpacked(self.word),
-            lock: shown(&queues, Which::Lock),
+            lock: queues.shown(Which::Lock),
             cvs: [
-                shown(&queues, Which::Cv(0)),
-                shown(&queues, Which::Cv(1)),
-                shown(&queues, Which::Cv(2)),
-                shown(&queues, Which::Cv(3)),
+                queues.shown(Which::Cv(0)),
+                queues.shown(Which::Cv(1)),
+                queues.shown(Which::Cv(2)),
+                queues.shown(Which::Cv(3)),
             ],
             owed: owed_wakes(&self.seats),
             row: self.row,

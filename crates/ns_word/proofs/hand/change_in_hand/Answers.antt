@@ -19,6 +19,9 @@ returns-in-InWait g c = rw c.in-InWait.is c.change_waiting.ensures
 pub returns-in-InSignal : goal.returns-in-InSignal
 returns-in-InSignal g c = rw c.in-InSignal.is (c.change_signaling.ensures c.args.seat)
 
+pub returns-in-InShow : goal.returns-in-InShow
+returns-in-InShow g c = rw c.in-InShow.is refl
+
 pub change_acquiring-requires : goal.change_acquiring-requires
 change_acquiring-requires g c = (search rules, (c.requires.below, rw c.in-InAcquire.is at c.requires.free))
 

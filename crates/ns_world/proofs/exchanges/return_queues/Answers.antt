@@ -32,3 +32,9 @@ returns-in-WakeWaiters-clause-ok g c = rw c.in-WakeWaiters.is c.return_waking.en
 
 pub returns-in-WakeWaiters-clause-err : goal.returns-in-WakeWaiters-clause-err
 returns-in-WakeWaiters-clause-err g c = rw c.in-WakeWaiters.is (on_err c.return_waking.result (λ p. (tt, p.0, p.1, p.2, p.3, p.4)) c.return_waking.ensures.err)
+
+pub returns-in-Nothing-clause-ok : goal.returns-in-Nothing-clause-ok
+returns-in-Nothing-clause-ok g c = rw c.in-Nothing.is (λ row flags. record { commits = []; effect = c.return_unchanged.ensures c.args.seat.now.number row flags c.args.seat.now.owed.items c.args.seat.now.held; grows = sym (append-nil _) })
+
+pub returns-in-Nothing-clause-kept : goal.returns-in-Nothing-clause-kept
+returns-in-Nothing-clause-kept g c = record { number = refl; walk = refl; asking = refl; tests = refl }

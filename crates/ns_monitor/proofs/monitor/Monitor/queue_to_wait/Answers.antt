@@ -1,48 +1,10 @@
-use Rattle.std.proofs.Common.{◌≡◌, ◌∙◌, ap, not, sym, subst, refl, arith, None}
-use Rattle.ns_gate.specs.Prelude.{TableId, HasSince, HasReached, Lists, armed_place, bits_of, row_in, the, times, woken_of, has_some, meets_at, pay_waiting, Await, QueueToWait, InQueuing, InWait}
-use Rattle.ns_gate.specs.declared.queues.Returning.TheVariants.{Waited}
-use Rattle.ns_gate.proofs.Calls.{since_then, works}
-use Rattle.ns_monitor.proofs.Locks.{HasArmed}
-use Rattle.ns_monitor.proofs.Releases.{hand_scanned, scans_at_hand, took_some, woken_is}
+use Rattle.std.proofs.Common.{ap, sym, subst, arith, None}
+use Rattle.ns_gate.specs.Prelude.{row_in, Load, InQueuing, InWait}
+use Rattle.ns_monitor.proofs.Standing.{same_number}
+use Rattle.ns_monitor.proofs.VariableWaits.{taken_now}
 use Rattle.ns_monitor.specs.Prelude.{HasRow}
-use Rattle.ns_monitor.proofs.Standing.{still_since}
-use Rattle.ns_monitor.proofs.Waits.{arms_to_wait, loads_or_queues}
-use Rattle.ns_monitor.proofs.monitor.Monitor.queue_to_wait.Given.{Over}
-use Rattle.ns_monitor.proofs.monitor.Monitor.queue_to_wait.Goals.{After-load_to_scan}
 use Rattle.ns_monitor.proofs.monitor.Monitor.queue_to_wait.Goals as goal
 
--- the wait has set its flag
-armed : (g : Over) (c : After-load_to_scan g) → HasArmed g.C.Condition.means (InWait c.args.wait (InQueuing c.args.again (armed_place g.row.N c.args.wait.on c.take-word.result))) c.take-word.new.seat.me c.arm_flag.new.seat.me
-armed g c = arms_to_wait g.C.Condition.means c.args.wait c.args.again c.take-word.result c.args.seat.now.me c.take-word.new.seat.me c.arm_flag.new.seat.me c.take-word.ensures.taken c.arm_flag.ensures.did
-
-since_start : (g : Over) (c : After-load_to_scan g) → HasSince None (the c.args.seat.now.me.0) (the c.load_to_scan.new.seat.me.0)
-since_start g c = since_then None _ _ _ (since_then None _ _ _ c.take-word.ensures.since (armed g c).since) c.load_to_scan.ensures.since
-
--- its number is the seat's
-number_is : (g : Over) (c : After-load_to_scan g) → c.args.number ≡ (the c.load_to_scan.new.seat.me.0).at.seat
-number_is g c = c.requires.number.0 ∙ sym (since_start g c).seat
-
-pub load_to_scan-requires : goal.load_to_scan-requires
-load_to_scan-requires g c = let t = g.C.Condition.means in let word = c.take-word.result in let me = c.arm_flag.new.seat.me in let took = c.take-word.ensures.taken in let is = arms_to_wait t c.args.wait c.args.again word c.args.seat.now.me c.take-word.new.seat.me me took c.arm_flag.ensures.did in let lock = (the me.0).stood.lock in
-    let tells = took.tells ∙ ap (λ (l : Lists g.row.C.Denot). (bits_of l.lock).conditional) (sym is.kept.stood) in
-    let has = subst (HasRow c.args.wait.on c.args.row.now) (ap row_in (sym (is.kept.held ∙ took.held))) c.requires.row in
-    (omega arith, (g.met.C.Gated.queues_fit, (omega arith, (omega (arith, g.met.C.Condition.has_cells), (◌∙◌ {A = TableId} c.arm_flag.ensures.seat c.take-word.ensures.seat, (refl, (loads_or_queues t c.args.wait c.args.again word c.lacks_row.result me c.lacks_row.ensures is.at, (is.taken, λ full. scans_at_hand t c.args.wait.on word c.args.row.now (row_in (the me.0).at.held) lock has tells (sym c.lacks_row.ensures ∙ full)))))))))
-
-pub scan_and_queue_in_hand-scan-requires : goal.scan_and_queue_in_hand-scan-requires
-scan_and_queue_in_hand-scan-requires g c = let after = (goal.at.scan_and_queue_in_hand-scan-requires g c).After-load_to_scan in let is = armed g after in let me = c.load_to_scan.new.seat.me in
-    let nowhere = subst (λ (lists : Lists g.row.C.Denot). times (the me.0).at.seat lists ≡ 0) (sym c.load_to_scan.ensures.stood) (subst (λ n. times n (the c.arm_flag.new.seat.me.0).stood ≡ 0) (sym c.load_to_scan.ensures.since.seat) is.nowhere) in
-    (omega arith, (g.met.C.Gated.queues_fit, (omega arith, (omega (arith, g.met.C.Condition.has_cells), (◌∙◌ {A = TableId} c.load_to_scan.ensures.seat (sym c.self.view_is), (c.load_to_scan.ensures.ready.taken, (c.requires.range, (c.requires.number.1, subst (λ n. times n (the me.0).stood ≡ 0) (sym (number_is g after)) nowhere))))))))
-
-pub put_back-requires : goal.put_back-requires
-put_back-requires g c = let t = g.C.Condition.means in let scan = c.scan_and_queue_in_hand-scan in let e = scan.ensures in let after = (goal.at.put_back-requires g c).After-load_to_scan in let is = c.load_to_scan.ensures.ready in let me1 = c.load_to_scan.new.seat.me in let walk = InWait c.args.wait (InQueuing c.args.again (QueueToWait c.take-word.result)) in
-    let some = ap not c.is_empty-some.ensures ∙ took_some (woken_of (meets_at t c.load_to_scan.new.row) (the me1.0).stood.lock) scan.result.0.woken.items e.woken in
-    (omega arith, (g.met.C.Gated.queues_fit, (omega arith, (◌∙◌ {A = TableId} e.seat.0 c.load_to_scan.ensures.seat, (tt, (refl, (c.take-word.ensures.taken.packs, (works t walk me1 scan.new.seat.me is.at refl e.seat.1, hand_scanned t (Waited c.args.wait c.args.again) walk c.load_to_scan.new.row c.args.number _ _ me1 scan.new.seat.me is (number_is g after) e.seat.1 (λ last. e.lists) (λ last. some) (λ last. e.bits)))))))))
-
-pub pay-requires : goal.pay-requires
-pay-requires g c = let t = g.C.Condition.means in let scan = c.scan_and_queue_in_hand-scan in let now = c.put_back.new.seat.me in let walk = InWait c.args.wait (InQueuing c.args.again (QueueToWait c.take-word.result)) in
-    let owed = c.put_back.ensures.owes in
-    (omega arith, (g.met.C.Gated.queues_fit, (omega arith, (c.put_back.ensures.seat, (record { pays = refl; free = refl; more = refl }, (subst (λ ns. HasReached t (Await c.args.wait) (pay_waiting c.args.wait (has_some ns)) now) (sym owed) c.put_back.ensures.returned, owed ∙ sym (woken_is t walk c.load_to_scan.new.row scan.result.0.woken.items c.load_to_scan.new.seat.me scan.new.seat.me c.load_to_scan.ensures.ready scan.ensures.seat.1 scan.ensures.woken)))))))
-
-pub returns-clause-since : goal.returns-clause-since
-returns-clause-since g c = let scan = c.scan_and_queue_in_hand-scan in let after = (goal.at.returns-clause-since g c).After-load_to_scan in
-    since_then None _ _ _ (still_since g.C.Condition.means None _ c.load_to_scan.new.seat.me scan.new.seat.me scan.ensures.seat.1 (since_start g after)) (since_then None _ _ _ c.put_back.ensures.since c.pay.ensures.since)
+pub leave_section-requires : goal.leave_section-requires
+leave_section-requires g c = let t = g.C.Condition.means in let took = c.take-word in let me = took.new.seat.me in
+    (omega arith, (g.met.C.Gated.queues_fit, (omega arith, (omega (arith, g.met.C.Condition.has_cells), (took.ensures.seat, (same_number t None c.args.number c.args.seat.now.me me c.requires.number took.ensures.since, (c.requires.range, (taken_now t (InWait c.args.wait (InQueuing c.args.again Load)) took.result c.args.seat.now.me me took.ensures.taken, subst (HasRow c.args.wait.on c.args.row.now) (ap row_in (sym took.ensures.taken.held)) c.requires.row))))))))

@@ -15,30 +15,26 @@ pub queue_to_wait-requires : goal.queue_to_wait-requires
 queue_to_wait-requires g c = let inv = c.loop.invariant in
     (omega arith, (g.met.C.Gated.queues_fit, (omega arith, (omega (arith, g.met.C.Condition.has_cells), (◌∙◌ {A = TableId} inv.2 c.requires.of, (same_number g.C.Condition.means None c.args.number c.args.seat.now.me c.loop.seat.me c.requires.number inv.3, (in_range c.args.wait.on c.args.condition c.requires.on, (inv.5, has_row c.args.wait.on c.args.condition c.loop.row _ c.requires.on inv.6))))))))
 
-pub await_in-arrival-requires : goal.await_in-arrival-requires
-await_in-arrival-requires g c = let inv = c.loop.invariant in let me = c.queue_to_wait.new.seat.me in
+pub come_back-outcome-requires : goal.come_back-outcome-requires
+come_back-outcome-requires g c = let inv = c.loop.invariant in let me = c.queue_to_wait.new.seat.me in
     (omega arith, (g.met.C.Gated.queues_fit, (omega arith, (c.queue_to_wait.ensures.seat, (same_number g.C.Condition.means None c.args.number c.args.seat.now.me me c.requires.number (since_then None _ _ _ inv.3 c.queue_to_wait.ensures.since), (in_range c.args.wait.on c.args.condition c.requires.on, (g.W.Watch.still c.args.watch.now c.loop.watch c.args.wait.limits inv.4 c.requires.watches, c.queue_to_wait.ensures.waits)))))))
 
-pub acquire-requires : goal.acquire-requires
-acquire-requires g c = let inv = c.loop.invariant in let me = c.await_in-arrival.new.seat.me in
-    (omega arith, (g.met.C.Gated.queues_fit, (omega arith, (c.await_in-arrival.ensures.seat, (same_number g.C.Condition.means None c.args.number c.args.seat.now.me me c.requires.number (since_then None _ _ _ (since_then None _ _ _ inv.3 c.queue_to_wait.ensures.since) c.await_in-arrival.ensures.since), c.await_in-arrival.ensures.comes)))))
-
 pub test-requires : goal.test-requires
-test-requires g c = (omega arith, (g.met.C.Gated.queues_fit, (omega arith, (omega (arith, g.met.C.Condition.has_cells), (c.acquire.ensures.seat, (c.requires.on, back_to_test g.C.Condition.means c.args.wait c.args.condition c.await_in-arrival.result.1 c.acquire.new.seat.me c.requires.on c.acquire.ensures.acquired))))))
+test-requires g c = (omega arith, (g.met.C.Gated.queues_fit, (omega arith, (omega (arith, g.met.C.Condition.has_cells), (c.come_back-outcome.ensures.seat, (c.requires.on, back_to_test g.C.Condition.means c.args.wait c.args.condition c.come_back-outcome.result c.come_back-outcome.new.seat.me c.requires.on c.come_back-outcome.ensures.acquired))))))
 
 -- it has acquired the lock again and has tested its condition
 since_test : (g : Over) (c : After-test g) → HasSince None (the c.args.seat.now.me.0) (the c.test.new.seat.me.0)
-since_test g c = since_then None _ _ _ (since_then None _ _ _ (since_then None _ _ _ c.loop.invariant.3 c.queue_to_wait.ensures.since) (since_then None _ _ _ c.await_in-arrival.ensures.since c.acquire.ensures.since)) c.test.ensures.since
+since_test g c = since_then None _ _ _ (since_then None _ _ _ (since_then None _ _ _ c.loop.invariant.3 c.queue_to_wait.ensures.since) c.come_back-outcome.ensures.since) c.test.ensures.since
 
-watched : (g : Over) (c : After-test g) → g.W.Watch.since c.args.watch.now c.await_in-arrival.new.watch
-watched g c = g.W.Watch.then c.args.watch.now c.loop.watch c.await_in-arrival.new.watch c.loop.invariant.4 c.await_in-arrival.ensures.looked
+watched : (g : Over) (c : After-test g) → g.W.Watch.since c.args.watch.now c.come_back-outcome.new.watch
+watched g c = g.W.Watch.then c.args.watch.now c.loop.watch c.come_back-outcome.new.watch c.loop.invariant.4 c.come_back-outcome.ensures.looked
 
 fresh : (g : Over) (c : After-test g) → IsFreshIn g.row.N c.args.wait.mode (the c.test.new.seat.me.0).at.held
-fresh g c = subst (IsFreshIn g.row.N c.args.wait.mode) (sym c.test.ensures.tested.held) (comes_fresh g.C.Condition.means c.args.wait c.await_in-arrival.result.1 c.acquire.new.seat.me (back_to_test g.C.Condition.means c.args.wait c.args.condition c.await_in-arrival.result.1 c.acquire.new.seat.me c.requires.on c.acquire.ensures.acquired))
+fresh g c = subst (IsFreshIn g.row.N c.args.wait.mode) (sym c.test.ensures.tested.held) (comes_fresh g.C.Condition.means c.args.wait c.come_back-outcome.result c.come_back-outcome.new.seat.me (back_to_test g.C.Condition.means c.args.wait c.args.condition c.come_back-outcome.result c.come_back-outcome.new.seat.me c.requires.on c.come_back-outcome.ensures.acquired))
 
 -- it was false
-unmet : (g : Over) (c : After-test g) → c.test.result ≡ false → HasReached g.C.Condition.means (Await c.args.wait) (unmet_by c.args.wait (OnReturn c.await_in-arrival.result.1)) c.test.new.seat.me
-unmet g c false_now = tested_so g.C.Condition.means c.args.wait (OnReturn c.await_in-arrival.result.1) c.args.condition c.test.result false c.test.new.row c.acquire.new.seat.me c.test.new.seat.me false_now c.test.ensures.tested
+unmet : (g : Over) (c : After-test g) → c.test.result ≡ false → HasReached g.C.Condition.means (Await c.args.wait) (unmet_by c.args.wait (OnReturn c.come_back-outcome.result)) c.test.new.seat.me
+unmet g c false_now = tested_so g.C.Condition.means c.args.wait (OnReturn c.come_back-outcome.result) c.args.condition c.test.result false c.test.new.row c.come_back-outcome.new.seat.me c.test.new.seat.me false_now c.test.ensures.tested
 
 pub returns-then-test-clause-since : goal.returns-then-test-clause-since
 returns-then-test-clause-since g c = since_test g (goal.at.returns-then-test-clause-since g c).After-test
@@ -47,7 +43,7 @@ pub returns-then-test-clause-looked : goal.returns-then-test-clause-looked
 returns-then-test-clause-looked g c = watched g (goal.at.returns-then-test-clause-looked g c).After-test
 
 pub returns-then-test-clause-answered : goal.returns-then-test-clause-answered
-returns-then-test-clause-answered g c = tested_so g.C.Condition.means c.args.wait (OnReturn c.await_in-arrival.result.1) c.args.condition c.test.result true c.test.new.row c.acquire.new.seat.me c.test.new.seat.me c.if-test.true c.test.ensures.tested
+returns-then-test-clause-answered g c = tested_so g.C.Condition.means c.args.wait (OnReturn c.come_back-outcome.result) c.args.condition c.test.result true c.test.new.row c.come_back-outcome.new.seat.me c.test.new.seat.me c.if-test.true c.test.ensures.tested
 
 pub returns-then-test-clause-fresh : goal.returns-then-test-clause-fresh
 returns-then-test-clause-fresh g c = fresh g (goal.at.returns-then-test-clause-fresh g c).After-test
@@ -59,9 +55,9 @@ pub returns-in-Ended-clause-looked : goal.returns-in-Ended-clause-looked
 returns-in-Ended-clause-looked g c = watched g (goal.at.returns-in-Ended-clause-looked g c).After-test
 
 pub returns-in-Ended-clause-ended : goal.returns-in-Ended-clause-ended
-returns-in-Ended-clause-ended g c = ended_as (λ cause. (is_limited c.args.wait.limits ≡ true) × g.W.Watch.shows c.args.watch.now c.await_in-arrival.new.watch c.args.wait.limits (Some cause)) c.in-Ended.cause c.answer_of.result c.answer_of.ensures
-    (let shown = subst (λ o. IfEnded o (λ cause. (is_limited c.args.wait.limits ≡ true) × g.W.Watch.shows c.loop.watch c.await_in-arrival.new.watch c.args.wait.limits (Some cause))) c.in-Ended.is c.await_in-arrival.ensures.ended in
-    (shown.0, g.W.Watch.later c.args.watch.now c.loop.watch c.await_in-arrival.new.watch c.args.wait.limits (Some c.in-Ended.cause) c.loop.invariant.4 shown.1))
+returns-in-Ended-clause-ended g c = ended_as (λ cause. (is_limited c.args.wait.limits ≡ true) × g.W.Watch.shows c.args.watch.now c.come_back-outcome.new.watch c.args.wait.limits (Some cause)) c.in-Ended.cause c.answer_of.result c.answer_of.ensures
+    (let shown = subst (λ o. IfEnded o (λ cause. (is_limited c.args.wait.limits ≡ true) × g.W.Watch.shows c.loop.watch c.come_back-outcome.new.watch c.args.wait.limits (Some cause))) c.in-Ended.is c.come_back-outcome.ensures.ended in
+    (shown.0, g.W.Watch.later c.args.watch.now c.loop.watch c.come_back-outcome.new.watch c.args.wait.limits (Some c.in-Ended.cause) c.loop.invariant.4 shown.1))
 
 pub returns-in-Ended-clause-answered : goal.returns-in-Ended-clause-answered
 returns-in-Ended-clause-answered g c = subst (λ a. HasAnswered g.C.Condition.means (Await c.args.wait) (Answered a) c.test.new.seat.me) (sym c.answer_of.ensures) (subst (λ o. HasReached g.C.Condition.means (Await c.args.wait) (unmet_by c.args.wait (OnReturn o)) c.test.new.seat.me) c.in-Ended.is (unmet g (goal.at.returns-in-Ended-clause-answered g c).After-test c.if-test.false))
@@ -71,14 +67,14 @@ returns-in-Ended-clause-fresh g c = fresh g (goal.at.returns-in-Ended-clause-fre
 
 pub look_before-requires : goal.look_before-requires
 look_before-requires g c = let t = g.C.Condition.means in let me = c.test.new.seat.me in let after = (goal.at.look_before-requires g c).After-test in
-    (omega arith, (g.met.C.Gated.queues_fit, (omega arith, (c.test.ensures.seat, (same_number t None c.args.number c.args.seat.now.me me c.requires.number (since_test g after), (g.W.Watch.still c.args.watch.now c.await_in-arrival.new.watch c.args.wait.limits (watched g after) c.requires.watches, subst (λ o. HasReached t (Await c.args.wait) (unmet_by c.args.wait (OnReturn o)) me) c.in_default.is (unmet g after c.if-test.false)))))))
+    (omega arith, (g.met.C.Gated.queues_fit, (omega arith, (c.test.ensures.seat, (same_number t None c.args.number c.args.seat.now.me me c.requires.number (since_test g after), (g.W.Watch.still c.args.watch.now c.come_back-outcome.new.watch c.args.wait.limits (watched g after) c.requires.watches, subst (λ o. HasReached t (Await c.args.wait) (unmet_by c.args.wait (OnReturn o)) me) c.in_default.is (unmet g after c.if-test.false)))))))
 
 -- it has looked, and goes on
 since_look : (g : Over) (c : After-look_before g) → HasSince None (the c.args.seat.now.me.0) (the c.look_before.new.seat.me.0)
-since_look g c = since_then None _ _ _ (since_then None _ _ _ (since_then None _ _ _ (since_then None _ _ _ c.loop.invariant.3 c.queue_to_wait.ensures.since) (since_then None _ _ _ c.await_in-arrival.ensures.since c.acquire.ensures.since)) c.test.ensures.since) c.look_before.ensures.since
+since_look g c = since_then None _ _ _ (since_then None _ _ _ (since_then None _ _ _ (since_then None _ _ _ c.loop.invariant.3 c.queue_to_wait.ensures.since) c.come_back-outcome.ensures.since) c.test.ensures.since) c.look_before.ensures.since
 
 looked_on : (g : Over) (c : After-look_before g) → g.W.Watch.since c.args.watch.now c.look_before.new.watch
-looked_on g c = g.W.Watch.then c.args.watch.now c.await_in-arrival.new.watch c.look_before.new.watch (g.W.Watch.then c.args.watch.now c.loop.watch c.await_in-arrival.new.watch c.loop.invariant.4 c.await_in-arrival.ensures.looked) c.look_before.ensures.looked
+looked_on g c = g.W.Watch.then c.args.watch.now c.come_back-outcome.new.watch c.look_before.new.watch (g.W.Watch.then c.args.watch.now c.loop.watch c.come_back-outcome.new.watch c.loop.invariant.4 c.come_back-outcome.ensures.looked) c.look_before.ensures.looked
 
 pub returns-in-Some-look_before-clause-since : goal.returns-in-Some-look_before-clause-since
 returns-in-Some-look_before-clause-since g c = since_look g (goal.at.returns-in-Some-look_before-clause-since g c).After-look_before
@@ -87,10 +83,10 @@ pub returns-in-Some-look_before-clause-looked : goal.returns-in-Some-look_before
 returns-in-Some-look_before-clause-looked g c = looked_on g (goal.at.returns-in-Some-look_before-clause-looked g c).After-look_before
 
 pub returns-in-Some-look_before-clause-ended : goal.returns-in-Some-look_before-clause-ended
-returns-in-Some-look_before-clause-ended g c = let limits = c.args.wait.limits in let mid = c.await_in-arrival.new.watch in let new = c.look_before.new.watch in let cause = c.in-Some-look_before.cause in
+returns-in-Some-look_before-clause-ended g c = let limits = c.args.wait.limits in let mid = c.come_back-outcome.new.watch in let new = c.look_before.new.watch in let cause = c.in-Some-look_before.cause in
     let limited = subst (λ o. IfSome o (λ (x : Cause). is_limited limits ≡ true)) c.in-Some-look_before.is c.look_before.ensures.ends in
     ended_as (λ x. (is_limited limits ≡ true) × g.W.Watch.shows c.args.watch.now new limits (Some x)) cause c.answer_of-in-Some-look_before.result c.answer_of-in-Some-look_before.ensures
-    (limited, g.W.Watch.later c.args.watch.now mid new limits (Some cause) (g.W.Watch.then c.args.watch.now c.loop.watch mid c.loop.invariant.4 c.await_in-arrival.ensures.looked) (subst (g.W.Watch.shows mid new limits) c.in-Some-look_before.is (c.look_before.ensures.shown limited)))
+    (limited, g.W.Watch.later c.args.watch.now mid new limits (Some cause) (g.W.Watch.then c.args.watch.now c.loop.watch mid c.loop.invariant.4 c.come_back-outcome.ensures.looked) (subst (g.W.Watch.shows mid new limits) c.in-Some-look_before.is (c.look_before.ensures.shown limited)))
 
 pub returns-in-Some-look_before-clause-fresh : goal.returns-in-Some-look_before-clause-fresh
 returns-in-Some-look_before-clause-fresh g c = c.look_before.ensures.fresh (fresh g (goal.at.returns-in-Some-look_before-clause-fresh g c).After-test)

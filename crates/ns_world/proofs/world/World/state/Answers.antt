@@ -1,9 +1,8 @@
-use Rattle.std.proofs.Common.{◌≡◌, length, map, rules, refl, ap, ◌∙◌}
+use Rattle.std.proofs.Common.{map, rules, refl, ap, ◌∙◌}
 use Rattle.ns_word.specs.Codec.{word_of}
 use Rattle.ns_queue.specs.Queues.{Lists}
 use Rattle.ns_queue.specs.Waiters.{shown_of}
-use Rattle.ns_world.specs.Performs.{view_of}
-use Rattle.ns_world.proofs.Lists.{each_shown, shown_four}
+use Rattle.ns_queue.proofs.Shown.{each_shown}
 use Rattle.ns_word.proofs.Seen.{packable}
 use Rattle.ns_world.proofs.States.{listed, number_below, nowhere, few_seats, wakes_few}
 use Rattle.ns_world.proofs.world.World.state.Goals as goal
@@ -41,15 +40,14 @@ returns-clause-busy g c = λ seat. rw (← c.self.view_is) (rw c.deref-3.ensures
 pub returns-clause-variables : goal.returns-clause-variables
 returns-clause-variables g c =
     let queues = c.shown_queues-queues.result in
-    let same = rw c.deref.ensures.value at c.shown_queues-queues.ensures in
-    let four : length queues.cvs ≡ 4 = ap (λ (lists : Lists _). length lists.cvs) same ∙ shown_four g.C.Condition.means c.self.inside.row c.self.inside.queues (map view_of c.self.inside.seats.items) ∙ c.self.invariant.lawful.waiters_placed.four in
-    rw (← c.self.view_is) (each_shown queues.cvs c.shown-2.result c.shown-3.result c.shown-4.result c.shown-5.result four c.shown-2.ensures c.shown-3.ensures c.shown-4.ensures c.shown-5.ensures ∙ ap (λ (lists : Lists _). map (map shown_of) lists.cvs) same)
+    let all = each_shown queues.cvs _ _ _ _ c.shown.ensures.orderly.four c.shown-2.ensures.shown c.shown-3.ensures.shown c.shown-4.ensures.shown c.shown-5.ensures.shown in
+    rw (← c.self.view_is) (all ∙ ap (λ (lists : Lists _). map (map shown_of) lists.cvs) (rw c.deref.ensures.value at c.shown_queues-queues.ensures))
 
 pub returns-clause-word : goal.returns-clause-word
 returns-clause-word g c = rw (← c.self.view_is) c.unpacked.ensures
 
 pub returns-clause-lock : goal.returns-clause-lock
-returns-clause-lock g c = rw (← c.self.view_is) (c.shown.ensures ∙ ap (λ (lists : Lists _). map shown_of lists.lock) (rw c.deref.ensures.value at c.shown_queues-queues.ensures))
+returns-clause-lock g c = rw (← c.self.view_is) (c.shown.ensures.shown ∙ ap (λ (lists : Lists _). map shown_of lists.lock) (rw c.deref.ensures.value at c.shown_queues-queues.ensures))
 
 pub returns-clause-owed : goal.returns-clause-owed
 returns-clause-owed g c = rw (← c.self.view_is) (rw c.deref-2.ensures.value at c.owed_wakes.ensures)

@@ -1,0 +1,123 @@
+-- Those whom a signal or a broadcast takes: where they may go, how they come back, and to whom a wake is owed.
+use Rattle.std.proofs.Common.{◌≡◌, ℕ, ◌+◌, ◌≤◌, ◌<◌, ◌↔◌, Bool, true, false, not, ◌&&◌, IsTrue, cond, eqb, List, [], ◌∷◌, ◌++◌, append-nil, Option, None, length, get_or, drop, map, refl, ap, sym, ◌∙◌, subst, arith}
+use Rattle.std.specs.Bool.{OnFalse, OnTrue}
+use Rattle.std.specs.List.{sum_by}
+use Rattle.std.proofs.lemmas.Bool.{eq-eqb}
+use Rattle.std.proofs.lemmas.List.Elements.{filter-append}
+use Rattle.std.proofs.lemmas.List.Sums.{sum_by-cons}
+use Rattle.ns_queue.specs.declared.waiter.Which.TheVariants.{Cv, Lock}
+use Rattle.ns_queue.specs.Waiters.{is_of, without_in}
+use Rattle.ns_queue.proofs.Inside.{told_no}
+use Rattle.ns_queue.proofs.Marking.{drop_step}
+use Rattle.ns_queue.proofs.Parts.{below_in, none_without, times_with}
+use Rattle.ns_queue.proofs.Seats.{times_in-cons}
+use Rattle.ns_queue.proofs.Taken.{times_signaled}
+use Rattle.ns_word.proofs.Ranges.{lists_orderly}
+use Rattle.ns_gate.specs.Prelude.{SeatOf, the, Carries, Performed, changed, change_found, moves, seats_of, Act, Found, Walk, Truths, Lists, Waiter, HaveSeats, IsOrderly, times, times_in, waiters_of, with_waiters, without, Part, SeatView, has_queues, has_some, is_held, kept_by, moved_to, taken_by, lists_left, lists_woken, owed_woken, taken_from, turned_to, without_each, ReturnQueues, WakeWaiters, Woke, Waking, Broadcasting, Signaling, Word}
+use Rattle.ns_gate.proofs.Stays.{HasKeptItsQueues, effect_of, still_carries}
+
+module _ {C : Type 0} where
+  -- ---- where they may go
+
+  -- who is in the list was taken or is left
+  parted : (waking : Waking) (ws : List (Waiter C)) (seat : ℕ) → times_in seat (taken_by waking ws) + times_in seat (kept_by waking ws) ≡ times_in seat ws
+  parted Signaling ws seat = times_signaled ws seat
+  parted Broadcasting ws seat = omega arith
+
+  -- those taken have seats
+  pub have_seats : (waking : Waking) (k : ℕ) (lists : Lists C) → IsOrderly lists → k < 4 → HaveSeats (taken_from waking k lists)
+  have_seats waking k lists orderly low seat high = omega (arith, parted waking (waiters_of lists (Cv k)) seat, below_in lists (Cv k) orderly low seat high)
+
+  -- and are in none of the lists that are left
+  pub apart : (waking : Waking) (k : ℕ) (lists : Lists C) → IsOrderly lists → k < 4 → (seat : ℕ) → times_in seat (taken_from waking k lists) + times seat (lists_left waking k lists) ≤ 1
+  apart waking k lists orderly low seat =
+      omega (arith, parted waking (waiters_of lists (Cv k)) seat, times_with lists (Cv k) (kept_by waking (waiters_of lists (Cv k))) seat orderly.four low, orderly.once seat)
+
+  -- so they may be put at the back of the lock list
+  pub may_move : (waking : Waking) (k : ℕ) (lists old : Lists C) (taken : List (Waiter C)) → IsOrderly lists → k < 4 → taken ≡ taken_from waking k lists → old ≡ lists_left waking k lists → HaveSeats taken × ((seat : ℕ) → times_in seat taken + times seat old ≤ 1)
+  may_move waking k lists old taken orderly low is was = rw (is, was) (have_seats waking k lists orderly low, apart waking k lists orderly low)
+
+  -- ---- how they come back
+
+  -- lists without one who stands in none
+  lists_same : (seat : ℕ) (lists : List (List (Waiter C))) → sum_by (times_in seat) lists ≡ 0 → map (without_in seat) lists ≡ lists
+  lists_same seat [] none = refl
+  lists_same seat (ws ∷ lists) none =
+      let sum = sum_by-cons (times_in seat) ws lists in
+      rw (none_without seat ws (omega (arith, sum, none)), lists_same seat lists (omega (arith, sum, none))) refl
+
+  absent : (seat : ℕ) (lists : Lists C) → times seat lists ≡ 0 → without seat lists ≡ lists
+  absent seat lists none = rw (none_without seat lists.lock (omega (arith, none)), lists_same seat lists.cvs (omega (arith, none))) refl
+
+  -- one who is told to be removed is in none of the lists, whether it stood there or not
+  pub removed_so : (seat : ℕ) (old new : Lists C) (gone : Bool) → (IsTrue gone ↔ (0 < times seat old)) → OnTrue gone (new ≡ without seat old) → OnFalse gone (new ≡ old) → new ≡ without seat old
+  removed_so seat old new true stood out same = out
+  removed_so seat old new false stood out same = same ∙ sym (absent seat old (told_no false (times seat old) refl stood.1))
+
+  -- one more of them is out
+  pub one_out : (ws : List (Waiter C)) (i : ℕ) (w : Waiter C) (old new whole : Lists C) → i < length ws → w ≡ get_or ws i w → new ≡ without w.seat old → without_each (drop i ws) old ≡ whole → without_each (drop (i + 1) ws) new ≡ whole
+  one_out ws i w old new whole within is out before =
+      ap (without_each (drop (i + 1) ws)) out ∙ (sym (ap (λ xs. without_each xs old) (drop_step ws i w w within (sym is))) ∙ before)
+
+  -- the first of those at the back, who stands nowhere else, is out of the lists
+  first_out : (lists : Lists C) (w : Waiter C) (ws : List (Waiter C)) → times_in w.seat ws ≡ 0 → times w.seat lists ≡ 0 → without w.seat (with_waiters lists Lock (lists.lock ++ w ∷ ws)) ≡ with_waiters lists Lock (lists.lock ++ ws)
+  first_out lists w ws none free =
+      rw (filter-append (λ v. not (is_of w.seat v)) lists.lock (w ∷ ws), eq-eqb w.seat w.seat refl, none_without w.seat lists.lock (omega (arith, free)), none_without w.seat ws none, lists_same w.seat lists.cvs (omega (arith, free))) refl
+
+  -- Those who stand in none of the lists are put at the back of the lock's and taken out again: the lists are as they were.
+  pub back_again : (lists : Lists C) (ws : List (Waiter C)) → ((seat : ℕ) → times_in seat ws + times seat lists ≤ 1) → without_each ws (moved_to true ws lists) ≡ lists
+  back_again lists [] once = rw append-nil refl
+  back_again lists (w ∷ ws) once =
+      let here : ◌≡◌ {A = ℕ} (cond (eqb w.seat w.seat) 1 0) 1 = rw (eq-eqb w.seat w.seat refl) refl in
+      let alone : times_in w.seat ws ≡ 0 = omega (arith, here, times_in-cons w.seat w ws, once w.seat) in
+      let free : times w.seat lists ≡ 0 = omega (arith, here, times_in-cons w.seat w ws, once w.seat) in
+      ap (without_each ws) (first_out lists w ws alone free) ∙ back_again lists ws (λ seat. omega (arith, times_in-cons seat w ws, once seat))
+
+  -- where the lists are turned to a held lock, they may be put there
+  pub may_turn : (waking : Waking) (k : ℕ) (held : Bool) (lists old : Lists C) (taken : List (Waiter C)) → IsOrderly lists → k < 4 → taken ≡ taken_from waking k lists → old ≡ lists_woken waking k (not held) lists → HaveSeats taken × (held ≡ true → (seat : ℕ) → times_in seat taken + times seat old ≤ 1)
+  may_turn waking k true lists old taken orderly low is was = let m = may_move waking k lists old taken orderly low is was in (m.0, λ held. m.1)
+  may_turn waking k false lists old taken orderly low is was = (rw is (have_seats waking k lists orderly low), λ held. absurd (cc))
+
+  -- turned, they are as for the other truth of it
+  pub turned_over : (waking : Waking) (k : ℕ) (held : Bool) (lists old : Lists C) (taken : List (Waiter C)) → IsOrderly lists → k < 4 → taken ≡ taken_from waking k lists → old ≡ lists_woken waking k (not held) lists → turned_to held taken old ≡ lists_woken waking k held lists
+  turned_over waking k true lists old taken orderly low is was = λ i. moved_to true (is i) (was i)
+  turned_over waking k false lists old taken orderly low is was =
+      (λ i. without_each (is i) (was i)) ∙ back_again (lists_left waking k lists) (taken_from waking k lists) (apart waking k lists orderly low)
+
+  -- ---- by the names of the machine's change, where this is the word last seen
+
+  pub woken_lists : (seat : ℕ) (waking : Waking) (k : ℕ) (last : Word) (held : Bool) (lists : Lists C) → is_held last ≡ held → changed seat (WakeWaiters waking k) last lists ≡ lists_woken waking k held lists
+  woken_lists seat waking k last held lists is = ap (λ (b : Bool). lists_woken waking k b lists) is
+
+  pub woken_some : (waking : Waking) (k : ℕ) (last : Word) (held : Bool) (lists : Lists C) → is_held last ≡ held → moves (WakeWaiters waking k) last lists ≡ (held && has_some (taken_from waking k lists))
+  woken_some waking k last held lists is = ap (λ (b : Bool). b && has_some (taken_from waking k lists)) is
+
+  -- somebody is owed a wake just where somebody was taken and nobody moved
+  owes_some : (waking : Waking) (k : ℕ) (held : Bool) (lists : Lists C) → (not held && has_some (taken_from waking k lists)) ≡ has_some (owed_woken waking k held lists)
+  owes_some waking k true lists = refl
+  owes_some waking k false lists = by (taken_from waking k lists) where
+    by : (ws : List (Waiter C)) → has_some ws ≡ has_some (seats_of ws)
+    by [] = refl
+    by (w ∷ ws) = refl
+
+  pub woken_found : (seat : ℕ) (waking : Waking) (k : ℕ) (last : Word) (lists : Lists C) → change_found seat (WakeWaiters waking k) last lists ≡ Woke (has_some (owed_woken waking k (is_held last) lists))
+  woken_found seat waking k last lists = ap Woke (owes_some waking k (is_held last) lists)
+
+module _ {C : Type 0} {N : ℕ} where
+  -- what is in hand stays there where the exchange found another word
+  pub still_woken : (waking : Waking) (k : ℕ) (held : Bool) (me now : SeatOf C N) → HasKeptItsQueues me now → Carries (lists_woken waking k held (the me.0).stood) me → Carries (lists_woken waking k held (the now.0).stood) now
+  still_woken waking k held me now s carries = still_carries (λ v. lists_woken waking k held v.stood) me now (ap (lists_woken waking k held) s.stood) s carries
+
+module _ {C : Type 0} {N : ℕ} (truths : Truths C) where
+  -- The lists are orderly that a seat knows to stand.
+  pub orderly_now : (b : Option (Walk C)) (act : Act C) (found : Found) (me now : SeatOf C N) → Performed truths b act found me now → IsOrderly (the now.0).stood
+  orderly_now b act found me now p =
+      let d = p.did in
+      subst IsOrderly (sym d.stood_now) (lists_orderly truths (the me.0).seat_count (d.history ++ d.commits) d.new d.lawful_now.waiters_placed d.lawful_now.one_history.each d.few)
+
+  -- The queues are back: the seat owes those a wake whom it took, where they weren't moved.
+  pub owes_the_woken : (waking : Waking) (k : ℕ) (last : Word) (owes : Bool) (me now : SeatOf C N) → has_queues (the me.0).at.walk ≡ true → Performed truths None (ReturnQueues (WakeWaiters waking k) last) (Woke owes) me now → (the now.0).at.owed ≡ owed_woken waking k (is_held last) (the me.0).stood
+  owes_the_woken waking k last owes me now has p =
+      let d = p.did in
+      let e = effect_of truths (ReturnQueues (WakeWaiters waking k) last) (Woke owes) me now p in
+      ap (λ (x : SeatView C N). x.owed) d.becomes ∙ (ap (λ (q : Part C N). q.owed) e.2 ∙ ap (owed_woken waking k (is_held last)) (sym (d.stood_was has)))

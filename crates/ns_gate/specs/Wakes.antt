@@ -1,0 +1,33 @@
+-- What a signal or a broadcast makes of the lists in hand.
+use Rattle.std.specs.Prelude.{ℕ, Bool, if◌then◌else◌, List, [], ◌∷◌}
+use Rattle.ns_queue.specs.declared.waiter.Waiter.{Waiter}
+use Rattle.ns_queue.specs.declared.waiter.Which.TheVariants.{Cv}
+use Rattle.ns_queue.specs.Queues.{Lists, waiters_of, with_waiters, without}
+use Rattle.ns_queue.specs.Waiters.{seats_of}
+use Rattle.ns_word.specs.declared.act.Waking.{Waking}
+use Rattle.ns_word.specs.Steps.{kept_by, moved_to, taken_by}
+
+-- those whom it takes out of the list of its variable, where the lists stand so
+abbrev pub taken_from : {C : Type 0} → Waking → ℕ → Lists C → List (Waiter C)
+taken_from waking k lists = taken_by waking (waiters_of lists (Cv k))
+
+-- the lists once they are out of it
+abbrev pub lists_left : {C : Type 0} → Waking → ℕ → Lists C → Lists C
+lists_left waking k lists = with_waiters lists (Cv k) (kept_by waking (waiters_of lists (Cv k)))
+
+-- the lists that are put back: where the lock is held, those who were taken are at the back of its list; else they are in none
+abbrev pub lists_woken : {C : Type 0} → Waking → ℕ → Bool → Lists C → Lists C
+lists_woken waking k held lists = moved_to held (taken_from waking k lists) (lists_left waking k lists)
+
+-- to whom a wake is owed then: to those who were taken and not moved
+abbrev pub owed_woken : {C : Type 0} → Waking → ℕ → Bool → Lists C → List ℕ
+owed_woken waking k held lists = if held then [] else seats_of (taken_from waking k lists)
+
+-- the lists without any of these
+abbrev pub without_each : {C : Type 0} → List (Waiter C) → Lists C → Lists C
+without_each [] lists = lists
+without_each (w ∷ ws) lists = without_each ws (without w.seat lists)
+
+-- waiters that are turned: put at the back of the lock list, or taken out of the lists again
+abbrev pub turned_to : {C : Type 0} → Bool → List (Waiter C) → Lists C → Lists C
+turned_to held taken lists = if held then moved_to held taken lists else without_each taken lists

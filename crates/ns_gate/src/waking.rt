@@ -1,0 +1,157 @@
+//! What a signal or a broadcast does to the waiter queues in a hand.
+//!
+//! Those whom it takes out of the list of its variable go to the back of the lock list where the
+//! lock word is held, and are owed a wake where it is free. The queues are put back by an exchange
+//! of the lock word, which fails where another step came between, and the word that is found may
+//! differ in whether it is held. So they are kept apart, and the queues in hand are turned then.
+
+ghost use Rattle.std.specs.Prelude.{◌≡◌, ℕ, ◌+◌, ◌<◌, ◌≤◌, ◌&&◌, not, true, false};
+ghost use Rattle.ns_gate.specs.Prelude.{Carries, HasUnchangedQueues, HaveSeats, IsOrderly, bits_of, has_some, lists_woken, moved_to, taken_from, the, times, times_in, turned_to, without_each};
+
+use crate::gate::{Gate, GateSeat};
+use crate::queues::Turned;
+use crate::room::Gated;
+use arrayvec::ArrayVec;
+use ns_queue::queues::Queues;
+use ns_queue::room::Queueable;
+use ns_queue::waiter::Waiter;
+use ns_word::act::Waking;
+use ns_word::hand::bits;
+
+/// Takes those out of the list of the variable whom the call wakes, and answers them in order.
+///
+/// Needs a number below 4.
+fn take_waiters<C: Queueable<N>, const N: usize>(
+    queues: &mut Queues<C, N>,
+    waking: Waking,
+    k: u8,
+) -> ArrayVec<Waiter<C>, 64>
+    requires { k < 4 }
+    ensures taken { result.items ≡ taken_from waking k queues.old }
+    ensures left { queues.new ≡ lists_woken waking k false queues.old }
+    ensures orderly { IsOrderly queues.old }
+{
+    match waking {
+        Waking::Signaling => queues.take_signal(k),
+        Waking::Broadcasting => queues.take_all(k),
+    }
+}
+
+/// Puts those who were taken at the back of the lock list, if the lock is held.
+///
+/// Needs each of their seats to be below 64, and none to stand twice among them and the lists.
+fn move_if<C: Queueable<N>, const N: usize>(
+    queues: &mut Queues<C, N>,
+    taken: &[Waiter<C>],
+    held: bool,
+)
+    requires below { HaveSeats taken.now }
+    requires once { (seat : ℕ) → times_in seat taken.now + times seat queues.old ≤ 1 }
+    ensures { queues.new ≡ moved_to held taken.now queues.old }
+{
+    if held {
+        queues.append(taken);
+    }
+}
+
+/// Takes those who were moved out of the lists again.
+fn take_back<C: Queueable<N>, const N: usize>(queues: &mut Queues<C, N>, taken: &[Waiter<C>])
+    ensures { queues.new ≡ without_each taken.now queues.old }
+{
+    for waiter in taken {
+        let _ = queues.remove(waiter.seat);
+    }
+}
+
+/// Puts those who were taken at the back of the lock list, if the lock is held now, and else takes
+/// them out of it again.
+///
+/// Needs each of their seats to be below 64, and none to stand twice among them and the lists where
+/// it puts them there.
+fn turn<C: Queueable<N>, const N: usize>(queues: &mut Queues<C, N>, taken: &[Waiter<C>], held: bool)
+    requires below { HaveSeats taken.now }
+    requires once { held ≡ true → (seat : ℕ) → times_in seat taken.now + times seat queues.old ≤ 1 }
+    ensures { queues.new ≡ turned_to held taken.now queues.old }
+{
+    if held {
+        queues.append(taken);
+    } else {
+        take_back(queues, taken);
+    }
+}
+
+/// What the hand has made of these queues, where these were taken.
+fn turned_by<C: Queueable<N>, const N: usize>(
+    queues: &Queues<C, N>,
+    taken: &[Waiter<C>],
+    held: bool,
+) -> Turned
+    ensures some { result.some ≡ (held && has_some taken.now) }
+    ensures bits { result.bits ≡ bits_of queues.now.lock }
+{
+    Turned {
+        some: held && !taken.is_empty(),
+        bits: bits(queues),
+    }
+}
+
+impl<C: Gated<N>, const N: usize> Gate<C, N> {
+    /// Takes those out of the list of the variable whom the call wakes, and puts them at the back of
+    /// the lock list if the lock is held. Answers them in order, to be kept until the queues are
+    /// back, and what the hand has made of the queues.
+    ///
+    /// Needs a seat of this gate, which has the queues in hand as they stood, and a number below 4.
+    pub fn wake_in_hand(
+        &self,
+        seat: &mut GateSeat<C, N>,
+        waking: Waking,
+        k: u8,
+        held: bool,
+    ) -> (ArrayVec<Waiter<C>, 64>, Turned)
+        requires of { seat.old.table_id ≡ self.now }
+        requires has { HasUnchangedQueues seat.old.me }
+        requires variable { k < 4 }
+        ensures seat { (seat.new.table_id ≡ seat.old.table_id) × (seat.new.me.0 ≡ seat.old.me.0) }
+        ensures orderly { IsOrderly (the seat.old.me.0).stood }
+        ensures taken { result.0.items ≡ taken_from waking k (the seat.old.me.0).stood }
+        ensures lists { Carries (lists_woken waking k held (the seat.old.me.0).stood) seat.new.me }
+        ensures some { result.1.some ≡ (held && has_some (taken_from waking k (the seat.old.me.0).stood)) }
+        ensures bits { result.1.bits ≡ bits_of (lists_woken waking k held (the seat.old.me.0).stood).lock }
+    {
+        let queues = seat.slot_mut(&self.table.shared, 0);
+        let taken = take_waiters(queues, waking, k);
+        move_if(queues, taken.as_slice(), held);
+        let turned = turned_by(queues, taken.as_slice(), held);
+        (taken, turned)
+    }
+
+    /// Turns what the same call has in hand, where the word found differs from the one last seen in
+    /// whether the lock is held: those who were taken go to the back of the lock list if it is held
+    /// now, and else out of it again. Answers what the hand has made of the queues then.
+    ///
+    /// Needs a seat of this gate, which has the queues in hand as [`Gate::wake_in_hand`] makes them
+    /// for the other truth of `held`; those who were taken; and that the lists stood orderly, as that
+    /// told. The call and the number of its variable are for the proof alone.
+    pub fn turn_in_hand(
+        &self,
+        seat: &mut GateSeat<C, N>,
+        taken: &ArrayVec<Waiter<C>, 64>,
+        _waking: Waking,
+        _k: u8,
+        held: bool,
+    ) -> Turned
+        requires of { seat.old.table_id ≡ self.now }
+        requires variable { _k < 4 }
+        requires orderly { IsOrderly (the seat.old.me.0).stood }
+        requires taken { taken.now.items ≡ taken_from _waking _k (the seat.old.me.0).stood }
+        requires lists { Carries (lists_woken _waking _k (not held) (the seat.old.me.0).stood) seat.old.me }
+        ensures seat { (seat.new.table_id ≡ seat.old.table_id) × (seat.new.me.0 ≡ seat.old.me.0) }
+        ensures lists { Carries (lists_woken _waking _k held (the seat.old.me.0).stood) seat.new.me }
+        ensures some { result.some ≡ (held && has_some (taken_from _waking _k (the seat.old.me.0).stood)) }
+        ensures bits { result.bits ≡ bits_of (lists_woken _waking _k held (the seat.old.me.0).stood).lock }
+    {
+        let queues = seat.slot_mut(&self.table.shared, 0);
+        turn(queues, taken.as_slice(), held);
+        turned_by(queues, taken.as_slice(), held)
+    }
+}

@@ -1,0 +1,76 @@
+-- A call that shows, step by step, and the state that it shows.
+use Rattle.std.proofs.Common.{◌≡◌, ℕ, Bool, true, false, cond, ◌∷◌, ◌++◌, append-nil, None, Some, refl, ap, sym, ◌∙◌, subst}
+use Rattle.ns_gate.proofs.Calls.{goes, goes_on}
+use Rattle.ns_gate.proofs.Stays.{effect_of}
+use Rattle.ns_gate.specs.Prelude.{BeginsWith, SeatOf, HasSince, HasUnchangedQueues, IsAtPlace, HasReached, TableId, the, Performed, Truths, IsLawful, Lists, LockState, Part, Told, LoadWord, TakeQueues, Saw, Made, ReturnShown, InShow, On, Idle, ToChange, Word, word_taken}
+use Rattle.ns_model.specs.Histories.{own as own_of}
+use Rattle.ns_model.proofs.Beginnings.{begins_itself, begins_through}
+use Rattle.ns_monitor.specs.Prelude.{HasStood, Known, known_of, showing}
+use Rattle.ns_word.specs.Walks.{show_by}
+use Rattle.ns_word.specs.declared.request.Request.TheVariants as TheRequest
+use Rattle.ns_word.specs.declared.show_walk.ShowPlace.TheVariants.{ShowLoad, TakeToShow}
+
+module _ {C : Type 0} {N : ℕ} (truths : Truths C) where
+  -- ---- it takes the queues
+
+  -- the word last seen decides
+  pub shows_by : (word : Word) (b : Bool) (me : SeatOf C N) → word.spin ≡ b → HasReached truths TheRequest.Show (show_by word) me → HasReached truths TheRequest.Show (cond b (Idle (InShow ShowLoad)) (On (InShow (TakeToShow word)))) me
+  shows_by word b me is led = subst (λ x. HasReached truths TheRequest.Show (cond x (Idle (InShow ShowLoad)) (On (InShow (TakeToShow word)))) me) is led
+
+  pub loads_to_show : (word : Word) (me now : SeatOf C N) → IsAtPlace truths (InShow ShowLoad) me → Performed truths None LoadWord (Saw word) me now → HasReached truths TheRequest.Show (show_by word) now
+  loads_to_show word me now at p = goes truths (InShow ShowLoad) LoadWord (Saw word) (show_by word) me now at refl refl refl p
+
+  -- another step came between
+  pub misses_to_show : (last word : Word) (me now : SeatOf C N) → IsAtPlace truths (InShow (TakeToShow last)) me → Performed truths None (TakeQueues ToChange last) (Saw word) me now → HasReached truths TheRequest.Show (show_by word) now
+  misses_to_show last word me now at p = goes truths (InShow (TakeToShow last)) (TakeQueues ToChange last) (Saw word) (show_by word) me now at refl refl refl p
+
+  -- it has them
+  pub takes_to_show : (last : Word) (me now : SeatOf C N) → IsAtPlace truths (InShow (TakeToShow last)) me → Performed truths None (TakeQueues ToChange last) Made me now → IsAtPlace truths (InShow (ReturnShown (word_taken ToChange last))) now × HasUnchangedQueues now
+  takes_to_show last me now at p = (
+    goes_on truths (InShow (TakeToShow last)) (TakeQueues ToChange last) Made (On (InShow (ReturnShown (word_taken ToChange last)))) me now at refl (λ e. absurd (let f : true ≡ false = e in cc)) p,
+    p.carried ∙ ap (λ slots. (0, (the now.0).stood) ∷ slots) (at.empty refl),
+  )
+
+  -- ---- the state that it found
+
+  -- The exchange that took the queues compared the word of a state that is lawful, whose lists are the ones in hand since.
+  pub has_stood : (was is : TableId) (last : Word) (start me now : SeatOf C N) → HasSince (Some showing) (the start.0) (the me.0) → IsAtPlace truths (InShow (TakeToShow last)) me → Performed truths None (TakeQueues ToChange last) Made me now → HasStood truths last (the now.0).stood (known_of was start) (known_of is now)
+  has_stood was is last start me now s at p =
+      let d = p.did in let v = the me.0 in let e = effect_of truths (TakeQueues ToChange last) Made me now p in
+      let mine : v.told.mine ≡ (the start.0).told.mine = s.mine ∙ (ap (λ es. (the start.0).told.mine ++ es) (sym s.committed ∙ at.so_far.silent) ∙ append-nil (the start.0).told.mine) in
+      let seen : (the now.0).told.seen ≡ d.history = ap (λ (t : Told C N). t.seen) d.tells ∙ (ap (λ es. d.history ++ es) e.3 ∙ append-nil d.history) in
+      record {
+        history = d.history;
+        state = d.old;
+        lawful = subst (λ n. IsLawful truths n d.history d.old) s.seat_count d.lawful;
+        word_is = sym e.0;
+        lists_are = sym (d.stood_now ∙ ap (λ (q : Part C N). q.lists) e.2);
+        after = begins_through d.history v.told.seen (the start.0).told.seen d.told_was.seen_of s.begins;
+        before = subst (λ seen. BeginsWith seen d.history) (sym seen) (begins_itself d.history);
+        own = (λ i. own_of d.history (sym s.seat i)) ∙ (sym d.told_was.own_of ∙ mine);
+        front = d.made.step.front;
+        view = v.at;
+        back = d.made.step.back;
+        there = ap (λ (x : LockState C N). x.views) (sym d.made.begins) ∙ d.made.step.was;
+        seat = s.seat;
+        held = at.so_far.same ∙ s.began;
+      }
+
+-- later the caller has seen more
+pub stood_since : {C : Type 0} {N : ℕ} (truths : Truths C) (word : Word) (lists : Lists C) (old now later : Known C N) → HasStood truths word lists old now → BeginsWith later.seen now.seen → HasStood truths word lists old later
+stood_since truths word lists old now later h more = record {
+  history = h.history;
+  state = h.state;
+  lawful = h.lawful;
+  word_is = h.word_is;
+  lists_are = h.lists_are;
+  after = h.after;
+  before = begins_through later.seen now.seen h.history more h.before;
+  own = h.own;
+  front = h.front;
+  view = h.view;
+  back = h.back;
+  there = h.there;
+  seat = h.seat;
+  held = h.held;
+}

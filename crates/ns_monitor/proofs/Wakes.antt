@@ -1,0 +1,94 @@
+-- A call that wakes, step by step: what it has in hand, and what it owes once the queues are back.
+use Rattle.std.proofs.Common.{◌≡◌, ℕ, Bool, true, false, cond, not, ◌&&◌, [], ◌∷◌, ◌++◌, List, None, Some, refl, ap, sym, ◌∙◌, subst}
+use Rattle.ns_gate.proofs.Calls.{can_go, goes_on}
+use Rattle.ns_gate.proofs.Findings.{does}
+use Rattle.ns_gate.proofs.Stays.{HasKeptItsQueues, stays_by}
+use Rattle.ns_gate.proofs.Wakes.{owes_the_woken, still_woken, woken_found}
+use Rattle.ns_gate.specs.Prelude.{SeatOf, HasAnswered, HasSince, IsAtPlace, TableId, rest, the, Carries, CanStep, Performed, Truths, Lists, lists_woken, taken_from, bits_of, has_some, change_found, Event, LockState, Part, part_of, has_queues, owed_woken, is_held, ReturnQueues, WakeWaiters, Waking, Signaling, Broadcasting, Saw, Woke, WakeAndReturn, Succeeded, On, Walk, InSignal, Word}
+use Rattle.ns_gate.specs.declared.queues.Turned.{Turned}
+use Rattle.ns_monitor.proofs.Standing.{saw_keeps}
+use Rattle.ns_monitor.specs.Prelude.{HasReturnedWoken, HasWoken, HasWokenInHand, Known, is_held_by_one, known_of, wake_event}
+use Rattle.ns_queue.specs.Signals.{taken_set}
+use Rattle.ns_queue.specs.declared.waiter.Waiter.{Waiter}
+use Rattle.ns_word.specs.Steps.{taken_by, wake_of}
+use Rattle.ns_word.specs.Walks.{pay_woken}
+use Rattle.ns_word.specs.declared.request.Request.TheVariants as TheRequest
+
+-- two words of which one is held, or of which both are or neither
+pub by_one : (word other : Word) → is_held_by_one word other ≡ true → not (is_held other) ≡ is_held word
+by_one word other = by (is_held word) (is_held other) where
+  by : (a b : Bool) → cond b (not a) a ≡ true → not b ≡ a
+  by true true e = absurd (cc)
+  by false true e = refl
+  by true false e = refl
+  by false false e = absurd (cc)
+
+pub by_both : (word other : Word) → is_held_by_one word other ≡ false → is_held word ≡ is_held other
+by_both word other = by (is_held word) (is_held other) where
+  by : (a b : Bool) → cond b (not a) a ≡ false → a ≡ b
+  by true true e = refl
+  by false true e = absurd (cc)
+  by true false e = absurd (cc)
+  by false false e = refl
+
+module _ {C : Type 0} {N : ℕ} where
+  -- ---- what is in hand
+
+  -- stays so, while another word is found
+  pub hand_kept : (waking : Waking) (k : ℕ) (held : Bool) (turned : Turned) (me now : SeatOf C N) → HasKeptItsQueues me now → HasWokenInHand waking k held turned me → HasWokenInHand waking k held turned now
+  hand_kept waking k held turned me now s hand = record {
+    carries = still_woken waking k held me now s hand.carries;
+    some = hand.some ∙ ap (λ (lists : Lists C). held && has_some (taken_from waking k lists)) (sym s.stood);
+    bits = hand.bits ∙ ap (λ (lists : Lists C). bits_of (lists_woken waking k held lists).lock) (sym s.stood);
+  }
+
+  -- and is what the hand has just made
+  pub hand_made : (waking : Waking) (k : ℕ) (held : Bool) (turned : Turned) (me now : SeatOf C N) → now.0 ≡ me.0 → Carries (lists_woken waking k held (the me.0).stood) now → turned.some ≡ (held && has_some (taken_from waking k (the me.0).stood)) → turned.bits ≡ bits_of (lists_woken waking k held (the me.0).stood).lock → HasWokenInHand waking k held turned now
+  hand_made waking k held turned me now same carries some bits = record {
+    carries = carries ∙ (λ i. (0, lists_woken waking k held (the (sym same i)).stood) ∷ []);
+    some = some ∙ (λ i. held && has_some (taken_from waking k (the (sym same i)).stood));
+    bits = bits ∙ (λ i. bits_of (lists_woken waking k held (the (sym same i)).stood).lock);
+  }
+
+module _ {C : Type 0} {N : ℕ} (truths : Truths C) where
+  -- ---- it puts the queues back
+
+  pub can_return : (waking : Waking) (k : ℕ) (last : Word) (me : SeatOf C N) → IsAtPlace truths (InSignal waking k (WakeAndReturn last)) me → CanStep truths None (ReturnQueues (WakeWaiters waking k) last) me
+  can_return waking k last me at = can_go truths (InSignal waking k (WakeAndReturn last)) (ReturnQueues (WakeWaiters waking k) last) me refl at
+
+  -- another step came between
+  pub misses_return : (waking : Waking) (k : ℕ) (last word : Word) (me now : SeatOf C N) → IsAtPlace truths (InSignal waking k (WakeAndReturn last)) me → Performed truths None (ReturnQueues (WakeWaiters waking k) last) (Saw word) me now → IsAtPlace truths (InSignal waking k (WakeAndReturn word)) now × HasKeptItsQueues me now
+  misses_return waking k last word me now at p =
+      let act = ReturnQueues (WakeWaiters waking k) last in
+      let e = saw_keeps truths (the me.0).at.seat act (part_of p.did.made.between (the me.0).at.held (the me.0).at.owed) (part_of p.did.new p.did.made.step.held p.did.made.step.owed) word p.did.commits (does truths None act (Saw word) me now p) in (
+        goes_on truths (InSignal waking k (WakeAndReturn last)) act (Saw word) (On (InSignal waking k (WakeAndReturn word))) me now at refl (λ e. absurd (let f : true ≡ false = e in cc)) p,
+        stays_by truths act (Saw word) me now p (ap has_queues at.walks) p.carried (ap (λ (q : Part C N). q.lists) e ∙ ap (λ (s : LockState C N). s.lists) p.did.made.begins) (ap (λ (q : Part C N). q.held) e),
+      )
+
+  -- the queues are back
+  pub is_returned : (waking : Waking) (k : ℕ) (last : Word) (turned : Turned) (stood : Lists C) (me now : SeatOf C N) → IsAtPlace truths (InSignal waking k (WakeAndReturn last)) me → HasWokenInHand waking k (is_held last) turned me → (the me.0).stood ≡ stood
+      → Performed truths None (ReturnQueues (WakeWaiters waking k) last) (change_found (the me.0).at.seat (WakeWaiters waking k) last (the me.0).stood) me now → HasReturnedWoken truths waking k (is_held last) stood now
+  is_returned waking k last turned stood me now at hand same p = subst (λ lists. HasReturnedWoken truths waking k (is_held last) lists now) same
+      (let owes = has_some (owed_in (the me.0).stood) in
+      let made = subst (λ found. Performed truths None (ReturnQueues (WakeWaiters waking k) last) found me now) (woken_found (the me.0).at.seat waking k last (the me.0).stood) p in record {
+        owed = owes_the_woken truths waking k last owes me now (ap has_queues at.walks) made;
+        leads = goes_on truths (InSignal waking k (WakeAndReturn last)) (ReturnQueues (WakeWaiters waking k) last) (Woke owes) (pay_woken waking k owes) me now at refl (λ _. made.carried ∙ ap rest hand.carries) made;
+      }) where
+        owed_in : Lists C → List ℕ
+        owed_in lists = owed_woken waking k (is_held last) lists
+
+  -- ---- what it tells
+
+  -- One that is over has told what its caller sees.
+  pub has_woken : (first : Walk C) (waking : Waking) (k : ℕ) (old : Known C N) (was is : TableId) (me now : SeatOf C N) → known_of was me ≡ old → HasSince (Some first) (the me.0) (the now.0) → HasAnswered truths (TheRequest.Wake waking k) Succeeded now → HasWoken waking k old (known_of is now)
+  has_woken first waking k old was is me now view s a = subst (λ (o : Known C N). HasWoken waking k o (known_of is now)) view (record {
+    woken = taken_set (taken_by waking a.means.waiters);
+    mine = s.mine ∙ ap (λ es. (the me.0).told.mine ++ es) (sym s.committed ∙ (a.means.committed ∙ (λ i. event waking (taken_by waking a.means.waiters) (s.seat i) ∷ []) ∙ ap (λ e. e ∷ []) (named waking (taken_by waking a.means.waiters))));
+    held = a.means.same ∙ s.began;
+  }) where
+    event : (waking : Waking) → List (Waiter C) → ℕ → Event C N
+    event waking taken seat = wake_of seat waking k taken
+
+    named : (waking : Waking) (taken : List (Waiter C)) → wake_of {C = C} {N = N} (the me.0).at.seat waking k taken ≡ wake_event waking (the me.0).at.seat k (taken_set taken)
+    named Signaling taken = refl
+    named Broadcasting taken = refl

@@ -1,0 +1,57 @@
+use Rattle.std.proofs.Common.{◌∙◌, sym, subst, refl, arith, Some, None}
+use Rattle.ns_gate.specs.Prelude.{TableId, HasAnswered, HasSince, IsAtPlace, IsPackable, InShow, ReturnShown, Succeeded, ToChange, Word, bits_of, the}
+use Rattle.ns_gate.proofs.Calls.{since_itself, since_then, works}
+use Rattle.ns_monitor.proofs.Callers.{saw_more}
+use Rattle.ns_monitor.proofs.Shows.{stood_since}
+use Rattle.ns_monitor.proofs.Standing.{still_since, taken_packs}
+use Rattle.ns_monitor.specs.Prelude.{HasStood, Known, known_of, showing}
+use Rattle.ns_word.specs.declared.request.Request.TheVariants as TheRequest
+use Rattle.ns_monitor.proofs.monitor.Monitor.debug_state_and_waiters.Given.{Over}
+use Rattle.ns_monitor.proofs.monitor.Monitor.debug_state_and_waiters.Goals.{After-put_back}
+use Rattle.ns_monitor.proofs.monitor.Monitor.debug_state_and_waiters.Goals as goal
+
+pub put_back-requires : goal.put_back-requires
+put_back-requires g c = let t = g.C.Condition.means in let took = c.take_to_show-word in let show = c.show_in_hand-lists in let me = took.new.seat.me in let now = show.new.seat.me in let same = show.ensures.seat.1 in let taken = c.taken-taken.result in
+    let at = subst (λ (w : Word). IsAtPlace t (InShow (ReturnShown w)) me) (sym c.taken-taken.ensures) took.ensures.at in (
+      omega arith,
+      (
+        g.met.C.Gated.queues_fit,
+        (
+          omega arith,
+          (
+            ◌∙◌ {A = TableId} show.ensures.seat.0 took.ensures.seat,
+            (
+              tt,
+              (
+                refl,
+                (
+                  subst IsPackable (sym c.taken-taken.ensures) (taken_packs ToChange took.result took.ensures.word),
+                  (
+                    works t (InShow (ReturnShown taken)) me now at refl same,
+                    record { carries = λ last. show.ensures.has; some = λ last. refl; bits = λ last. show.ensures.bits ∙ (λ i. bits_of (the (sym same i)).stood.lock) },
+                  ),
+                ),
+              ),
+            ),
+          ),
+        ),
+      ),
+    )
+
+-- the call is over
+over : (g : Over) (c : After-put_back g) → HasSince (Some showing) (the c.caller.inside.seat.me.0) (the c.put_back.new.seat.me.0)
+over g c = since_then (Some showing) _ _ _ (still_since g.C.Condition.means (Some showing) _ c.take_to_show-word.new.seat.me c.show_in_hand-lists.new.seat.me c.show_in_hand-lists.ensures.seat.1 c.take_to_show-word.ensures.since) c.put_back.ensures.since
+
+pub returns-clause-saw : goal.returns-clause-saw
+returns-clause-saw g c = let t = g.C.Condition.means in let old = c.caller.inside.seat in let new = c.put_back.new.seat in
+    let a : HasAnswered t TheRequest.Show Succeeded new.me = c.put_back.ensures.returned in
+    saw_more t showing c.args.caller.now old.table_id new.table_id old.me new.me c.caller.view_is (◌∙◌ {A = TableId} c.put_back.ensures.seat (sym c.requires)) a.rest (over g (goal.at.returns-clause-saw g c).After-put_back) a.means
+
+pub returns-clause-shows : goal.returns-clause-shows
+returns-clause-shows g c = let t = g.C.Condition.means in let old = c.caller.inside.seat in let took = c.take_to_show-word in let mid = took.new.seat in let show = c.show_in_hand-lists in let new = c.put_back.new.seat in
+    let more = (still_since t None _ mid.me show.new.seat.me show.ensures.seat.1 (since_itself (the mid.me.0))) in record {
+      lists = (the mid.me.0).stood;
+      stood = subst (λ (k : Known g.row.C.Denot g.row.N). HasStood t took.result (the mid.me.0).stood k (known_of new.table_id new.me)) c.caller.view_is
+          (stood_since t took.result (the mid.me.0).stood (known_of old.table_id old.me) (known_of mid.table_id mid.me) (known_of new.table_id new.me) took.ensures.stood (since_then None _ _ _ more c.put_back.ensures.since).begins);
+      shows = show.ensures.shows;
+    }

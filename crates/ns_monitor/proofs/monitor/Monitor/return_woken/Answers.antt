@@ -1,0 +1,93 @@
+use Rattle.std.proofs.Common.{◌≡◌, ◌∙◌, not, sym, subst, refl, ap, arith, None}
+use Rattle.ns_gate.specs.Prelude.{TableId, HasSince, IsAtPlace, the, Carries, InSignal, IsOrderly, ReturnQueues, Saw, WakeAndReturn, WakeWaiters, change_found, is_held, lists_woken, taken_from}
+use Rattle.ns_gate.proofs.Calls.{since, since_itself, since_then, works}
+use Rattle.ns_gate.proofs.Stays.{HasKeptItsQueues}
+use Rattle.ns_queue.proofs.Orders.{list_small}
+use Rattle.ns_monitor.proofs.Standing.{still_since}
+use Rattle.ns_monitor.proofs.Wakes.{by_both, by_one, can_return, hand_kept, hand_made, is_returned, misses_return}
+use Rattle.ns_monitor.specs.Prelude.{HasReturnedWoken, HasWokenInHand}
+use Rattle.ns_monitor.proofs.monitor.Monitor.return_woken.Given.{Over}
+use Rattle.ns_monitor.proofs.monitor.Monitor.return_woken.Goals.{In-Err}
+use Rattle.ns_monitor.proofs.monitor.Monitor.return_woken.Goals as goal
+
+pub loop-init : goal.loop-init
+loop-init g c = (tt, tt, refl, c.requires.word, since_itself (the c.args.seat.now.me.0), refl, c.requires.at, c.requires.hand)
+
+pub exchange_to_return-requires : goal.exchange_to_return-requires
+exchange_to_return-requires g c = let t = g.C.Condition.means in let inv = c.loop.invariant in let hand = inv.7 in
+    (omega arith, (g.met.C.Gated.queues_fit, (omega arith, (◌∙◌ {A = TableId} inv.2 (◌∙◌ {A = TableId} c.requires.of (sym c.self.view_is)), (inv.3, (can_return t c.args.waking c.args.k c.loop.word c.loop.seat.me inv.6, (hand.carries, (hand.some, hand.bits))))))))
+
+pub returns-in-Ok-clause-since : goal.returns-in-Ok-clause-since
+returns-in-Ok-clause-since g c = let me = c.loop.seat.me in
+    since_then None _ _ _ c.loop.invariant.4 (since g.C.Condition.means None (ReturnQueues (WakeWaiters c.args.waking c.args.k) c.loop.word) (change_found (the me.0).at.seat (WakeWaiters c.args.waking c.args.k) c.loop.word (the me.0).stood) me c.exchange_to_return.new.seat.me c.in-Ok.ensures.did)
+
+pub returns-in-Ok-clause-returned : goal.returns-in-Ok-clause-returned
+returns-in-Ok-clause-returned g c = let t = g.C.Condition.means in let inv = c.loop.invariant in let now = c.exchange_to_return.new.seat.me in
+    subst (λ held. HasReturnedWoken t c.args.waking c.args.k held (the c.args.seat.now.me.0).stood now) (sym c.is_held.ensures)
+    (is_returned t c.args.waking c.args.k c.loop.word c.loop.turned (the c.args.seat.now.me.0).stood c.loop.seat.me now inv.6 inv.7 inv.5 c.in-Ok.ensures.did)
+
+-- ---- another step came between
+
+missed : (g : Over) (c : In-Err g) → IsAtPlace g.C.Condition.means (InSignal c.args.waking c.args.k (WakeAndReturn c.in-Err.other)) c.exchange_to_return.new.seat.me × HasKeptItsQueues c.loop.seat.me c.exchange_to_return.new.seat.me
+missed g c = misses_return g.C.Condition.means c.args.waking c.args.k c.loop.word c.in-Err.other c.loop.seat.me c.exchange_to_return.new.seat.me c.loop.invariant.6 c.in-Err.ensures.did
+
+gone : (g : Over) (c : In-Err g) → HasSince None (the c.args.seat.now.me.0) (the c.exchange_to_return.new.seat.me.0)
+gone g c = since_then None _ _ _ c.loop.invariant.4 (since g.C.Condition.means None (ReturnQueues (WakeWaiters c.args.waking c.args.k) c.loop.word) (Saw c.in-Err.other) c.loop.seat.me c.exchange_to_return.new.seat.me c.in-Err.ensures.did)
+
+-- what is in hand is for the word that was seen before
+kept : (g : Over) (c : In-Err g) → HasWokenInHand c.args.waking c.args.k (is_held c.loop.word) c.loop.turned c.exchange_to_return.new.seat.me
+kept g c = hand_kept c.args.waking c.args.k (is_held c.loop.word) c.loop.turned c.loop.seat.me c.exchange_to_return.new.seat.me (missed g c).1 c.loop.invariant.7
+
+pub turn_in_hand-turned-requires : goal.turn_in_hand-turned-requires
+turn_in_hand-turned-requires g c = let after = (goal.at.turn_in_hand-turned-requires g c).In-Err in let now = c.exchange_to_return.new.seat.me in let held = c.is_held-held.result in
+    let stood = sym ((missed g after).1.stood ∙ c.loop.invariant.5) in
+    let differs = by_one c.loop.word c.in-Err.other (sym c.is_held_by_one.ensures ∙ c.if-is_held_by_one.true) in
+    let other : is_held c.loop.word ≡ not held = sym (ap not c.is_held-held.ensures ∙ differs) in (
+      omega arith,
+      (
+        g.met.C.Gated.queues_fit,
+        (
+          omega arith,
+          (
+            list_small _ g.met.C.Queueable.list_fits,
+            (
+              ◌∙◌ {A = TableId} c.exchange_to_return.ensures.seat (◌∙◌ {A = TableId} c.loop.invariant.2 (◌∙◌ {A = TableId} c.requires.of (sym c.self.view_is))),
+              (
+                c.requires.variable,
+                (
+                  subst IsOrderly stood c.requires.orderly,
+                  (
+                    c.requires.taken ∙ ap (taken_from c.args.waking c.args.k) stood,
+                    subst (λ b. Carries (lists_woken c.args.waking c.args.k b (the now.0).stood) now) other (kept g after).carries,
+                  ),
+                ),
+              ),
+            ),
+          ),
+        ),
+      ),
+    )
+
+pub loop-preserved-then-is_held_by_one : goal.loop-preserved-then-is_held_by_one
+loop-preserved-then-is_held_by_one g c = let t = g.C.Condition.means in let after = (goal.at.loop-preserved-then-is_held_by_one g c).In-Err in let me = c.exchange_to_return.new.seat.me in let turn = c.turn_in_hand-turned in let now = turn.new.seat.me in let same = turn.ensures.seat.1 in (
+  tt,
+  tt,
+  ◌∙◌ {A = TableId} turn.ensures.seat.0 (◌∙◌ {A = TableId} c.exchange_to_return.ensures.seat c.loop.invariant.2),
+  c.in-Err.ensures.word,
+  still_since t None _ me now same (gone g after),
+  (λ i. (the (same i)).stood) ∙ ((missed g after).1.stood ∙ c.loop.invariant.5),
+  works t (InSignal c.args.waking c.args.k (WakeAndReturn c.in-Err.other)) me now (missed g after).0 refl same,
+  subst (λ held. HasWokenInHand c.args.waking c.args.k held turn.result now) c.is_held-held.ensures (hand_made c.args.waking c.args.k c.is_held-held.result turn.result me now same turn.ensures.lists turn.ensures.some turn.ensures.bits),
+)
+
+pub loop-preserved : goal.loop-preserved
+loop-preserved g c = let after = (goal.at.loop-preserved g c).In-Err in let now = c.exchange_to_return.new.seat.me in (
+  tt,
+  tt,
+  ◌∙◌ {A = TableId} c.exchange_to_return.ensures.seat c.loop.invariant.2,
+  c.in-Err.ensures.word,
+  gone g after,
+  (missed g after).1.stood ∙ c.loop.invariant.5,
+  (missed g after).0,
+  subst (λ held. HasWokenInHand c.args.waking c.args.k held c.loop.turned now) (by_both c.loop.word c.in-Err.other (sym c.is_held_by_one.ensures ∙ c.if-is_held_by_one.false)) (kept g after),
+)

@@ -1,0 +1,37 @@
+-- What a call shows of how the monitor stands.
+use Rattle.std.specs.Prelude.{◌≡◌, ℕ, List, ◌∷◌, ◌++◌}
+use Rattle.ns_gate.specs.Showing.{ShowsLists}
+use Rattle.ns_model.specs.declared.event.Event.{Event}
+use Rattle.ns_model.specs.Beginnings.{BeginsWith}
+use Rattle.ns_model.specs.Histories.{own as own_of}
+use Rattle.ns_model.specs.Truths.{Truths}
+use Rattle.ns_monitor.specs.Known.{Known}
+use Rattle.ns_monitor.specs.declared.showing.DebugState.{DebugState}
+use Rattle.ns_queue.specs.Queues.{Lists}
+use Rattle.ns_word.specs.declared.view.SeatView.{SeatView}
+use Rattle.ns_word.specs.declared.word.Word.{Word}
+use Rattle.ns_word.specs.Lawful.{IsLawful}
+use Rattle.ns_word.specs.Steps.{LockState}
+
+-- At one moment between what the caller had seen and what it has seen now, the lock was in a lawful state, with this word and these lists; in it the caller had the section in hand that it has, and its own events were just those that it had done.
+pub record HasStood {C : Type 0} {N : ℕ} (truths : Truths C) (word : Word) (lists : Lists C) (old new : Known C N) : Type 0 where
+  pub history : List (Event C N)
+  pub state : LockState C N
+  pub lawful : IsLawful truths old.seat_count history state
+  pub word_is : state.word ≡ word
+  pub lists_are : state.lists ≡ lists
+  pub after : BeginsWith history old.seen
+  pub before : BeginsWith new.seen history
+  pub own : own_of history old.seat ≡ old.mine
+  pub front : List (SeatView C N)
+  pub view : SeatView C N
+  pub back : List (SeatView C N)
+  pub there : state.views ≡ front ++ view ∷ back
+  pub seat : view.seat ≡ old.seat
+  pub held : view.held ≡ old.held
+
+-- What is shown is that word, and who stands in each of those lists.
+pub record ShowsState {C : Type 0} {N : ℕ} (truths : Truths C) (shown : DebugState) (old new : Known C N) : Type 0 where
+  pub lists : Lists C
+  pub stood : HasStood truths shown.word lists old new
+  pub shows : ShowsLists lists (record { lock = shown.lock; cvs = shown.cvs })

@@ -1,0 +1,90 @@
+//! How a monitor stands, for whoever looks for a fault: its lock word and its waiters.
+
+ghost use Rattle.std.specs.Prelude.{◌≡◌, None, Some};
+ghost use Rattle.ns_gate.specs.Prelude.{HasAnswered, HasSince, HasUnchangedQueues, InShow, IsAtPlace, IsAtRest, IsPackable, ReturnShown, Succeeded, ToChange, the, word_taken};
+ghost use Rattle.ns_word.specs.declared.request.Request.TheVariants as TheRequest;
+ghost use Rattle.ns_monitor.specs.Prelude.{HasSeenMore, HasStood, ShowsState, known_of, showing};
+
+use crate::caller::{Caller, Hand};
+use crate::monitor::Monitor;
+use arrayvec::ArrayVec;
+use crossbeam_utils::Backoff;
+use ns_gate::gate::GateSeat;
+use ns_gate::queues::{Returning, Turned};
+use ns_gate::room::Gated;
+use ns_gate::showing::ShownLists;
+use ns_queue::waiter::Shown;
+use ns_word::act::Change;
+use ns_word::show_walk::ShowPlace;
+use ns_word::walk::Walk;
+use ns_word::word::{Taking, Word};
+use std::sync::Wait;
+
+/// How a monitor stood at one moment.
+#[derive(Drop)]
+pub struct DebugState {
+    /// The lock word.
+    pub word: Word,
+    /// Who stands in the lock list, front first.
+    pub lock: ArrayVec<Shown, 64>,
+    /// Who waits for each condition variable, front first.
+    pub cvs: [ArrayVec<Shown, 64>; 4],
+}
+
+impl<C: Gated<N>, const N: usize> Monitor<C, N> {
+    /// Begins to show, and takes the queues. Answers the word that the exchange compared.
+    fn take_to_show<R: Wait>(&self, rt: &R, seat: &mut GateSeat<C, N>) -> Word
+        requires of { seat.old.table_id ≡ self.now }
+        requires rest { IsAtRest C.means seat.old.me }
+        ensures seat { seat.new.table_id ≡ self.now }
+        ensures since { HasSince (Some showing) (the seat.old.me.0) (the seat.new.me.0) }
+        ensures at { IsAtPlace C.means (InShow (ReturnShown (word_taken ToChange result))) seat.new.me }
+        ensures word { IsPackable result }
+        ensures taken { HasUnchangedQueues seat.new.me }
+        ensures stood { HasStood C.means result (the seat.new.me.0).stood (known_of seat.old.table_id seat.old.me) (known_of seat.new.table_id seat.new.me) }
+    {
+        let backoff = Backoff::new();
+        let mut word = self.gate.load(seat, Some(Walk::show()));
+        for _ in rt.forever() {
+            if word.spin {
+                backoff.snooze();
+                word = self.gate.load(seat, None);
+            } else {
+                match self.gate.exchange_to_take(seat, Taking::ToChange, word) {
+                    Ok(()) => return word,
+                    Err(other) => word = other,
+                }
+            }
+        }
+        unreachable!()
+    }
+
+    /// How the monitor stands at one moment of the call: its lock word, and who waits in the lock list
+    /// and for each condition variable.
+    ///
+    /// The word and the lists are of one state, in which the caller has its section in hand, if it has
+    /// one; the call changes nothing. Callable on a seat and on either section. It takes the waiter
+    /// queues and puts them back, and goes round while another has them; so it is for debugging, as
+    /// nsync's `nsync_mu_debug_state_and_waiters` and `nsync_cv_debug_state_and_waiters` are, of which it
+    /// answers both at once.
+    pub fn debug_state_and_waiters<H: Hand<C, N>, R: Wait>(
+        &self,
+        rt: &R,
+        caller: &mut Caller<H, C, N>,
+    ) -> DebugState
+        requires { caller.old.monitor ≡ self.now }
+        ensures saw { HasSeenMore C.means showing caller.old caller.new }
+        ensures shows { ShowsState C.means result caller.old caller.new }
+    {
+        let seat = &mut caller.seat;
+        let word = self.take_to_show(rt, seat);
+        let (lists, bits) = self.gate.show_in_hand(seat);
+        let taken = word.taken(Taking::ToChange);
+        let place = Walk::InShow(ShowPlace::ReturnShown(taken));
+        let returning = Returning::Changed(Change::Nothing);
+        let turned = Turned { some: false, bits };
+        self.put_back(rt, seat, returning, place, taken, turned);
+        let ShownLists { lock, cvs } = lists;
+        DebugState { word, lock, cvs }
+    }
+}

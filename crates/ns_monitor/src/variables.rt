@@ -1,0 +1,104 @@
+//! Condition variables: a wait that leaves its section until somebody wakes it.
+
+ghost use Rattle.std.specs.Prelude.{◌≡◌, ◌<◌, IfSome};
+ghost use Rattle.ns_gate.specs.Prelude.{IsMade, wait_first};
+ghost use Rattle.ns_note.specs.Known.{Grows as EnvGrows};
+ghost use Rattle.ns_monitor.specs.Prelude.{EndedBy, Grows, HasWaitedForVariable, IfAnswered, variable_waiting, waits_for_variable};
+
+use crate::caller::{Caller, Renewed};
+use crate::monitor::Monitor;
+use crate::watching::{Looker, Watch};
+use ns_gate::room::Gated;
+use ns_model::event::Answer;
+use ns_note::env::Env;
+use ns_note::note::{Note, index_of};
+use ns_note::seat::EnvSeat;
+use ns_word::limits::Limits;
+use ns_word::wait::{QueuePlace, Subject, Wait as Waiting, WaitPlace};
+use ns_word::walk::Walk;
+use std::sync::Wait;
+
+impl<C: Gated<N>, const N: usize> Monitor<C, N> {
+    /// Waits for a variable until it is woken, or what watches for its limits ends the wait.
+    fn wait_for_variable<H: Renewed<C, N>, R: Wait, W: Watch>(
+        &self,
+        rt: &R,
+        held: Caller<H, C, N>,
+        k: u8,
+        limits: Limits,
+        watch: &mut W,
+    ) -> (Caller<H, C, N>, Answer)
+        requires of { held.monitor ≡ self.now }
+        requires variable { k < 4 }
+        requires watches { W.watches watch.old limits }
+        ensures grows { Grows C.means (wait_first N (waits_for_variable H.mode k limits)) held result.0 }
+        ensures waited { HasWaitedForVariable C.means k result.1 held result.0 }
+        ensures looked { W.since watch.old watch.new }
+        ensures ended { IfAnswered result.1 (λ cause. W.shows watch.old watch.new limits (Some cause)) }
+    {
+        let Caller {
+            mut seat,
+            number,
+            hand: _,
+        } = held;
+        let mode = H::mode();
+        let on = Subject::OnVariable(k);
+        let wait = Waiting { mode, on, limits };
+        let place = Walk::InWait(wait, WaitPlace::InQueuing(false, QueuePlace::Load));
+        let word = self.begin_to_take(rt, &mut seat, place);
+        let mut row = [0; N];
+        self.leave_section(rt, &mut seat, number, wait, false, word, &mut row);
+        let outcome = self.come_back(rt, &mut seat, number, wait, watch);
+        let hand = H::begun();
+        (Caller { seat, number, hand }, outcome.answer())
+    }
+
+    /// Leaves its section and waits for a condition variable, until a signal or a broadcast of it wakes
+    /// the caller, its note is notified, or its deadline, in ticks, has come, whichever of these two is
+    /// given. Then it acquires the lock again, in the same mode.
+    ///
+    /// In one step the section is committed and the caller stands among the variable's waiters: no
+    /// signal and no broadcast comes between the two. `Met` says that it was woken, which tells nothing of
+    /// the row; `Canceled` that the note was notified, and `TimedOut` that the deadline had come while
+    /// the note wasn't: then it has left the variable before anybody took it from there. A wake is never
+    /// answered as an early end.
+    ///
+    /// The behaviour is that of nsync's `nsync_cv_wait_with_deadline`. Needs a variable below 4; the
+    /// environment's own seat; and a note, if one is given, that it has seen made. Without note and
+    /// deadline it sleeps until it is woken; with one of them it goes round between its wake and a look.
+    pub fn cv_wait_with_deadline<H: Renewed<C, N>, R: Wait>(
+        &self,
+        rt: &R,
+        held: Caller<H, C, N>,
+        k: usize,
+        deadline: Option<u64>,
+        note: Option<Note>,
+        env: &Env,
+        env_seat: &mut EnvSeat,
+    ) -> (Caller<H, C, N>, Answer)
+        requires of { held.monitor ≡ self.now }
+        requires variable { k < 4 }
+        requires env { env_seat.old.env ≡ env.now }
+        requires made { IfSome note (λ n. IsMade env_seat.old.seen n.index) }
+        ensures grows { Grows C.means (variable_waiting N H.mode k deadline note) held result.0 }
+        ensures waited { HasWaitedForVariable C.means k result.1 held result.0 }
+        ensures env_grows { EnvGrows env_seat.old env_seat.new }
+        ensures env_mine { env_seat.new.mine ≡ env_seat.old.mine }
+        ensures ended { EndedBy note deadline env_seat.old.seen env_seat.new.seen result.1 }
+    {
+        let limits = Limits {
+            deadline,
+            note: index_of(note),
+        };
+        let waited = {
+            let mut looker = Looker {
+                env,
+                seat: env_seat,
+                note,
+            };
+            self.wait_for_variable(rt, held, k as u8, limits, &mut looker)
+        };
+        env_seat.attest();
+        waited
+    }
+}

@@ -1,0 +1,130 @@
+//! Condition variables: signals and broadcasts.
+
+ghost use Rattle.std.specs.Prelude.{◌≡◌, ◌<◌, None, Some};
+ghost use Rattle.ns_gate.specs.Prelude.{Broadcasting, HasAnswered, HasSince, IsAtPlace, IsAtRest, IsOrderly, IsPackable, InSignal, Signaling, Succeeded, WakeAndReturn, is_held, lists_woken, owed_woken, taken_from, the};
+ghost use Rattle.ns_word.specs.declared.request.Request.TheVariants as TheRequest;
+ghost use Rattle.ns_monitor.specs.Prelude.{Grows, HasReturnedWoken, HasWoken, HasWokenInHand, is_held_by_one, waking_by};
+
+use crate::caller::{Caller, Hand};
+use crate::monitor::Monitor;
+use arrayvec::ArrayVec;
+use ns_gate::gate::GateSeat;
+use ns_gate::queues::{Returning, Turned};
+use ns_gate::room::Gated;
+use ns_queue::signal::seats;
+use ns_queue::waiter::Waiter;
+use ns_word::act::{Change, Waking};
+use ns_word::signal_walk::SignalPlace;
+use ns_word::walk::Walk;
+use ns_word::word::Word;
+use std::sync::Wait;
+
+/// Whether the lock is held by one of two words and free by the other.
+fn is_held_by_one(word: Word, other: Word) -> bool
+    ensures { result ≡ is_held_by_one word other }
+{
+    if other.is_held() {
+        !word.is_held()
+    } else {
+        word.is_held()
+    }
+}
+
+impl<C: Gated<N>, const N: usize> Monitor<C, N> {
+    /// Puts the queues back without those whom the call has taken, who are at the back of the lock list
+    /// where the word that the exchange compares is held: what is in hand is turned each time the word
+    /// found differs in that. Answers whether the lock was held; else they are owed their wakes.
+    fn return_woken<R: Wait>(
+        &self,
+        rt: &R,
+        seat: &mut GateSeat<C, N>,
+        waking: Waking,
+        k: u8,
+        first: Word,
+        taken: &ArrayVec<Waiter<C>, 64>,
+        made: Turned,
+    ) -> bool
+        requires of { seat.old.table_id ≡ self.now }
+        requires variable { k < 4 }
+        requires word { IsPackable first }
+        requires at { IsAtPlace C.means (InSignal waking k (WakeAndReturn first)) seat.old.me }
+        requires orderly { IsOrderly (the seat.old.me.0).stood }
+        requires taken { taken.now.items ≡ taken_from waking k (the seat.old.me.0).stood }
+        requires hand { HasWokenInHand waking k (is_held first) made seat.old.me }
+        ensures seat { seat.new.table_id ≡ self.now }
+        ensures since { HasSince None (the seat.old.me.0) (the seat.new.me.0) }
+        ensures returned { HasReturnedWoken C.means waking k result (the seat.old.me.0).stood seat.new.me }
+    {
+        let returning = Returning::Changed(Change::WakeWaiters(waking, k));
+        let mut word = first;
+        let mut turned = made;
+        for _ in rt.forever() {
+            match self.gate.exchange_to_return(seat, returning, word, turned) {
+                Ok(()) => return word.is_held(),
+                Err(other) => {
+                    let held = other.is_held();
+                    if is_held_by_one(word, other) {
+                        turned = self.gate.turn_in_hand(seat, taken, waking, k, held);
+                    }
+                    word = other;
+                }
+            }
+        }
+        unreachable!()
+    }
+
+    /// Takes those out of the list of the variable whom the call wakes, and moves them to the lock list
+    /// where the lock is held, else pays them their wakes.
+    fn wake<R: Wait>(&self, rt: &R, seat: &mut GateSeat<C, N>, waking: Waking, k: u8)
+        requires of { seat.old.table_id ≡ self.now }
+        requires variable { k < 4 }
+        requires rest { IsAtRest C.means seat.old.me }
+        ensures seat { seat.new.table_id ≡ self.now }
+        ensures since { HasSince (Some (waking_by waking k)) (the seat.old.me.0) (the seat.new.me.0) }
+        ensures woke { HasAnswered C.means (TheRequest.Wake waking k) Succeeded seat.new.me }
+    {
+        let place = Walk::InSignal(waking, k, SignalPlace::SignalLoad);
+        let word = self.begin_to_take(rt, seat, place);
+        let held = word.is_held();
+        let (taken, made) = self.gate.wake_in_hand(seat, waking, k, held);
+        let moved = self.return_woken(rt, seat, waking, k, word, &taken, made);
+        let woken = if moved {
+            ArrayVec::new()
+        } else {
+            seats(taken.as_slice())
+        };
+        let place = Walk::InSignal(waking, k, SignalPlace::PayTheWoken);
+        self.pay(seat, place, &woken, 2);
+    }
+
+    /// Wakes at least one of those who wait for a condition variable, if any do: the first of them, and
+    /// if that one reads, every other reader and the first writer.
+    ///
+    /// Where the lock is held at the step that puts the queues back, they aren't woken at once, but moved
+    /// to the waiters for the lock; a caller with a section in hand always moves them. Callable on a seat and on either
+    /// section. It acquires nothing, and goes round while another has the waiter queues. The behaviour
+    /// is that of nsync's `nsync_cv_signal`.
+    ///
+    /// Needs a variable below 4.
+    pub fn signal<H: Hand<C, N>, R: Wait>(&self, rt: &R, caller: &mut Caller<H, C, N>, k: usize)
+        requires of { caller.old.monitor ≡ self.now }
+        requires variable { k < 4 }
+        ensures grows { Grows C.means (waking_by Signaling k) caller.old caller.new }
+        ensures woke { HasWoken Signaling k caller.old caller.new }
+    {
+        self.wake(rt, &mut caller.seat, Waking::Signaling, k as u8);
+    }
+
+    /// Wakes everybody who waits for a condition variable, as [`Monitor::signal`] wakes at least one.
+    /// The behaviour is that of nsync's `nsync_cv_broadcast`.
+    ///
+    /// Needs a variable below 4.
+    pub fn broadcast<H: Hand<C, N>, R: Wait>(&self, rt: &R, caller: &mut Caller<H, C, N>, k: usize)
+        requires of { caller.old.monitor ≡ self.now }
+        requires variable { k < 4 }
+        ensures grows { Grows C.means (waking_by Broadcasting k) caller.old caller.new }
+        ensures woke { HasWoken Broadcasting k caller.old caller.new }
+    {
+        self.wake(rt, &mut caller.seat, Waking::Broadcasting, k as u8);
+    }
+}
