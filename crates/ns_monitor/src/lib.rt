@@ -27,9 +27,9 @@
 //! What is promised: there is one legal history of all sections and wakes, that begins with what each
 //! caller has seen, and in which its own events are just what it has done: the sections that it has
 //! released or left by a wait, its signals and broadcasts, and that it has left a variable. A section
-//! begins at the row after that history. Two callers compare what they have seen by [`Monitor::meet`], or, with
-//! sections that read, by [`Monitor::both_read`]; between callers that never met, nothing is said of
-//! the order. The words that say so in contracts are in `Rattle.ns_monitor.specs`.
+//! begins at the row after that history. Two callers compare what they have seen by
+//! [`Monitor::meet`], or, with sections that read, by [`Monitor::both_read`]; between callers that never
+//! met, nothing is said of the order. The words that say so in contracts are in `Rattle.ns_monitor.specs`.
 //!
 //! [`Monitor::wait`] leaves a section until a condition on the row is true, and comes back with
 //! another in the same mode; the one with a deadline may be ended by that or by a note of ns_note, and

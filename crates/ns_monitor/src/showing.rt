@@ -63,10 +63,10 @@ impl<C: Gated<N>, const N: usize> Monitor<C, N> {
     /// and for each condition variable.
     ///
     /// The word and the lists are of one state, in which the caller has its section in hand, if it has
-    /// one; the call changes nothing. Callable on a seat and on either section. It takes the waiter
-    /// queues and puts them back, and goes round while another has them; so it is for debugging, as
-    /// nsync's `nsync_mu_debug_state_and_waiters` and `nsync_cv_debug_state_and_waiters` are, of which it
-    /// answers both at once.
+    /// one; the call commits nothing, and changes no list. Callable on a seat and on either section. It
+    /// takes the waiter queues and puts them back, and goes round while another has them; so it is for
+    /// debugging, as nsync's `nsync_mu_debug_state_and_waiters` and `nsync_cv_debug_state_and_waiters`
+    /// are, of which it answers both at once.
     pub fn debug_state_and_waiters<H: Hand<C, N>, R: Wait>(
         &self,
         rt: &R,

@@ -101,9 +101,9 @@ impl<C: Gated<N>, const N: usize> Monitor<C, N> {
     /// if that one reads, every other reader and the first writer.
     ///
     /// Where the lock is held at the step that puts the queues back, they aren't woken at once, but moved
-    /// to the waiters for the lock; a caller with a section in hand always moves them. Callable on a seat and on either
-    /// section. It acquires nothing, and goes round while another has the waiter queues. The behaviour
-    /// is that of nsync's `nsync_cv_signal`.
+    /// to the waiters for the lock; a caller with a section in hand always moves them. Callable on a seat
+    /// and on either section. It acquires nothing, and goes round while another has the waiter queues.
+    /// The behaviour is that of nsync's `nsync_cv_signal`.
     ///
     /// Needs a variable below 4.
     pub fn signal<H: Hand<C, N>, R: Wait>(&self, rt: &R, caller: &mut Caller<H, C, N>, k: usize)
