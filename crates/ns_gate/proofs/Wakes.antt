@@ -1,10 +1,14 @@
 -- Those whom a signal or a broadcast takes: where they may go, how they come back, and to whom a wake is owed.
-use Rattle.std.proofs.Common.{◌≡◌, ℕ, ◌+◌, ◌≤◌, ◌<◌, ◌↔◌, Bool, true, false, not, ◌&&◌, IsTrue, cond, eqb, List, [], ◌∷◌, ◌++◌, append-nil, Option, None, length, get_or, drop, map, refl, ap, sym, ◌∙◌, subst, arith}
+use Rattle.std.proofs.Common.{◌≡◌, ℕ, ◌+◌, ◌≤◌, ◌<◌, ◌↔◌, Bool, true, false, not, ◌&&◌, inl, inr, IsTrue, cond, eqb, List, [], ◌∷◌, ◌++◌, append-nil, if◌then◌else◌, Option, None, Some, length, get_or, drop, map, refl, ap, sym, ◌∙◌, subst, arith}
 use Rattle.std.specs.Bool.{OnFalse, OnTrue}
 use Rattle.std.specs.List.{sum_by}
-use Rattle.std.proofs.lemmas.Bool.{eq-eqb}
+use Rattle.std.specs.Int.{bit_at}
+use Rattle.std.proofs.lemmas.Bool.{cases_eq, eq-eqb, ne_eqb}
+use Rattle.std.proofs.lemmas.List.{set-get_or}
 use Rattle.std.proofs.lemmas.List.Elements.{filter-append}
 use Rattle.std.proofs.lemmas.List.Sums.{sum_by-cons}
+use Rattle.ns_model.proofs.Sets.{in_more, none_in}
+use Rattle.ns_queue.specs.Signals.{taken_set}
 use Rattle.ns_queue.specs.declared.waiter.Which.TheVariants.{Cv, Lock}
 use Rattle.ns_queue.specs.Waiters.{is_of, without_in}
 use Rattle.ns_queue.proofs.Inside.{told_no}
@@ -13,7 +17,8 @@ use Rattle.ns_queue.proofs.Parts.{below_in, none_without, times_with}
 use Rattle.ns_queue.proofs.Seats.{times_in-cons}
 use Rattle.ns_queue.proofs.Taken.{times_signaled}
 use Rattle.ns_word.proofs.Ranges.{lists_orderly}
-use Rattle.ns_gate.specs.Prelude.{SeatOf, the, Carries, Performed, changed, change_found, moves, seats_of, Act, Found, Walk, Truths, Lists, Waiter, HaveSeats, IsOrderly, times, times_in, waiters_of, with_waiters, without, Part, SeatView, has_queues, has_some, is_held, kept_by, moved_to, taken_by, lists_left, lists_woken, owed_woken, taken_from, turned_to, without_each, ReturnQueues, WakeWaiters, Woke, Waking, Broadcasting, Signaling, Word}
+use Rattle.ns_gate.specs.Prelude.{SeatOf, the, Carries, Performed, changed, change_found, moves, seats_of, Act, Found, Walk, Truths, Lists, Waiter, HaveSeats, IsOrderly, bits_of, times, times_in, waiters_of, with_waiters, without, Part, SeatView, has_queues, has_some, is_held, kept_by, moved_to, taken_by, lists_left, lists_woken, owed_woken, taken_from, turned_to, without_each, woken_nobody, ReturnQueues, WakeWaiters, Woke, Waking, Broadcasting, Signaling, Word}
+use Rattle.ns_gate.specs.declared.queues.Turned.{Turned}
 use Rattle.ns_gate.proofs.Stays.{HasKeptItsQueues, effect_of, still_carries}
 
 module _ {C : Type 0} where
@@ -83,6 +88,46 @@ module _ {C : Type 0} where
   turned_over waking k true lists old taken orderly low is was = λ i. moved_to true (is i) (was i)
   turned_over waking k false lists old taken orderly low is was =
       (λ i. without_each (is i) (was i)) ∙ back_again (lists_left waking k lists) (taken_from waking k lists) (apart waking k lists orderly low)
+
+  -- ---- where nobody waits for the variable
+
+  -- the set of some waiters has a bit exactly where there is one
+  pub has_bits : (ws : List (Waiter C)) → not (eqb (taken_set ws).0 0) ≡ has_some ws
+  has_bits [] = refl
+  has_bits (w ∷ ws) = elim (cases_eq (taken_set (w ∷ ws)).0 0) [
+    | inl e ↦
+        let none : eqb (bit_at (taken_set (w ∷ ws)).0 w.seat) 1 ≡ false = ap (λ n. eqb (bit_at n w.seat) 1) e ∙ none_in w.seat in
+        let some : eqb (bit_at (taken_set (w ∷ ws)).0 w.seat) 1 ≡ true = in_more w.seat (seats_of ws) w.seat ∙ rw (eq-eqb w.seat w.seat refl) refl in
+        absurd (cc)
+    | inr ne ↦ rw (ne_eqb (taken_set (w ∷ ws)).0 0 ne) refl
+  ]
+
+  -- it takes nobody, and the lists stay as they stood, whether the lock is held or not
+  pub takes_nobody : (waking : Waking) (k : ℕ) (lists : Lists C) → waiters_of lists (Cv k) ≡ [] → (taken_from waking k lists ≡ []) × (lists_left waking k lists ≡ lists)
+  takes_nobody waking k lists none = (taken waking (waiters_of lists (Cv k)) none, (λ i. with_waiters lists (Cv k) (kept waking (waiters_of lists (Cv k)) none i)) ∙ (λ i. record { lock = lists.lock; cvs = set-get_or lists.cvs k [] i })) where
+    taken : (waking : Waking) (ws : List (Waiter C)) → ws ≡ [] → taken_by waking ws ≡ []
+    taken Signaling [] is = refl
+    taken Broadcasting [] is = refl
+    taken waking (w ∷ ws) is = absurd (cc)
+
+    kept : (waking : Waking) (ws : List (Waiter C)) → ws ≡ [] → kept_by waking ws ≡ ws
+    kept Signaling [] is = refl
+    kept Broadcasting [] is = refl
+    kept waking (w ∷ ws) is = absurd (cc)
+
+  -- those whom it takes are moved nowhere
+  pub moves_nobody : (waking : Waking) (k : ℕ) (held : Bool) (lists : Lists C) → waiters_of lists (Cv k) ≡ [] → lists_woken waking k held lists ≡ lists
+  moves_nobody waking k held lists none = let t = takes_nobody waking k lists none in (λ i. moved_to held (t.0 i) (t.1 i)) ∙ moved held where
+    moved : (held : Bool) → moved_to held [] lists ≡ lists
+    moved true = rw append-nil refl
+    moved false = refl
+
+  -- the hand that finds nobody has made this
+  pub found_nobody : (k : ℕ) (lists : Lists C) (turned : Turned) → woken_nobody k lists ≡ Some turned → (waiters_of lists (Cv k) ≡ []) × (turned.some ≡ false) × (turned.bits ≡ bits_of lists.lock)
+  found_nobody k lists turned is = by (waiters_of lists (Cv k)) is where
+    by : (ws : List (Waiter C)) → (if has_some ws then None else Some (record { some = false; bits = bits_of lists.lock })) ≡ Some turned → (ws ≡ []) × (turned.some ≡ false) × (turned.bits ≡ bits_of lists.lock)
+    by [] is = (refl, cc, cc)
+    by (w ∷ ws) is = absurd (cc)
 
   -- ---- by the names of the machine's change, where this is the word last seen
 

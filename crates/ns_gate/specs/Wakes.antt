@@ -1,9 +1,11 @@
 -- What a signal or a broadcast makes of the lists in hand.
-use Rattle.std.specs.Prelude.{ℕ, Bool, if◌then◌else◌, List, [], ◌∷◌}
+use Rattle.std.specs.Prelude.{ℕ, Bool, false, if◌then◌else◌, List, [], ◌∷◌, Option, None, Some}
+use Rattle.ns_gate.specs.declared.queues.Turned.{Turned}
 use Rattle.ns_queue.specs.declared.waiter.Waiter.{Waiter}
 use Rattle.ns_queue.specs.declared.waiter.Which.TheVariants.{Cv}
 use Rattle.ns_queue.specs.Queues.{Lists, waiters_of, with_waiters, without}
 use Rattle.ns_queue.specs.Waiters.{seats_of}
+use Rattle.ns_word.specs.Lists.{bits_of, has_some}
 use Rattle.ns_word.specs.declared.act.Waking.{Waking}
 use Rattle.ns_word.specs.Steps.{kept_by, moved_to, taken_by}
 
@@ -18,6 +20,10 @@ lists_left waking k lists = with_waiters lists (Cv k) (kept_by waking (waiters_o
 -- the lists that are put back: where the lock is held, those who were taken are at the back of its list; else they are in none
 abbrev pub lists_woken : {C : Type 0} → Waking → ℕ → Bool → Lists C → Lists C
 lists_woken waking k held lists = moved_to held (taken_from waking k lists) (lists_left waking k lists)
+
+-- what the hand has made of the queues where nobody waits for the variable: it takes nobody, and they are as they stood
+abbrev pub woken_nobody : {C : Type 0} → ℕ → Lists C → Option Turned
+woken_nobody k lists = if has_some (waiters_of lists (Cv k)) then None else Some (record { some = false; bits = bits_of lists.lock })
 
 -- to whom a wake is owed then: to those who were taken and not moved
 abbrev pub owed_woken : {C : Type 0} → Waking → ℕ → Bool → Lists C → List ℕ

@@ -6,7 +6,8 @@
 //! differ in whether it is held. So they are kept apart, and the queues in hand are turned then.
 
 ghost use Rattle.std.specs.Prelude.{◌≡◌, ℕ, ◌+◌, ◌<◌, ◌≤◌, ◌&&◌, not, true, false};
-ghost use Rattle.ns_gate.specs.Prelude.{Carries, HasUnchangedQueues, HaveSeats, IsOrderly, bits_of, has_some, lists_woken, moved_to, taken_from, the, times, times_in, turned_to, without_each};
+ghost use Rattle.ns_gate.specs.Prelude.{Carries, HasUnchangedQueues, HaveSeats, IsOrderly, bits_of, has_some, lists_woken, moved_to, taken_from, the, times, times_in, turned_to, waiters_of, woken_nobody, without_each};
+ghost use Rattle.ns_queue.specs.declared.waiter.Which.TheVariants.{Cv};
 
 use crate::gate::{Gate, GateSeat};
 use crate::queues::Turned;
@@ -17,6 +18,16 @@ use ns_queue::room::Queueable;
 use ns_queue::waiter::Waiter;
 use ns_word::act::Waking;
 use ns_word::hand::bits;
+
+/// Whether somebody waits for the variable.
+///
+/// Needs a number below 4.
+fn has_waiters<C: Queueable<N>, const N: usize>(queues: &Queues<C, N>, k: u8) -> bool
+    requires { k < 4 }
+    ensures { result ≡ has_some (waiters_of queues.now (Cv k)) }
+{
+    queues.waiting_set(k).0 != 0
+}
 
 /// Takes those out of the list of the variable whom the call wakes, and answers them in order.
 ///
@@ -96,6 +107,28 @@ fn turned_by<C: Queueable<N>, const N: usize>(
 }
 
 impl<C: Gated<N>, const N: usize> Gate<C, N> {
+    /// What the hand has made of the queues for a call that wakes, where nobody waits for its variable:
+    /// it takes nobody, and they stay as they stood. Where somebody waits, answers nothing.
+    ///
+    /// Needs a seat of this gate, which has the queues in hand as they stood, and a number below 4.
+    pub fn wake_nobody_in_hand(&self, seat: &mut GateSeat<C, N>, k: u8) -> Option<Turned>
+        requires of { seat.old.table_id ≡ self.now }
+        requires has { HasUnchangedQueues seat.old.me }
+        requires variable { k < 4 }
+        ensures seat { (seat.new.table_id ≡ seat.old.table_id) × (seat.new.me.0 ≡ seat.old.me.0) }
+        ensures has { HasUnchangedQueues seat.new.me }
+        ensures nobody { result ≡ woken_nobody k (the seat.old.me.0).stood }
+    {
+        let queues = seat.slot_mut(&self.table.shared, 0);
+        if has_waiters(queues, k) {
+            return None;
+        }
+        Some(Turned {
+            some: false,
+            bits: bits(queues),
+        })
+    }
+
     /// Takes those out of the list of the variable whom the call wakes, and puts them at the back of
     /// the lock list if the lock is held. Answers them in order, to be kept until the queues are
     /// back, and what the hand has made of the queues.
@@ -135,7 +168,7 @@ impl<C: Gated<N>, const N: usize> Gate<C, N> {
     pub fn turn_in_hand(
         &self,
         seat: &mut GateSeat<C, N>,
-        taken: &ArrayVec<Waiter<C>, 64>,
+        taken: &[Waiter<C>],
         _waking: Waking,
         _k: u8,
         held: bool,
@@ -143,7 +176,7 @@ impl<C: Gated<N>, const N: usize> Gate<C, N> {
         requires of { seat.old.table_id ≡ self.now }
         requires variable { _k < 4 }
         requires orderly { IsOrderly (the seat.old.me.0).stood }
-        requires taken { taken.now.items ≡ taken_from _waking _k (the seat.old.me.0).stood }
+        requires taken { taken.now ≡ taken_from _waking _k (the seat.old.me.0).stood }
         requires lists { Carries (lists_woken _waking _k (not held) (the seat.old.me.0).stood) seat.old.me }
         ensures seat { (seat.new.table_id ≡ seat.old.table_id) × (seat.new.me.0 ≡ seat.old.me.0) }
         ensures lists { Carries (lists_woken _waking _k held (the seat.old.me.0).stood) seat.new.me }
@@ -151,7 +184,7 @@ impl<C: Gated<N>, const N: usize> Gate<C, N> {
         ensures bits { result.bits ≡ bits_of (lists_woken _waking _k held (the seat.old.me.0).stood).lock }
     {
         let queues = seat.slot_mut(&self.table.shared, 0);
-        turn(queues, taken.as_slice(), held);
-        turned_by(queues, taken.as_slice(), held)
+        turn(queues, taken, held);
+        turned_by(queues, taken, held)
     }
 }

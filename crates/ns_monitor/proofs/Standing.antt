@@ -7,6 +7,7 @@ use Rattle.ns_gate.specs.declared.queues.Returning.{Returning}
 use Rattle.ns_gate.specs.declared.queues.Returning.TheVariants.{Changed, Released, Waited}
 use Rattle.ns_gate.specs.declared.queues.Turned.{Turned}
 use Rattle.ns_gate.proofs.Stays.{HasKeptItsQueues, stays_by}
+use Rattle.ns_gate.proofs.Wakes.{orderly_now}
 use Rattle.ns_word.proofs.Acts.{view_fits}
 use Rattle.ns_monitor.specs.declared.going.Going.{Going}
 use Rattle.ns_monitor.specs.declared.going.Going.TheVariants.{Acquiring, Leaving, Changing}
@@ -218,6 +219,7 @@ module _ {C : Type 0} {N : ℕ} (truths : Truths C) where
         packs = taken_packs taking last packs;
         held = same_held None (TakeQueues taking last) Made me now p (ap (λ (q : Part C N). q.held) e.2) ∙ held;
         tells = taken_tells taking last ∙ cond_tells taking last me now p;
+        orderly = orderly_now truths None (TakeQueues taking last) Made me now p;
       }
 
   -- ---- it puts them back

@@ -11,7 +11,7 @@ use Rattle.ns_word.specs.declared.wait.Outcome.TheVariants.{Woken}
 
 -- who has taken the queues has its section as it is
 pub taken_now : {C : Type 0} {N : ℕ} (truths : Truths C) (walk : Walk C) (word : Word) (me now : SeatOf C N) → HasTakenAt truths walk word me now → HasTakenAt truths walk word now now
-taken_now truths walk word me now took = record { at = took.at; taken = took.taken; packs = took.packs; held = refl; tells = took.tells }
+taken_now truths walk word me now took = record { at = took.at; taken = took.taken; packs = took.packs; held = refl; tells = took.tells; orderly = took.orderly }
 
 -- what has ended it, if anything has, makes its answer
 pub ended_so : (so then : Cause → Type 0) (outcome : Outcome) (answer : Answer) → answer ≡ answer_of_wait outcome → ((cause : Cause) → so cause → then cause) → IfEnded outcome so → IfAnswered answer then

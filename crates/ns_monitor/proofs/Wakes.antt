@@ -1,13 +1,13 @@
 -- A call that wakes, step by step: what it has in hand, and what it owes once the queues are back.
-use Rattle.std.proofs.Common.{◌≡◌, ℕ, Bool, true, false, cond, not, ◌&&◌, [], ◌∷◌, ◌++◌, List, None, Some, refl, ap, sym, ◌∙◌, subst}
-use Rattle.ns_gate.proofs.Calls.{can_go, goes_on}
+use Rattle.std.proofs.Common.{◌≡◌, ℕ, Bool, true, false, cond, if◌then◌else◌, not, ◌&&◌, [], ◌∷◌, ◌++◌, List, None, Some, refl, ap, sym, ◌∙◌, subst}
+use Rattle.ns_gate.proofs.Calls.{can_go, goes_on, works}
 use Rattle.ns_gate.proofs.Findings.{does}
 use Rattle.ns_gate.proofs.Stays.{HasKeptItsQueues, stays_by}
-use Rattle.ns_gate.proofs.Wakes.{owes_the_woken, still_woken, woken_found}
-use Rattle.ns_gate.specs.Prelude.{SeatOf, HasAnswered, HasSince, IsAtPlace, TableId, rest, the, Carries, CanStep, Performed, Truths, Lists, lists_woken, taken_from, bits_of, has_some, change_found, Event, LockState, Part, part_of, has_queues, owed_woken, is_held, ReturnQueues, WakeWaiters, Waking, Signaling, Broadcasting, Saw, Woke, WakeAndReturn, Succeeded, On, Walk, InSignal, Word}
+use Rattle.ns_gate.proofs.Wakes.{found_nobody, moves_nobody, owes_the_woken, still_woken, takes_nobody, woken_found}
+use Rattle.ns_gate.specs.Prelude.{SeatOf, HasAnswered, HasReached, HasSince, HasUnchangedQueues, IsAtPlace, IsOrderly, SignalLoad, TableId, seats_of, woken_nobody, rest, the, Carries, CanStep, Performed, Truths, Lists, lists_woken, taken_from, bits_of, has_some, change_found, Event, LockState, Part, part_of, has_queues, owed_woken, is_held, ReturnQueues, WakeWaiters, Waking, Signaling, Broadcasting, Saw, Woke, WakeAndReturn, Succeeded, On, Walk, InSignal, Word}
 use Rattle.ns_gate.specs.declared.queues.Turned.{Turned}
 use Rattle.ns_monitor.proofs.Standing.{saw_keeps}
-use Rattle.ns_monitor.specs.Prelude.{HasReturnedWoken, HasWoken, HasWokenInHand, Known, is_held_by_one, known_of, wake_event}
+use Rattle.ns_monitor.specs.Prelude.{HasReturnedWoken, HasTakenAt, HasWoken, HasWokenInHand, Known, is_held_by_one, known_of, wake_event}
 use Rattle.ns_queue.specs.Signals.{taken_set}
 use Rattle.ns_queue.specs.declared.waiter.Waiter.{Waiter}
 use Rattle.ns_word.specs.Steps.{taken_by, wake_of}
@@ -50,7 +50,41 @@ module _ {C : Type 0} {N : ℕ} where
     bits = bits ∙ (λ i. bits_of (lists_woken waking k held (the (sym same i)).stood).lock);
   }
 
+  -- and so it is where nobody waits for the variable, with nothing made of it
+  pub hand_of_nobody : (waking : Waking) (k : ℕ) (held : Bool) (turned : Turned) (me now : SeatOf C N) → now.0 ≡ me.0 → HasUnchangedQueues now → woken_nobody k (the me.0).stood ≡ Some turned → HasWokenInHand waking k held turned now
+  hand_of_nobody waking k held turned me now same has nobody =
+      let lists = (the me.0).stood in let f = found_nobody k lists turned nobody in let still = moves_nobody waking k held lists f.0 in
+      hand_made waking k held turned me now same
+      (has ∙ ((λ i. (0, (the (same i)).stood) ∷ []) ∙ (λ i. (0, sym still i) ∷ [])))
+      (f.1 ∙ sym (moved held (taken_from waking k lists) (takes_nobody waking k lists f.0).0))
+      (f.2 ∙ ap (λ (l : Lists C). bits_of l.lock) (sym still)) where
+        moved : (b : Bool) (ws : List (Waiter C)) → ws ≡ [] → (b && has_some ws) ≡ false
+        moved true [] is = refl
+        moved false [] is = refl
+        moved b (w ∷ ws) is = absurd (cc)
+
 module _ {C : Type 0} {N : ℕ} (truths : Truths C) where
+  -- a look at the queues in hand has changed nothing
+  pub taken_still : (waking : Waking) (k : ℕ) (word : Word) (start me now : SeatOf C N) → HasTakenAt truths (InSignal waking k SignalLoad) word start me → now.0 ≡ me.0 → HasUnchangedQueues now → HasTakenAt truths (InSignal waking k SignalLoad) word now now
+  taken_still waking k word start me now took same has = record {
+    at = works truths (InSignal waking k (WakeAndReturn word)) me now took.at refl same;
+    taken = has;
+    packs = took.packs;
+    held = refl;
+    tells = took.tells ∙ (λ i. (bits_of (the (sym same i)).stood.lock).conditional);
+    orderly = subst IsOrderly (λ i. (the (sym same i)).stood) took.orderly;
+  }
+
+  -- one that has taken nobody is over with the queues back
+  pub nobody_woken : (waking : Waking) (k : ℕ) (held : Bool) (lists : Lists C) (turned : Turned) (now : SeatOf C N) → woken_nobody k lists ≡ Some turned → HasReturnedWoken truths waking k held lists now → HasAnswered truths (TheRequest.Wake waking k) Succeeded now
+  nobody_woken waking k held lists turned now nobody back =
+      let none = owed held (taken_from waking k lists) (takes_nobody waking k lists (found_nobody k lists turned nobody).0).0 in
+      subst (λ b. HasReached truths (TheRequest.Wake waking k) (pay_woken waking k b) now) none back.leads where
+        owed : (b : Bool) (ws : List (Waiter C)) → ws ≡ [] → has_some (if b then [] else seats_of ws) ≡ false
+        owed true ws is = refl
+        owed false [] is = refl
+        owed false (w ∷ ws) is = absurd (cc)
+
   -- ---- it puts the queues back
 
   pub can_return : (waking : Waking) (k : ℕ) (last : Word) (me : SeatOf C N) → IsAtPlace truths (InSignal waking k (WakeAndReturn last)) me → CanStep truths None (ReturnQueues (WakeWaiters waking k) last) me

@@ -6,6 +6,7 @@ use Rattle.ns_gate.specs.declared.queues.Returning.{Returning}
 use Rattle.ns_gate.specs.declared.queues.Returning.TheVariants.{Changed, Released, Waited}
 use Rattle.ns_gate.specs.declared.queues.Turned.{Turned}
 use Rattle.ns_model.specs.Truths.{Truths}
+use Rattle.ns_queue.specs.Queues.{IsOrderly}
 use Rattle.ns_queue.specs.Scans.{woken_of}
 use Rattle.ns_queue.specs.Waiters.{seats_of}
 use Rattle.ns_queue.specs.declared.waiter.Which.TheVariants.{Lock}
@@ -132,13 +133,14 @@ taken_at N (InWait wait (InLeaving cause LeaveLoad)) word = InWait wait (InLeavi
 taken_at N (InSignal waking k SignalLoad) word = InSignal waking k (WakeAndReturn word)
 taken_at N walk word = walk
 
--- A call has taken the queues, at a word that has a number and tells whether some waiter has a condition; its section is as it was.
+-- A call has taken the queues, at a word that has a number and tells whether some waiter has a condition; its section is as it was, and the lists stood orderly.
 pub record HasTakenAt {C : Type 0} {N : ℕ} (truths : Truths C) (walk : Walk C) (word : Word) (me now : SeatOf C N) : Type 0 where
   pub at : IsAtPlace truths (taken_at N walk word) now
   pub taken : HasUnchangedQueues now
   pub packs : IsPackable word
   pub held : (the now.0).at.held ≡ (the me.0).at.held
   pub tells : word.cond ≡ (bits_of (the now.0).stood.lock).conditional
+  pub orderly : IsOrderly (the now.0).stood
 
 -- it may go without the queues at all
 abbrev pub MayGoAlone : {C : Type 0} → Going C → Type 0

@@ -1,9 +1,9 @@
 //! Condition variables: signals and broadcasts.
 
 ghost use Rattle.std.specs.Prelude.{◌≡◌, ◌<◌, None, Some};
-ghost use Rattle.ns_gate.specs.Prelude.{Broadcasting, HasAnswered, HasSince, IsAtPlace, IsAtRest, IsOrderly, IsPackable, InSignal, Signaling, Succeeded, WakeAndReturn, is_held, lists_woken, owed_woken, taken_from, the};
+ghost use Rattle.ns_gate.specs.Prelude.{Broadcasting, HasAnswered, HasSince, IsAtPlace, IsAtRest, IsOrderly, IsPackable, InSignal, SignalLoad, Signaling, Succeeded, WakeAndReturn, is_held, lists_woken, owed_woken, taken_from, the};
 ghost use Rattle.ns_word.specs.declared.request.Request.TheVariants as TheRequest;
-ghost use Rattle.ns_monitor.specs.Prelude.{Grows, HasReturnedWoken, HasWoken, HasWokenInHand, is_held_by_one, waking_by};
+ghost use Rattle.ns_monitor.specs.Prelude.{Grows, HasReturnedWoken, HasTakenAt, HasWoken, HasWokenInHand, is_held_by_one, waking_by};
 
 use crate::caller::{Caller, Hand};
 use crate::monitor::Monitor;
@@ -41,7 +41,7 @@ impl<C: Gated<N>, const N: usize> Monitor<C, N> {
         waking: Waking,
         k: u8,
         first: Word,
-        taken: &ArrayVec<Waiter<C>, 64>,
+        taken: &[Waiter<C>],
         made: Turned,
     ) -> bool
         requires of { seat.old.table_id ≡ self.now }
@@ -49,7 +49,7 @@ impl<C: Gated<N>, const N: usize> Monitor<C, N> {
         requires word { IsPackable first }
         requires at { IsAtPlace C.means (InSignal waking k (WakeAndReturn first)) seat.old.me }
         requires orderly { IsOrderly (the seat.old.me.0).stood }
-        requires taken { taken.now.items ≡ taken_from waking k (the seat.old.me.0).stood }
+        requires taken { taken.now ≡ taken_from waking k (the seat.old.me.0).stood }
         requires hand { HasWokenInHand waking k (is_held first) made seat.old.me }
         ensures seat { seat.new.table_id ≡ self.now }
         ensures since { HasSince None (the seat.old.me.0) (the seat.new.me.0) }
@@ -73,8 +73,37 @@ impl<C: Gated<N>, const N: usize> Monitor<C, N> {
         unreachable!()
     }
 
-    /// Takes those out of the list of the variable whom the call wakes, and moves them to the lock list
-    /// where the lock is held, else pays them their wakes.
+    /// With the queues in hand, taken at this word: takes those out of the list of the variable whom the
+    /// call wakes, and moves them to the lock list where the lock is held, else pays them their wakes.
+    fn wake_waiters<R: Wait>(
+        &self,
+        rt: &R,
+        seat: &mut GateSeat<C, N>,
+        waking: Waking,
+        k: u8,
+        word: Word,
+    )
+        requires of { seat.old.table_id ≡ self.now }
+        requires variable { k < 4 }
+        requires taken { HasTakenAt C.means (InSignal waking k SignalLoad) word seat.old.me seat.old.me }
+        ensures seat { seat.new.table_id ≡ self.now }
+        ensures since { HasSince None (the seat.old.me.0) (the seat.new.me.0) }
+        ensures woke { HasAnswered C.means (TheRequest.Wake waking k) Succeeded seat.new.me }
+    {
+        let held = word.is_held();
+        let (taken, made) = self.gate.wake_in_hand(seat, waking, k, held);
+        let moved = self.return_woken(rt, seat, waking, k, word, taken.as_slice(), made);
+        let woken = if moved {
+            ArrayVec::new()
+        } else {
+            seats(taken.as_slice())
+        };
+        let place = Walk::InSignal(waking, k, SignalPlace::PayTheWoken);
+        self.pay(seat, place, &woken, 2);
+    }
+
+    /// Takes the queues, and wakes those whom the call wakes. Where nobody waits for the variable, it
+    /// only puts the queues back.
     fn wake<R: Wait>(&self, rt: &R, seat: &mut GateSeat<C, N>, waking: Waking, k: u8)
         requires of { seat.old.table_id ≡ self.now }
         requires variable { k < 4 }
@@ -85,16 +114,12 @@ impl<C: Gated<N>, const N: usize> Monitor<C, N> {
     {
         let place = Walk::InSignal(waking, k, SignalPlace::SignalLoad);
         let word = self.begin_to_take(rt, seat, place);
-        let held = word.is_held();
-        let (taken, made) = self.gate.wake_in_hand(seat, waking, k, held);
-        let moved = self.return_woken(rt, seat, waking, k, word, &taken, made);
-        let woken = if moved {
-            ArrayVec::new()
-        } else {
-            seats(taken.as_slice())
-        };
-        let place = Walk::InSignal(waking, k, SignalPlace::PayTheWoken);
-        self.pay(seat, place, &woken, 2);
+        if let Some(made) = self.gate.wake_nobody_in_hand(seat, k) {
+            let taken: [Waiter<C>; 0] = [];
+            self.return_woken(rt, seat, waking, k, word, &taken, made);
+            return;
+        }
+        self.wake_waiters(rt, seat, waking, k, word);
     }
 
     /// Wakes at least one of those who wait for a condition variable, if any do: the first of them, and

@@ -10,18 +10,18 @@ slot_mut-queues-requires g c = (search rules, has_slot _ _ c.requires.lists)
 pub turn-requires : goal.turn-requires
 turn-requires g c = (
   search rules,
-  may_turn c.args._waking c.args._k c.args.held (the c.args.seat.now.me.0).stood c.slot_mut-queues.result.now c.as_slice.result.now c.requires.orderly c.requires.variable
-      (c.as_slice.ensures.value ∙ c.requires.taken) (was_in_hand _ _ c.args.seat.now.me.1 c.requires.lists c.slot_mut-queues.ensures.value),
+  may_turn c.args._waking c.args._k c.args.held (the c.args.seat.now.me.0).stood c.slot_mut-queues.result.now c.args.taken.now c.requires.orderly c.requires.variable
+      c.requires.taken (was_in_hand _ _ c.args.seat.now.me.1 c.requires.lists c.slot_mut-queues.ensures.value),
 )
 
 pub returns-clause-lists : goal.returns-clause-lists
 returns-clause-lists g c =
     now_in_hand (lists_woken c.args._waking c.args._k (not c.args.held) (the c.args.seat.now.me.0).stood) _ _ c.args.seat.now.me.1 c.requires.lists (c.turn.ensures
-    ∙ turned_over c.args._waking c.args._k c.args.held (the c.args.seat.now.me.0).stood c.slot_mut-queues.result.now c.as_slice.result.now c.requires.orderly c.requires.variable
-    (c.as_slice.ensures.value ∙ c.requires.taken) (was_in_hand _ _ c.args.seat.now.me.1 c.requires.lists c.slot_mut-queues.ensures.value))
+    ∙ turned_over c.args._waking c.args._k c.args.held (the c.args.seat.now.me.0).stood c.slot_mut-queues.result.now c.args.taken.now c.requires.orderly c.requires.variable
+    c.requires.taken (was_in_hand _ _ c.args.seat.now.me.1 c.requires.lists c.slot_mut-queues.ensures.value))
 
 pub returns-clause-bits : goal.returns-clause-bits
 returns-clause-bits g c =
     c.turned_by.ensures.bits ∙ ap (λ lists. bits_of lists.lock) (c.turn.ensures
-    ∙ turned_over c.args._waking c.args._k c.args.held (the c.args.seat.now.me.0).stood c.slot_mut-queues.result.now c.as_slice.result.now c.requires.orderly c.requires.variable
-    (c.as_slice.ensures.value ∙ c.requires.taken) (was_in_hand _ _ c.args.seat.now.me.1 c.requires.lists c.slot_mut-queues.ensures.value))
+    ∙ turned_over c.args._waking c.args._k c.args.held (the c.args.seat.now.me.0).stood c.slot_mut-queues.result.now c.args.taken.now c.requires.orderly c.requires.variable
+    c.requires.taken (was_in_hand _ _ c.args.seat.now.me.1 c.requires.lists c.slot_mut-queues.ensures.value))

@@ -2,7 +2,6 @@ use Rattle.std.proofs.Common.{◌≡◌, ◌∙◌, not, sym, subst, refl, ap, a
 use Rattle.ns_gate.specs.Prelude.{TableId, HasSince, IsAtPlace, the, Carries, InSignal, IsOrderly, ReturnQueues, Saw, WakeAndReturn, WakeWaiters, change_found, is_held, lists_woken, taken_from}
 use Rattle.ns_gate.proofs.Calls.{since, since_itself, since_then, works}
 use Rattle.ns_gate.proofs.Stays.{HasKeptItsQueues}
-use Rattle.ns_queue.proofs.Orders.{list_small}
 use Rattle.ns_monitor.proofs.Standing.{still_since}
 use Rattle.ns_monitor.proofs.Wakes.{by_both, by_one, can_return, hand_kept, hand_made, is_returned, misses_return}
 use Rattle.ns_monitor.specs.Prelude.{HasReturnedWoken, HasWokenInHand}
@@ -49,17 +48,14 @@ turn_in_hand-turned-requires g c = let after = (goal.at.turn_in_hand-turned-requ
         (
           omega arith,
           (
-            list_small _ g.met.C.Queueable.list_fits,
+            ◌∙◌ {A = TableId} c.exchange_to_return.ensures.seat (◌∙◌ {A = TableId} c.loop.invariant.2 (◌∙◌ {A = TableId} c.requires.of (sym c.self.view_is))),
             (
-              ◌∙◌ {A = TableId} c.exchange_to_return.ensures.seat (◌∙◌ {A = TableId} c.loop.invariant.2 (◌∙◌ {A = TableId} c.requires.of (sym c.self.view_is))),
+              c.requires.variable,
               (
-                c.requires.variable,
+                subst IsOrderly stood c.requires.orderly,
                 (
-                  subst IsOrderly stood c.requires.orderly,
-                  (
-                    c.requires.taken ∙ ap (taken_from c.args.waking c.args.k) stood,
-                    subst (λ b. Carries (lists_woken c.args.waking c.args.k b (the now.0).stood) now) other (kept g after).carries,
-                  ),
+                  c.requires.taken ∙ ap (taken_from c.args.waking c.args.k) stood,
+                  subst (λ b. Carries (lists_woken c.args.waking c.args.k b (the now.0).stood) now) other (kept g after).carries,
                 ),
               ),
             ),

@@ -1,58 +1,35 @@
-use Rattle.std.proofs.Common.{◌≡◌, ◌∙◌, ap, sym, subst, refl, arith, Bool}
-use Rattle.ns_gate.specs.Prelude.{TableId, HasReached, InSignal, IsOrderly, WakeAndReturn, has_some, owed_woken, seats_of, taken_from, the}
-use Rattle.ns_gate.proofs.Calls.{works}
-use Rattle.ns_queue.proofs.Orders.{list_small}
-use Rattle.ns_monitor.proofs.Wakes.{hand_made}
-use Rattle.ns_monitor.specs.Prelude.{HasWokenInHand}
-use Rattle.ns_word.specs.Walks.{pay_woken}
-use Rattle.ns_word.specs.declared.request.Request.TheVariants as TheRequest
+use Rattle.std.proofs.Common.{◌≡◌, ◌∙◌, ap, sym, arith, None, Some}
+use Rattle.ns_gate.specs.Prelude.{TableId, HasSince, is_held, taken_from, the, woken_nobody}
+use Rattle.ns_gate.proofs.Calls.{since_then}
+use Rattle.ns_gate.proofs.Wakes.{found_nobody, takes_nobody}
+use Rattle.ns_monitor.proofs.Standing.{still_since}
+use Rattle.ns_monitor.proofs.Wakes.{hand_of_nobody, nobody_woken, taken_still}
+use Rattle.ns_monitor.specs.Prelude.{waking_by}
 use Rattle.ns_monitor.proofs.monitor.Monitor.wake.Given.{Over}
-use Rattle.ns_monitor.proofs.monitor.Monitor.wake.Goals.{Joined-moved, then-moved, else-moved}
+use Rattle.ns_monitor.proofs.monitor.Monitor.wake.Goals.{After-wake_nobody_in_hand}
 use Rattle.ns_monitor.proofs.monitor.Monitor.wake.Goals as goal
 
-pub return_woken-moved-requires : goal.return_woken-moved-requires
-return_woken-moved-requires g c = let t = g.C.Condition.means in let took = c.begin_to_take-word in let made = c.wake_in_hand-taken in let e = made.ensures in let me = took.new.seat.me in let now = made.new.seat.me in let same = e.seat.1 in (
-  omega arith,
-  (
-    g.met.C.Gated.queues_fit,
-    (
-      omega arith,
-      (
-        list_small _ g.met.C.Queueable.list_fits,
-        (
-          ◌∙◌ {A = TableId} e.seat.0 took.ensures.seat,
-          (
-            c.requires.variable,
-            (
-              took.ensures.taken.packs,
-              (
-                works t (InSignal c.args.waking c.args.k (WakeAndReturn took.result)) me now took.ensures.taken.at refl same,
-                (
-                  subst IsOrderly (λ i. (the (sym same i)).stood) e.orderly,
-                  (
-                    e.taken ∙ (λ i. taken_from c.args.waking c.args.k (the (sym same i)).stood),
-                    subst (λ held. HasWokenInHand c.args.waking c.args.k held made.result.1 now) c.is_held-held.ensures (hand_made c.args.waking c.args.k c.is_held-held.result made.result.1 me now same e.lists e.some e.bits),
-                  ),
-                ),
-              ),
-            ),
-          ),
-        ),
-      ),
-    ),
-  ),
-)
+-- behind the look at the list of the variable
+since_look : (g : Over) (c : After-wake_nobody_in_hand g) → HasSince (Some (waking_by c.args.waking c.args.k)) (the c.args.seat.now.me.0) (the c.wake_nobody_in_hand.new.seat.me.0)
+since_look g c = still_since g.C.Condition.means (Some (waking_by c.args.waking c.args.k)) (the c.args.seat.now.me.0) c.begin_to_take-word.new.seat.me c.wake_nobody_in_hand.new.seat.me c.wake_nobody_in_hand.ensures.seat.1 c.begin_to_take-word.ensures.since
 
--- those to whom it pays are those to whom it owes a wake
-paid : (g : Over) (c : Joined-moved g) → c.if-moved.woken.items ≡ owed_woken c.args.waking c.args.k c.return_woken-moved.result (the c.wake_in_hand-taken.new.seat.me.0).stood
-paid g c = let made = c.wake_in_hand-taken in let waking = c.args.waking in let k = c.args.k in let same = made.ensures.seat.1 in
-    let owed = λ (b : Bool). owed_woken waking k b (the made.new.seat.me.0).stood in
-    let taken = made.ensures.taken ∙ (λ i. taken_from waking k (the (sym same i)).stood) in
-    elim c.if-moved.branch [
-      | then-moved w ↦ (λ i. (w.woken-is i).items) ∙ (w.new-woken.ensures ∙ ap owed (sym w.if-moved.true))
-      | else-moved w ↦ (λ i. (w.woken-is i).items) ∙ (w.seats-woken.ensures ∙ (ap seats_of (w.as_slice.ensures.value ∙ taken) ∙ ap owed (sym w.if-moved.false)))
-    ]
+pub return_woken-requires : goal.return_woken-requires
+return_woken-requires g c = let t = g.C.Condition.means in let took = c.begin_to_take-word in let look = c.wake_nobody_in_hand in let e = look.ensures in let me = took.new.seat.me in let now = look.new.seat.me in let nobody = sym e.nobody ∙ c.in-Some.is in
+    let still = taken_still t c.args.waking c.args.k took.result c.args.seat.now.me me now took.ensures.taken e.seat.1 e.has in
+    let none = (takes_nobody c.args.waking c.args.k (the me.0).stood (found_nobody c.args.k (the me.0).stood c.in-Some.made nobody).0).0 in
+    (omega arith, (g.met.C.Gated.queues_fit, (omega arith, (◌∙◌ {A = TableId} e.seat.0 took.ensures.seat, (c.requires.variable, (still.packs, (still.at, (still.orderly, (sym none ∙ (λ i. taken_from c.args.waking c.args.k (the (sym e.seat.1 i)).stood), hand_of_nobody c.args.waking c.args.k (is_held took.result) c.in-Some.made me now e.seat.1 e.has nobody)))))))))
 
-pub pay-requires : goal.pay-requires
-pay-requires g c = let t = g.C.Condition.means in let back = c.return_woken-moved.ensures in let now = c.return_woken-moved.new.seat.me in
-    (omega arith, (g.met.C.Gated.queues_fit, (omega arith, (back.seat, (record { pays = refl; free = refl; more = refl }, (subst (λ ns. HasReached t (TheRequest.Wake c.args.waking c.args.k) (pay_woken c.args.waking c.args.k (has_some ns)) now) (sym back.returned.owed) back.returned.leads, back.returned.owed ∙ sym (paid g (goal.at.pay-requires g c).Joined-moved)))))))
+pub returns-in-Some-clause-since : goal.returns-in-Some-clause-since
+returns-in-Some-clause-since g c = since_then (Some (waking_by c.args.waking c.args.k)) _ _ _ (since_look g (goal.at.returns-in-Some-clause-since g c).After-wake_nobody_in_hand) c.return_woken.ensures.since
+
+pub returns-in-Some-clause-woke : goal.returns-in-Some-clause-woke
+returns-in-Some-clause-woke g c = let e = c.wake_nobody_in_hand.ensures in let now = c.wake_nobody_in_hand.new.seat.me in
+    let nobody = (λ i. woken_nobody c.args.k (the (e.seat.1 i)).stood) ∙ (sym e.nobody ∙ c.in-Some.is) in
+    nobody_woken g.C.Condition.means c.args.waking c.args.k c.return_woken.result (the now.0).stood c.in-Some.made c.return_woken.new.seat.me nobody c.return_woken.ensures.returned
+
+pub wake_waiters-requires : goal.wake_waiters-requires
+wake_waiters-requires g c = let t = g.C.Condition.means in let took = c.begin_to_take-word in let look = c.wake_nobody_in_hand in let e = look.ensures in
+    (omega arith, (g.met.C.Gated.queues_fit, (omega arith, (◌∙◌ {A = TableId} e.seat.0 took.ensures.seat, (c.requires.variable, taken_still t c.args.waking c.args.k took.result c.args.seat.now.me took.new.seat.me look.new.seat.me took.ensures.taken e.seat.1 e.has)))))
+
+pub returns-clause-since : goal.returns-clause-since
+returns-clause-since g c = since_then (Some (waking_by c.args.waking c.args.k)) _ _ _ (since_look g (goal.at.returns-clause-since g c).After-wake_nobody_in_hand) c.wake_waiters.ensures.since

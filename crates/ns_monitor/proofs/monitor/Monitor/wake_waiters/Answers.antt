@@ -1,0 +1,59 @@
+use Rattle.std.proofs.Common.{◌≡◌, ◌∙◌, ap, sym, subst, refl, arith, Bool, None}
+use Rattle.ns_gate.specs.Prelude.{TableId, HasReached, InSignal, IsOrderly, WakeAndReturn, has_some, owed_woken, seats_of, taken_from, the}
+use Rattle.ns_gate.proofs.Calls.{since_itself, since_then, works}
+use Rattle.ns_monitor.proofs.Standing.{still_since}
+use Rattle.ns_monitor.proofs.Wakes.{hand_made}
+use Rattle.ns_monitor.specs.Prelude.{HasWokenInHand}
+use Rattle.ns_word.specs.Walks.{pay_woken}
+use Rattle.ns_word.specs.declared.request.Request.TheVariants as TheRequest
+use Rattle.ns_monitor.proofs.monitor.Monitor.wake_waiters.Given.{Over}
+use Rattle.ns_monitor.proofs.monitor.Monitor.wake_waiters.Goals.{Joined-moved, then-moved, else-moved}
+use Rattle.ns_monitor.proofs.monitor.Monitor.wake_waiters.Goals as goal
+
+pub return_woken-moved-requires : goal.return_woken-moved-requires
+return_woken-moved-requires g c = let t = g.C.Condition.means in let taken = c.requires.taken in let made = c.wake_in_hand-taken in let e = made.ensures in let me = c.args.seat.now.me in let now = made.new.seat.me in let same = e.seat.1 in (
+  omega arith,
+  (
+    g.met.C.Gated.queues_fit,
+    (
+      omega arith,
+      (
+        ◌∙◌ {A = TableId} e.seat.0 c.requires.of,
+        (
+          c.requires.variable,
+          (
+            taken.packs,
+            (
+              works t (InSignal c.args.waking c.args.k (WakeAndReturn c.args.word)) me now taken.at refl same,
+              (
+                subst IsOrderly (λ i. (the (sym same i)).stood) e.orderly,
+                (
+                  c.as_slice.ensures.value ∙ (e.taken ∙ (λ i. taken_from c.args.waking c.args.k (the (sym same i)).stood)),
+                  subst (λ held. HasWokenInHand c.args.waking c.args.k held made.result.1 now) c.is_held-held.ensures (hand_made c.args.waking c.args.k c.is_held-held.result made.result.1 me now same e.lists e.some e.bits),
+                ),
+              ),
+            ),
+          ),
+        ),
+      ),
+    ),
+  ),
+)
+
+-- those to whom it pays are those to whom it owes a wake
+paid : (g : Over) (c : Joined-moved g) → c.if-moved.woken.items ≡ owed_woken c.args.waking c.args.k c.return_woken-moved.result (the c.wake_in_hand-taken.new.seat.me.0).stood
+paid g c = let made = c.wake_in_hand-taken in let waking = c.args.waking in let k = c.args.k in let same = made.ensures.seat.1 in
+    let owed = λ (b : Bool). owed_woken waking k b (the made.new.seat.me.0).stood in
+    let taken = made.ensures.taken ∙ (λ i. taken_from waking k (the (sym same i)).stood) in
+    elim c.if-moved.branch [
+      | then-moved w ↦ (λ i. (w.woken-is i).items) ∙ (w.new-woken.ensures ∙ ap owed (sym w.if-moved.true))
+      | else-moved w ↦ (λ i. (w.woken-is i).items) ∙ (w.seats-woken.ensures ∙ (ap seats_of (w.as_slice-else-moved.ensures.value ∙ taken) ∙ ap owed (sym w.if-moved.false)))
+    ]
+
+pub pay-requires : goal.pay-requires
+pay-requires g c = let t = g.C.Condition.means in let back = c.return_woken-moved.ensures in let now = c.return_woken-moved.new.seat.me in
+    (omega arith, (g.met.C.Gated.queues_fit, (omega arith, (back.seat, (record { pays = refl; free = refl; more = refl }, (subst (λ ns. HasReached t (TheRequest.Wake c.args.waking c.args.k) (pay_woken c.args.waking c.args.k (has_some ns)) now) (sym back.returned.owed) back.returned.leads, back.returned.owed ∙ sym (paid g (goal.at.pay-requires g c).Joined-moved)))))))
+
+pub returns-clause-since : goal.returns-clause-since
+returns-clause-since g c = let me = c.args.seat.now.me in let made = c.wake_in_hand-taken in
+    since_then None _ _ _ (since_then None _ _ _ (still_since g.C.Condition.means None (the me.0) me made.new.seat.me made.ensures.seat.1 (since_itself (the me.0))) c.return_woken-moved.ensures.since) c.pay.ensures.since
