@@ -1,6 +1,6 @@
 //! The gate: a lock word, a row and flags, shared by threads.
 
-ghost use Rattle.std.specs.Prelude.{◌≡◌, ◌+◌, ◌<◌, ◌≤◌, [], ◌∷◌, replicate, None, Some, IfErr, IfOk, MatchResult, slice_index};
+ghost use Rattle.std.specs.Prelude.{◌≡◌, ◌+◌, ◌<◌, ◌≤◌, [], ◌∷◌, replicate, None, IfErr, IfOk, MatchResult, slice_index};
 ghost use Rattle.ns_gate.specs.Prelude.{word_of, IsPackable, before_in, exchanged, row_in, MayShow, IsAtRest, EndsAs, first_of, fresh, no_lists, rest_of, RefusesGate, HaveMet, CanStep, IsOne, MayExchange, MayLoad, MayStore, Performed, PerformedWith, made_by, the, tried, tried_for};
 
 use crate::closed::{Closed, cells};

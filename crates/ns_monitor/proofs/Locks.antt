@@ -1,8 +1,11 @@
--- A seat sets its own flag, before it queues.
-use Rattle.std.proofs.Common.{◌≡◌, ℕ, true, false, None, Some, ap, sym, ◌∙◌}
+-- A seat sets its own flag, before it queues, and finds it cleared.
+use Rattle.std.proofs.Common.{◌≡◌, ◌≢◌, ℕ, Bool, true, false, cond, ne_eqb, None, Some, ap, sym, subst, ◌∙◌}
 use Rattle.ns_gate.proofs.Calls.{goes_on, since}
 use Rattle.ns_gate.proofs.Stays.{HasKeptItsQueues, nowhere_now, stays_arming, still_carries}
-use Rattle.ns_gate.specs.Prelude.{SeatOf, GateView, HasSince, HasUnchangedQueues, IsAtPlace, the, Performed, Truths, times, got_of, has_queues, ArmFlag, Made, On, Walk}
+use Rattle.ns_gate.specs.Prelude.{SeatOf, GateView, HasReached, HasSince, HasUnchangedQueues, IsAtPlace, the, Performed, Truths, times, arrival_of, got_of, has_queues, AcquireLoad, ArmFlag, Arrival, Flag, Idle, InAcquire, Made, On, Walk}
+use Rattle.ns_word.specs.Asked.{request_for}
+use Rattle.ns_word.specs.declared.acquire_walk.AcquirePlace.TheVariants.{AwaitWake}
+use Rattle.ns_word.specs.declared.wait.Aim.{Aim}
 use Rattle.ns_word.specs.Walks.{awaits}
 
 -- It has done so with the queues in hand, goes on to this place, and stands in no list.
@@ -18,3 +21,9 @@ arms {C} {N} truths walk place me now goes has stays waits at taken p =
     let s = stays_arming truths me now p (ap has_queues at.walks ∙ has) in
     let there = goes_on truths walk ArmFlag Made (On place) me now at goes (λ e. absurd (let f : true ≡ false = sym stays ∙ e in cc)) p in
     record { at = there; taken = still_carries (λ (v : GateView C N). v.stood) me now s.stood s taken; kept = s; nowhere = nowhere_now truths ArmFlag Made me now p (ap awaits there.walks ∙ waits); since = since truths None ArmFlag Made me now p }
+
+-- One that has queued, and finds its flag cleared, goes to acquire.
+pub comes_to_acquire : {C : Type 0} {N : ℕ} (truths : Truths C) (aim : Aim C) (tries flag : ℕ) (arrival : Arrival) (me : SeatOf C N) → flag ≢ 1 → arrival ≡ arrival_of tries flag → HasReached truths (request_for aim) (got_of N (InAcquire aim (AwaitWake tries)) (Flag flag)) me → IsAtPlace truths (InAcquire aim (AcquireLoad arrival)) me
+comes_to_acquire truths aim tries flag arrival me clear how led =
+    subst (λ a. IsAtPlace truths (InAcquire aim (AcquireLoad a)) me) (sym how)
+    (subst (λ (b : Bool). HasReached truths (request_for aim) (cond b (Idle (InAcquire aim (AwaitWake tries))) (On (InAcquire aim (AcquireLoad (arrival_of tries flag))))) me) (ne_eqb flag 1 clear) led)

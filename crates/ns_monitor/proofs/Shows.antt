@@ -44,6 +44,7 @@ module _ {C : Type 0} {N : ℕ} (truths : Truths C) where
         state = d.old;
         lawful = subst (λ n. IsLawful truths n d.history d.old) s.seat_count d.lawful;
         word_is = sym e.0;
+        clear = e.1;
         lists_are = sym (d.stood_now ∙ ap (λ (q : Part C N). q.lists) e.2);
         after = begins_through d.history v.told.seen (the start.0).told.seen d.told_was.seen_of s.begins;
         before = subst (λ seen. BeginsWith seen d.history) (sym seen) (begins_itself d.history);
@@ -63,6 +64,7 @@ stood_since truths word lists old now later h more = record {
   state = h.state;
   lawful = h.lawful;
   word_is = h.word_is;
+  clear = h.clear;
   lists_are = h.lists_are;
   after = h.after;
   before = begins_through later.seen now.seen h.history more h.before;

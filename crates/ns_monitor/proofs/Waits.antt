@@ -7,7 +7,7 @@ use Rattle.ns_gate.specs.declared.queues.Returning.TheVariants.{Changed}
 use Rattle.ns_word.specs.Walks.{load_place}
 use Rattle.ns_monitor.proofs.Locks.{HasArmed, arms}
 use Rattle.ns_monitor.proofs.Tests.{moves_in}
-use Rattle.ns_monitor.specs.Prelude.{HasTakenAt, found_back, lacks_row}
+use Rattle.ns_monitor.specs.Prelude.{HasTakenAt, IfEnded, found_back, lacks_row}
 
 module _ {C : Type 0} where
   -- where a wait goes that has set its flag: to load the row, where it lacks it
@@ -28,6 +28,13 @@ module _ {C : Type 0} where
   -- where a wait goes that was woken, by its flag
   pub woken_next : (N : ℕ) (wait : Wait C) (value : ℕ) → value ≢ 1 → got_of N (InWait wait AwaitWakeInWait) (Flag value) ≡ On (InAcquire (ForWait wait (woken_by wait.on value)) (AcquireLoad (arrival_of 0 value)))
   woken_next N wait value clear = ap (λ (b : Bool). cond b (rest_or_look wait) (On (InAcquire (ForWait wait (woken_by wait.on value)) (AcquireLoad (arrival_of 0 value))))) (ne_eqb value 1 clear)
+
+  -- one that was taken while it left was ended by this cause, if it was ended
+  pub taken_ended : (on : Subject C) (cause : Cause) (flag : ℕ) (outcome : Outcome) → outcome ≡ outcome_taken on cause flag → IfEnded outcome (λ other. other ≡ cause)
+  taken_ended on cause flag outcome is = subst (λ o. IfEnded o (λ (other : Cause). other ≡ cause)) (sym is) (by on) where
+    by : (on : Subject C) → IfEnded (outcome_taken on cause flag) (λ other. other ≡ cause)
+    by (OnCondition c) = refl
+    by (OnVariable k) = tt
 
 module _ {C : Type 0} {N : ℕ} (truths : Truths C) where
   -- ---- it queues

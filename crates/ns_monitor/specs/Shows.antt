@@ -1,5 +1,5 @@
 -- What a call shows of how the monitor stands.
-use Rattle.std.specs.Prelude.{◌≡◌, ℕ, List, ◌∷◌, ◌++◌}
+use Rattle.std.specs.Prelude.{◌≡◌, ℕ, false, List, ◌∷◌, ◌++◌}
 use Rattle.ns_gate.specs.Showing.{ShowsLists}
 use Rattle.ns_model.specs.declared.event.Event.{Event}
 use Rattle.ns_model.specs.Beginnings.{BeginsWith}
@@ -13,12 +13,13 @@ use Rattle.ns_word.specs.declared.word.Word.{Word}
 use Rattle.ns_word.specs.Lawful.{IsLawful}
 use Rattle.ns_word.specs.Steps.{LockState}
 
--- At one moment between what the caller had seen and what it has seen now, the lock was in a lawful state, with this word and these lists; in it the caller had the section in hand that it has, and its own events were just those that it had done.
+-- At one moment between what the caller had seen and what it has seen now, the lock was in a lawful state, with this word and these lists, which nobody had in hand; in it the caller had the section in hand that it has, and its own events were just those that it had done.
 pub record HasStood {C : Type 0} {N : ℕ} (truths : Truths C) (word : Word) (lists : Lists C) (old new : Known C N) : Type 0 where
   pub history : List (Event C N)
   pub state : LockState C N
   pub lawful : IsLawful truths old.seat_count history state
   pub word_is : state.word ≡ word
+  pub clear : word.spin ≡ false
   pub lists_are : state.lists ≡ lists
   pub after : BeginsWith history old.seen
   pub before : BeginsWith new.seen history

@@ -121,8 +121,9 @@ impl<C: Gated<N>, const N: usize> Monitor<C, N> {
         let place = Walk::InAcquire(aim, AcquirePlace::Queue(arrival, word));
         let turned = Turned { some: false, bits };
         self.put_back(rt, seat, returning, place, word, turned);
-        let place = Walk::InAcquire(aim, AcquirePlace::AwaitWake(arrival.tries()));
+        let tries = arrival.tries();
+        let place = Walk::InAcquire(aim, AcquirePlace::AwaitWake(tries));
         let flag = self.await_flag(rt, seat, number, place);
-        arrival_of(arrival.tries(), flag)
+        arrival_of(tries, flag)
     }
 }

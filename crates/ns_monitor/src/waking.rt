@@ -1,7 +1,7 @@
 //! Condition variables: signals and broadcasts.
 
 ghost use Rattle.std.specs.Prelude.{◌≡◌, ◌<◌, None, Some};
-ghost use Rattle.ns_gate.specs.Prelude.{Broadcasting, HasAnswered, HasSince, IsAtPlace, IsAtRest, IsOrderly, IsPackable, InSignal, SignalLoad, Signaling, Succeeded, WakeAndReturn, is_held, lists_woken, owed_woken, taken_from, the};
+ghost use Rattle.ns_gate.specs.Prelude.{Broadcasting, HasAnswered, HasSince, IsAtPlace, IsAtRest, IsOrderly, IsPackable, InSignal, SignalLoad, Signaling, Succeeded, WakeAndReturn, is_held, taken_from, the};
 ghost use Rattle.ns_word.specs.declared.request.Request.TheVariants as TheRequest;
 ghost use Rattle.ns_monitor.specs.Prelude.{Grows, HasReturnedWoken, HasTakenAt, HasWoken, HasWokenInHand, is_held_by_one, waking_by};
 
@@ -125,9 +125,9 @@ impl<C: Gated<N>, const N: usize> Monitor<C, N> {
     /// Wakes at least one of those who wait for a condition variable, if any do: the first of them, and
     /// if that one reads, every other reader and the first writer.
     ///
-    /// Where the lock is held at the step that puts the queues back, they aren't woken at once, but moved
-    /// to the waiters for the lock; a caller with a section in hand always moves them. Callable on a seat
-    /// and on either section. It acquires nothing, and goes round while another has the waiter queues.
+    /// Where the lock is held at the step that puts the queues back, as it is while the caller has a
+    /// section in hand, they aren't woken at once, but moved to the waiters for the lock. Callable on a
+    /// seat and on either section. It acquires nothing, and goes round while another has the waiter queues.
     /// The behaviour is that of nsync's `nsync_cv_signal`.
     ///
     /// Needs a variable below 4.

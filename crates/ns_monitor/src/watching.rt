@@ -1,6 +1,6 @@
 //! What watches for an early end of a wait.
 
-ghost use Rattle.std.specs.Prelude.{◌≡◌, refl, true, false, None, Some, Option, IfSome, option_map};
+ghost use Rattle.std.specs.Prelude.{◌≡◌, refl, false, None, Some, Option, IfSome, option_map};
 ghost use Rattle.std.proofs.Common.{◌∙◌};
 ghost use Rattle.ns_gate.specs.Prelude.{is_met, MayShow, answer_of, is_limited, Cause, Limits};
 ghost use Rattle.ns_monitor.specs.Prelude.{HasLookedOn, IsLooking, LookShows, may_show, none_shown, nothing_named, same_looker, shown_since, still_looking, then_looker};

@@ -1,5 +1,9 @@
+use Rattle.std.proofs.Common.{rules}
 use Rattle.ns_gate.specs.Prelude.{ArmFlag}
 use Rattle.ns_gate.proofs.gate.Gate.arm_flag.Goals as goal
 
-pub returns-clause-did : goal.returns-clause-did
-returns-clause-did g c = (c.store_at.ensures.did ArmFlag c.requires.can).made
+pub returns : goal.returns
+returns g c = record {
+  seat = search rules;
+  did = (c.store_at.ensures.did ArmFlag c.requires.can).made;
+}

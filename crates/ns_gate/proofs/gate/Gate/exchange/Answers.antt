@@ -9,5 +9,9 @@ compare_exchange-found-requires g c = (search rules, search rules, may_exchange 
 pub came_to-requires : goal.came_to-requires
 came_to-requires g c = found_packs _ c.args.last c.args.new _ _ _ c.requires.last c.requires.may c.compare_exchange-found.ensures.2
 
-pub returns-clause-did : goal.returns-clause-did
-returns-clause-did g c = exchange_told _ c.args.last c.args.new _ _ _ _ c.requires.may c.came_to.ensures.tried c.compare_exchange-found.ensures.2
+pub returns : goal.returns
+returns g c = record {
+  seat = search rules;
+  word = search rules;
+  did = exchange_told _ c.args.last c.args.new _ _ _ _ c.requires.may c.came_to.ensures.tried c.compare_exchange-found.ensures.2;
+}

@@ -1,5 +1,10 @@
+use Rattle.std.proofs.Common.{rules}
 use Rattle.ns_gate.specs.Prelude.{Release}
 use Rattle.ns_gate.proofs.gate.Gate.exchange_to_release.Goals as goal
 
-pub returns-clause-did : goal.returns-clause-did
-returns-clause-did g c = c.exchange.ensures.did (Release c.args.releasing c.args.last) c.requires.can
+pub returns : goal.returns
+returns g c = record {
+  seat = search rules;
+  word = search rules;
+  did = c.exchange.ensures.did (Release c.args.releasing c.args.last) c.requires.can;
+}

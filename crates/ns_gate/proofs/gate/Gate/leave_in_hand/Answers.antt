@@ -6,8 +6,10 @@ use Rattle.ns_gate.proofs.gate.Gate.leave_in_hand.Goals as goal
 pub slot_mut-queues-requires : goal.slot_mut-queues-requires
 slot_mut-queues-requires g c = (search rules, has_slot _ _ c.requires.has)
 
-pub returns-clause-lists : goal.returns-clause-lists
-returns-clause-lists g c = λ last. now_in_hand (the c.args.seat.now.me.0).stood _ _ c.args.seat.now.me.1 c.requires.has (c.leave_self-stood.ensures.left last ∙ ap (λ lists. changed c.args.number (LeaveSelf c.args.which) last lists) (was_in_hand _ _ c.args.seat.now.me.1 c.requires.has c.slot_mut-queues.ensures.value))
-
-pub returns-clause-bits : goal.returns-clause-bits
-returns-clause-bits g c = λ last. c.bits.ensures ∙ ap (λ lists. bits_of lists.lock) (c.leave_self-stood.ensures.left last ∙ ap (λ lists. changed c.args.number (LeaveSelf c.args.which) last lists) (was_in_hand _ _ c.args.seat.now.me.1 c.requires.has c.slot_mut-queues.ensures.value))
+pub returns : goal.returns
+returns g c = record {
+  seat = search rules;
+  stood = search rules;
+  lists = λ last. now_in_hand (the c.args.seat.now.me.0).stood _ _ c.args.seat.now.me.1 c.requires.has (c.leave_self-stood.ensures.left last ∙ ap (λ lists. changed c.args.number (LeaveSelf c.args.which) last lists) (was_in_hand _ _ c.args.seat.now.me.1 c.requires.has c.slot_mut-queues.ensures.value));
+  bits = λ last. c.bits.ensures ∙ ap (λ lists. bits_of lists.lock) (c.leave_self-stood.ensures.left last ∙ ap (λ lists. changed c.args.number (LeaveSelf c.args.which) last lists) (was_in_hand _ _ c.args.seat.now.me.1 c.requires.has c.slot_mut-queues.ensures.value));
+}

@@ -1,4 +1,4 @@
-use Rattle.std.proofs.Common.{sym, subst}
+use Rattle.std.proofs.Common.{sym, subst, rules}
 use Rattle.ns_gate.specs.Prelude.{IsPackable, LoadWord}
 use Rattle.ns_gate.proofs.Findings.{saw_word, word_packs}
 use Rattle.ns_gate.proofs.gate.Gate.load.Goals as goal
@@ -6,8 +6,9 @@ use Rattle.ns_gate.proofs.gate.Gate.load.Goals as goal
 pub unpacked-requires : goal.unpacked-requires
 unpacked-requires g c = word_packs _ _ _ _ _ (c.load_at.ensures.did LoadWord c.requires.can)
 
-pub returns-clause-did : goal.returns-clause-did
-returns-clause-did g c = saw_word _ _ _ _ _ _ c.unpacked.ensures (c.load_at.ensures.did LoadWord c.requires.can)
-
-pub returns-clause-word : goal.returns-clause-word
-returns-clause-word g c = subst IsPackable (sym c.unpacked.ensures) (word_packs _ _ _ _ _ (c.load_at.ensures.did LoadWord c.requires.can))
+pub returns : goal.returns
+returns g c = record {
+  seat = search rules;
+  word = subst IsPackable (sym c.unpacked.ensures) (word_packs _ _ _ _ _ (c.load_at.ensures.did LoadWord c.requires.can));
+  did = saw_word _ _ _ _ _ _ c.unpacked.ensures (c.load_at.ensures.did LoadWord c.requires.can);
+}

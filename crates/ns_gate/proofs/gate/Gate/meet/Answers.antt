@@ -13,11 +13,10 @@ load-requires g c = (search rules, search rules, learns _ _ _ _ c.join_seat.new.
 pub split_seat-first-requires : goal.split_seat-first-requires
 split_seat-first-requires g c = (search rules, search rules, cuts _ _ _ _ _ _)
 
-pub returns-clause-seats : goal.returns-clause-seats
-returns-clause-seats g c =
-    let s = c.split_seat-first.ensures in
-    let m = met_at _ c.args.first.me c.args.second.me _ _ _ _ c.requires.first.1 c.requires.second.1 c.join_seat.ensures.2 c.load.ensures.2 s.4 s.2 in
-    let kept = c.load.ensures.0 ∙ (c.join_seat.ensures.0 ∙ c.requires.first.0) in (s.3 ∙ kept, m.0, s.0 ∙ kept, m.1)
-
-pub returns-clause-met : goal.returns-clause-met
-returns-clause-met g c = let s = c.split_seat-first.ensures in (met_at _ c.args.first.me c.args.second.me _ _ _ _ c.requires.first.1 c.requires.second.1 c.join_seat.ensures.2 c.load.ensures.2 s.4 s.2).2
+pub returns : goal.returns
+returns g c = record {
+  seats = let s = c.split_seat-first.ensures in
+      let m = met_at _ c.args.first.me c.args.second.me _ _ _ _ c.requires.first.1 c.requires.second.1 c.join_seat.ensures.2 c.load.ensures.2 s.4 s.2 in
+      let kept = c.load.ensures.0 ∙ (c.join_seat.ensures.0 ∙ c.requires.first.0) in (s.3 ∙ kept, m.0, s.0 ∙ kept, m.1);
+  met = let s = c.split_seat-first.ensures in (met_at _ c.args.first.me c.args.second.me _ _ _ _ c.requires.first.1 c.requires.second.1 c.join_seat.ensures.2 c.load.ensures.2 s.4 s.2).2;
+}

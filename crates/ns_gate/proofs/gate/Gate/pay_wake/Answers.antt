@@ -6,5 +6,8 @@ use Rattle.ns_gate.proofs.gate.Gate.pay_wake.Goals as goal
 pub store_at-requires : goal.store_at-requires
 store_at-requires g c = (omega arith, (g.met.C.Gated.queues_fit, (search rules, (c.requires.of, (c.flag_at-flag.ensures.1, record { act = PayWake c.args.value; can = c.requires.can; stores = refl; there = c.flag_at-flag.ensures.0 ∙ ap (λ n. n + (g.row.N + 1)) (owed_next c.args.woken _ c.requires.owed.0) })))))
 
-pub returns-clause-did : goal.returns-clause-did
-returns-clause-did g c = (c.store_at.ensures.did (PayWake c.args.value) c.requires.can).made
+pub returns : goal.returns
+returns g c = record {
+  seat = search rules;
+  did = (c.store_at.ensures.did (PayWake c.args.value) c.requires.can).made;
+}

@@ -6,11 +6,10 @@ use Rattle.ns_gate.proofs.gate.Gate.show_in_hand.Goals as goal
 pub slot_mut-queues-requires : goal.slot_mut-queues-requires
 slot_mut-queues-requires g c = (search rules, has_slot _ _ c.requires.has)
 
-pub returns-clause-has : goal.returns-clause-has
-returns-clause-has g c = now_in_hand (the c.args.seat.now.me.0).stood _ _ c.args.seat.now.me.1 c.requires.has (was_in_hand _ _ c.args.seat.now.me.1 c.requires.has c.slot_mut-queues.ensures.value)
-
-pub returns-clause-shows : goal.returns-clause-shows
-returns-clause-shows g c = subst (λ lists. ShowsLists lists c.shown_lists.result) (was_in_hand _ _ c.args.seat.now.me.1 c.requires.has c.slot_mut-queues.ensures.value) c.shown_lists.ensures
-
-pub returns-clause-bits : goal.returns-clause-bits
-returns-clause-bits g c = c.bits.ensures ∙ ap (λ lists. bits_of lists.lock) (was_in_hand _ _ c.args.seat.now.me.1 c.requires.has c.slot_mut-queues.ensures.value)
+pub returns : goal.returns
+returns g c = record {
+  seat = search rules;
+  has = now_in_hand (the c.args.seat.now.me.0).stood _ _ c.args.seat.now.me.1 c.requires.has (was_in_hand _ _ c.args.seat.now.me.1 c.requires.has c.slot_mut-queues.ensures.value);
+  shows = subst (λ lists. ShowsLists lists c.shown_lists.result) (was_in_hand _ _ c.args.seat.now.me.1 c.requires.has c.slot_mut-queues.ensures.value) c.shown_lists.ensures;
+  bits = c.bits.ensures ∙ ap (λ lists. bits_of lists.lock) (was_in_hand _ _ c.args.seat.now.me.1 c.requires.has c.slot_mut-queues.ensures.value);
+}

@@ -7,5 +7,8 @@ use Rattle.ns_gate.proofs.gate.Gate.store_at.Goals as goal
 pub store-requires : goal.store-requires
 store-requires g c = (search rules, search rules, may_store _ g.met.C.Condition.has_cells.0 g.met.C.Condition.quiet_keeps _ _ _ _ c.args.word c.args.content c.requires.may)
 
-pub returns-clause-did : goal.returns-clause-did
-returns-clause-did g c = stepped _ None _ _ _ c.store.ensures.2
+pub returns : goal.returns
+returns g c = record {
+  seat = search rules;
+  did = stepped _ None _ _ _ c.store.ensures.2;
+}

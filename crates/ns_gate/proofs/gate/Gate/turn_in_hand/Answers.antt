@@ -14,14 +14,14 @@ turn-requires g c = (
       c.requires.taken (was_in_hand _ _ c.args.seat.now.me.1 c.requires.lists c.slot_mut-queues.ensures.value),
 )
 
-pub returns-clause-lists : goal.returns-clause-lists
-returns-clause-lists g c =
-    now_in_hand (lists_woken c.args._waking c.args._k (not c.args.held) (the c.args.seat.now.me.0).stood) _ _ c.args.seat.now.me.1 c.requires.lists (c.turn.ensures
-    ∙ turned_over c.args._waking c.args._k c.args.held (the c.args.seat.now.me.0).stood c.slot_mut-queues.result.now c.args.taken.now c.requires.orderly c.requires.variable
-    c.requires.taken (was_in_hand _ _ c.args.seat.now.me.1 c.requires.lists c.slot_mut-queues.ensures.value))
-
-pub returns-clause-bits : goal.returns-clause-bits
-returns-clause-bits g c =
-    c.turned_by.ensures.bits ∙ ap (λ lists. bits_of lists.lock) (c.turn.ensures
-    ∙ turned_over c.args._waking c.args._k c.args.held (the c.args.seat.now.me.0).stood c.slot_mut-queues.result.now c.args.taken.now c.requires.orderly c.requires.variable
-    c.requires.taken (was_in_hand _ _ c.args.seat.now.me.1 c.requires.lists c.slot_mut-queues.ensures.value))
+pub returns : goal.returns
+returns g c = record {
+  seat = search rules;
+  lists = now_in_hand (lists_woken c.args._waking c.args._k (not c.args.held) (the c.args.seat.now.me.0).stood) _ _ c.args.seat.now.me.1 c.requires.lists (c.turn.ensures
+      ∙ turned_over c.args._waking c.args._k c.args.held (the c.args.seat.now.me.0).stood c.slot_mut-queues.result.now c.args.taken.now c.requires.orderly c.requires.variable
+      c.requires.taken (was_in_hand _ _ c.args.seat.now.me.1 c.requires.lists c.slot_mut-queues.ensures.value));
+  some = search rules;
+  bits = c.turned_by.ensures.bits ∙ ap (λ lists. bits_of lists.lock) (c.turn.ensures
+      ∙ turned_over c.args._waking c.args._k c.args.held (the c.args.seat.now.me.0).stood c.slot_mut-queues.result.now c.args.taken.now c.requires.orderly c.requires.variable
+      c.requires.taken (was_in_hand _ _ c.args.seat.now.me.1 c.requires.lists c.slot_mut-queues.ensures.value));
+}

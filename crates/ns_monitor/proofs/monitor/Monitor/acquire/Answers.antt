@@ -1,4 +1,4 @@
-use Rattle.std.proofs.Common.{◌∙◌, sym, arith, None}
+use Rattle.std.proofs.Common.{◌∙◌, sym, arith, None, rules}
 use Rattle.ns_gate.specs.Prelude.{TableId, HasSince, the, AcquireLoad, LoadWord, Saw, InAcquire}
 use Rattle.ns_gate.proofs.Calls.{since, since_then}
 use Rattle.ns_monitor.proofs.Standing.{can_load, loads, same_number}
@@ -16,5 +16,9 @@ pub acquire_on-requires : goal.acquire_on-requires
 acquire_on-requires g c = let t = g.C.Condition.means in
     (omega arith, (g.met.C.Gated.queues_fit, (omega arith, (◌∙◌ {A = TableId} c.load-word.ensures.seat c.requires.of, (same_number t None c.args.number c.args.seat.now.me c.load-word.new.seat.me c.requires.number (since_load g (goal.at.acquire_on-requires g c).After-load-word), (c.load-word.ensures.word, loads t (InAcquire c.args.aim (AcquireLoad c.args.arrival)) c.load-word.result c.args.seat.now.me c.load-word.new.seat.me tt c.requires.at c.load-word.ensures.did))))))
 
-pub returns-clause-since : goal.returns-clause-since
-returns-clause-since g c = since_then None _ _ _ (since_load g (goal.at.returns-clause-since g c).After-load-word) c.acquire_on.ensures.since
+pub returns : goal.returns
+returns g c = record {
+  seat = search rules;
+  since = since_then None _ _ _ (since_load g (goal.at.returns g c).After-load-word) c.acquire_on.ensures.since;
+  acquired = search rules;
+}

@@ -1,4 +1,4 @@
-use Rattle.std.proofs.Common.{◌∙◌, sym, refl, arith, None}
+use Rattle.std.proofs.Common.{◌∙◌, sym, refl, arith, None, rules}
 use Rattle.ns_gate.specs.Prelude.{TableId, HasSince, the, LoadFlag, Flag}
 use Rattle.ns_gate.proofs.Calls.{can_go, since, since_itself, since_then}
 use Rattle.ns_monitor.proofs.Standing.{is_woken, same_number, sleeps_on}
@@ -16,14 +16,13 @@ load_flag-flag-requires g c = let t = g.C.Condition.means in let inv = c.loop.in
 since_now : (g : Over) (c : After-load_flag-flag g) → HasSince None (the c.args.seat.now.me.0) (the c.load_flag-flag.new.seat.me.0)
 since_now g c = since_then None _ _ _ c.loop.invariant.3 (since g.C.Condition.means None LoadFlag (Flag c.load_flag-flag.result) c.loop.seat.me c.load_flag-flag.new.seat.me c.load_flag-flag.ensures.did)
 
-pub returns-then-flag-ne1-clause-seat : goal.returns-then-flag-ne1-clause-seat
-returns-then-flag-ne1-clause-seat g c = ◌∙◌ {A = TableId} c.load_flag-flag.ensures.seat (◌∙◌ {A = TableId} c.loop.invariant.2 c.requires.of)
-
-pub returns-then-flag-ne1-clause-since : goal.returns-then-flag-ne1-clause-since
-returns-then-flag-ne1-clause-since g c = since_now g (goal.at.returns-then-flag-ne1-clause-since g c).After-load_flag-flag
-
-pub returns-then-flag-ne1-clause-woken : goal.returns-then-flag-ne1-clause-woken
-returns-then-flag-ne1-clause-woken g c = is_woken g.C.Condition.means c.args._walk c.load_flag-flag.result c.loop.seat.me c.load_flag-flag.new.seat.me c.requires.sleeps c.loop.invariant.4 c.load_flag-flag.ensures.did
+pub returns-then-flag-ne1 : goal.returns-then-flag-ne1
+returns-then-flag-ne1 g c = record {
+  seat = ◌∙◌ {A = TableId} c.load_flag-flag.ensures.seat (◌∙◌ {A = TableId} c.loop.invariant.2 c.requires.of);
+  since = since_now g (goal.at.returns-then-flag-ne1 g c).After-load_flag-flag;
+  cleared = search rules;
+  woken = is_woken g.C.Condition.means c.args._walk c.load_flag-flag.result c.loop.seat.me c.load_flag-flag.new.seat.me c.requires.sleeps c.loop.invariant.4 c.load_flag-flag.ensures.did;
+}
 
 pub loop-preserved : goal.loop-preserved
 loop-preserved g c = (

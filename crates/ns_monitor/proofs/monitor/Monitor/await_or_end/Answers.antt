@@ -1,4 +1,4 @@
-use Rattle.std.proofs.Common.{◌≡◌, ◌∙◌, sym, subst, refl, arith, None, Some, false}
+use Rattle.std.proofs.Common.{◌≡◌, ◌∙◌, sym, subst, refl, arith, None, Some, false, rules}
 use Rattle.ns_gate.specs.Prelude.{TableId, HasSince, IsAtPlace, the, LoadFlag, Look, Flag, Looked, AwaitWakeInWait, LookOut, InWait}
 use Rattle.ns_gate.proofs.Calls.{can_go, goes, since, since_itself, since_then}
 use Rattle.ns_monitor.proofs.Standing.{same_number}
@@ -21,11 +21,14 @@ since_flag g c = since_then None _ _ _ c.loop.invariant.3 (since g.C.Condition.m
 looking : (g : Over) (c : After-load_flag-flag g) → c.load_flag-flag.result ≡ 1 → IsAtPlace g.C.Condition.means (InWait c.args.wait LookOut) c.load_flag-flag.new.seat.me
 looking g c set = looks_out g.C.Condition.means c.args.wait c.load_flag-flag.result c.loop.seat.me c.load_flag-flag.new.seat.me set c.requires.limited c.loop.invariant.5 c.load_flag-flag.ensures.did
 
-pub returns-then-flag-ne1-clause-since : goal.returns-then-flag-ne1-clause-since
-returns-then-flag-ne1-clause-since g c = since_flag g (goal.at.returns-then-flag-ne1-clause-since g c).After-load_flag-flag
-
-pub returns-then-flag-ne1-clause-came : goal.returns-then-flag-ne1-clause-came
-returns-then-flag-ne1-clause-came g c = (c.if-flag-ne1.true, goes g.C.Condition.means (InWait c.args.wait AwaitWakeInWait) LoadFlag (Flag c.load_flag-flag.result) _ c.loop.seat.me c.load_flag-flag.new.seat.me c.loop.invariant.5 refl refl refl c.load_flag-flag.ensures.did)
+pub returns-then-flag-ne1 : goal.returns-then-flag-ne1
+returns-then-flag-ne1 g c = record {
+  seat = search rules;
+  since = since_flag g (goal.at.returns-then-flag-ne1 g c).After-load_flag-flag;
+  looked = search rules;
+  ended = search rules;
+  came = (c.if-flag-ne1.true, goes g.C.Condition.means (InWait c.args.wait AwaitWakeInWait) LoadFlag (Flag c.load_flag-flag.result) _ c.loop.seat.me c.load_flag-flag.new.seat.me c.loop.invariant.5 refl refl refl c.load_flag-flag.ensures.did);
+}
 
 pub look-shown-requires : goal.look-shown-requires
 look-shown-requires g c = record { watches = g.W.Watch.still c.args.watch.now c.loop.watch c.args.wait.limits c.loop.invariant.4 c.requires.watches }
@@ -34,17 +37,14 @@ pub look-requires : goal.look-requires
 look-requires g c = let t = g.C.Condition.means in let me = c.load_flag-flag.new.seat.me in let after = (goal.at.look-requires g c).After-load_flag-flag in
     (omega arith, (g.met.C.Gated.queues_fit, (omega arith, (◌∙◌ {A = TableId} c.load_flag-flag.ensures.seat (◌∙◌ {A = TableId} c.loop.invariant.2 (◌∙◌ {A = TableId} c.requires.of (sym c.self.view_is))), (same_number t None c.args.number c.args.seat.now.me me c.requires.number (since_flag g after), (g.W.Watch.names c.loop.watch c.look-shown.new.self c.args.wait.limits c.look-shown.result (g.W.Watch.still c.args.watch.now c.loop.watch c.args.wait.limits c.loop.invariant.4 c.requires.watches) c.look-shown.ensures.shown, can_go t (InWait c.args.wait LookOut) (Look c.args.wait.limits false) me refl (looking g after c.if-flag-ne1.false)))))))
 
-pub returns-in-Some-shown-clause-since : goal.returns-in-Some-shown-clause-since
-returns-in-Some-shown-clause-since g c = since_then None _ _ _ (since_flag g (goal.at.returns-in-Some-shown-clause-since g c).After-load_flag-flag) (since g.C.Condition.means None (Look c.args.wait.limits false) (Looked c.look-shown.result) c.load_flag-flag.new.seat.me c.look.new.seat.me c.look.ensures.did)
-
-pub returns-in-Some-shown-clause-looked : goal.returns-in-Some-shown-clause-looked
-returns-in-Some-shown-clause-looked g c = g.W.Watch.then c.args.watch.now c.loop.watch c.look-shown.new.self c.loop.invariant.4 c.look-shown.ensures.since
-
-pub returns-in-Some-shown-clause-ended : goal.returns-in-Some-shown-clause-ended
-returns-in-Some-shown-clause-ended g c = g.W.Watch.later c.args.watch.now c.loop.watch c.look-shown.new.self c.args.wait.limits (Some c.in-Some-shown.cause) c.loop.invariant.4 (subst (g.W.Watch.shows c.loop.watch c.look-shown.new.self c.args.wait.limits) c.in-Some-shown.is c.look-shown.ensures.shown)
-
-pub returns-in-Some-shown-clause-came : goal.returns-in-Some-shown-clause-came
-returns-in-Some-shown-clause-came g c = goes_to_leave g.C.Condition.means c.args.wait c.look-shown.result c.in-Some-shown.cause c.load_flag-flag.new.seat.me c.look.new.seat.me c.in-Some-shown.is (looking g (goal.at.returns-in-Some-shown-clause-came g c).After-load_flag-flag c.if-flag-ne1.false) c.look.ensures.did
+pub returns-in-Some-shown : goal.returns-in-Some-shown
+returns-in-Some-shown g c = record {
+  seat = search rules;
+  since = since_then None _ _ _ (since_flag g (goal.at.returns-in-Some-shown g c).After-load_flag-flag) (since g.C.Condition.means None (Look c.args.wait.limits false) (Looked c.look-shown.result) c.load_flag-flag.new.seat.me c.look.new.seat.me c.look.ensures.did);
+  looked = g.W.Watch.then c.args.watch.now c.loop.watch c.look-shown.new.self c.loop.invariant.4 c.look-shown.ensures.since;
+  ended = g.W.Watch.later c.args.watch.now c.loop.watch c.look-shown.new.self c.args.wait.limits (Some c.in-Some-shown.cause) c.loop.invariant.4 (subst (g.W.Watch.shows c.loop.watch c.look-shown.new.self c.args.wait.limits) c.in-Some-shown.is c.look-shown.ensures.shown);
+  came = goes_to_leave g.C.Condition.means c.args.wait c.look-shown.result c.in-Some-shown.cause c.load_flag-flag.new.seat.me c.look.new.seat.me c.in-Some-shown.is (looking g (goal.at.returns-in-Some-shown g c).After-load_flag-flag c.if-flag-ne1.false) c.look.ensures.did;
+}
 
 pub loop-preserved : goal.loop-preserved
 loop-preserved g c = let t = g.C.Condition.means in let me = c.load_flag-flag.new.seat.me in let after = (goal.at.loop-preserved g c).After-load_flag-flag in (

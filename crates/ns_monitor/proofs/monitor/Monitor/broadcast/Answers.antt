@@ -5,10 +5,10 @@ use Rattle.ns_monitor.proofs.Wakes.{has_woken}
 use Rattle.ns_monitor.specs.Prelude.{waking_by}
 use Rattle.ns_monitor.proofs.monitor.Monitor.broadcast.Goals as goal
 
-pub returns-clause-grows : goal.returns-clause-grows
-returns-clause-grows g c = let t = g.C.Condition.means in let old = c.caller.inside.seat in let new = c.wake.new.seat in
-    grew t (waking_by Broadcasting c.args.k) c.args.caller.now old.table_id new.table_id old.me new.me c.caller.view_is (◌∙◌ {A = TableId} c.wake.ensures.seat (sym c.requires.of)) c.wake.ensures.woke.rest c.wake.ensures.since
-
-pub returns-clause-woke : goal.returns-clause-woke
-returns-clause-woke g c = let t = g.C.Condition.means in let old = c.caller.inside.seat in let new = c.wake.new.seat in
-    has_woken t (waking_by Broadcasting c.args.k) Broadcasting c.args.k c.args.caller.now old.table_id new.table_id old.me new.me c.caller.view_is c.wake.ensures.since c.wake.ensures.woke
+pub returns : goal.returns
+returns g c = record {
+  grows = let t = g.C.Condition.means in let old = c.caller.inside.seat in let new = c.wake.new.seat in
+      grew t (waking_by Broadcasting c.args.k) c.args.caller.now old.table_id new.table_id old.me new.me c.caller.view_is (◌∙◌ {A = TableId} c.wake.ensures.seat (sym c.requires.of)) c.wake.ensures.woke.rest c.wake.ensures.since;
+  woke = let t = g.C.Condition.means in let old = c.caller.inside.seat in let new = c.wake.new.seat in
+      has_woken t (waking_by Broadcasting c.args.k) Broadcasting c.args.k c.args.caller.now old.table_id new.table_id old.me new.me c.caller.view_is c.wake.ensures.since c.wake.ensures.woke;
+}

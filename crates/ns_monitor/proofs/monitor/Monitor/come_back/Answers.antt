@@ -1,4 +1,4 @@
-use Rattle.std.proofs.Common.{arith, None}
+use Rattle.std.proofs.Common.{arith, None, rules}
 use Rattle.ns_gate.proofs.Calls.{since_then}
 use Rattle.ns_monitor.proofs.Standing.{same_number}
 use Rattle.ns_monitor.proofs.monitor.Monitor.come_back.Goals as goal
@@ -7,5 +7,11 @@ pub acquire-requires : goal.acquire-requires
 acquire-requires g c = let came = c.await_in-arrival in
     (omega arith, (g.met.C.Gated.queues_fit, (omega arith, (came.ensures.seat, (same_number g.C.Condition.means None c.args.number c.args.seat.now.me came.new.seat.me c.requires.number came.ensures.since, came.ensures.comes)))))
 
-pub returns-clause-since : goal.returns-clause-since
-returns-clause-since g c = since_then None _ _ _ c.await_in-arrival.ensures.since c.acquire.ensures.since
+pub returns : goal.returns
+returns g c = record {
+  seat = search rules;
+  since = since_then None _ _ _ c.await_in-arrival.ensures.since c.acquire.ensures.since;
+  looked = search rules;
+  ended = search rules;
+  acquired = search rules;
+}

@@ -42,16 +42,16 @@ put_back-requires g c = let t = g.C.Condition.means in let took = c.take_to_show
 over : (g : Over) (c : After-put_back g) → HasSince (Some showing) (the c.caller.inside.seat.me.0) (the c.put_back.new.seat.me.0)
 over g c = since_then (Some showing) _ _ _ (still_since g.C.Condition.means (Some showing) _ c.take_to_show-word.new.seat.me c.show_in_hand-lists.new.seat.me c.show_in_hand-lists.ensures.seat.1 c.take_to_show-word.ensures.since) c.put_back.ensures.since
 
-pub returns-clause-saw : goal.returns-clause-saw
-returns-clause-saw g c = let t = g.C.Condition.means in let old = c.caller.inside.seat in let new = c.put_back.new.seat in
-    let a : HasAnswered t TheRequest.Show Succeeded new.me = c.put_back.ensures.returned in
-    saw_more t showing c.args.caller.now old.table_id new.table_id old.me new.me c.caller.view_is (◌∙◌ {A = TableId} c.put_back.ensures.seat (sym c.requires)) a.rest (over g (goal.at.returns-clause-saw g c).After-put_back) a.means
-
-pub returns-clause-shows : goal.returns-clause-shows
-returns-clause-shows g c = let t = g.C.Condition.means in let old = c.caller.inside.seat in let took = c.take_to_show-word in let mid = took.new.seat in let show = c.show_in_hand-lists in let new = c.put_back.new.seat in
-    let more = (still_since t None _ mid.me show.new.seat.me show.ensures.seat.1 (since_itself (the mid.me.0))) in record {
-      lists = (the mid.me.0).stood;
-      stood = subst (λ (k : Known g.row.C.Denot g.row.N). HasStood t took.result (the mid.me.0).stood k (known_of new.table_id new.me)) c.caller.view_is
-          (stood_since t took.result (the mid.me.0).stood (known_of old.table_id old.me) (known_of mid.table_id mid.me) (known_of new.table_id new.me) took.ensures.stood (since_then None _ _ _ more c.put_back.ensures.since).begins);
-      shows = show.ensures.shows;
-    }
+pub returns : goal.returns
+returns g c = record {
+  saw = let t = g.C.Condition.means in let old = c.caller.inside.seat in let new = c.put_back.new.seat in
+      let a : HasAnswered t TheRequest.Show Succeeded new.me = c.put_back.ensures.returned in
+      saw_more t showing c.args.caller.now old.table_id new.table_id old.me new.me c.caller.view_is (◌∙◌ {A = TableId} c.put_back.ensures.seat (sym c.requires)) a.rest (over g (goal.at.returns g c).After-put_back) a.means;
+  shows = let t = g.C.Condition.means in let old = c.caller.inside.seat in let took = c.take_to_show-word in let mid = took.new.seat in let show = c.show_in_hand-lists in let new = c.put_back.new.seat in
+      let more = (still_since t None _ mid.me show.new.seat.me show.ensures.seat.1 (since_itself (the mid.me.0))) in record {
+        lists = (the mid.me.0).stood;
+        stood = subst (λ (k : Known g.row.C.Denot g.row.N). HasStood t took.result (the mid.me.0).stood k (known_of new.table_id new.me)) c.caller.view_is
+            (stood_since t took.result (the mid.me.0).stood (known_of old.table_id old.me) (known_of mid.table_id mid.me) (known_of new.table_id new.me) took.ensures.stood (since_then None _ _ _ more c.put_back.ensures.since).begins);
+        shows = show.ensures.shows;
+      };
+}

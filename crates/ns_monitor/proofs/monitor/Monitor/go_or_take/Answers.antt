@@ -1,4 +1,4 @@
-use Rattle.std.proofs.Common.{◌∙◌, sym, subst, ap, refl, arith, None, true, false}
+use Rattle.std.proofs.Common.{◌∙◌, sym, subst, ap, refl, arith, None, true, false, rules}
 use Rattle.ns_gate.specs.Prelude.{TableId, the, CanStep, Performed, word_taken, LoadWord, TakeQueues, Made, Saw}
 use Rattle.ns_gate.proofs.Calls.{since, since_itself, since_then}
 use Rattle.ns_monitor.proofs.Standing.{can_go_by, can_load, decided, may_by, can_take, goes_alone, goes_by, loads, misses, misses_taking, saw_held, took}
@@ -13,13 +13,14 @@ exchange_to_go-requires g c = let t = g.C.Condition.means in let inv = c.loop.in
     let may = may_by c.args.going walk c.loop.word c.may_go.result true is c.may_go.ensures c.if-may_go.true in
     (omega arith, (g.met.C.Gated.queues_fit, (omega arith, (◌∙◌ {A = TableId} inv.2 c.requires.of, (inv.3, (may.0, subst (λ x. CanStep t None (going_act x c.loop.word) c.loop.seat.me) (sym is) (can_go_by t walk c.loop.word c.loop.seat.me d may.1 (decided t walk c.loop.word true _ c.loop.seat.me d may.1 refl inv.6))))))))
 
-pub returns-in-Ok-clause-since : goal.returns-in-Ok-clause-since
-returns-in-Ok-clause-since g c = since_then None _ _ _ c.loop.invariant.4 (since g.C.Condition.means None (going_act c.args.going c.loop.word) Made c.loop.seat.me c.exchange_to_go.new.seat.me c.in-Ok.ensures.did)
-
-pub returns-in-Ok-clause-came : goal.returns-in-Ok-clause-came
-returns-in-Ok-clause-came g c = let t = g.C.Condition.means in let inv = c.loop.invariant in let walk = c.args._walk in let is = c.requires.going in let d = c.requires.decides in let now = c.exchange_to_go.new.seat.me in
-    let may = (may_by c.args.going walk c.loop.word c.may_go.result true is c.may_go.ensures c.if-may_go.true).1 in
-    (goes_alone _ c.loop.word may, goes_by t walk c.loop.word c.loop.seat.me now d may (decided t walk c.loop.word true _ c.loop.seat.me d may refl inv.6) (subst (λ x. Performed t None (going_act x c.loop.word) Made c.loop.seat.me now) is c.in-Ok.ensures.did))
+pub returns-in-Ok : goal.returns-in-Ok
+returns-in-Ok g c = record {
+  seat = search rules;
+  since = since_then None _ _ _ c.loop.invariant.4 (since g.C.Condition.means None (going_act c.args.going c.loop.word) Made c.loop.seat.me c.exchange_to_go.new.seat.me c.in-Ok.ensures.did);
+  came = let t = g.C.Condition.means in let inv = c.loop.invariant in let walk = c.args._walk in let is = c.requires.going in let d = c.requires.decides in let now = c.exchange_to_go.new.seat.me in
+      let may = (may_by c.args.going walk c.loop.word c.may_go.result true is c.may_go.ensures c.if-may_go.true).1 in
+      (goes_alone _ c.loop.word may, goes_by t walk c.loop.word c.loop.seat.me now d may (decided t walk c.loop.word true _ c.loop.seat.me d may refl inv.6) (subst (λ x. Performed t None (going_act x c.loop.word) Made c.loop.seat.me now) is c.in-Ok.ensures.did));
+}
 
 pub loop-preserved-in-Err : goal.loop-preserved-in-Err
 loop-preserved-in-Err g c = let t = g.C.Condition.means in let inv = c.loop.invariant in let walk = c.args._walk in let is = c.requires.going in let d = c.requires.decides in let me = c.loop.seat.me in let now = c.exchange_to_go.new.seat.me in let other = c.in-Err.other in
@@ -57,18 +58,16 @@ exchange_to_take-requires g c = let t = g.C.Condition.means in let inv = c.loop.
     let may = (may_by c.args.going walk c.loop.word c.may_go.result false is c.may_go.ensures c.if-may_go.false).1 in
     (omega arith, (g.met.C.Gated.queues_fit, (omega arith, (◌∙◌ {A = TableId} inv.2 (◌∙◌ {A = TableId} c.requires.of (sym c.self.view_is)), (inv.3, subst (λ x. CanStep t None (TakeQueues x c.loop.word) c.loop.seat.me) (ap taking_for (sym is) ∙ sym c.taking-taking.ensures) (can_take t walk c.loop.word c.loop.seat.me d (decided t walk c.loop.word false false c.loop.seat.me d may c.if-word.false inv.6)))))))
 
-pub returns-in-Ok-exchange_to_take-clause-seat : goal.returns-in-Ok-exchange_to_take-clause-seat
-returns-in-Ok-exchange_to_take-clause-seat g c = ◌∙◌ {A = TableId} c.exchange_to_take.ensures.seat (◌∙◌ {A = TableId} c.loop.invariant.2 c.requires.of)
-
-pub returns-in-Ok-exchange_to_take-clause-since : goal.returns-in-Ok-exchange_to_take-clause-since
-returns-in-Ok-exchange_to_take-clause-since g c = since_then None _ _ _ c.loop.invariant.4 (since g.C.Condition.means None (TakeQueues c.taking-taking.result c.loop.word) Made c.loop.seat.me c.exchange_to_take.new.seat.me c.in-Ok-exchange_to_take.ensures.did)
-
-pub returns-in-Ok-exchange_to_take-clause-came : goal.returns-in-Ok-exchange_to_take-clause-came
-returns-in-Ok-exchange_to_take-clause-came g c = let t = g.C.Condition.means in let inv = c.loop.invariant in let walk = c.args._walk in let is = c.requires.going in let d = c.requires.decides in let me = c.loop.seat.me in let now = c.exchange_to_take.new.seat.me in
-    let may = (may_by c.args.going walk c.loop.word c.may_go.result false is c.may_go.ensures c.if-may_go.false).1 in
-    let taking = c.taking-taking.ensures ∙ ap taking_for is in
-    subst (λ w. HasTakenAt t walk w c.args.seat.now.me now) (sym (c.taken.ensures ∙ ap (λ x. word_taken x c.loop.word) taking))
-    (took t walk c.loop.word c.args.seat.now.me me now d inv.3 inv.5 (decided t walk c.loop.word false false me d may c.if-word.false inv.6) (subst (λ x. Performed t None (TakeQueues x c.loop.word) Made me now) taking c.in-Ok-exchange_to_take.ensures.did))
+pub returns-in-Ok-exchange_to_take : goal.returns-in-Ok-exchange_to_take
+returns-in-Ok-exchange_to_take g c = record {
+  seat = ◌∙◌ {A = TableId} c.exchange_to_take.ensures.seat (◌∙◌ {A = TableId} c.loop.invariant.2 c.requires.of);
+  since = since_then None _ _ _ c.loop.invariant.4 (since g.C.Condition.means None (TakeQueues c.taking-taking.result c.loop.word) Made c.loop.seat.me c.exchange_to_take.new.seat.me c.in-Ok-exchange_to_take.ensures.did);
+  came = let t = g.C.Condition.means in let inv = c.loop.invariant in let walk = c.args._walk in let is = c.requires.going in let d = c.requires.decides in let me = c.loop.seat.me in let now = c.exchange_to_take.new.seat.me in
+      let may = (may_by c.args.going walk c.loop.word c.may_go.result false is c.may_go.ensures c.if-may_go.false).1 in
+      let taking = c.taking-taking.ensures ∙ ap taking_for is in
+      subst (λ w. HasTakenAt t walk w c.args.seat.now.me now) (sym (c.taken.ensures ∙ ap (λ x. word_taken x c.loop.word) taking))
+      (took t walk c.loop.word c.args.seat.now.me me now d inv.3 inv.5 (decided t walk c.loop.word false false me d may c.if-word.false inv.6) (subst (λ x. Performed t None (TakeQueues x c.loop.word) Made me now) taking c.in-Ok-exchange_to_take.ensures.did));
+}
 
 pub loop-preserved : goal.loop-preserved
 loop-preserved g c = let t = g.C.Condition.means in let inv = c.loop.invariant in let walk = c.args._walk in let is = c.requires.going in let d = c.requires.decides in let me = c.loop.seat.me in let now = c.exchange_to_take.new.seat.me in let other = c.in-Err-exchange_to_take.other in

@@ -1,9 +1,9 @@
-use Rattle.std.proofs.Common.{◌∙◌, ap, sym, subst, refl, arith, None, true, false}
+use Rattle.std.proofs.Common.{◌∙◌, ap, sym, subst, refl, arith, None, true, false, rules}
 use Rattle.ns_gate.specs.Prelude.{TableId, HasSince, IsAtPlace, HasReached, the, LeaveSelf, Await, AwaitWakeToLeave, Leave, InLeaving, InWait, IsList}
 use Rattle.ns_gate.specs.declared.queues.Returning.TheVariants.{Changed}
 use Rattle.ns_gate.proofs.Calls.{since_then, works}
 use Rattle.ns_monitor.proofs.Standing.{hand_by, same_number, still_since}
-use Rattle.ns_monitor.proofs.Waits.{home_there, left_next, taken_next}
+use Rattle.ns_monitor.proofs.Waits.{home_there, left_next, taken_ended, taken_next}
 use Rattle.ns_monitor.proofs.monitor.Monitor.leave.Given.{Over}
 use Rattle.ns_monitor.proofs.monitor.Monitor.leave.Goals.{After-put_back}
 use Rattle.ns_monitor.proofs.monitor.Monitor.leave.Goals as goal
@@ -20,21 +20,25 @@ put_back-requires g c = let t = g.C.Condition.means in let took = c.take-word in
 since_back : (g : Over) (c : After-put_back g) → HasSince None (the c.args.seat.now.me.0) (the c.put_back.new.seat.me.0)
 since_back g c = since_then None _ _ _ (still_since g.C.Condition.means None _ c.take-word.new.seat.me c.leave_in_hand-stood.new.seat.me c.leave_in_hand-stood.ensures.seat.1 c.take-word.ensures.since) c.put_back.ensures.since
 
-pub returns-then-stood-clause-since : goal.returns-then-stood-clause-since
-returns-then-stood-clause-since g c = since_back g (goal.at.returns-then-stood-clause-since g c).After-put_back
-
-pub returns-then-stood-clause-left : goal.returns-then-stood-clause-left
-returns-then-stood-clause-left g c = let t = g.C.Condition.means in let took = c.take-word in let left = c.leave_in_hand-stood in
-    subst (λ next. HasReached t (Await c.args.wait) next c.put_back.new.seat.me) (left_next t c.args.wait c.args.cause took.result c.home-home.result c.args.number left.result.0 true took.new.seat.me left.new.seat.me c.home-home.ensures (c.requires.number.0 ∙ sym took.ensures.since.seat) left.ensures.seat.1 left.ensures.stood c.if-stood.true) c.put_back.ensures.returned
+pub returns-then-stood : goal.returns-then-stood
+returns-then-stood g c = record {
+  seat = search rules;
+  since = since_back g (goal.at.returns-then-stood g c).After-put_back;
+  ended = search rules;
+  left = let t = g.C.Condition.means in let took = c.take-word in let left = c.leave_in_hand-stood in
+      subst (λ next. HasReached t (Await c.args.wait) next c.put_back.new.seat.me) (left_next t c.args.wait c.args.cause took.result c.home-home.result c.args.number left.result.0 true took.new.seat.me left.new.seat.me c.home-home.ensures (c.requires.number.0 ∙ sym took.ensures.since.seat) left.ensures.seat.1 left.ensures.stood c.if-stood.true) c.put_back.ensures.returned;
+}
 
 pub await_flag-flag-requires : goal.await_flag-flag-requires
 await_flag-flag-requires g c = let t = g.C.Condition.means in let took = c.take-word in let left = c.leave_in_hand-stood in
     let at : IsAtPlace t (InWait c.args.wait (InLeaving c.args.cause AwaitWakeToLeave)) c.put_back.new.seat.me = subst (λ next. HasReached t (Await c.args.wait) next c.put_back.new.seat.me) (left_next t c.args.wait c.args.cause took.result c.home-home.result c.args.number left.result.0 false took.new.seat.me left.new.seat.me c.home-home.ensures (c.requires.number.0 ∙ sym took.ensures.since.seat) left.ensures.seat.1 left.ensures.stood c.if-stood.false) c.put_back.ensures.returned in
     (omega arith, (g.met.C.Gated.queues_fit, (omega arith, (c.put_back.ensures.seat, (same_number t None c.args.number c.args.seat.now.me c.put_back.new.seat.me c.requires.number (since_back g (goal.at.await_flag-flag-requires g c).After-put_back), (record { loads = refl; free = refl; rests = refl }, at))))))
 
-pub returns-clause-since : goal.returns-clause-since
-returns-clause-since g c = since_then None _ _ _ (since_back g (goal.at.returns-clause-since g c).After-put_back) c.await_flag-flag.ensures.since
-
-pub returns-clause-left : goal.returns-clause-left
-returns-clause-left g c = let t = g.C.Condition.means in let flag = c.await_flag-flag.result in
-    taken_next t c.args.wait c.args.cause flag c.outcome_taken.result c.arrival_of.result c.await_flag-flag.new.seat.me c.await_flag-flag.ensures.cleared c.outcome_taken.ensures c.arrival_of.ensures c.await_flag-flag.ensures.woken
+pub returns : goal.returns
+returns g c = record {
+  seat = search rules;
+  since = since_then None _ _ _ (since_back g (goal.at.returns g c).After-put_back) c.await_flag-flag.ensures.since;
+  ended = taken_ended c.args.wait.on c.args.cause c.await_flag-flag.result c.outcome_taken.result c.outcome_taken.ensures;
+  left = let t = g.C.Condition.means in let flag = c.await_flag-flag.result in
+      taken_next t c.args.wait c.args.cause flag c.outcome_taken.result c.arrival_of.result c.await_flag-flag.new.seat.me c.await_flag-flag.ensures.cleared c.outcome_taken.ensures c.arrival_of.ensures c.await_flag-flag.ensures.woken;
+}

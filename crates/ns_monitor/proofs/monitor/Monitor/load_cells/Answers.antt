@@ -1,4 +1,4 @@
-use Rattle.std.proofs.Common.{◌≡◌, ◌∙◌, ◌<◌, sym, subst, arith, refl}
+use Rattle.std.proofs.Common.{◌≡◌, ◌∙◌, ◌<◌, sym, subst, arith, refl, rules}
 use Rattle.ns_gate.specs.Prelude.{TableId}
 use Rattle.ns_monitor.proofs.Tests.{can_load_cell, loads_cell, loads_none}
 use Rattle.ns_monitor.specs.Prelude.{HasLoaded}
@@ -16,6 +16,9 @@ pub loop-i-preserved : goal.loop-i-preserved
 loop-i-preserved g c = let inv = c.loop-i.invariant in let few = c.requires.count.0 in let low = c.loop-i-test.true in
     (◌∙◌ {A = TableId} c.load_cell.ensures.seat inv.0, loads_cell g.C.Condition.means _ _ _ _ _ _ _ _ _ (subst (λ n. c.loop-i.i < n) c.requires.count.1 low) (omega (arith, few, low)) inv.1 c.load_cell.ensures.did)
 
-pub returns-clause-loaded : goal.returns-clause-loaded
-returns-clause-loaded g c = let all : c.loop-i.i ≡ c.args.count = omega arith in
-    subst (λ n. HasLoaded g.C.Condition.means c.args.begins c.loop-i.begun c.args._walk n c.loop-i.row c.args.seat.now.me c.loop-i.seat.me) all c.loop-i.invariant.1
+pub returns : goal.returns
+returns g c = record {
+  seat = search rules;
+  loaded = let all : c.loop-i.i ≡ c.args.count = omega arith in
+      subst (λ n. HasLoaded g.C.Condition.means c.args.begins c.loop-i.begun c.args._walk n c.loop-i.row c.args.seat.now.me c.loop-i.seat.me) all c.loop-i.invariant.1;
+}

@@ -1,4 +1,4 @@
-use Rattle.std.proofs.Common.{◌∙◌, sym, arith, refl}
+use Rattle.std.proofs.Common.{◌∙◌, sym, arith, refl, rules}
 use Rattle.ns_gate.specs.Prelude.{TableId}
 use Rattle.ns_monitor.proofs.Tests.{can_tell, is_judged}
 use Rattle.ns_monitor.proofs.monitor.Monitor.load_to_judge.Goals as goal
@@ -7,11 +7,10 @@ pub judge_quiet-requires : goal.judge_quiet-requires
 judge_quiet-requires g c = let some_cells = g.met.C.Condition.has_cells.0 in let begun = c.load_cells-begun.ensures in
     (omega arith, (g.met.C.Gated.queues_fit, (omega arith, (◌∙◌ {A = TableId} begun.seat (sym c.self.view_is), (omega (arith, some_cells), can_tell g.C.Condition.means _ _ _ _ _ _ _ refl begun.loaded)))))
 
-pub returns-clause-since : goal.returns-clause-since
-returns-clause-since g c = (is_judged g.C.Condition.means _ _ _ _ _ _ _ g.met.C.Condition.has_cells.0 c.is_quiet.ensures.first c.load_cells-begun.ensures.loaded c.judge_quiet.ensures.cell c.judge_quiet.ensures.did).0
-
-pub returns-clause-judged : goal.returns-clause-judged
-returns-clause-judged g c = (is_judged g.C.Condition.means _ _ _ _ _ _ _ g.met.C.Condition.has_cells.0 c.is_quiet.ensures.first c.load_cells-begun.ensures.loaded c.judge_quiet.ensures.cell c.judge_quiet.ensures.did).1
-
-pub returns-clause-row : goal.returns-clause-row
-returns-clause-row g c = (is_judged g.C.Condition.means _ _ _ _ _ _ _ g.met.C.Condition.has_cells.0 c.is_quiet.ensures.first c.load_cells-begun.ensures.loaded c.judge_quiet.ensures.cell c.judge_quiet.ensures.did).2
+pub returns : goal.returns
+returns g c = record {
+  seat = search rules;
+  since = (is_judged g.C.Condition.means _ _ _ _ _ _ _ g.met.C.Condition.has_cells.0 c.is_quiet.ensures.first c.load_cells-begun.ensures.loaded c.judge_quiet.ensures.cell c.judge_quiet.ensures.did).0;
+  judged = (is_judged g.C.Condition.means _ _ _ _ _ _ _ g.met.C.Condition.has_cells.0 c.is_quiet.ensures.first c.load_cells-begun.ensures.loaded c.judge_quiet.ensures.cell c.judge_quiet.ensures.did).1;
+  row = (is_judged g.C.Condition.means _ _ _ _ _ _ _ g.met.C.Condition.has_cells.0 c.is_quiet.ensures.first c.load_cells-begun.ensures.loaded c.judge_quiet.ensures.cell c.judge_quiet.ensures.did).2;
+}

@@ -1,4 +1,4 @@
-use Rattle.std.proofs.Common.{◌∙◌, sym, refl, arith, None, true, false}
+use Rattle.std.proofs.Common.{◌∙◌, sym, refl, arith, None, true, false, rules}
 use Rattle.ns_gate.specs.Prelude.{TableId, the, Look, Looked, LookIn, InQueuing, InWait}
 use Rattle.ns_gate.proofs.Calls.{can_go, since, since_itself}
 use Rattle.ns_gate.proofs.Findings.{does}
@@ -6,27 +6,30 @@ use Rattle.ns_monitor.proofs.Standing.{commits_none}
 use Rattle.ns_monitor.proofs.Returns.{by_limits, look_fresh, looks_in}
 use Rattle.ns_monitor.proofs.monitor.Monitor.look_before.Goals as goal
 
-pub returns-then-not-is_some-clause-since : goal.returns-then-not-is_some-clause-since
-returns-then-not-is_some-clause-since g c = since_itself (the c.args.seat.now.me.0)
-
-pub returns-then-not-is_some-clause-looked : goal.returns-then-not-is_some-clause-looked
-returns-then-not-is_some-clause-looked g c = g.W.Watch.same c.args.watch.now
-
-pub returns-then-not-is_some-clause-leads : goal.returns-then-not-is_some-clause-leads
-returns-then-not-is_some-clause-leads g c = (by_limits g.C.Condition.means c.args.wait c.args.again false c.args.seat.now.me (sym c.is_some.ensures ∙ c.if-not-is_some.true) c.requires.at, refl)
+pub returns-then-not-is_some : goal.returns-then-not-is_some
+returns-then-not-is_some g c = record {
+  seat = search rules;
+  since = since_itself (the c.args.seat.now.me.0);
+  looked = g.W.Watch.same c.args.watch.now;
+  shown = search rules;
+  ends = search rules;
+  mine = search rules;
+  leads = (by_limits g.C.Condition.means c.args.wait c.args.again false c.args.seat.now.me (sym c.is_some.ensures ∙ c.if-not-is_some.true) c.requires.at, refl);
+  fresh = search rules;
+}
 
 pub look-requires : goal.look-requires
 look-requires g c = let t = g.C.Condition.means in let me = c.args.seat.now.me in let wait = c.args.wait in
     (omega arith, (g.met.C.Gated.queues_fit, (omega arith, (◌∙◌ {A = TableId} c.requires.of (sym c.self.view_is), (c.requires.number, (g.W.Watch.names c.args.watch.now c.look-shown.new.self wait.limits c.look-shown.result c.requires.watches c.look-shown.ensures.shown, can_go t (InWait wait (InQueuing c.args.again LookIn)) (Look wait.limits c.args.again) me refl (by_limits t wait c.args.again true me (sym c.is_some.ensures ∙ c.if-not-is_some.false) c.requires.at)))))))
 
-pub returns-clause-since : goal.returns-clause-since
-returns-clause-since g c = since g.C.Condition.means None (Look c.args.wait.limits c.args.again) (Looked c.look-shown.result) c.args.seat.now.me c.look.new.seat.me c.look.ensures.did
-
-pub returns-clause-mine : goal.returns-clause-mine
-returns-clause-mine g c = commits_none g.C.Condition.means None (Look c.args.wait.limits c.args.again) (Looked c.look-shown.result) c.args.seat.now.me c.look.new.seat.me c.look.ensures.did (does g.C.Condition.means None (Look c.args.wait.limits c.args.again) (Looked c.look-shown.result) c.args.seat.now.me c.look.new.seat.me c.look.ensures.did).2
-
-pub returns-clause-leads : goal.returns-clause-leads
-returns-clause-leads g c = let t = g.C.Condition.means in let me = c.args.seat.now.me in looks_in t c.args.wait c.args.again c.look-shown.result me c.look.new.seat.me (by_limits t c.args.wait c.args.again true me (sym c.is_some.ensures ∙ c.if-not-is_some.false) c.requires.at) c.look.ensures.did
-
-pub returns-clause-fresh : goal.returns-clause-fresh
-returns-clause-fresh g c = look_fresh g.C.Condition.means c.args.wait c.args.again c.look-shown.result c.args.seat.now.me c.look.new.seat.me c.look.ensures.did
+pub returns : goal.returns
+returns g c = record {
+  seat = search rules;
+  since = since g.C.Condition.means None (Look c.args.wait.limits c.args.again) (Looked c.look-shown.result) c.args.seat.now.me c.look.new.seat.me c.look.ensures.did;
+  looked = search rules;
+  shown = search rules;
+  ends = search rules;
+  mine = commits_none g.C.Condition.means None (Look c.args.wait.limits c.args.again) (Looked c.look-shown.result) c.args.seat.now.me c.look.new.seat.me c.look.ensures.did (does g.C.Condition.means None (Look c.args.wait.limits c.args.again) (Looked c.look-shown.result) c.args.seat.now.me c.look.new.seat.me c.look.ensures.did).2;
+  leads = let t = g.C.Condition.means in let me = c.args.seat.now.me in looks_in t c.args.wait c.args.again c.look-shown.result me c.look.new.seat.me (by_limits t c.args.wait c.args.again true me (sym c.is_some.ensures ∙ c.if-not-is_some.false) c.requires.at) c.look.ensures.did;
+  fresh = look_fresh g.C.Condition.means c.args.wait c.args.again c.look-shown.result c.args.seat.now.me c.look.new.seat.me c.look.ensures.did;
+}

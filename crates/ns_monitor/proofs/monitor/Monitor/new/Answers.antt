@@ -23,5 +23,9 @@ loop-number-preserved g c = let v = c.loop-number.invariant in let n = c.args.se
       subst (AreNew n t 0) (sym p) (new_more g.row.C.Denot g.row.N n t 0 c.loop-number.given.items c.seated.result v.3 (k ∙ ap (λ (j : ℕ). known_of t (fresh_seat n j ∷ [], [])) e)),
     )
 
-pub returns-clause-seats : goal.returns-clause-seats
-returns-clause-seats g c = all_of g.row.C.Denot g.row.N c.args.seats c.in_ok-gate.gate 0 c.loop-number.given.items (subst (λ (t : TableId). AreNew c.args.seats t 0 c.loop-number.given.items) c.in_ok-gate.ensures.0 c.loop-number.invariant.3)
+pub returns : goal.returns
+returns g c = record {
+  made = search rules;
+  seats = all_of g.row.C.Denot g.row.N c.args.seats c.in_ok-gate.gate 0 c.loop-number.given.items (subst (λ (t : TableId). AreNew c.args.seats t 0 c.loop-number.given.items) c.in_ok-gate.ensures.0 c.loop-number.invariant.3);
+  refused = search rules;
+}

@@ -21,12 +21,10 @@ loop-number-preserved g c = let t = g.C.Condition.means in let inv = c.loop-numb
     let paid = is_paid t c.args._walk c.args.value (get_or items i 0) (drop (i + 1) items) me now c.requires.pays some at c.pay_wake.ensures.did in
     (◌∙◌ {A = TableId} c.pay_wake.ensures.seat inv.0, paid.0, since_then None _ _ _ inv.2 (since t None (PayWake c.args.value) (owes_more (the me.0).at.owed) me now c.pay_wake.ensures.did), paid.1)
 
-pub returns-clause-seat : goal.returns-clause-seat
-returns-clause-seat g c = ◌∙◌ {A = TableId} c.loop-number.invariant.0 c.requires.of
-
-pub returns-clause-since : goal.returns-clause-since
-returns-clause-since g c = c.loop-number.invariant.2
-
-pub returns-clause-paid : goal.returns-clause-paid
-returns-clause-paid g c = let inv = c.loop-number.invariant in
-    all_paid g.C.Condition.means c.args._walk c.loop-number.seat.me (inv.1 ∙ drop_all c.loop-number.number-index c.as_slice-number-items.result.now (omega arith)) inv.3
+pub returns : goal.returns
+returns g c = record {
+  seat = ◌∙◌ {A = TableId} c.loop-number.invariant.0 c.requires.of;
+  since = c.loop-number.invariant.2;
+  paid = let inv = c.loop-number.invariant in
+      all_paid g.C.Condition.means c.args._walk c.loop-number.seat.me (inv.1 ∙ drop_all c.loop-number.number-index c.as_slice-number-items.result.now (omega arith)) inv.3;
+}

@@ -15,19 +15,15 @@ exchange_to_return-requires g c = let t = g.C.Condition.means in let inv = c.loo
     let can = subst (λ r. CanStep t None (act_returning r last) me) (sym c.requires.returning) (can_put_back t c.args._walk last me c.requires.puts inv.6) in
     (omega arith, (g.met.C.Gated.queues_fit, (omega arith, (◌∙◌ {A = TableId} inv.2 (◌∙◌ {A = TableId} c.requires.of (sym c.self.view_is)), (inv.3, (can, (hand.carries last, (hand.some last, hand.bits last))))))))
 
-pub returns-in-Ok-clause-seat : goal.returns-in-Ok-clause-seat
-returns-in-Ok-clause-seat g c = ◌∙◌ {A = TableId} c.exchange_to_return.ensures.seat (◌∙◌ {A = TableId} c.loop.invariant.2 c.requires.of)
-
-pub returns-in-Ok-clause-since : goal.returns-in-Ok-clause-since
-returns-in-Ok-clause-since g c = since_then None _ _ _ c.loop.invariant.4 (since g.C.Condition.means None (act_returning c.args.returning c.loop.word) (found_back g.C.Condition.means c.args.returning c.loop.word c.loop.seat.me) c.loop.seat.me c.exchange_to_return.new.seat.me c.in-Ok.ensures.did)
-
-pub returns-in-Ok-clause-returned : goal.returns-in-Ok-clause-returned
-returns-in-Ok-clause-returned g c = let inv = c.loop.invariant in
-    (is_back_for g.C.Condition.means c.args.returning c.args._walk c.args.first c.loop.word c.args.turned c.args.seat.now.me c.loop.seat.me c.exchange_to_return.new.seat.me c.requires.returning c.requires.puts inv.6 inv.5 c.requires.hand c.in-Ok.ensures.did).0
-
-pub returns-in-Ok-clause-owes : goal.returns-in-Ok-clause-owes
-returns-in-Ok-clause-owes g c = let inv = c.loop.invariant in
-    (is_back_for g.C.Condition.means c.args.returning c.args._walk c.args.first c.loop.word c.args.turned c.args.seat.now.me c.loop.seat.me c.exchange_to_return.new.seat.me c.requires.returning c.requires.puts inv.6 inv.5 c.requires.hand c.in-Ok.ensures.did).1
+pub returns-in-Ok : goal.returns-in-Ok
+returns-in-Ok g c = record {
+  seat = ◌∙◌ {A = TableId} c.exchange_to_return.ensures.seat (◌∙◌ {A = TableId} c.loop.invariant.2 c.requires.of);
+  since = since_then None _ _ _ c.loop.invariant.4 (since g.C.Condition.means None (act_returning c.args.returning c.loop.word) (found_back g.C.Condition.means c.args.returning c.loop.word c.loop.seat.me) c.loop.seat.me c.exchange_to_return.new.seat.me c.in-Ok.ensures.did);
+  returned = let inv = c.loop.invariant in
+      (is_back_for g.C.Condition.means c.args.returning c.args._walk c.args.first c.loop.word c.args.turned c.args.seat.now.me c.loop.seat.me c.exchange_to_return.new.seat.me c.requires.returning c.requires.puts inv.6 inv.5 c.requires.hand c.in-Ok.ensures.did).0;
+  owes = let inv = c.loop.invariant in
+      (is_back_for g.C.Condition.means c.args.returning c.args._walk c.args.first c.loop.word c.args.turned c.args.seat.now.me c.loop.seat.me c.exchange_to_return.new.seat.me c.requires.returning c.requires.puts inv.6 inv.5 c.requires.hand c.in-Ok.ensures.did).1;
+}
 
 pub loop-preserved : goal.loop-preserved
 loop-preserved g c = let t = g.C.Condition.means in let inv = c.loop.invariant in let me = c.loop.seat.me in let now = c.exchange_to_return.new.seat.me in let did = c.in-Err.ensures.did in

@@ -1,8 +1,8 @@
-use Rattle.std.proofs.Common.{◌≡◌, ◌∙◌, sym, subst, ap, refl, arith, None}
+use Rattle.std.proofs.Common.{◌≡◌, ◌∙◌, sym, subst, ap, refl, arith, None, rules}
 use Rattle.ns_gate.specs.Prelude.{TableId, the, times, Arm, Queue, QueueSelf, InAcquire}
 use Rattle.ns_gate.specs.declared.queues.Returning.TheVariants.{Changed}
 use Rattle.ns_gate.proofs.Calls.{since_then, works}
-use Rattle.ns_monitor.proofs.Locks.{HasArmed, arms}
+use Rattle.ns_monitor.proofs.Locks.{HasArmed, arms, comes_to_acquire}
 use Rattle.ns_monitor.proofs.Standing.{hand_by, still_since}
 use Rattle.ns_monitor.proofs.monitor.Monitor.queue.Given.{Over}
 use Rattle.ns_monitor.proofs.monitor.Monitor.queue.Goals.{After-arm_flag}
@@ -24,6 +24,10 @@ put_back-requires g c = let t = g.C.Condition.means in let me1 = c.arm_flag.new.
     let hand = hand_by t (QueueSelf mode c.args.arrival) c.args.number queued.result me1 queued.new.seat.me (number_is g after) same (λ last. refl) queued.ensures.lists queued.ensures.bits in
     (omega arith, (g.met.C.Gated.queues_fit, (omega arith, (◌∙◌ {A = TableId} queued.ensures.seat.0 (◌∙◌ {A = TableId} c.arm_flag.ensures.seat c.requires.of), (tt, (ap (λ m. Changed (QueueSelf m c.args.arrival)) c.mode-mode.ensures, (c.requires.word, (works t (InAcquire c.args.aim (Queue c.args.arrival c.args.word)) me1 queued.new.seat.me (armed g after).at refl same, hand))))))))
 
-pub returns-clause-since : goal.returns-clause-since
-returns-clause-since g c = let after = (goal.at.returns-clause-since g c).After-arm_flag in
-    since_then None _ _ _ (still_since g.C.Condition.means None _ c.arm_flag.new.seat.me c.queue_in_hand-bits.new.seat.me c.queue_in_hand-bits.ensures.seat.1 (armed g after).since) (since_then None _ _ _ c.put_back.ensures.since c.await_flag-flag.ensures.since)
+pub returns : goal.returns
+returns g c = record {
+  seat = search rules;
+  since = let after = (goal.at.returns g c).After-arm_flag in
+      since_then None _ _ _ (still_since g.C.Condition.means None _ c.arm_flag.new.seat.me c.queue_in_hand-bits.new.seat.me c.queue_in_hand-bits.ensures.seat.1 (armed g after).since) (since_then None _ _ _ c.put_back.ensures.since c.await_flag-flag.ensures.since);
+  woken = comes_to_acquire g.C.Condition.means c.args.aim c.tries-tries.result c.await_flag-flag.result c.arrival_of.result c.await_flag-flag.new.seat.me c.await_flag-flag.ensures.cleared c.arrival_of.ensures c.await_flag-flag.ensures.woken;
+}

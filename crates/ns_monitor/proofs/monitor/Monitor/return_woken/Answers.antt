@@ -1,4 +1,4 @@
-use Rattle.std.proofs.Common.{◌≡◌, ◌∙◌, not, sym, subst, refl, ap, arith, None}
+use Rattle.std.proofs.Common.{◌≡◌, ◌∙◌, not, sym, subst, refl, ap, arith, None, rules}
 use Rattle.ns_gate.specs.Prelude.{TableId, HasSince, IsAtPlace, the, Carries, InSignal, IsOrderly, ReturnQueues, Saw, WakeAndReturn, WakeWaiters, change_found, is_held, lists_woken, taken_from}
 use Rattle.ns_gate.proofs.Calls.{since, since_itself, since_then, works}
 use Rattle.ns_gate.proofs.Stays.{HasKeptItsQueues}
@@ -16,14 +16,15 @@ pub exchange_to_return-requires : goal.exchange_to_return-requires
 exchange_to_return-requires g c = let t = g.C.Condition.means in let inv = c.loop.invariant in let hand = inv.7 in
     (omega arith, (g.met.C.Gated.queues_fit, (omega arith, (◌∙◌ {A = TableId} inv.2 (◌∙◌ {A = TableId} c.requires.of (sym c.self.view_is)), (inv.3, (can_return t c.args.waking c.args.k c.loop.word c.loop.seat.me inv.6, (hand.carries, (hand.some, hand.bits))))))))
 
-pub returns-in-Ok-clause-since : goal.returns-in-Ok-clause-since
-returns-in-Ok-clause-since g c = let me = c.loop.seat.me in
-    since_then None _ _ _ c.loop.invariant.4 (since g.C.Condition.means None (ReturnQueues (WakeWaiters c.args.waking c.args.k) c.loop.word) (change_found (the me.0).at.seat (WakeWaiters c.args.waking c.args.k) c.loop.word (the me.0).stood) me c.exchange_to_return.new.seat.me c.in-Ok.ensures.did)
-
-pub returns-in-Ok-clause-returned : goal.returns-in-Ok-clause-returned
-returns-in-Ok-clause-returned g c = let t = g.C.Condition.means in let inv = c.loop.invariant in let now = c.exchange_to_return.new.seat.me in
-    subst (λ held. HasReturnedWoken t c.args.waking c.args.k held (the c.args.seat.now.me.0).stood now) (sym c.is_held.ensures)
-    (is_returned t c.args.waking c.args.k c.loop.word c.loop.turned (the c.args.seat.now.me.0).stood c.loop.seat.me now inv.6 inv.7 inv.5 c.in-Ok.ensures.did)
+pub returns-in-Ok : goal.returns-in-Ok
+returns-in-Ok g c = record {
+  seat = search rules;
+  since = let me = c.loop.seat.me in
+      since_then None _ _ _ c.loop.invariant.4 (since g.C.Condition.means None (ReturnQueues (WakeWaiters c.args.waking c.args.k) c.loop.word) (change_found (the me.0).at.seat (WakeWaiters c.args.waking c.args.k) c.loop.word (the me.0).stood) me c.exchange_to_return.new.seat.me c.in-Ok.ensures.did);
+  returned = let t = g.C.Condition.means in let inv = c.loop.invariant in let now = c.exchange_to_return.new.seat.me in
+      subst (λ held. HasReturnedWoken t c.args.waking c.args.k held (the c.args.seat.now.me.0).stood now) (sym c.is_held.ensures)
+      (is_returned t c.args.waking c.args.k c.loop.word c.loop.turned (the c.args.seat.now.me.0).stood c.loop.seat.me now inv.6 inv.7 inv.5 c.in-Ok.ensures.did);
+}
 
 -- ---- another step came between
 

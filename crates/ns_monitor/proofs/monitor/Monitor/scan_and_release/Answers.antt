@@ -1,4 +1,4 @@
-use Rattle.std.proofs.Common.{◌∙◌, ap, not, sym, subst, refl, arith, None}
+use Rattle.std.proofs.Common.{◌∙◌, ap, not, sym, subst, refl, arith, None, rules}
 use Rattle.ns_gate.specs.Prelude.{TableId, IsAtPlace, HasReached, the, woken_of, row_in, has_some, meets_at, pay_releasing, scan_place, ScanAndRelease, InRelease}
 use Rattle.ns_gate.specs.declared.queues.Returning.TheVariants.{Released}
 use Rattle.ns_gate.proofs.Calls.{since_then, works}
@@ -22,6 +22,10 @@ pay-requires g c = let t = g.C.Condition.means in let scan = c.scan_in_hand-scan
     let owed = c.put_back.ensures.owes in
     (omega arith, (g.met.C.Gated.queues_fit, (omega arith, (c.put_back.ensures.seat, (record { pays = refl; free = refl; more = refl }, (subst (λ ns. HasReached t (TheRequest.Release c.args.releasing) (pay_releasing c.args.releasing (has_some ns)) now) (sym owed) c.put_back.ensures.returned, owed ∙ sym (woken_is t walk c.load_to_scan.new.row scan.result.0.woken.items c.load_to_scan.new.seat.me scan.new.seat.me c.load_to_scan.ensures.ready scan.ensures.seat.1 scan.ensures.woken)))))))
 
-pub returns-clause-since : goal.returns-clause-since
-returns-clause-since g c = let scan = c.scan_in_hand-scan in
-    since_then None _ _ _ (still_since g.C.Condition.means None _ c.load_to_scan.new.seat.me scan.new.seat.me scan.ensures.seat.1 c.load_to_scan.ensures.since) (since_then None _ _ _ c.put_back.ensures.since c.pay.ensures.since)
+pub returns : goal.returns
+returns g c = record {
+  seat = search rules;
+  since = let scan = c.scan_in_hand-scan in
+      since_then None _ _ _ (still_since g.C.Condition.means None _ c.load_to_scan.new.seat.me scan.new.seat.me scan.ensures.seat.1 c.load_to_scan.ensures.since) (since_then None _ _ _ c.put_back.ensures.since c.pay.ensures.since);
+  released = search rules;
+}

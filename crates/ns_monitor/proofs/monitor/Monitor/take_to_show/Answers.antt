@@ -1,4 +1,4 @@
-use Rattle.std.proofs.Common.{◌∙◌, true, false, Some, None}
+use Rattle.std.proofs.Common.{◌∙◌, true, false, Some, None, rules}
 use Rattle.ns_gate.specs.Prelude.{TableId, IsAtPlace, InShow, LoadWord, Made, Saw, TakeQueues, ToChange}
 use Rattle.ns_gate.proofs.Calls.{since, since_then}
 use Rattle.ns_monitor.proofs.Shows.{has_stood, loads_to_show, misses_to_show, shows_by, takes_to_show}
@@ -21,17 +21,15 @@ loop-preserved-then-word g c = let t = g.C.Condition.means in let inv = c.loop.i
 free : (g : Over) (c : In-Ok g) → IsAtPlace g.C.Condition.means (InShow (TakeToShow c.loop.word)) c.loop.seat.me
 free g c = shows_by g.C.Condition.means c.loop.word false c.loop.seat.me c.if-word.false c.loop.invariant.5
 
-pub returns-in-Ok-clause-since : goal.returns-in-Ok-clause-since
-returns-in-Ok-clause-since g c = since_then (Some showing) _ _ _ c.loop.invariant.4 (since g.C.Condition.means None (TakeQueues ToChange c.loop.word) Made c.loop.seat.me c.exchange_to_take.new.seat.me c.in-Ok.ensures.did)
-
-pub returns-in-Ok-clause-at : goal.returns-in-Ok-clause-at
-returns-in-Ok-clause-at g c = (takes_to_show g.C.Condition.means c.loop.word c.loop.seat.me c.exchange_to_take.new.seat.me (free g (goal.at.returns-in-Ok-clause-at g c).In-Ok) c.in-Ok.ensures.did).0
-
-pub returns-in-Ok-clause-taken : goal.returns-in-Ok-clause-taken
-returns-in-Ok-clause-taken g c = (takes_to_show g.C.Condition.means c.loop.word c.loop.seat.me c.exchange_to_take.new.seat.me (free g (goal.at.returns-in-Ok-clause-taken g c).In-Ok) c.in-Ok.ensures.did).1
-
-pub returns-in-Ok-clause-stood : goal.returns-in-Ok-clause-stood
-returns-in-Ok-clause-stood g c = has_stood g.C.Condition.means c.args.seat.now.table_id c.exchange_to_take.new.seat.table_id c.loop.word c.args.seat.now.me c.loop.seat.me c.exchange_to_take.new.seat.me c.loop.invariant.4 (free g (goal.at.returns-in-Ok-clause-stood g c).In-Ok) c.in-Ok.ensures.did
+pub returns-in-Ok : goal.returns-in-Ok
+returns-in-Ok g c = record {
+  seat = search rules;
+  since = since_then (Some showing) _ _ _ c.loop.invariant.4 (since g.C.Condition.means None (TakeQueues ToChange c.loop.word) Made c.loop.seat.me c.exchange_to_take.new.seat.me c.in-Ok.ensures.did);
+  at = (takes_to_show g.C.Condition.means c.loop.word c.loop.seat.me c.exchange_to_take.new.seat.me (free g (goal.at.returns-in-Ok g c).In-Ok) c.in-Ok.ensures.did).0;
+  word = search rules;
+  taken = (takes_to_show g.C.Condition.means c.loop.word c.loop.seat.me c.exchange_to_take.new.seat.me (free g (goal.at.returns-in-Ok g c).In-Ok) c.in-Ok.ensures.did).1;
+  stood = has_stood g.C.Condition.means c.args.seat.now.table_id c.exchange_to_take.new.seat.table_id c.loop.word c.args.seat.now.me c.loop.seat.me c.exchange_to_take.new.seat.me c.loop.invariant.4 (free g (goal.at.returns-in-Ok g c).In-Ok) c.in-Ok.ensures.did;
+}
 
 pub loop-preserved : goal.loop-preserved
 loop-preserved g c = let t = g.C.Condition.means in let inv = c.loop.invariant in let tries = c.exchange_to_take in let me = c.loop.seat.me in let now = tries.new.seat.me in let other = c.in-Err.other in

@@ -1,4 +1,4 @@
-use Rattle.std.proofs.Common.{◌∙◌, ◌-◌, ap, sym, arith}
+use Rattle.std.proofs.Common.{◌∙◌, ◌-◌, ap, sym, arith, rules}
 use Rattle.ns_gate.specs.Prelude.{TableId, judge_of}
 use Rattle.ns_monitor.proofs.Tests.{can_tell, is_tested}
 use Rattle.ns_monitor.proofs.monitor.Monitor.test.Goals as goal
@@ -8,8 +8,9 @@ judge_met-requires g c = let some_cells = g.met.C.Condition.has_cells.0 in let b
     let can = can_tell g.C.Condition.means _ _ _ _ _ _ _ (ap (λ subject. judge_of subject (g.row.N - 1)) c.requires.on) begun.loaded in
     (omega arith, (g.met.C.Gated.queues_fit, (omega arith, (◌∙◌ {A = TableId} begun.seat (sym c.self.view_is), (omega (arith, some_cells), can)))))
 
-pub returns-clause-since : goal.returns-clause-since
-returns-clause-since g c = (is_tested g.C.Condition.means _ _ _ _ _ _ _ _ _ _ _ g.met.C.Condition.has_cells.0 c.load_cells-begun.ensures.loaded c.judge_met.ensures.cell c.judge_met.ensures.did c.test.ensures).0
-
-pub returns-clause-tested : goal.returns-clause-tested
-returns-clause-tested g c = (is_tested g.C.Condition.means _ _ _ _ _ _ _ _ _ _ _ g.met.C.Condition.has_cells.0 c.load_cells-begun.ensures.loaded c.judge_met.ensures.cell c.judge_met.ensures.did c.test.ensures).1
+pub returns : goal.returns
+returns g c = record {
+  seat = search rules;
+  since = (is_tested g.C.Condition.means _ _ _ _ _ _ _ _ _ _ _ g.met.C.Condition.has_cells.0 c.load_cells-begun.ensures.loaded c.judge_met.ensures.cell c.judge_met.ensures.did c.test.ensures).0;
+  tested = (is_tested g.C.Condition.means _ _ _ _ _ _ _ _ _ _ _ g.met.C.Condition.has_cells.0 c.load_cells-begun.ensures.loaded c.judge_met.ensures.cell c.judge_met.ensures.did c.test.ensures).1;
+}

@@ -1,17 +1,23 @@
-use Rattle.std.proofs.Common.{◌∙◌, cond, sym, subst}
+use Rattle.std.proofs.Common.{◌∙◌, cond, sym, subst, rules}
 use Rattle.ns_gate.specs.Prelude.{TableId, HasAnswered, TryLock, Busy, Succeeded}
 use Rattle.ns_monitor.proofs.Callers.{locked, saw_more}
 use Rattle.ns_monitor.specs.Prelude.{HasLocked, HasSeenMore, known_of, trying}
 use Rattle.ns_monitor.proofs.monitor.Monitor.try_lock_as.Goals as goal
 
-pub returns-then-try_acquire-clause-locked : goal.returns-then-try_acquire-clause-locked
-returns-then-try_acquire-clause-locked g c = let t = g.C.Condition.means in let a = c.try_acquire in let mode = c.mode.result in
-    let answered = subst (λ b. HasAnswered t (TryLock mode) (cond b Succeeded Busy) a.new.seat.me) c.if-try_acquire.true a.ensures.tried in
-    subst (λ m. HasLocked t (trying m) m c.args.seat (known_of a.new.seat.table_id a.new.seat.me)) c.mode.ensures
-    (locked t (trying mode) mode c.args.seat c.seat.inside.seat.table_id a.new.seat.table_id c.seat.inside.seat.me a.new.seat.me c.seat.view_is (◌∙◌ {A = TableId} a.ensures.seat (sym c.requires)) answered.rest a.ensures.since answered.means)
+pub returns-then-try_acquire : goal.returns-then-try_acquire
+returns-then-try_acquire g c = record {
+  locked = let t = g.C.Condition.means in let a = c.try_acquire in let mode = c.mode.result in
+      let answered = subst (λ b. HasAnswered t (TryLock mode) (cond b Succeeded Busy) a.new.seat.me) c.if-try_acquire.true a.ensures.tried in
+      subst (λ m. HasLocked t (trying m) m c.args.seat (known_of a.new.seat.table_id a.new.seat.me)) c.mode.ensures
+      (locked t (trying mode) mode c.args.seat c.seat.inside.seat.table_id a.new.seat.table_id c.seat.inside.seat.me a.new.seat.me c.seat.view_is (◌∙◌ {A = TableId} a.ensures.seat (sym c.requires)) answered.rest a.ensures.since answered.means);
+  busy = search rules;
+}
 
-pub returns-else-try_acquire-clause-busy : goal.returns-else-try_acquire-clause-busy
-returns-else-try_acquire-clause-busy g c = let t = g.C.Condition.means in let a = c.try_acquire in let mode = c.mode.result in
-    let answered = subst (λ b. HasAnswered t (TryLock mode) (cond b Succeeded Busy) a.new.seat.me) c.if-try_acquire.false a.ensures.tried in
-    subst (λ m. HasSeenMore t (trying m) c.args.seat (known_of a.new.seat.table_id a.new.seat.me)) c.mode.ensures
-    (saw_more t (trying mode) c.args.seat c.seat.inside.seat.table_id a.new.seat.table_id c.seat.inside.seat.me a.new.seat.me c.seat.view_is (◌∙◌ {A = TableId} a.ensures.seat (sym c.requires)) answered.rest a.ensures.since answered.means)
+pub returns-else-try_acquire : goal.returns-else-try_acquire
+returns-else-try_acquire g c = record {
+  locked = search rules;
+  busy = let t = g.C.Condition.means in let a = c.try_acquire in let mode = c.mode.result in
+      let answered = subst (λ b. HasAnswered t (TryLock mode) (cond b Succeeded Busy) a.new.seat.me) c.if-try_acquire.false a.ensures.tried in
+      subst (λ m. HasSeenMore t (trying m) c.args.seat (known_of a.new.seat.table_id a.new.seat.me)) c.mode.ensures
+      (saw_more t (trying mode) c.args.seat c.seat.inside.seat.table_id a.new.seat.table_id c.seat.inside.seat.me a.new.seat.me c.seat.view_is (◌∙◌ {A = TableId} a.ensures.seat (sym c.requires)) answered.rest a.ensures.since answered.means);
+}

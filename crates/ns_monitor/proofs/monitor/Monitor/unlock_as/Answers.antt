@@ -26,12 +26,12 @@ seated-requires g c = let first = releasing_by c.args.releasing in let over = le
     let fit = g.met.C.Gated.queues_fit in
     (fit, (omega arith, (omega arith, (over.2.rest, same_number g.C.Condition.means (Some first) c.held.inside.number c.held.inside.seat.me c.match-go_at_once.seat.me c.held.invariant.1 over.1, over.2.means.left))))
 
-pub returns-clause-grows : goal.returns-clause-grows
-returns-clause-grows g c = let over = left g (goal.at.returns-clause-grows g c).Joined-go_at_once in
-    subst (λ (k : Known g.row.C.Denot g.row.N). Grows g.C.Condition.means (releasing_by c.args.releasing) c.args.held k) (sym c.seated.ensures)
-    (grew g.C.Condition.means (releasing_by c.args.releasing) c.args.held c.held.inside.seat.table_id c.match-go_at_once.seat.table_id c.held.inside.seat.me c.match-go_at_once.seat.me c.held.view_is over.0 over.2.rest over.1)
-
-pub returns-clause-mine : goal.returns-clause-mine
-returns-clause-mine g c = let over = left g (goal.at.returns-clause-mine g c).Joined-go_at_once in
-    subst (λ (k : Known g.row.C.Denot g.row.N). InHand c.args.held.held (λ section. k.mine ≡ c.args.held.mine ++ section_of g.C.Condition.means.holds c.args.held.seat section TheExit.Plain ∷ [])) (sym c.seated.ensures)
-    (released g.C.Condition.means (releasing_by c.args.releasing) c.args.releasing c.args.held c.held.inside.seat.table_id c.match-go_at_once.seat.table_id c.held.inside.seat.me c.match-go_at_once.seat.me c.held.view_is over.1 over.2.means)
+pub returns : goal.returns
+returns g c = record {
+  grows = let over = left g (goal.at.returns g c).Joined-go_at_once in
+      subst (λ (k : Known g.row.C.Denot g.row.N). Grows g.C.Condition.means (releasing_by c.args.releasing) c.args.held k) (sym c.seated.ensures)
+      (grew g.C.Condition.means (releasing_by c.args.releasing) c.args.held c.held.inside.seat.table_id c.match-go_at_once.seat.table_id c.held.inside.seat.me c.match-go_at_once.seat.me c.held.view_is over.0 over.2.rest over.1);
+  mine = let over = left g (goal.at.returns g c).Joined-go_at_once in
+      subst (λ (k : Known g.row.C.Denot g.row.N). InHand c.args.held.held (λ section. k.mine ≡ c.args.held.mine ++ section_of g.C.Condition.means.holds c.args.held.seat section TheExit.Plain ∷ [])) (sym c.seated.ensures)
+      (released g.C.Condition.means (releasing_by c.args.releasing) c.args.releasing c.args.held c.held.inside.seat.table_id c.match-go_at_once.seat.table_id c.held.inside.seat.me c.match-go_at_once.seat.me c.held.view_is over.1 over.2.means);
+}

@@ -1,4 +1,4 @@
-use Rattle.std.proofs.Common.{◌≡◌, ◌∙◌, inl, inr, sym, subst, ap, refl, arith, Some, IfSome, true, false}
+use Rattle.std.proofs.Common.{◌≡◌, ◌∙◌, inl, inr, sym, subst, ap, refl, arith, Some, IfSome, true, false, rules}
 use Rattle.ns_gate.specs.Prelude.{TableId, HasAnswered, HasSince, IsAtRest, SeatOf, the, Answer, Met, row_in, HasMode, answer_of, is_limited, wait_first, Cause, Await, OnEntry, Answered}
 use Rattle.ns_gate.proofs.Calls.{since_then}
 use Rattle.ns_monitor.proofs.Callers.{grew}
@@ -38,17 +38,14 @@ met g c is = tested_so g.C.Condition.means (waits_by c.mode-mode.result c.args.c
 pub invariant_of-result : goal.invariant_of-result
 invariant_of-result g c = let after = (goal.at.invariant_of-result g c).After-test in ((met g after c.if-test.true).rest, same_number g.C.Condition.means (Some (wait_first g.row.N (waits_by c.mode-mode.result c.args.condition c.args.limits))) c.held.inside.number c.held.inside.seat.me c.test.new.seat.me c.held.invariant.1 (began g after), subst (λ o. g.H.Hand.fits c.held.inside.hand o) (sym c.test.ensures.tested.held) c.held.invariant.2)
 
-pub returns-then-test-clause-grows : goal.returns-then-test-clause-grows
-returns-then-test-clause-grows g c = let after = (goal.at.returns-then-test-clause-grows g c).After-test in grown g after c.test.new.seat.table_id c.test.new.seat.me c.test.ensures.seat (met g after c.if-test.true).rest (began g after)
-
-pub returns-then-test-clause-waited : goal.returns-then-test-clause-waited
-returns-then-test-clause-waited g c = let after = (goal.at.returns-then-test-clause-waited g c).After-test in waited g after Met c.test.new.seat.table_id c.test.new.seat.me (began g after) (met g after c.if-test.true)
-
-pub returns-then-test-clause-looked : goal.returns-then-test-clause-looked
-returns-then-test-clause-looked g c = g.W.Watch.same c.args.watch.now
-
-pub returns-then-test-clause-before : goal.returns-then-test-clause-before
-returns-then-test-clause-before g c limited = inl (c.test.ensures.tested.mine ∙ ap (λ (k : Known _ _). k.mine) c.held.view_is)
+pub returns-then-test : goal.returns-then-test
+returns-then-test g c = record {
+  grows = let after = (goal.at.returns-then-test g c).After-test in grown g after c.test.new.seat.table_id c.test.new.seat.me c.test.ensures.seat (met g after c.if-test.true).rest (began g after);
+  waited = let after = (goal.at.returns-then-test g c).After-test in waited g after Met c.test.new.seat.table_id c.test.new.seat.me (began g after) (met g after c.if-test.true);
+  looked = g.W.Watch.same c.args.watch.now;
+  ended = search rules;
+  before = λ limited. inl (c.test.ensures.tested.mine ∙ ap (λ (k : Known _ _). k.mine) c.held.view_is);
+}
 
 -- it has looked
 looked : (g : Over) (c : After-look_before g) → HasSince (Some (wait_first g.row.N (waits_by c.mode-mode.result c.args.condition c.args.limits))) (the c.held.inside.seat.me.0) (the c.look_before.new.seat.me.0)
@@ -61,19 +58,16 @@ ended g c cause is = let led = subst (λ o. QueuesOrEnds g.C.Condition.means (wa
 pub invariant_of-result-in-Some : goal.invariant_of-result-in-Some
 invariant_of-result-in-Some g c = let after = (goal.at.invariant_of-result-in-Some g c).After-look_before in let e = ended g after c.in-Some.cause c.in-Some.is in (e.0.rest, same_number g.C.Condition.means (Some (wait_first g.row.N (waits_by c.mode-mode.result c.args.condition c.args.limits))) c.held.inside.number c.held.inside.seat.me c.look_before.new.seat.me c.held.invariant.1 (looked g after), subst (λ o. g.H.Hand.fits c.held.inside.hand o) (sym e.1) c.held.invariant.2)
 
-pub returns-in-Some-clause-grows : goal.returns-in-Some-clause-grows
-returns-in-Some-clause-grows g c = let after = (goal.at.returns-in-Some-clause-grows g c).After-look_before in grown g (goal.at.returns-in-Some-clause-grows g c).After-test c.look_before.new.seat.table_id c.look_before.new.seat.me c.look_before.ensures.seat (ended g after c.in-Some.cause c.in-Some.is).0.rest (looked g after)
-
-pub returns-in-Some-clause-waited : goal.returns-in-Some-clause-waited
-returns-in-Some-clause-waited g c = let after = (goal.at.returns-in-Some-clause-waited g c).After-look_before in subst (λ answer. HasWaitedFor g.C.Condition.means c.args.condition answer c.args.held (known_of c.look_before.new.seat.table_id c.look_before.new.seat.me)) (sym c.answer_of.ensures)
-    (waited g (goal.at.returns-in-Some-clause-waited g c).After-test (answer_of c.in-Some.cause) c.look_before.new.seat.table_id c.look_before.new.seat.me (looked g after) (ended g after c.in-Some.cause c.in-Some.is).0)
-
-pub returns-in-Some-clause-ended : goal.returns-in-Some-clause-ended
-returns-in-Some-clause-ended g c = let limited = subst (λ o. IfSome o (λ (x : Cause). is_limited c.args.limits ≡ true)) c.in-Some.is c.look_before.ensures.ends in
-    ended_as (λ x. g.W.Watch.shows c.args.watch.now c.look_before.new.watch c.args.limits (Some x)) c.in-Some.cause c.answer_of.result c.answer_of.ensures (subst (g.W.Watch.shows c.args.watch.now c.look_before.new.watch c.args.limits) c.in-Some.is (c.look_before.ensures.shown limited))
-
-pub returns-in-Some-clause-before : goal.returns-in-Some-clause-before
-returns-in-Some-clause-before g c limited = inl (c.look_before.ensures.mine ∙ (c.test.ensures.tested.mine ∙ ap (λ (k : Known _ _). k.mine) c.held.view_is))
+pub returns-in-Some : goal.returns-in-Some
+returns-in-Some g c = record {
+  grows = let after = (goal.at.returns-in-Some g c).After-look_before in grown g (goal.at.returns-in-Some g c).After-test c.look_before.new.seat.table_id c.look_before.new.seat.me c.look_before.ensures.seat (ended g after c.in-Some.cause c.in-Some.is).0.rest (looked g after);
+  waited = let after = (goal.at.returns-in-Some g c).After-look_before in subst (λ answer. HasWaitedFor g.C.Condition.means c.args.condition answer c.args.held (known_of c.look_before.new.seat.table_id c.look_before.new.seat.me)) (sym c.answer_of.ensures)
+      (waited g (goal.at.returns-in-Some g c).After-test (answer_of c.in-Some.cause) c.look_before.new.seat.table_id c.look_before.new.seat.me (looked g after) (ended g after c.in-Some.cause c.in-Some.is).0);
+  looked = search rules;
+  ended = let limited = subst (λ o. IfSome o (λ (x : Cause). is_limited c.args.limits ≡ true)) c.in-Some.is c.look_before.ensures.ends in
+      ended_as (λ x. g.W.Watch.shows c.args.watch.now c.look_before.new.watch c.args.limits (Some x)) c.in-Some.cause c.answer_of.result c.answer_of.ensures (subst (g.W.Watch.shows c.args.watch.now c.look_before.new.watch c.args.limits) c.in-Some.is (c.look_before.ensures.shown limited));
+  before = λ limited. inl (c.look_before.ensures.mine ∙ (c.test.ensures.tested.mine ∙ ap (λ (k : Known _ _). k.mine) c.held.view_is));
+}
 
 pub wait_on-answer-requires : goal.wait_on-answer-requires
 wait_on-answer-requires g c = let t = g.C.Condition.means in let wait = waits_by c.mode-mode.result c.args.condition c.args.limits in let now = c.look_before.new.seat.me in let after = (goal.at.wait_on-answer-requires g c).After-look_before in
@@ -91,18 +85,12 @@ invariant_of-result-2 g c = let now = c.wait_on-answer.new.seat.me in (
   fits_fresh g.row.N g.H.Section.mode (the now.0).at.held (λ o. g.H.Hand.fits c.begun-hand.result o) c.begun-hand.ensures (subst (λ m. IsFreshIn g.row.N m (the now.0).at.held) c.mode-mode.ensures c.wait_on-answer.ensures.fresh),
 )
 
-pub returns-clause-grows : goal.returns-clause-grows
-returns-clause-grows g c = grown g (goal.at.returns-clause-grows g c).After-test c.wait_on-answer.new.seat.table_id c.wait_on-answer.new.seat.me c.wait_on-answer.ensures.seat c.wait_on-answer.ensures.answered.rest (over g (goal.at.returns-clause-grows g c).After-wait_on-answer)
-
-pub returns-clause-waited : goal.returns-clause-waited
-returns-clause-waited g c = waited g (goal.at.returns-clause-waited g c).After-test c.wait_on-answer.result c.wait_on-answer.new.seat.table_id c.wait_on-answer.new.seat.me (over g (goal.at.returns-clause-waited g c).After-wait_on-answer) c.wait_on-answer.ensures.answered
-
-pub returns-clause-looked : goal.returns-clause-looked
-returns-clause-looked g c = g.W.Watch.then c.args.watch.now c.look_before.new.watch c.wait_on-answer.new.watch c.look_before.ensures.looked c.wait_on-answer.ensures.looked
-
-pub returns-clause-ended : goal.returns-clause-ended
-returns-clause-ended g c = ended_since (λ cause. (is_limited c.args.limits ≡ true) × g.W.Watch.shows c.look_before.new.watch c.wait_on-answer.new.watch c.args.limits (Some cause)) (λ cause. g.W.Watch.shows c.args.watch.now c.wait_on-answer.new.watch c.args.limits (Some cause)) c.wait_on-answer.result
-    (λ cause shown. g.W.Watch.later c.args.watch.now c.look_before.new.watch c.wait_on-answer.new.watch c.args.limits (Some cause) c.look_before.ensures.looked shown.1) c.wait_on-answer.ensures.ended
-
-pub returns-clause-before : goal.returns-clause-before
-returns-clause-before g c limited = inr (g.W.Watch.stays c.args.watch.now c.look_before.new.watch c.wait_on-answer.new.watch c.args.limits (subst (g.W.Watch.shows c.args.watch.now c.look_before.new.watch c.args.limits) c.in_default.is (c.look_before.ensures.shown limited)) c.wait_on-answer.ensures.looked)
+pub returns : goal.returns
+returns g c = record {
+  grows = grown g (goal.at.returns g c).After-test c.wait_on-answer.new.seat.table_id c.wait_on-answer.new.seat.me c.wait_on-answer.ensures.seat c.wait_on-answer.ensures.answered.rest (over g (goal.at.returns g c).After-wait_on-answer);
+  waited = waited g (goal.at.returns g c).After-test c.wait_on-answer.result c.wait_on-answer.new.seat.table_id c.wait_on-answer.new.seat.me (over g (goal.at.returns g c).After-wait_on-answer) c.wait_on-answer.ensures.answered;
+  looked = g.W.Watch.then c.args.watch.now c.look_before.new.watch c.wait_on-answer.new.watch c.look_before.ensures.looked c.wait_on-answer.ensures.looked;
+  ended = ended_since (λ cause. (is_limited c.args.limits ≡ true) × g.W.Watch.shows c.look_before.new.watch c.wait_on-answer.new.watch c.args.limits (Some cause)) (λ cause. g.W.Watch.shows c.args.watch.now c.wait_on-answer.new.watch c.args.limits (Some cause)) c.wait_on-answer.result
+      (λ cause shown. g.W.Watch.later c.args.watch.now c.look_before.new.watch c.wait_on-answer.new.watch c.args.limits (Some cause) c.look_before.ensures.looked shown.1) c.wait_on-answer.ensures.ended;
+  before = λ limited. inr (g.W.Watch.stays c.args.watch.now c.look_before.new.watch c.wait_on-answer.new.watch c.args.limits (subst (g.W.Watch.shows c.args.watch.now c.look_before.new.watch c.args.limits) c.in_default.is (c.look_before.ensures.shown limited)) c.wait_on-answer.ensures.looked);
+}

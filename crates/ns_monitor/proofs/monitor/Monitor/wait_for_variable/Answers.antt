@@ -1,4 +1,4 @@
-use Rattle.std.proofs.Common.{◌≡◌, ◌∙◌, sym, subst, ap, refl, arith, true, false, Some}
+use Rattle.std.proofs.Common.{◌≡◌, ◌∙◌, sym, subst, ap, refl, arith, true, false, Some, rules}
 use Rattle.ns_gate.specs.Prelude.{TableId, HasAnswered, HasSince, the, HasMode, Await, Answered, InQueuing, InWait, Load, is_limited}
 use Rattle.ns_gate.proofs.Calls.{since_then}
 use Rattle.ns_monitor.proofs.Callers.{grew}
@@ -42,16 +42,15 @@ invariant_of-result g c = let t = g.C.Condition.means in let after = (goal.at.in
   fits_fresh g.row.N g.H.Section.mode (the now.0).at.held (λ o. g.H.Hand.fits c.begun-hand.result o) c.begun-hand.ensures (subst (λ m. IsFreshIn g.row.N m (the now.0).at.held) c.mode-mode.ensures (back_fresh t mode c.args.k c.args.limits (answer_of_wait c.come_back-outcome.result) now a)),
 )
 
-pub returns-clause-grows : goal.returns-clause-grows
-returns-clause-grows g c = let t = g.C.Condition.means in let after = (goal.at.returns-clause-grows g c).After-come_back-outcome in let s0 = c.held.inside.seat in let now = c.come_back-outcome.new.seat in
-    subst (λ m. Grows t (InWait (waits_for_variable m c.args.k c.args.limits) (InQueuing false Load)) c.args.held (known_of now.table_id now.me)) c.mode-mode.ensures
-    (grew t (InWait (waits_for_variable c.mode-mode.result c.args.k c.args.limits) (InQueuing false Load)) c.args.held s0.table_id now.table_id s0.me now.me c.held.view_is (◌∙◌ {A = TableId} c.come_back-outcome.ensures.seat (sym c.requires.of)) (answered g after).rest (over g after))
-
-pub returns-clause-waited : goal.returns-clause-waited
-returns-clause-waited g c = let t = g.C.Condition.means in let after = (goal.at.returns-clause-waited g c).After-come_back-outcome in let s0 = c.held.inside.seat in let now = c.come_back-outcome.new.seat in
-    variable_wait_tells t (InWait (waits_for_variable c.mode-mode.result c.args.k c.args.limits) (InQueuing false Load)) c.mode-mode.result c.args.k c.args.limits c.answer.result c.args.held s0.table_id now.table_id s0.me now.me c.held.view_is (over g after)
-    (subst (λ a. HasAnswered t (Await (waits_for_variable c.mode-mode.result c.args.k c.args.limits)) (Answered a) now.me) (sym c.answer.ensures) (answered g after))
-
-pub returns-clause-ended : goal.returns-clause-ended
-returns-clause-ended g c = let new = c.come_back-outcome.new.watch in
-    ended_so (λ cause. (is_limited c.args.limits ≡ true) × g.W.Watch.shows c.args.watch.now new c.args.limits (Some cause)) (λ cause. g.W.Watch.shows c.args.watch.now new c.args.limits (Some cause)) c.come_back-outcome.result c.answer.result c.answer.ensures (λ cause shown. shown.1) c.come_back-outcome.ensures.ended
+pub returns : goal.returns
+returns g c = record {
+  grows = let t = g.C.Condition.means in let after = (goal.at.returns g c).After-come_back-outcome in let s0 = c.held.inside.seat in let now = c.come_back-outcome.new.seat in
+      subst (λ m. Grows t (InWait (waits_for_variable m c.args.k c.args.limits) (InQueuing false Load)) c.args.held (known_of now.table_id now.me)) c.mode-mode.ensures
+      (grew t (InWait (waits_for_variable c.mode-mode.result c.args.k c.args.limits) (InQueuing false Load)) c.args.held s0.table_id now.table_id s0.me now.me c.held.view_is (◌∙◌ {A = TableId} c.come_back-outcome.ensures.seat (sym c.requires.of)) (answered g after).rest (over g after));
+  waited = let t = g.C.Condition.means in let after = (goal.at.returns g c).After-come_back-outcome in let s0 = c.held.inside.seat in let now = c.come_back-outcome.new.seat in
+      variable_wait_tells t (InWait (waits_for_variable c.mode-mode.result c.args.k c.args.limits) (InQueuing false Load)) c.mode-mode.result c.args.k c.args.limits c.answer.result c.args.held s0.table_id now.table_id s0.me now.me c.held.view_is (over g after)
+      (subst (λ a. HasAnswered t (Await (waits_for_variable c.mode-mode.result c.args.k c.args.limits)) (Answered a) now.me) (sym c.answer.ensures) (answered g after));
+  looked = search rules;
+  ended = let new = c.come_back-outcome.new.watch in
+      ended_so (λ cause. (is_limited c.args.limits ≡ true) × g.W.Watch.shows c.args.watch.now new c.args.limits (Some cause)) (λ cause. g.W.Watch.shows c.args.watch.now new c.args.limits (Some cause)) c.come_back-outcome.result c.answer.result c.answer.ensures (λ cause shown. shown.1) c.come_back-outcome.ensures.ended;
+}

@@ -36,34 +36,27 @@ fresh g c = subst (IsFreshIn g.row.N c.args.wait.mode) (sym c.test.ensures.teste
 unmet : (g : Over) (c : After-test g) → c.test.result ≡ false → HasReached g.C.Condition.means (Await c.args.wait) (unmet_by c.args.wait (OnReturn c.come_back-outcome.result)) c.test.new.seat.me
 unmet g c false_now = tested_so g.C.Condition.means c.args.wait (OnReturn c.come_back-outcome.result) c.args.condition c.test.result false c.test.new.row c.come_back-outcome.new.seat.me c.test.new.seat.me false_now c.test.ensures.tested
 
-pub returns-then-test-clause-since : goal.returns-then-test-clause-since
-returns-then-test-clause-since g c = since_test g (goal.at.returns-then-test-clause-since g c).After-test
+pub returns-then-test : goal.returns-then-test
+returns-then-test g c = record {
+  seat = c.test.ensures.seat;
+  since = since_test g (goal.at.returns-then-test g c).After-test;
+  looked = watched g (goal.at.returns-then-test g c).After-test;
+  ended = tt;
+  answered = tested_so g.C.Condition.means c.args.wait (OnReturn c.come_back-outcome.result) c.args.condition c.test.result true c.test.new.row c.come_back-outcome.new.seat.me c.test.new.seat.me c.if-test.true c.test.ensures.tested;
+  fresh = fresh g (goal.at.returns-then-test g c).After-test;
+}
 
-pub returns-then-test-clause-looked : goal.returns-then-test-clause-looked
-returns-then-test-clause-looked g c = watched g (goal.at.returns-then-test-clause-looked g c).After-test
-
-pub returns-then-test-clause-answered : goal.returns-then-test-clause-answered
-returns-then-test-clause-answered g c = tested_so g.C.Condition.means c.args.wait (OnReturn c.come_back-outcome.result) c.args.condition c.test.result true c.test.new.row c.come_back-outcome.new.seat.me c.test.new.seat.me c.if-test.true c.test.ensures.tested
-
-pub returns-then-test-clause-fresh : goal.returns-then-test-clause-fresh
-returns-then-test-clause-fresh g c = fresh g (goal.at.returns-then-test-clause-fresh g c).After-test
-
-pub returns-in-Ended-clause-since : goal.returns-in-Ended-clause-since
-returns-in-Ended-clause-since g c = since_test g (goal.at.returns-in-Ended-clause-since g c).After-test
-
-pub returns-in-Ended-clause-looked : goal.returns-in-Ended-clause-looked
-returns-in-Ended-clause-looked g c = watched g (goal.at.returns-in-Ended-clause-looked g c).After-test
-
-pub returns-in-Ended-clause-ended : goal.returns-in-Ended-clause-ended
-returns-in-Ended-clause-ended g c = ended_as (λ cause. (is_limited c.args.wait.limits ≡ true) × g.W.Watch.shows c.args.watch.now c.come_back-outcome.new.watch c.args.wait.limits (Some cause)) c.in-Ended.cause c.answer_of.result c.answer_of.ensures
-    (let shown = subst (λ o. IfEnded o (λ cause. (is_limited c.args.wait.limits ≡ true) × g.W.Watch.shows c.loop.watch c.come_back-outcome.new.watch c.args.wait.limits (Some cause))) c.in-Ended.is c.come_back-outcome.ensures.ended in
-    (shown.0, g.W.Watch.later c.args.watch.now c.loop.watch c.come_back-outcome.new.watch c.args.wait.limits (Some c.in-Ended.cause) c.loop.invariant.4 shown.1))
-
-pub returns-in-Ended-clause-answered : goal.returns-in-Ended-clause-answered
-returns-in-Ended-clause-answered g c = subst (λ a. HasAnswered g.C.Condition.means (Await c.args.wait) (Answered a) c.test.new.seat.me) (sym c.answer_of.ensures) (subst (λ o. HasReached g.C.Condition.means (Await c.args.wait) (unmet_by c.args.wait (OnReturn o)) c.test.new.seat.me) c.in-Ended.is (unmet g (goal.at.returns-in-Ended-clause-answered g c).After-test c.if-test.false))
-
-pub returns-in-Ended-clause-fresh : goal.returns-in-Ended-clause-fresh
-returns-in-Ended-clause-fresh g c = fresh g (goal.at.returns-in-Ended-clause-fresh g c).After-test
+pub returns-in-Ended : goal.returns-in-Ended
+returns-in-Ended g c = record {
+  seat = c.test.ensures.seat;
+  since = since_test g (goal.at.returns-in-Ended g c).After-test;
+  looked = watched g (goal.at.returns-in-Ended g c).After-test;
+  ended = ended_as (λ cause. (is_limited c.args.wait.limits ≡ true) × g.W.Watch.shows c.args.watch.now c.come_back-outcome.new.watch c.args.wait.limits (Some cause)) c.in-Ended.cause c.answer_of.result c.answer_of.ensures
+      (let shown = subst (λ o. IfEnded o (λ cause. (is_limited c.args.wait.limits ≡ true) × g.W.Watch.shows c.loop.watch c.come_back-outcome.new.watch c.args.wait.limits (Some cause))) c.in-Ended.is c.come_back-outcome.ensures.ended in
+      (shown.0, g.W.Watch.later c.args.watch.now c.loop.watch c.come_back-outcome.new.watch c.args.wait.limits (Some c.in-Ended.cause) c.loop.invariant.4 shown.1));
+  answered = subst (λ a. HasAnswered g.C.Condition.means (Await c.args.wait) (Answered a) c.test.new.seat.me) (sym c.answer_of.ensures) (subst (λ o. HasReached g.C.Condition.means (Await c.args.wait) (unmet_by c.args.wait (OnReturn o)) c.test.new.seat.me) c.in-Ended.is (unmet g (goal.at.returns-in-Ended g c).After-test c.if-test.false));
+  fresh = fresh g (goal.at.returns-in-Ended g c).After-test;
+}
 
 pub look_before-requires : goal.look_before-requires
 look_before-requires g c = let t = g.C.Condition.means in let me = c.test.new.seat.me in let after = (goal.at.look_before-requires g c).After-test in
@@ -76,20 +69,18 @@ since_look g c = since_then None _ _ _ (since_then None _ _ _ (since_then None _
 looked_on : (g : Over) (c : After-look_before g) → g.W.Watch.since c.args.watch.now c.look_before.new.watch
 looked_on g c = g.W.Watch.then c.args.watch.now c.come_back-outcome.new.watch c.look_before.new.watch (g.W.Watch.then c.args.watch.now c.loop.watch c.come_back-outcome.new.watch c.loop.invariant.4 c.come_back-outcome.ensures.looked) c.look_before.ensures.looked
 
-pub returns-in-Some-look_before-clause-since : goal.returns-in-Some-look_before-clause-since
-returns-in-Some-look_before-clause-since g c = since_look g (goal.at.returns-in-Some-look_before-clause-since g c).After-look_before
-
-pub returns-in-Some-look_before-clause-looked : goal.returns-in-Some-look_before-clause-looked
-returns-in-Some-look_before-clause-looked g c = looked_on g (goal.at.returns-in-Some-look_before-clause-looked g c).After-look_before
-
-pub returns-in-Some-look_before-clause-ended : goal.returns-in-Some-look_before-clause-ended
-returns-in-Some-look_before-clause-ended g c = let limits = c.args.wait.limits in let mid = c.come_back-outcome.new.watch in let new = c.look_before.new.watch in let cause = c.in-Some-look_before.cause in
-    let limited = subst (λ o. IfSome o (λ (x : Cause). is_limited limits ≡ true)) c.in-Some-look_before.is c.look_before.ensures.ends in
-    ended_as (λ x. (is_limited limits ≡ true) × g.W.Watch.shows c.args.watch.now new limits (Some x)) cause c.answer_of-in-Some-look_before.result c.answer_of-in-Some-look_before.ensures
-    (limited, g.W.Watch.later c.args.watch.now mid new limits (Some cause) (g.W.Watch.then c.args.watch.now c.loop.watch mid c.loop.invariant.4 c.come_back-outcome.ensures.looked) (subst (g.W.Watch.shows mid new limits) c.in-Some-look_before.is (c.look_before.ensures.shown limited)))
-
-pub returns-in-Some-look_before-clause-fresh : goal.returns-in-Some-look_before-clause-fresh
-returns-in-Some-look_before-clause-fresh g c = c.look_before.ensures.fresh (fresh g (goal.at.returns-in-Some-look_before-clause-fresh g c).After-test)
+pub returns-in-Some-look_before : goal.returns-in-Some-look_before
+returns-in-Some-look_before g c = record {
+  seat = c.look_before.ensures.seat;
+  since = since_look g (goal.at.returns-in-Some-look_before g c).After-look_before;
+  looked = looked_on g (goal.at.returns-in-Some-look_before g c).After-look_before;
+  ended = let limits = c.args.wait.limits in let mid = c.come_back-outcome.new.watch in let new = c.look_before.new.watch in let cause = c.in-Some-look_before.cause in
+      let limited = subst (λ o. IfSome o (λ (x : Cause). is_limited limits ≡ true)) c.in-Some-look_before.is c.look_before.ensures.ends in
+      ended_as (λ x. (is_limited limits ≡ true) × g.W.Watch.shows c.args.watch.now new limits (Some x)) cause c.answer_of-in-Some-look_before.result c.answer_of-in-Some-look_before.ensures
+      (limited, g.W.Watch.later c.args.watch.now mid new limits (Some cause) (g.W.Watch.then c.args.watch.now c.loop.watch mid c.loop.invariant.4 c.come_back-outcome.ensures.looked) (subst (g.W.Watch.shows mid new limits) c.in-Some-look_before.is (c.look_before.ensures.shown limited)));
+  answered = subst (λ a. HasAnswered g.C.Condition.means (Await c.args.wait) (Answered a) c.look_before.new.seat.me) (sym c.answer_of-in-Some-look_before.ensures) (subst (λ o. QueuesOrEnds g.C.Condition.means c.args.wait true o c.test.new.seat.me c.look_before.new.seat.me) c.in-Some-look_before.is c.look_before.ensures.leads).0;
+  fresh = c.look_before.ensures.fresh (fresh g (goal.at.returns-in-Some-look_before g c).After-test);
+}
 
 pub loop-preserved : goal.loop-preserved
 loop-preserved g c = let after = (goal.at.loop-preserved g c).After-look_before in let led = subst (λ o. QueuesOrEnds g.C.Condition.means c.args.wait true o c.test.new.seat.me c.look_before.new.seat.me) c.in_default-look_before.is c.look_before.ensures.leads in (

@@ -2,6 +2,13 @@ use Rattle.std.proofs.Common.{◌≡◌, rules}
 use Rattle.ns_monitor.proofs.Returns.{looked_by}
 use Rattle.ns_monitor.proofs.monitor.Monitor.wait_with_deadline.Goals as goal
 
-pub returns-clause-looked : goal.returns-clause-looked
-returns-clause-looked g c = let w = c.wait_by-waited in
-    looked_by (w.result.0.mine ≡ c.args.held.mine) c.args.note c.args.deadline c.index_of.result c.args.env_seat.now w.new.watch.seat.now _ (search rules) c.index_of.ensures w.ensures.before
+pub returns : goal.returns
+returns g c = record {
+  grows = search rules;
+  waited = search rules;
+  env_grows = search rules;
+  env_mine = search rules;
+  ended = search rules;
+  looked = let w = c.wait_by-waited in
+      looked_by (w.result.0.mine ≡ c.args.held.mine) c.args.note c.args.deadline c.index_of.result c.args.env_seat.now w.new.watch.seat.now _ (search rules) c.index_of.ensures w.ensures.before;
+}

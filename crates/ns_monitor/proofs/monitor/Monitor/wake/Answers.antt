@@ -1,4 +1,4 @@
-use Rattle.std.proofs.Common.{◌≡◌, ◌∙◌, ap, sym, arith, None, Some}
+use Rattle.std.proofs.Common.{◌≡◌, ◌∙◌, ap, sym, arith, None, Some, rules}
 use Rattle.ns_gate.specs.Prelude.{TableId, HasSince, is_held, taken_from, the, woken_nobody}
 use Rattle.ns_gate.proofs.Calls.{since_then}
 use Rattle.ns_gate.proofs.Wakes.{found_nobody, takes_nobody}
@@ -19,17 +19,22 @@ return_woken-requires g c = let t = g.C.Condition.means in let took = c.begin_to
     let none = (takes_nobody c.args.waking c.args.k (the me.0).stood (found_nobody c.args.k (the me.0).stood c.in-Some.made nobody).0).0 in
     (omega arith, (g.met.C.Gated.queues_fit, (omega arith, (◌∙◌ {A = TableId} e.seat.0 took.ensures.seat, (c.requires.variable, (still.packs, (still.at, (still.orderly, (sym none ∙ (λ i. taken_from c.args.waking c.args.k (the (sym e.seat.1 i)).stood), hand_of_nobody c.args.waking c.args.k (is_held took.result) c.in-Some.made me now e.seat.1 e.has nobody)))))))))
 
-pub returns-in-Some-clause-since : goal.returns-in-Some-clause-since
-returns-in-Some-clause-since g c = since_then (Some (waking_by c.args.waking c.args.k)) _ _ _ (since_look g (goal.at.returns-in-Some-clause-since g c).After-wake_nobody_in_hand) c.return_woken.ensures.since
-
-pub returns-in-Some-clause-woke : goal.returns-in-Some-clause-woke
-returns-in-Some-clause-woke g c = let e = c.wake_nobody_in_hand.ensures in let now = c.wake_nobody_in_hand.new.seat.me in
-    let nobody = (λ i. woken_nobody c.args.k (the (e.seat.1 i)).stood) ∙ (sym e.nobody ∙ c.in-Some.is) in
-    nobody_woken g.C.Condition.means c.args.waking c.args.k c.return_woken.result (the now.0).stood c.in-Some.made c.return_woken.new.seat.me nobody c.return_woken.ensures.returned
+pub returns-in-Some : goal.returns-in-Some
+returns-in-Some g c = record {
+  seat = search rules;
+  since = since_then (Some (waking_by c.args.waking c.args.k)) _ _ _ (since_look g (goal.at.returns-in-Some g c).After-wake_nobody_in_hand) c.return_woken.ensures.since;
+  woke = let e = c.wake_nobody_in_hand.ensures in let now = c.wake_nobody_in_hand.new.seat.me in
+      let nobody = (λ i. woken_nobody c.args.k (the (e.seat.1 i)).stood) ∙ (sym e.nobody ∙ c.in-Some.is) in
+      nobody_woken g.C.Condition.means c.args.waking c.args.k c.return_woken.result (the now.0).stood c.in-Some.made c.return_woken.new.seat.me nobody c.return_woken.ensures.returned;
+}
 
 pub wake_waiters-requires : goal.wake_waiters-requires
 wake_waiters-requires g c = let t = g.C.Condition.means in let took = c.begin_to_take-word in let look = c.wake_nobody_in_hand in let e = look.ensures in
     (omega arith, (g.met.C.Gated.queues_fit, (omega arith, (◌∙◌ {A = TableId} e.seat.0 took.ensures.seat, (c.requires.variable, taken_still t c.args.waking c.args.k took.result c.args.seat.now.me took.new.seat.me look.new.seat.me took.ensures.taken e.seat.1 e.has)))))
 
-pub returns-clause-since : goal.returns-clause-since
-returns-clause-since g c = since_then (Some (waking_by c.args.waking c.args.k)) _ _ _ (since_look g (goal.at.returns-clause-since g c).After-wake_nobody_in_hand) c.wake_waiters.ensures.since
+pub returns : goal.returns
+returns g c = record {
+  seat = search rules;
+  since = since_then (Some (waking_by c.args.waking c.args.k)) _ _ _ (since_look g (goal.at.returns g c).After-wake_nobody_in_hand) c.wake_waiters.ensures.since;
+  woke = search rules;
+}

@@ -1,4 +1,4 @@
-use Rattle.std.proofs.Common.{◌≡◌, ◌∙◌, ap, sym, subst, refl, arith, Bool, None}
+use Rattle.std.proofs.Common.{◌≡◌, ◌∙◌, ap, sym, subst, refl, arith, Bool, None, rules}
 use Rattle.ns_gate.specs.Prelude.{TableId, HasReached, InSignal, IsOrderly, WakeAndReturn, has_some, owed_woken, seats_of, taken_from, the}
 use Rattle.ns_gate.proofs.Calls.{since_itself, since_then, works}
 use Rattle.ns_monitor.proofs.Standing.{still_since}
@@ -54,6 +54,10 @@ pub pay-requires : goal.pay-requires
 pay-requires g c = let t = g.C.Condition.means in let back = c.return_woken-moved.ensures in let now = c.return_woken-moved.new.seat.me in
     (omega arith, (g.met.C.Gated.queues_fit, (omega arith, (back.seat, (record { pays = refl; free = refl; more = refl }, (subst (λ ns. HasReached t (TheRequest.Wake c.args.waking c.args.k) (pay_woken c.args.waking c.args.k (has_some ns)) now) (sym back.returned.owed) back.returned.leads, back.returned.owed ∙ sym (paid g (goal.at.pay-requires g c).Joined-moved)))))))
 
-pub returns-clause-since : goal.returns-clause-since
-returns-clause-since g c = let me = c.args.seat.now.me in let made = c.wake_in_hand-taken in
-    since_then None _ _ _ (since_then None _ _ _ (still_since g.C.Condition.means None (the me.0) me made.new.seat.me made.ensures.seat.1 (since_itself (the me.0))) c.return_woken-moved.ensures.since) c.pay.ensures.since
+pub returns : goal.returns
+returns g c = record {
+  seat = search rules;
+  since = let me = c.args.seat.now.me in let made = c.wake_in_hand-taken in
+      since_then None _ _ _ (since_then None _ _ _ (still_since g.C.Condition.means None (the me.0) me made.new.seat.me made.ensures.seat.1 (since_itself (the me.0))) c.return_woken-moved.ensures.since) c.pay.ensures.since;
+  woke = search rules;
+}
