@@ -1,18 +1,39 @@
-//! What no clause says of a lock that one thread takes again and again: that another that queues for it
-//! meanwhile comes through.
+//! What no clause says of a lock that one thread takes again and again: that the lock word tells of another
+//! that waits long for it, and that the other comes through.
 
 ghost use Rattle.std.specs.Prelude.{◌≡◌};
 ghost use Rattle.std.specs.Thread.{IsSync};
 
-use crate::waits::{AtLeast, MANY_TRIES, two_seats};
-use ns_monitor::caller::Seat;
+use crate::waits::{AtLeast, MANY_TRIES, set, two_seats};
+use ns_monitor::caller::{Seat, WriteHeld};
 use ns_monitor::monitor::Monitor;
 use std::process::Abort;
 use std::sync::Wait;
 use std::test::Fail;
 use std::thread::{Threads, join, yield_now};
 
-/// Takes the lock and leaves it at once, until the other has been inside. Tells whether it has.
+/// How often one takes the lock again, at most.
+const ROUNDS: u32 = 10_000;
+
+/// How often one looks and yields in its section. Meanwhile the other comes to sleep, so that once woken it is
+/// slower than one who only has to lock again.
+const LOOKS: u32 = 200;
+
+/// Stays in its section for a while. Tells whether the lock word said at last that somebody waits long.
+fn stay<R: Wait>(rt: &R, monitor: &Monitor<AtLeast, 2>, held: &mut WriteHeld<AtLeast, 2>) -> bool
+    requires { held.old.monitor ≡ monitor.now }
+    ensures { held.new.monitor ≡ held.old.monitor }
+{
+    let mut long = false;
+    for _ in 0..LOOKS {
+        long = monitor.debug_state_and_waiters(rt, held).word.long;
+        yield_now();
+    }
+    long
+}
+
+/// Takes the lock, stays, and leaves it, again and again, until it has seen that the other waits long. Then it
+/// tells the other to stop, by the first cell. Tells whether it has seen it.
 fn barge<R: Wait>(
     rt: &R,
     monitor: &Monitor<AtLeast, 2>,
@@ -21,33 +42,40 @@ fn barge<R: Wait>(
     requires { seat.monitor ≡ monitor.now }
     ensures { result.0.monitor ≡ monitor.now }
 {
-    for _ in 0..MANY_TRIES {
+    for _ in 0..ROUNDS {
         let mut held = monitor.lock(rt, seat);
-        let inside = monitor.get(&mut held, 0);
-        seat = monitor.unlock(rt, held);
-        if inside == 1 {
-            return (seat, true);
+        let long = stay(rt, monitor, &mut held);
+        if long {
+            monitor.set(&mut held, 0, 1);
+            return (monitor.unlock(rt, held), true);
         }
-        yield_now();
+        seat = monitor.unlock(rt, held);
     }
-    (seat, false)
+    (set(rt, monitor, seat, 1), false)
 }
 
-/// Goes inside once, and sets the first cell to 1.
+/// Goes inside again and again, until it is told to stop. Then it sets the second cell to 1.
 fn go_inside<R: Wait>(
     rt: &R,
     monitor: &Monitor<AtLeast, 2>,
-    seat: Seat<AtLeast, 2>,
+    mut seat: Seat<AtLeast, 2>,
 ) -> Seat<AtLeast, 2>
     requires { seat.monitor ≡ monitor.now }
     ensures { result.monitor ≡ monitor.now }
 {
-    let mut held = monitor.lock(rt, seat);
-    monitor.set(&mut held, 0, 1);
-    monitor.unlock(rt, held)
+    for _ in 0..MANY_TRIES {
+        let mut held = monitor.lock(rt, seat);
+        if monitor.get(&mut held, 0) == 1 {
+            monitor.set(&mut held, 1, 1);
+            return monitor.unlock(rt, held);
+        }
+        seat = monitor.unlock(rt, held);
+        yield_now();
+    }
+    seat
 }
 
-/// One thread takes the lock again and again, and the other once.
+/// One thread takes the lock again and again, and the other wants to come inside.
 fn barge_past<R: Threads + Wait + Sync>(
     rt: &R,
     monitor: &Monitor<AtLeast, 2>,
@@ -69,16 +97,17 @@ fn barge_past<R: Threads + Wait + Sync>(
     )
 }
 
-/// A thread comes through that queues for a lock which another takes again and again.
+/// The lock word says of one past whom another takes the lock again and again that it waits long, and that
+/// one comes through.
 #[test]
-fn long_wait_comes_through(rt: HostRuntime) -> Result<(), Fail> {
+fn long_wait_is_shown_and_comes_through(rt: HostRuntime) -> Result<(), Fail> {
     let Some((monitor, first, second)) = two_seats(rt.alloc()) else {
         panic!(rt; "no monitor")
     };
-    let ((seat, inside), _) = barge_past(&rt, &monitor, first, second);
-    assert!(rt; inside);
+    let ((seat, long), _) = barge_past(&rt, &monitor, first, second);
+    assert!(rt; long);
     let closed = monitor.close(seat);
     assert!(rt; closed.free);
-    assert_eq!(rt; closed.row, [1, 0]);
+    assert_eq!(rt; closed.row, [1, 1]);
     Ok(())
 }

@@ -1,7 +1,7 @@
 //! What no clause says of how a monitor is shown: that those who wait in other threads are seen where
 //! they stand.
 
-ghost use Rattle.std.specs.Prelude.{◌≡◌};
+ghost use Rattle.std.specs.Prelude.{◌≡◌, ◌<◌};
 ghost use Rattle.std.specs.Thread.{IsSync};
 
 use crate::variables::{Comer, come_and_wait, lock_at, two_and_one};
@@ -18,15 +18,16 @@ use std::sync::Wait;
 use std::test::Fail;
 use std::thread::{Threads, join, yield_now};
 
-/// Whether just these stand in the lock list, just these wait for the first variable, and nobody for
-/// another.
-fn shows_just(state: &DebugState, lock: &[Shown], variable: &[Shown]) -> bool {
-    let [first, second, third, fourth] = &state.cvs;
+/// Whether just these stand in the lock list, just these wait for the variable of this number, and nobody
+/// for another.
+fn shows_just(state: &DebugState, lock: &[Shown], k: usize, variable: &[Shown]) -> bool {
+    for (number, list) in state.cvs.iter().enumerate() {
+        let just: &[Shown] = if number == k { variable } else { &[] };
+        if list.as_slice() != just {
+            return false;
+        }
+    }
     state.lock.as_slice() == lock
-        && first.as_slice() == variable
-        && second.is_empty()
-        && third.is_empty()
-        && fourth.is_empty()
 }
 
 /// Asks from a read section how the monitor stands, until somebody stands in the lock list.
@@ -96,7 +97,7 @@ fn writer_is_shown_to_a_reader(rt: HostRuntime) -> Result<(), Fail> {
         mode: Mode::Write,
         conditional: false,
     };
-    assert!(rt; shows_just(&state, &[writer], &[]));
+    assert!(rt; shows_just(&state, &[writer], 0, &[]));
     let mut word = Word::FREE;
     word.waiting = true;
     word.writer_waits = true;
@@ -160,7 +161,7 @@ fn conditional_reader_is_shown(rt: HostRuntime) -> Result<(), Fail> {
         mode: Mode::Read,
         conditional: true,
     };
-    assert!(rt; shows_just(&state, &[reader], &[]));
+    assert!(rt; shows_just(&state, &[reader], 0, &[]));
     assert!(rt; state.word.waiting && state.word.cond && !state.word.writer_waits);
     assert!(rt; !state.word.write && state.word.readers == 0);
     assert_eq!(rt; monitor.get(&mut held, 0), 1);
@@ -171,69 +172,77 @@ fn conditional_reader_is_shown(rt: HostRuntime) -> Result<(), Fail> {
     Ok(())
 }
 
-/// Looks from one write section while somebody waits for the first variable, and behind a signal of it.
-/// Then looks for the waiter to be back.
+/// Looks from one write section while somebody waits for the variable, and behind a signal of it. Then looks
+/// for the waiter to be back.
 fn look_and_signal<R: Abort + Wait>(
     rt: &R,
     monitor: &Monitor<AtLeast, 2>,
     seat: Seat<AtLeast, 2>,
+    k: usize,
 ) -> (Seat<AtLeast, 2>, DebugState, DebugState)
-    requires { seat.monitor ≡ monitor.now }
+    requires of { seat.monitor ≡ monitor.now }
+    requires variable { k < 4 }
     ensures { result.0.monitor ≡ monitor.now }
 {
     let mut held = lock_at(rt, monitor, seat, 0, 1);
     let before = monitor.debug_state_and_waiters(rt, &mut held);
-    monitor.signal(rt, &mut held, 0);
+    monitor.signal(rt, &mut held, k);
     let behind = monitor.debug_state_and_waiters(rt, &mut held);
     let seat = monitor.unlock(rt, held);
     let held = lock_at(rt, monitor, seat, 1, 1);
     (monitor.unlock(rt, held), before, behind)
 }
 
-/// One thread waits for the first variable, and the other looks and signals.
+/// One thread waits for the variable, and the other looks and signals.
 fn wait_and_be_shown<R: Abort + Threads + Wait + Sync>(
     rt: &R,
     monitor: &Monitor<AtLeast, 2>,
     env: &Env,
     comer: Comer,
     waker: Seat<AtLeast, 2>,
+    k: usize,
 ) -> (Answer, (Seat<AtLeast, 2>, DebugState, DebugState))
-    requires { (comer.seat.monitor ≡ monitor.now) × (waker.monitor ≡ monitor.now) × (comer.env_seat.env ≡ env.now) }
+    requires of { (comer.seat.monitor ≡ monitor.now) × (waker.monitor ≡ monitor.now) × (comer.env_seat.env ≡ env.now) }
+    requires variable { k < 4 }
     ensures { result.1.0.monitor ≡ monitor.now }
 {
     join(
         rt,
         move || -> Answer
-            requires { IsSync R.row × (comer.seat.monitor ≡ monitor.now) × (comer.env_seat.env ≡ env.now) }
-        { come_and_wait(rt, monitor, env, comer) },
+            requires { IsSync R.row × (comer.seat.monitor ≡ monitor.now) × (comer.env_seat.env ≡ env.now) × (k < 4) }
+        { come_and_wait(rt, monitor, env, comer, k) },
         move || -> (Seat<AtLeast, 2>, DebugState, DebugState)
-            requires { IsSync R.row × (waker.monitor ≡ monitor.now) }
+            requires { IsSync R.row × (waker.monitor ≡ monitor.now) × (k < 4) }
             ensures { result.0.monitor ≡ monitor.entry.now }
-        { look_and_signal(rt, monitor, waker) },
+        { look_and_signal(rt, monitor, waker, k) },
     )
 }
 
-/// A signal under the lock moves the waiter from its variable to the lock list.
+/// A waiter is shown at its variable, and behind a signal under the lock in the lock list.
 #[test]
-fn moved_waiter_is_shown(rt: HostRuntime) -> Result<(), Fail> {
-    let Some(((monitor, env), comer, _, waker)) = two_and_one(rt.alloc(), None) else {
-        panic!(rt; "no monitor")
-    };
-    let (answer, (seat, before, behind)) = wait_and_be_shown(&rt, &monitor, &env, comer, waker);
-    assert_eq!(rt; answer, Answer::Met);
+fn moved_waiter_is_shown(rt: HostRuntime) {
     let waiter = Shown {
         seat: 0,
         mode: Mode::Write,
         conditional: false,
     };
-    assert!(rt; shows_just(&before, &[], &[waiter]));
-    assert!(rt; shows_just(&behind, &[waiter], &[]));
-    let mut word = Word::FREE;
-    word.write = true;
-    assert_eq!(rt; before.word, word);
-    word.waiting = true;
-    word.writer_waits = true;
-    assert_eq!(rt; behind.word, word);
-    assert!(rt; monitor.close(seat).free);
-    Ok(())
+    let mut held = Word::FREE;
+    held.write = true;
+    let mut waited_for = held;
+    waited_for.waiting = true;
+    waited_for.writer_waits = true;
+    for k in 0..4 {
+        let Some(((monitor, env), comer, _, waker)) = two_and_one(rt.alloc(), None) else {
+            panic!(rt; "no monitor")
+        };
+        let (answer, (seat, before, behind)) = wait_and_be_shown(
+            &rt, &monitor, &env, comer, waker, k,
+        );
+        assert_eq!(rt; answer, Answer::Met);
+        assert!(rt; shows_just(&before, &[], k, &[waiter]));
+        assert_eq!(rt; before.word, held);
+        assert!(rt; shows_just(&behind, &[waiter], k, &[]));
+        assert_eq!(rt; behind.word, waited_for);
+        assert!(rt; monitor.close(seat).free);
+    }
 }

@@ -82,22 +82,24 @@ fn count(monitor: &Monitor<AtLeast, 2>, held: &mut WriteHeld<AtLeast, 2>, cell: 
     monitor.set(held, cell, value.wrapping_add(1));
 }
 
-/// Counts itself in the first cell, waits from that section for the first variable, and counts itself in
-/// the second cell once it is back. Answers what the wait did.
+/// Counts itself in the first cell, waits from that section for a variable, and counts itself in the second
+/// cell once it is back. Answers what the wait did.
 pub fn come_and_wait<R: Wait>(
     rt: &R,
     monitor: &Monitor<AtLeast, 2>,
     env: &Env,
     mut comer: Comer,
+    k: usize,
 ) -> Answer
-    requires { (comer.seat.monitor ≡ monitor.now) × (comer.env_seat.env ≡ env.now) }
+    requires of { (comer.seat.monitor ≡ monitor.now) × (comer.env_seat.env ≡ env.now) }
+    requires variable { k < 4 }
 {
     let mut held = monitor.lock(rt, comer.seat);
     count(monitor, &mut held, 0);
     let (mut held, answer) = monitor.cv_wait_with_deadline(
         rt,
         held,
-        0,
+        k,
         comer.deadline,
         None,
         env,
@@ -161,7 +163,7 @@ fn wait_and_broadcast<R: Abort + Threads + Wait + Sync>(
         rt,
         move || -> Answer
             requires { IsSync R.row × (comer.seat.monitor ≡ monitor.now) × (comer.env_seat.env ≡ env.now) }
-        { come_and_wait(rt, monitor, env, comer) },
+        { come_and_wait(rt, monitor, env, comer, 0) },
         move || -> Seat<AtLeast, 2>
             requires { IsSync R.row × (waker.monitor ≡ monitor.now) }
             ensures { result.monitor ≡ monitor.entry.now }
@@ -186,7 +188,7 @@ fn wait_twice_and_broadcast<R: Abort + Threads + Wait + Sync>(
         rt,
         move || -> Answer
             requires { IsSync R.row × (first.seat.monitor ≡ monitor.now) × (first.env_seat.env ≡ env.now) }
-        { come_and_wait(rt, monitor, env, first) },
+        { come_and_wait(rt, monitor, env, first, 0) },
         move || -> (Answer, Seat<AtLeast, 2>)
             requires { IsSync R.row × (second.seat.monitor ≡ monitor.now) × (waker.monitor ≡ monitor.now) × (second.env_seat.env ≡ env.now) }
             ensures { result.1.monitor ≡ monitor.entry.now }
@@ -294,7 +296,7 @@ fn wait_and_signal<R: Abort + Threads + Wait + Sync>(
         rt,
         move || -> Answer
             requires { IsSync R.row × (comer.seat.monitor ≡ monitor.now) × (comer.env_seat.env ≡ env.now) }
-        { come_and_wait(rt, monitor, env, comer) },
+        { come_and_wait(rt, monitor, env, comer, 0) },
         move || -> Seat<AtLeast, 2>
             requires { IsSync R.row × (waker.monitor ≡ monitor.now) }
             ensures { result.monitor ≡ monitor.entry.now }

@@ -1,12 +1,13 @@
-//! The lock word: the numbers of its bits, and the words that the steps make, from outside; and a call
+//! The lock word: the numbers of its bits, and the words that the steps make, from outside; and two calls
 //! that no script makes.
 
 use ns_model::event::Mode;
-use ns_word::act::{Act, Found};
+use ns_word::act::{Act, Change, Found};
 use ns_word::codec::{BadWord, decode, encode};
 use ns_word::request::Request;
+use ns_word::show_walk::ShowPlace;
 use ns_word::walk::{Next, Reply, Walk};
-use ns_word::word::{Arrival, Bits, Releasing, Word};
+use ns_word::word::{Arrival, Bits, Releasing, Taking, Word};
 
 const WRITING: Word = Word {
     write: true,
@@ -289,4 +290,49 @@ fn a_section_is_judged(rt: HostRuntime) {
     );
     let releasing = place_after(release.got::<1>(Found::Quiet(true)), release);
     assert!(rt; matches!(releasing.want(), Act::LoadWord));
+}
+
+/// Whether a call that shows goes round: it is idle, and about to load the word again.
+fn shows_later(next: Next<bool>) -> bool {
+    matches!(next, Next::Idle(Walk::InShow(ShowPlace::ShowLoad)))
+}
+
+/// Whether the call goes on, and next takes the queues by this word.
+fn takes_by(next: Next<bool>, word: Word) -> bool {
+    let Next::On(place) = next else { return false };
+    matches!(place.want(), Act::TakeQueues(Taking::ToChange, last) if last == word)
+}
+
+/// Whether the call goes on, and next puts the queues back as they were, by this word.
+fn returns_by(next: Next<bool>, word: Word) -> bool {
+    let Next::On(place) = next else { return false };
+    matches!(place.want(), Act::ReturnQueues(Change::Nothing, last) if last == word)
+}
+
+/// A call that shows goes round while another has the queues, and else takes them and puts them back as they
+/// were, each by the word found last: an exchange that failed leads to no load.
+#[test]
+fn a_show_goes_by_the_word_found(rt: HostRuntime) {
+    let show: Walk<bool> = Walk::show();
+    assert!(rt; matches!(show.asked(), Request::Show));
+    assert!(rt; matches!(show.want(), Act::LoadWord));
+    assert!(rt; shows_later(show.got::<1>(Found::Saw(STOOD_BACK_TAKEN))));
+    assert!(rt; takes_by(show.got::<1>(Found::Saw(STOOD_BACK)), STOOD_BACK));
+    let taking = place_after(show.got::<1>(Found::Saw(STOOD_BACK)), show);
+    assert!(rt; shows_later(taking.got::<1>(Found::Saw(STOOD_BACK_TAKEN))));
+    assert!(rt; takes_by(taking.got::<1>(Found::Saw(CONDITIONAL)), CONDITIONAL));
+    assert!(rt; returns_by(taking.got::<1>(Found::Made), STOOD_BACK_TAKEN));
+    let returning = place_after(taking.got::<1>(Found::Made), taking);
+    assert!(rt;
+        returns_by(
+            returning.got::<1>(Found::Saw(CONDITIONAL_TAKEN)),
+            CONDITIONAL_TAKEN
+        )
+    );
+    assert!(rt;
+        matches!(
+            returning.got::<1>(Found::Made),
+            Next::Done(Reply::Succeeded)
+        )
+    );
 }
