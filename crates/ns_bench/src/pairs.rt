@@ -1,6 +1,6 @@
 //! Pairs of an acquire and a release that nobody contends for, of a monitor and by hand.
 
-ghost use Rattle.std.specs.Prelude.{◌≡◌, ◌<◌, ◌≤◌, IfOk, IfSome, length};
+ghost use Rattle.std.specs.Prelude.{◌≡◌, ◌<◌, ◌≤◌, IfOk, IfSome};
 
 use crate::never::{OneCell, OneSeat};
 use ns_monitor::monitor::Monitor;

@@ -1,6 +1,6 @@
 //! The run of a script in a new world, and its text.
 
-ghost use Rattle.std.specs.Prelude.{◌≡◌, ◌≤◌, map, length, string_bytes, IfOk, IfErr};
+ghost use Rattle.std.specs.Prelude.{◌≡◌, ◌≤◌, length, string_bytes, IfOk, IfErr};
 ghost use Rattle.ns_world.specs.World.{now_of};
 ghost use Rattle.ns_replay.specs.Condition.{script_truths};
 ghost use Rattle.ns_replay.specs.Script.{plan_of};

@@ -1,6 +1,6 @@
 //! The run once more, turn by turn, with a line for each turn that changed something.
 
-ghost use Rattle.std.specs.Prelude.{◌≡◌, ◌≤◌, ◌<◌, All, length};
+ghost use Rattle.std.specs.Prelude.{◌≡◌, ◌≤◌, ◌<◌, All};
 ghost use Rattle.ns_world.specs.Runs.{ListFits};
 
 use crate::line::{Drawn, push_turn};

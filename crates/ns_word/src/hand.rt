@@ -1,6 +1,6 @@
 //! What a walk does to the queues in its hand, before it puts them back.
 
-ghost use Rattle.std.specs.Prelude.{◌≡◌, ◌<◌, ◌≤◌, ℕ, true, false, nat_lt, None, Some, List, [], if◌then◌else◌};
+ghost use Rattle.std.specs.Prelude.{◌≡◌, ◌<◌, ◌≤◌, ℕ, true, false, nat_lt, None, Some, [], if◌then◌else◌};
 ghost use Rattle.ns_queue.specs.Queues.{IsList, times, waiters_of, with_waiters};
 ghost use Rattle.ns_queue.specs.Scans.{woken_of, tests_of};
 ghost use Rattle.ns_queue.specs.Waiters.{seats_of, times_in};

@@ -1,12 +1,12 @@
 //! The compare-exchanges on the lock word. One that finds the word which its seat has last seen is
 //! made; any other changes nothing.
 
-ghost use Rattle.std.specs.Prelude.{◌≡◌, ◌<◌, ◌++◌, ◌∷◌, ℕ, true, false, nat_lt, None, List, [], replicate, IsSome, IfSome, IfOk, OnOk, OnErr, if◌then◌else◌};
+ghost use Rattle.std.specs.Prelude.{◌≡◌, ◌<◌, ◌++◌, ◌∷◌, ℕ, true, false, None, List, [], IsSome, IfSome, IfOk, OnOk, OnErr, if◌then◌else◌};
 ghost use Rattle.ns_queue.specs.Queues.{IsList, times};
 ghost use Rattle.ns_word.specs.Places.{CanLeave, CanWait, ChangeFits, IsInRange};
 ghost use Rattle.ns_word.specs.Steps.{change_commits, entry_of, exit_for, opening_for, section_of, Effect};
 ghost use Rattle.ns_word.specs.Waits.{mode_for};
-ghost use Rattle.ns_word.specs.Words.{is_woken, may_acquire};
+ghost use Rattle.ns_word.specs.Words.{may_acquire};
 ghost use Rattle.ns_world.specs.Commits.{IsEvent};
 ghost use Rattle.ns_world.specs.Performs.{part, IsSeat, Makes};
 

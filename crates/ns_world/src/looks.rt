@@ -1,12 +1,11 @@
 //! One atomic step of a look of a wait, which loads the clock or a note.
 
-ghost use Rattle.std.specs.Prelude.{◌≡◌, Some, IsSome};
+ghost use Rattle.std.specs.Prelude.{◌≡◌, Some};
 ghost use Rattle.ns_word.specs.EnvSteps.{EnvActFits};
 ghost use Rattle.ns_word.specs.EnvWalks.{env_want_of};
 ghost use Rattle.ns_word.specs.Steps.{held_after, opening_by};
-ghost use Rattle.ns_word.specs.Walks.{want_of};
 ghost use Rattle.ns_world.specs.Asks.{plain_of};
-ghost use Rattle.ns_world.specs.Looks.{AsksFor, came_back, looks_at};
+ghost use Rattle.ns_world.specs.Looks.{AsksFor, came_back};
 ghost use Rattle.ns_world.specs.Looked.{EnvMoves, LookStep, Sees};
 
 use crate::asks::ask;

@@ -4,7 +4,7 @@ ghost use Rattle.std.specs.Prelude.{◌≡◌, ◌<◌, ◌≤◌, Some, None, I
 ghost use Rattle.ns_model.specs.declared.event.Mode.TheVariants.{Write};
 ghost use Rattle.ns_word.specs.Places.{ActFits, HasMode, OwesOne};
 ghost use Rattle.ns_word.specs.Steps.{Effect};
-ghost use Rattle.ns_word.specs.Walks.{want_of, got_of, walk_after};
+ghost use Rattle.ns_word.specs.Walks.{want_of, walk_after};
 ghost use Rattle.ns_world.specs.Commits.{Commits};
 ghost use Rattle.ns_world.specs.Looks.{look_of, look_place, looks_at};
 ghost use Rattle.ns_world.specs.Performs.{part, seat_part, step_of, tests_after, IsSeat, Makes, Performs};

@@ -1,10 +1,10 @@
 //! A run of a schedule: items of its words one after another, each of one turn or of as many as
 //! its call takes.
 
-ghost use Rattle.std.specs.Prelude.{◌≡◌, ◌≤◌, ◌<◌, ◌+◌, ◌∷◌, [], Some, IfSome, IfOk, IfErr, OnOk, OnErr, All, map, slice_get, slice_index, replicate, MatchResult, ◌^◌, ◌++◌};
+ghost use Rattle.std.specs.Prelude.{◌≡◌, ◌≤◌, ◌<◌, ◌+◌, ◌∷◌, [], Some, IfSome, IfOk, IfErr, OnOk, OnErr, All, map, slice_get, slice_index, MatchResult, ◌^◌, ◌++◌};
 ghost use Rattle.ns_world.specs.Calls.{CallInRange};
 ghost use Rattle.ns_world.specs.World.{now_of};
-ghost use Rattle.ns_world.specs.Runs.{calls_of, Counts, progress, progressed, is_end, TurnsWith, tests_told, TurnFault, TurnOf, Advances, IsFinished, Stops, Runs, RunFault, AllIdle, IsCounted, ListFits, items_of};
+ghost use Rattle.ns_world.specs.Runs.{calls_of, Counts, progress, is_end, TurnsWith, tests_told, TurnFault, TurnOf, Advances, IsFinished, Stops, Runs, RunFault, AllIdle, IsCounted, ListFits, items_of};
 
 use crate::call::Call;
 use crate::fault::Fault;

@@ -6,7 +6,7 @@ ghost use Rattle.ns_word.specs.Places.{HasList};
 ghost use Rattle.ns_word.specs.Steps.{in_hand};
 ghost use Rattle.ns_word.specs.Walks.{has_queues, has_armed};
 ghost use Rattle.ns_world.specs.Performs.{view_of};
-ghost use Rattle.ns_world.specs.Shows.{hand_of, lists_by, wakes_of, wakes_owed};
+ghost use Rattle.ns_world.specs.Shows.{hand_of, lists_by, wakes_owed};
 
 use crate::room::Seated;
 use crate::seat::Seat;
