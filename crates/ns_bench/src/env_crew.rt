@@ -3,8 +3,8 @@
 ghost use Rattle.std.specs.Prelude.{◌≡◌, All, IfOk, IfSome};
 
 use crate::running::Job;
-use ns_gate::room::Gated;
 use ns_monitor::monitor::Monitor;
+use ns_monitor::room::Gated;
 use ns_note::env::Env;
 use ns_note::seat::EnvSeat;
 use std::alloc::{AllocError, Global};

@@ -6,9 +6,9 @@ ghost use Rattle.std.specs.Prelude.{◌≡◌, ◌<◌, All, IfOk, IfSome};
 ghost use Rattle.std.specs.Thread.{IsSend, IsSync};
 
 use crate::amount::{Count, total};
-use ns_gate::room::Gated;
 use ns_monitor::caller::Seat;
 use ns_monitor::monitor::Monitor;
+use ns_monitor::room::Gated;
 use std::alloc::{AllocError, Global};
 use std::sync::{Barrier, Wait};
 use std::thread::{Threads, join, map_vec};

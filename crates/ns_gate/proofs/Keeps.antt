@@ -1,9 +1,10 @@
 -- A step of the machine keeps the rule.
 use Rattle.std.specs.Prelude.{nat_lt, slice_get}
-use Rattle.std.proofs.Common.{◌≡◌, ◌≢◌, ◌⊎◌, inl, inr, ℕ, zero, suc, ◌<◌, ◌≤◌, Bool, true, false, cond, eqb, List, [], ◌∷◌, ◌++◌, Option, None, Some, IfSome, set, slice_set, take, drop, refl, ap, sym, ◌∙◌, subst, arith, eq-eqb}
+use Rattle.std.proofs.Common.{◌≡◌, ◌≢◌, ◌⊎◌, inl, inr, ℕ, zero, suc, ◌<◌, ◌≤◌, true, false, cond, eqb, List, [], ◌∷◌, ◌++◌, Option, None, Some, IfSome, set, slice_set, take, drop, refl, ap, sym, ◌∙◌, subst, arith, eq-eqb}
 use Rattle.std.proofs.lemmas.Option.{slice_get_within}
-use Rattle.ns_gate.specs.Prelude.{IsOne, GateView, Views, Homes, is_seat, HasCome, Fits, Shows, AtHome, Underlying, IsRuled, walk_by, course_by, MayBegin, HasStepped, BeginsWith, row_after, standing_after, total, one_if, Every, Truths, QuietKeeps, Event, asked_of, BeginsIf, SeatStep, view_in, CallGoes, SoFar, course_after, IsLawful, ViewFits, Course, course_from, LockState, Part, part_of, Effect, Step, IsTold, told_after, calls_of, takers, want_of, got_of, walk_after, has_queues, Found, Request, Held, SeatView, On, Idle, Done, Next, Walk}
+use Rattle.ns_gate.specs.Prelude.{GateView, Views, Homes, is_seat, HasCome, Fits, Shows, AtHome, Underlying, IsRuled, walk_by, course_by, MayBegin, HasStepped, BeginsWith, row_after, standing_after, total, one_if, Every, Truths, QuietKeeps, Event, asked_of, BeginsIf, SeatStep, view_in, CallGoes, SoFar, course_after, IsLawful, ViewFits, Course, course_from, LockState, Part, part_of, Effect, Step, IsTold, told_after, calls_of, takers, want_of, got_of, walk_after, has_queues, Found, Request, Held, SeatView, On, Idle, Done, Next, Walk}
 use Rattle.ns_model.proofs.Tallies.{total_set, total_none, Others, every_at, others_of, others_both, others_map, others_none, every_both, every_put}
+use Rattle.ns_seats.proofs.Numbered.{one_at_most}
 use Rattle.ns_word.proofs.Acts.{view_fits}
 use Rattle.ns_word.proofs.Courses.{takes_on, begins_unchanged}
 use Rattle.ns_word.proofs.EnvKeeps.{set_here, set_there}
@@ -20,22 +21,12 @@ none_takes (x ∷ xs) zero view none e q =
     let one : one_if (has_queues x.walk) ≡ 1 = ap one_if (ap (λ (y : SeatView _ _). has_queues y.walk) is ∙ q) in omega (arith, one, none)
 none_takes (x ∷ xs) (suc n) view none e q = none_takes xs n view (omega (arith, none)) e q
 
--- one thing in a list is all of it
-pub one_is : {A : Type 0} (vs : List A) → IsOne vs → (v : A) × (vs ≡ v ∷ [])
-one_is [] one = absurd one
-one_is (v ∷ []) one = (v, refl)
-one_is (v ∷ x ∷ xs) one = absurd one
-
 -- what is so of a section in hand, but not of none
 pub hand_of : {A : Type 0} (Q : Option A → Type 0) (o : Option A) → (Q None → ⊥) → Q o → (held : A) × (o ≡ Some held) × Q (Some held)
 hand_of Q None never so = absurd (never so)
 hand_of Q (Some held) never so = (held, refl, so)
 
 -- a seat stands in one view at most
-one_at_most : (b : Bool) → one_if b ≤ 1
-one_at_most true = omega arith
-one_at_most false = omega arith
-
 pub once : {C : Type 0} {N : ℕ} (truths : Truths C) (seat_count : ℕ) (words : List ℕ) (homes : Homes C) (views : Views C N) (shown : Underlying C N) → IsRuled truths seat_count words homes views shown → (seat : ℕ) → total (total (is_seat seat)) views ≤ 1
 once truths seat_count words homes views shown r seat = subst (λ n. n ≤ 1) (sym (r.seats seat)) (one_at_most (nat_lt seat seat_count))
 

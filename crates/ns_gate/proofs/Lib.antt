@@ -3,6 +3,7 @@ pub mod Endings
 pub mod Keeps
 pub mod Looks
 pub mod Meets
+pub mod Room
 pub mod Starts
 pub mod Stays
 pub mod Findings

@@ -18,7 +18,8 @@ use Rattle.ns_word.specs.Places.{IsSettled, PlaceFits}
 use Rattle.ns_word.specs.Told.{calls_of}
 use Rattle.ns_word.specs.Walks.{has_queues}
 use Rattle.ns_gate.specs.Law.{GateView}
-use Rattle.ns_gate.specs.Steps.{the, IsOne, course_by}
+use Rattle.ns_gate.specs.Steps.{the, course_by}
+use Rattle.ns_seats.specs.Views.{IsOne}
 
 -- what the table says of one of its seats: its view, and the slots that it carries
 abbrev pub SeatOf : Type 0 → ℕ → Type 0

@@ -1,14 +1,16 @@
 -- The rule of a gate's table: word 0 is the lock word, the cells follow, and then each seat's flag. The slot has the queues.
-use Rattle.std.specs.Prelude.{◌≡◌, ℕ, suc, zero, ◌+◌, ◌<◌, ◌≤◌, ◌==◌, nat_lt, Bool, true, false, List, [], ◌∷◌, length, replicate, None, Some, IfSome, slice_get, slice_index}
+use Rattle.std.specs.Prelude.{◌≡◌, ℕ, ◌+◌, ◌<◌, ◌≤◌, nat_lt, Bool, true, false, List, [], ◌∷◌, length, replicate, None, Some, IfSome, slice_get, slice_index}
 use mathlib.Core.Option.{some, none}
 use mathlib.Core.Option as TheOption
 use Rattle.atomic_table.specs.Table.{State as TableState}
 use Rattle.ns_gate.specs.declared.fault.Fault.{Fault}
 use Rattle.ns_gate.specs.declared.fault.Fault.TheVariants.{TooManySeats, OutOfMemory}
 use Rattle.ns_model.specs.declared.event.Event.{Event}
-use Rattle.ns_model.specs.Tallies.{total, one_if, Every}
+use Rattle.ns_model.specs.Tallies.{one_if, Every}
 use Rattle.ns_model.specs.Truths.{Truths}
 use Rattle.ns_queue.specs.Queues.{Lists}
+use Rattle.ns_seats.specs.Meetings.{Holds as HoldsBy}
+use Rattle.ns_seats.specs.Views.{Views as ViewsOf, tally, is_numbered, numbered}
 use Rattle.ns_word.specs.declared.word.Word.{Word}
 use Rattle.ns_word.specs.declared.view.SeatView.{SeatView}
 use Rattle.ns_word.specs.Codec.{number_of}
@@ -29,19 +31,19 @@ pub record GateView (C : Type 0) (N : ℕ) : Type 0 where
 
 -- what all seats know, a list for each seat of the table
 abbrev pub Views : Type 0 → ℕ → Type 0
-Views C N = List (List (GateView C N))
+Views C N = ViewsOf (GateView C N)
 
 -- the slot's content, where it is at home
 abbrev pub Homes : Type 0 → Type 0
 Homes C = List (TheOption.Option (Lists C))
 
--- a sum over all seats
-abbrev pub tally : {C : Type 0} {N : ℕ} → (GateView C N → ℕ) → Views C N → ℕ
-tally f views = total (total f) views
+-- the number of a seat
+abbrev pub number_of_seat : {C : Type 0} {N : ℕ} → GateView C N → ℕ
+number_of_seat view = view.at.seat
 
 -- 1 for the seat of this number
 abbrev pub is_seat : {C : Type 0} {N : ℕ} → ℕ → GateView C N → ℕ
-is_seat seat view = one_if (view.at.seat == seat)
+is_seat = is_numbered number_of_seat
 
 -- the call that a seat is in has come so far, if it is in one
 abbrev pub HasCome : {C : Type 0} {N : ℕ} → Truths C → Course C N → SeatView C N → Type 0
@@ -83,7 +85,7 @@ pub record IsRuled {C : Type 0} {N : ℕ} (truths : Truths C) (seat_count : ℕ)
 
 -- The rule of a table with so many seats: there is such a state, and a history.
 abbrev pub Holds : {C : Type 0} {N : ℕ} → Truths C → ℕ → TableState (Lists C) (List (GateView C N)) → Type 0
-Holds {C} {N} truths seat_count s = (shown : Underlying C N) × IsRuled truths seat_count s.words s.homes s.views shown
+Holds truths seat_count = HoldsBy (IsRuled truths seat_count)
 
 -- nobody waits
 abbrev pub no_lists : {C : Type 0} → Lists C
@@ -95,17 +97,7 @@ fresh_seat seat_count seat = record { seat_count = seat_count; at = record { sea
 
 -- so many of them, from a number on
 abbrev pub fresh : {C : Type 0} {N : ℕ} → ℕ → ℕ → ℕ → List (GateView C N)
-fresh seat_count from zero = []
-fresh seat_count from (suc n) = fresh_seat seat_count from ∷ fresh seat_count (suc from) n
-
--- the first seat of a view, alone, and the others
-abbrev pub first_of : {A : Type 0} → List A → List A
-first_of [] = []
-first_of (v ∷ vs) = v ∷ []
-
-abbrev pub rest_of : {A : Type 0} → List A → List A
-rest_of [] = []
-rest_of (v ∷ vs) = vs
+fresh seat_count = numbered (fresh_seat seat_count)
 
 -- why no gate is made: more than 64 seats, or want of memory where there are no more
 abbrev pub RefusesGate : ℕ → Fault → Type 0

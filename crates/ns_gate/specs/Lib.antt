@@ -4,7 +4,6 @@ pub mod Law
 pub mod Meetings
 pub mod Performing
 pub mod Prelude
-pub mod Room
 pub mod Showing
 pub mod Steps
 pub mod Wakes

@@ -3,12 +3,11 @@ pub use Rattle.atomic_table.specs.Seated.{TableId}
 pub use Rattle.atomic_table.specs.Table.{Allows, Final, Joins, Me, Seen, Splits, Valid, carried_after, gives, homes_after, opening, rest, step, takes}
 pub use Rattle.ns_gate.specs.Calls.{HasAnswered, HasReached, HasSince, IsAtPlace, IsAtRest, IsTrueToHistory, IsWide, OwesBelow, SeatOf}
 pub use Rattle.ns_gate.specs.Endings.{EndsAs}
-pub use Rattle.ns_gate.specs.Law.{AtHome, Fits, GateView, HasCome, Holds, Homes, IsRuled, RefusesGate, Shows, Underlying, Views, first_of, fresh, fresh_seat, is_seat, no_lists, rest_of}
-pub use Rattle.ns_gate.specs.Meetings.{AreOfOneHistory, ArePair, HasLearned, HaveLearned, HaveMet, SawAllOf, ShareTheLock, the_second}
+pub use Rattle.ns_gate.specs.Law.{AtHome, Fits, GateView, HasCome, Holds, Homes, IsRuled, RefusesGate, Shows, Underlying, Views, fresh, fresh_seat, is_seat, no_lists, number_of_seat}
+pub use Rattle.ns_gate.specs.Meetings.{HasLearned, HaveLearned, HaveMet, ShareTheLock, sight_of}
 pub use Rattle.ns_gate.specs.Performing.{IsOnWord, IsTurned, Needs}
-pub use Rattle.ns_gate.specs.Room.{QueuesFit, queues_fit}
 pub use Rattle.ns_gate.specs.Showing.{ShowsLists}
-pub use Rattle.ns_gate.specs.Steps.{CanStep, Carries, HasLooked, HasStepped, HasUnchangedQueues, HasUseFor, IsExchange, IsLoad, IsOne, IsOwedNext, IsStoreOf, MayBegin, MayExchange, MayLoad, MayStore, Performed, PerformedWith, act_by, act_of, act_returning, carried_by, content_by, course_by, first_said, found_returned, lists_returned, lists_scanned, made_by, next_owed, some_returned, the, tried, tried_for, walk_by, word_at, word_returning}
+pub use Rattle.ns_gate.specs.Steps.{CanStep, Carries, HasLooked, HasStepped, HasUnchangedQueues, HasUseFor, IsExchange, IsLoad, IsOwedNext, IsStoreOf, MayBegin, MayExchange, MayLoad, MayStore, Performed, PerformedWith, act_by, act_of, act_returning, carried_by, content_by, course_by, first_said, found_returned, lists_returned, lists_scanned, made_by, next_owed, some_returned, the, tried, tried_for, walk_by, word_at, word_returning}
 pub use Rattle.ns_gate.specs.Wakes.{lists_left, lists_woken, owed_woken, taken_from, turned_to, without_each, woken_nobody}
 pub use Rattle.ns_model.specs.Beginnings.{BeginsWith}
 pub use Rattle.ns_model.specs.Environments.{IsMade}
@@ -29,6 +28,8 @@ pub use Rattle.ns_queue.specs.Scans.{is_eligible, is_satisfied, left_of, tests_o
 pub use Rattle.ns_queue.specs.Waiters.{HaveSeats, has_condition, reads, seats_of, times_in, writes}
 pub use Rattle.ns_queue.specs.declared.waiter.Waiter.{Waiter}
 pub use Rattle.ns_queue.specs.declared.waiter.Which.{Which}
+pub use Rattle.ns_seats.specs.Sights.{AreOfOneHistory, HasSight}
+pub use Rattle.ns_seats.specs.Views.{ArePair, IsOne, first_of, rest_of}
 pub use Rattle.ns_word.specs.Asked.{asked_of}
 pub use Rattle.ns_word.specs.Begins.{BeginsIf, IsFirst, SeatStep, fresh_state, fresh_views, view_in}
 pub use Rattle.ns_word.specs.Codec.{IsPackable, number_of, word_of}

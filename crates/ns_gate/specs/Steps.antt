@@ -32,17 +32,11 @@ use Rattle.ns_word.specs.declared.word.Bits.{Bits}
 use Rattle.ns_word.specs.Told.{IsTold, told_after, calls_of}
 use Rattle.ns_word.specs.Walks.{want_of, got_of, walk_after, has_queues}
 use Rattle.ns_gate.specs.Law.{GateView, fresh_seat}
+use Rattle.ns_seats.specs.Views.{the_or, IsOne}
 
 -- the seat that a view stands for, where it is one
 abbrev pub the : {C : Type 0} {N : ℕ} → List (GateView C N) → GateView C N
-the [] = fresh_seat 0 0
-the (view ∷ views) = view
-
--- it is one
-abbrev pub IsOne : {A : Type 0} → List A → Type 0
-IsOne [] = ⊥
-IsOne (view ∷ []) = Unit {0}
-IsOne (view ∷ other ∷ views) = ⊥
+the = the_or (fresh_seat 0 0)
 
 -- the place of a seat in its call as it makes its step: the first one, where the step begins the call
 abbrev pub walk_by : {C : Type 0} → Option (Walk C) → Option (Walk C) → Option (Walk C)

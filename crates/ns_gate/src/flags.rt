@@ -4,14 +4,14 @@ ghost use Rattle.std.specs.Prelude.{◌≡◌, ◌+◌, ◌<◌};
 ghost use Rattle.ns_gate.specs.Prelude.{owes_more, CanStep, HasUseFor, IsOwedNext, Performed, the};
 
 use crate::gate::{Gate, GateSeat};
-use crate::room::Gated;
+use ns_model::condition::Condition;
 use ns_word::act::{Act, Found};
 use std::sync::Wait;
 
 /// The number of a flag that is set.
 const SET: u32 = 1;
 
-impl<C: Gated<N>, const N: usize> Gate<C, N> {
+impl<C: Condition<N>, const N: usize> Gate<C, N> {
     /// The word that has a seat's own flag, or the flag of the seat that it owes the next wake.
     ///
     /// Needs the number, below 64, of one of these two.

@@ -6,7 +6,6 @@ ghost use Rattle.ns_gate.specs.Prelude.{word_of, IsPackable, before_in, exchange
 use crate::closed::{Closed, cells};
 use crate::fault::Fault;
 use crate::plays::{FirstOut, Go, Law, Learn, Load, Look, Together};
-use crate::room::Gated;
 use crate::saying::load_saying;
 use crate::view::View;
 use atomic_table::{Refused, Table};
@@ -63,7 +62,9 @@ fn zeros(alloc: Global, count: usize) -> Result<Vec<u64>, AllocError>
 }
 
 /// Queues in which nobody stands.
-fn no_waiters<C: Gated<N>, const N: usize>(alloc: Global) -> Result<Vec<Queues<C, N>>, AllocError>
+fn no_waiters<C: Condition<N>, const N: usize>(
+    alloc: Global,
+) -> Result<Vec<Queues<C, N>>, AllocError>
     ensures { IfOk result (λ slots. slots.items ≡ no_lists ∷ []) }
 {
     let mut slots = Vec::new(alloc);
@@ -71,7 +72,7 @@ fn no_waiters<C: Gated<N>, const N: usize>(alloc: Global) -> Result<Vec<Queues<C
     Ok(slots)
 }
 
-impl<C: Gated<N>, const N: usize> Gate<C, N> {
+impl<C: Condition<N>, const N: usize> Gate<C, N> {
     /// A gate with a free lock over a row of zeros, and one seat that stands for so many; `part` takes
     /// them out one by one.
     ///

@@ -5,7 +5,7 @@ ghost use Rattle.ns_gate.specs.Prelude.{IsOnWord, IsTurned, Needs, CanStep, Perf
 
 use crate::gate::{Gate, GateSeat};
 use crate::queues::{Returning, Turned};
-use crate::room::Gated;
+use ns_model::condition::Condition;
 use ns_word::act::{Act, Found};
 use ns_word::limits::Cause;
 use ns_word::walk::Walk;
@@ -40,7 +40,7 @@ fn found_by(tries: Result<(), Word>, made: Found) -> Found
     }
 }
 
-impl<C: Gated<N>, const N: usize> Gate<C, N> {
+impl<C: Condition<N>, const N: usize> Gate<C, N> {
     /// Makes the act that the seat's call wants next, or begins with.
     ///
     /// Needs a seat of this gate, whose call wants that; and beside it what the act's own function

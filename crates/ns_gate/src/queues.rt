@@ -4,7 +4,7 @@ ghost use Rattle.std.specs.Prelude.{◌≡◌, ◌<◌, ⊤, nat_lt, IfErr};
 ghost use Rattle.ns_gate.specs.Prelude.{IsList, times, waiters_of, woken_of, tests_of, seats_of, times_in, IsPackable, row_in, bits_of, IsInRange, changed, meets_at, waited_in, CanStep, Carries, HasUnchangedQueues, Performed, act_returning, found_returned, lists_returned, lists_scanned, some_returned, the, tried, tried_for, word_returning};
 
 use crate::gate::{Gate, GateSeat};
-use crate::room::Gated;
+use ns_model::condition::Condition;
 use ns_model::event::Mode;
 use ns_queue::scan::Scan;
 use ns_queue::waiter::Which;
@@ -63,7 +63,7 @@ impl<C> Returning<C> {
     }
 }
 
-impl<C: Gated<N>, const N: usize> Gate<C, N> {
+impl<C: Condition<N>, const N: usize> Gate<C, N> {
     /// Sets the spinlock bit and takes the queues, where the lock word is still the one last seen; else
     /// tells the word.
     ///

@@ -4,8 +4,8 @@ ghost use Rattle.std.specs.Prelude.{◌≡◌};
 ghost use Rattle.ns_gate.specs.Prelude.{HasUnchangedQueues, ShowsLists, bits_of, the};
 
 use crate::gate::{Gate, GateSeat};
-use crate::room::Gated;
 use arrayvec::ArrayVec;
+use ns_model::condition::Condition;
 use ns_queue::queues::Queues;
 use ns_queue::waiter::{Shown, Which};
 use ns_word::hand::bits;
@@ -21,7 +21,7 @@ pub struct ShownLists {
 }
 
 /// All lists, as they are shown.
-fn shown_lists<C: Gated<N>, const N: usize>(queues: &Queues<C, N>) -> ShownLists
+fn shown_lists<C: Condition<N>, const N: usize>(queues: &Queues<C, N>) -> ShownLists
     ensures { ShowsLists queues.now result }
 {
     ShownLists {
@@ -35,7 +35,7 @@ fn shown_lists<C: Gated<N>, const N: usize>(queues: &Queues<C, N>) -> ShownLists
     }
 }
 
-impl<C: Gated<N>, const N: usize> Gate<C, N> {
+impl<C: Condition<N>, const N: usize> Gate<C, N> {
     /// Shows the queues in hand, and leaves them as they are. Tells what the lock list holds too.
     ///
     /// Needs a seat of this gate, which has the queues in hand as they stood.

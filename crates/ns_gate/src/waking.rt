@@ -11,8 +11,8 @@ ghost use Rattle.ns_queue.specs.declared.waiter.Which.TheVariants.{Cv};
 
 use crate::gate::{Gate, GateSeat};
 use crate::queues::Turned;
-use crate::room::Gated;
 use arrayvec::ArrayVec;
+use ns_model::condition::Condition;
 use ns_queue::queues::Queues;
 use ns_queue::room::Queueable;
 use ns_queue::waiter::Waiter;
@@ -106,7 +106,7 @@ fn turned_by<C: Queueable<N>, const N: usize>(
     }
 }
 
-impl<C: Gated<N>, const N: usize> Gate<C, N> {
+impl<C: Condition<N>, const N: usize> Gate<C, N> {
     /// What the hand has made of the queues for a call that wakes, where nobody waits for its variable:
     /// it takes nobody, and they stay as they stood. Where somebody waits, answers nothing.
     ///

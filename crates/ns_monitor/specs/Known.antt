@@ -1,5 +1,5 @@
 -- What contracts see of a caller, and how it grows.
-use Rattle.std.specs.Prelude.{◌≡◌, ℕ, suc, ◌⊎◌, Bool, true, not, List, [], ◌∷◌, ◌++◌, Option, None, Some}
+use Rattle.std.specs.Prelude.{◌≡◌, ℕ, Bool, true, not, List, [], ◌∷◌, ◌++◌, Option, None, Some}
 use Rattle.atomic_table.specs.Seated.{TableId}
 use Rattle.ns_model.specs.declared.event.Event.{Event}
 use Rattle.ns_model.specs.declared.event.Mode.{Mode}
@@ -15,6 +15,8 @@ use Rattle.ns_word.specs.Meanings.{new_section}
 use Rattle.ns_gate.specs.Calls.{SeatOf, IsTrueToHistory}
 use Rattle.ns_gate.specs.Steps.{the}
 use Rattle.ns_queue.specs.Queues.{Lists}
+use Rattle.ns_seats.specs.Sights.{Sight, AreOfOneHistory as AreOfOneHistoryBy}
+use Rattle.ns_seats.specs.Views.{AreNew as AreNewBy}
 
 -- what contracts see of a seat or a section: its monitor, how many seats that has, its own number, the history that it has seen, its own events, the calls that it has begun, by their first places, the section in hand, the place in the call that is in progress, what it carries of the monitor, by number: the waiter queues, while it has them in hand, and the seats to which it owes wakes
 pub record Known (C : Type 0) (N : ℕ) : Type 0 where
@@ -63,8 +65,7 @@ new_seat monitor seat_count seat = record { monitor = monitor; seat_count = seat
 
 -- the seats of a new monitor, from a number on
 abbrev pub AreNew : {C : Type 0} {N : ℕ} → ℕ → TableId → ℕ → List (Known C N) → Type 0
-AreNew seat_count monitor from [] = Unit {0}
-AreNew seat_count monitor from (seat ∷ seats) = (seat ≡ new_seat monitor seat_count from) × AreNew seat_count monitor (suc from) seats
+AreNew seat_count monitor = AreNewBy (new_seat monitor seat_count)
 
 -- Nothing of the caller has changed but what it has seen: a legal history by the seats that there are, which begins with what it had seen, and in which its own events are just its own. It is in no call, owes no wake, and carries nothing.
 pub record HasLearned {C : Type 0} {N : ℕ} (truths : Truths C) (old new : Known C N) : Type 0 where
@@ -80,15 +81,13 @@ pub record HasLearned {C : Type 0} {N : ℕ} (truths : Truths C) (old new : Know
   pub owes : new.owed ≡ []
   pub empty : new.carries ≡ []
 
--- Of two callers, one has seen all that the other has: a history that begins with what the other has seen, in which the events of both are just their own.
-pub record SawAllOf {C : Type 0} {N : ℕ} (ahead behind : Known C N) : Type 0 where
-  pub begins : BeginsWith ahead.seen behind.seen
-  pub own : own_of ahead.seen ahead.seat ≡ ahead.mine
-  pub theirs : own_of ahead.seen behind.seat ≡ behind.mine
+-- what a caller has seen
+abbrev pub sight_of : {C : Type 0} {N : ℕ} → Known C N → Sight (Event C N)
+sight_of k = record { seat = k.seat; seen = k.seen; mine = k.mine }
 
--- Of two callers, one has seen all that the other has.
+-- Of two callers, one has seen all that the other has: a history that begins with what the other has seen, in which the events of both are just their own.
 abbrev pub AreOfOneHistory : {C : Type 0} {N : ℕ} → Known C N → Known C N → Type 0
-AreOfOneHistory first second = SawAllOf first second ⊎ SawAllOf second first
+AreOfOneHistory first second = AreOfOneHistoryBy own_of (sight_of first) (sight_of second)
 
 -- The monitor has come to a lawful state, with a history that begins with what the caller has seen and has just the caller's events as its own; the cells are that state's row, and the lock is free or held as is told. Where it is free, they are the row after that history.
 pub record EndsAs {C : Type 0} {N : ℕ} (truths : Truths C) (k : Known C N) (row : List ℕ) (free : Bool) : Type 0 where

@@ -8,7 +8,7 @@ use crate::going::Going;
 use crate::monitor::Monitor;
 use ns_gate::gate::GateSeat;
 use ns_gate::queues::{Returning, Turned};
-use ns_gate::room::Gated;
+use ns_model::condition::Condition;
 use ns_model::event::Mode;
 use ns_word::acquire_walk::AcquirePlace;
 use ns_word::act::Change;
@@ -18,7 +18,7 @@ use ns_word::walk::Walk;
 use ns_word::word::{Arrival, Word};
 use std::sync::Wait;
 
-impl<C: Gated<N>, const N: usize> Monitor<C, N> {
+impl<C: Condition<N>, const N: usize> Monitor<C, N> {
     /// Acquires the lock in this mode, by the word last seen, and waits in the lock list as often as it
     /// has to. It is told the word's number ([`Monitor::go_at_once`]).
     #[cold]

@@ -7,12 +7,12 @@ ghost use Rattle.ns_monitor.specs.Prelude.{HasLoaded, HasTested, IsReady, MayTes
 
 use crate::monitor::Monitor;
 use ns_gate::gate::GateSeat;
-use ns_gate::room::Gated;
+use ns_model::condition::Condition;
 use ns_word::cell_walk::{CellPlace, Judging};
 use ns_word::wait::{Visit, Wait, WaitPlace};
 use ns_word::walk::Walk;
 
-impl<C: Gated<N>, const N: usize> Monitor<C, N> {
+impl<C: Condition<N>, const N: usize> Monitor<C, N> {
     /// Loads so many cells, from the first on, for the call that stands at this place, or begins there.
     /// Answers what is still to begin: nothing, once a cell is loaded. No code reads the place.
     fn load_cells(

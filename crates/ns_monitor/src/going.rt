@@ -6,7 +6,7 @@ ghost use Rattle.ns_monitor.specs.Prelude.{Decides, WentAtOnce, going_act, going
 
 use crate::monitor::Monitor;
 use ns_gate::gate::GateSeat;
-use ns_gate::room::Gated;
+use ns_model::condition::Condition;
 use ns_word::codec::encode;
 use ns_word::wait::Aim;
 use ns_word::walk::Walk;
@@ -58,7 +58,7 @@ impl<C: Copy> Going<C> {
     }
 }
 
-impl<C: Gated<N>, const N: usize> Monitor<C, N> {
+impl<C: Condition<N>, const N: usize> Monitor<C, N> {
     /// Makes the exchange by which a call goes without the waiter queues, where the word is still the
     /// one last seen; else tells the word.
     #[inline(always)]

@@ -12,13 +12,13 @@ use arrayvec::ArrayVec;
 use crossbeam_utils::Backoff;
 use ns_gate::gate::GateSeat;
 use ns_gate::queues::{Returning, Turned};
-use ns_gate::room::Gated;
+use ns_model::condition::Condition;
 use ns_word::act::Found;
 use ns_word::walk::Walk;
 use ns_word::word::Word;
 use std::sync::Wait;
 
-impl<C: Gated<N>, const N: usize> Monitor<C, N> {
+impl<C: Condition<N>, const N: usize> Monitor<C, N> {
     /// Goes on by the word last seen, as the call does that loads the word at this place: acquires or
     /// releases, where the word lets it, or takes the queues; then this is the word. Goes round while
     /// another has the queues.

@@ -7,9 +7,9 @@ ghost use Rattle.ns_monitor.specs.Prelude.{AreNew, AreOfOneHistory, EndsAs, Grow
 
 use crate::caller::{Caller, Free, Hand, ReadHeld, Renewed, Seat, Section, WriteHeld};
 use crate::going::Going;
+use crate::room::Gated;
 use crate::{Closed, Fault};
 use ns_gate::gate::{Gate, GateSeat};
-use ns_gate::room::Gated;
 use ns_model::condition::Condition;
 use ns_model::event::Mode;
 use ns_word::wait::Aim;

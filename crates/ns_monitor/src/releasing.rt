@@ -9,14 +9,14 @@ use crate::going::Going;
 use crate::monitor::Monitor;
 use ns_gate::gate::GateSeat;
 use ns_gate::queues::{Returning, Turned};
-use ns_gate::room::Gated;
+use ns_model::condition::Condition;
 use ns_word::codec::unpacked;
 use ns_word::release_walk::ReleasePlace;
 use ns_word::walk::Walk;
 use ns_word::word::{Releasing, Word};
 use std::sync::Wait;
 
-impl<C: Gated<N>, const N: usize> Monitor<C, N> {
+impl<C: Condition<N>, const N: usize> Monitor<C, N> {
     /// Releases the section in hand by the word last seen, and wakes those waiters who can go on.
     ///
     /// It is told the word's number ([`Monitor::go_at_once`]).

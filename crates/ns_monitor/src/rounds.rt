@@ -10,7 +10,7 @@ use crate::caller::{Caller, Renewed};
 use crate::monitor::Monitor;
 use crate::watching::{Looker, Nothing, Watch};
 use ns_gate::gate::GateSeat;
-use ns_gate::room::Gated;
+use ns_model::condition::Condition;
 use ns_model::event::Answer;
 use ns_note::env::Env;
 use ns_note::note::{Note, index_of};
@@ -20,7 +20,7 @@ use ns_word::wait::{Outcome, Subject, Visit, Wait as Waiting, answer_of};
 use ns_word::walk::Walk;
 use std::sync::Wait;
 
-impl<C: Gated<N>, const N: usize> Monitor<C, N> {
+impl<C: Condition<N>, const N: usize> Monitor<C, N> {
     /// Looks, before a wait queues, at what may end it early, if anything may. Answers what the look
     /// has shown; then the wait is over.
     fn look_before<W: Watch>(

@@ -6,12 +6,13 @@ ghost use Rattle.ns_monitor.specs.Prelude.{HasSeenMore, HasStood, ShowsState, kn
 
 use crate::caller::{Caller, Hand};
 use crate::monitor::Monitor;
+use crate::room::Gated;
 use arrayvec::ArrayVec;
 use crossbeam_utils::Backoff;
 use ns_gate::gate::GateSeat;
 use ns_gate::queues::{Returning, Turned};
-use ns_gate::room::Gated;
 use ns_gate::showing::ShownLists;
+use ns_model::condition::Condition;
 use ns_queue::waiter::Shown;
 use ns_word::act::Change;
 use ns_word::show_walk::ShowPlace;
@@ -30,7 +31,7 @@ pub struct DebugState {
     pub cvs: [ArrayVec<Shown, 64>; 4],
 }
 
-impl<C: Gated<N>, const N: usize> Monitor<C, N> {
+impl<C: Condition<N>, const N: usize> Monitor<C, N> {
     /// Begins to show, and takes the queues. Answers the word that the exchange compared.
     fn take_to_show<R: Wait>(&self, rt: &R, seat: &mut GateSeat<C, N>) -> Word
         requires of { seat.old.table_id ≡ self.now }
@@ -57,7 +58,9 @@ impl<C: Gated<N>, const N: usize> Monitor<C, N> {
         }
         unreachable!()
     }
+}
 
+impl<C: Gated<N>, const N: usize> Monitor<C, N> {
     /// How the monitor stands at one moment of the call: its lock word, and who waits in the lock list
     /// and for each condition variable.
     ///

@@ -8,7 +8,7 @@ ghost use Rattle.ns_monitor.specs.Prelude.{EndedBy, Grows, HasWaitedForVariable,
 use crate::caller::{Caller, Renewed};
 use crate::monitor::Monitor;
 use crate::watching::{Looker, Watch};
-use ns_gate::room::Gated;
+use ns_model::condition::Condition;
 use ns_model::event::Answer;
 use ns_note::env::Env;
 use ns_note::note::{Note, index_of};
@@ -18,7 +18,7 @@ use ns_word::wait::{QueuePlace, Subject, Wait as Waiting, WaitPlace};
 use ns_word::walk::Walk;
 use std::sync::Wait;
 
-impl<C: Gated<N>, const N: usize> Monitor<C, N> {
+impl<C: Condition<N>, const N: usize> Monitor<C, N> {
     /// Waits for a variable until it is woken, or what watches for its limits ends the wait.
     fn wait_for_variable<H: Renewed<C, N>, R: Wait, W: Watch>(
         &self,

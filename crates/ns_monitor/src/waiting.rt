@@ -9,7 +9,7 @@ use crate::watching::Watch;
 use crossbeam_utils::Backoff;
 use ns_gate::gate::GateSeat;
 use ns_gate::queues::{Returning, Turned};
-use ns_gate::room::Gated;
+use ns_model::condition::Condition;
 use ns_word::act::Change;
 use ns_word::limits::Cause;
 use ns_word::wait::{
@@ -30,7 +30,7 @@ fn lacks_row<C: Copy>(on: Subject<C>, word: Word) -> bool
     }
 }
 
-impl<C: Gated<N>, const N: usize> Monitor<C, N> {
+impl<C: Condition<N>, const N: usize> Monitor<C, N> {
     /// Leaves the section in hand for a wait, and wakes those waiters who can go on. Where it is for a
     /// condition, this is the section's row; else the row is loaded into it where a scan needs it.
     pub(crate) fn queue_to_wait<R: Wait>(

@@ -7,10 +7,11 @@ ghost use Rattle.ns_monitor.specs.Prelude.{Grows, HasReturnedWoken, HasTakenAt, 
 
 use crate::caller::{Caller, Hand};
 use crate::monitor::Monitor;
+use crate::room::Gated;
 use arrayvec::ArrayVec;
 use ns_gate::gate::GateSeat;
 use ns_gate::queues::{Returning, Turned};
-use ns_gate::room::Gated;
+use ns_model::condition::Condition;
 use ns_queue::signal::seats;
 use ns_queue::waiter::Waiter;
 use ns_word::act::{Change, Waking};
@@ -30,7 +31,7 @@ fn is_held_by_one(word: Word, other: Word) -> bool
     }
 }
 
-impl<C: Gated<N>, const N: usize> Monitor<C, N> {
+impl<C: Condition<N>, const N: usize> Monitor<C, N> {
     /// Puts the queues back without those whom the call has taken, who are at the back of the lock list
     /// where the word that the exchange compares is held: what is in hand is turned each time the word
     /// found differs in that. Answers whether the lock was held; else they are owed their wakes.
@@ -121,7 +122,9 @@ impl<C: Gated<N>, const N: usize> Monitor<C, N> {
         }
         self.wake_waiters(rt, seat, waking, k, word);
     }
+}
 
+impl<C: Gated<N>, const N: usize> Monitor<C, N> {
     /// Wakes at least one of those who wait for a condition variable, if any do: the first of them, and
     /// if that one reads, every other reader and the first writer.
     ///

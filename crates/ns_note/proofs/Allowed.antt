@@ -14,7 +14,8 @@ use Rattle.ns_note.specs.declared.note.NoteWord.{NoteWord}
 use Rattle.ns_note.specs.declared.view.Making.TheVariants.{Nothing, Adding, Taken}
 use Rattle.ns_note.specs.declared.view.EnvView.{EnvView}
 use Rattle.ns_note.specs.Words.{WordFits, word_of, note_of}
-use Rattle.ns_note.specs.Known.{the, IsOne}
+use Rattle.ns_note.specs.Known.{the}
+use Rattle.ns_seats.specs.Views.{IsOne}
 use Rattle.ns_note.specs.Law.{Views, adds, MakingFits, note_word, NoteFits, IsRuled, HoldsAt, Holds}
 use Rattle.ns_note.specs.Told.{ViewChange, Adds, OneLearns, LoadedClock, LoadedNext, LoadedNote, Added, Made, NotifiedNote, AdvancedClock}
 use Rattle.ns_note.proofs.Codec.{note_of-word_of, marked}
@@ -54,8 +55,8 @@ module _ (S : Type 0) (seat_count id : ℕ) where
 
   change_at : (i : ℕ) (f : ℕ → ℕ) (tells : ℕ → ViewChange) (ws : List ℕ) (views : Views) (vs : V) (cs : List (ℕ × S)) → IsOne vs → MayChange i f tells (the vs) → HoldsAt seat_count ws views → get_elem? views id ≡ some vs
       → Owes views cs (set ws i (f (get_or ws i 0))) (OneLearns (tells (get_or ws i 0)) (vs, cs))
-  change_at i f tells [] views vs cs one t h at = absurd h
-  change_at i f tells (c ∷ []) views vs cs one t h at = absurd h
+  change_at i f tells [] views vs cs one t h at = absurd h.1
+  change_at i f tells (c ∷ []) views vs cs one t h at = absurd h.1
   change_at i f tells (c ∷ x ∷ notes) views [] cs one t h at = absurd one
   change_at i f tells (c ∷ x ∷ notes) views (v ∷ u ∷ us) cs one t h at = absurd one
   change_at i f tells (c ∷ x ∷ notes) views (v ∷ []) cs one t h at = let r = t c x notes views h.0 h.1 at in (r.0 ∷ [], r.1, (tt, refl, r.2))

@@ -11,8 +11,9 @@ use Rattle.ns_note.specs.declared.view.Making.{Making}
 use Rattle.ns_note.specs.declared.view.Making.TheVariants.{Nothing, Adding, Taken}
 use Rattle.ns_note.specs.declared.view.EnvView.{EnvView}
 use Rattle.ns_model.specs.Tallies.{total, Every, one_if}
-use Rattle.ns_note.specs.Law.{Views, tally, adds, is_adding, is_seat, MakingFits, Fits, NoteFits, IsRuled}
+use Rattle.ns_note.specs.Law.{Views, adds, is_adding, is_seat, MakingFits, Fits, NoteFits, IsRuled}
 use Rattle.ns_note.specs.Told.{Adds}
+use Rattle.ns_seats.specs.Views.{tally}
 use Rattle.ns_model.proofs.Tallies.{total_set, total_most, total_none, Others, every_at, others_of, others_both, others_map, others_none, every_put}
 
 pub after_one : (h : List EnvEvent) (e : EnvEvent) → env_after (h ++ e ∷ []) ≡ env_next (env_after h) e

@@ -13,7 +13,8 @@ use Rattle.ns_note.specs.declared.note.NoteWord.{NoteWord}
 use Rattle.ns_note.specs.Words.{note_of}
 use Rattle.ns_note.specs.declared.view.Making.TheVariants.{Nothing}
 use Rattle.ns_note.specs.declared.view.EnvView.{EnvView}
-use Rattle.ns_note.specs.Known.{EnvKnown, known_of, the, IsOne, IsTrueToHistory, IsAtRest, Grows}
+use Rattle.ns_seats.specs.Views.{IsOne}
+use Rattle.ns_note.specs.Known.{EnvKnown, known_of, the, IsTrueToHistory, IsAtRest, Grows}
 use Rattle.ns_note.specs.Told.{Adds, Added, HasTakenNumber, FoundFull}
 
 -- the seat is at rest again

@@ -1,5 +1,5 @@
 -- What a seat knows, and how it grows.
-use Rattle.std.specs.Prelude.{◌≡◌, ℕ, suc, List, [], ◌∷◌, ◌⊎◌}
+use Rattle.std.specs.Prelude.{◌≡◌, ℕ, List, []}
 use Rattle.atomic_table.specs.Seated.{TableId}
 use Rattle.atomic_table.specs.Table.{Me}
 use Rattle.ns_model.specs.declared.environment.EnvEvent.{EnvEvent}
@@ -7,6 +7,9 @@ use Rattle.ns_model.specs.Beginnings.{BeginsWith}
 use Rattle.ns_model.specs.Environments.{IsLegalEnv, IsEnvBySeats, env_own}
 use Rattle.ns_note.specs.declared.view.Making.TheVariants.{Nothing}
 use Rattle.ns_note.specs.declared.view.EnvView.{EnvView}
+use Rattle.ns_note.specs.Law.{fresh_seat}
+use Rattle.ns_seats.specs.Sights.{Sight, AreOfOneHistory as AreOfOneHistoryBy}
+use Rattle.ns_seats.specs.Views.{the_or, IsOne, AreNew as AreNewBy}
 
 -- what contracts see of a seat: its environment, how many seats that has, its own number, the history that it has seen, and its own events
 pub record EnvKnown : Type 0 where
@@ -24,26 +27,13 @@ known env seat_count seat seen mine = record { env = env; seat_count = seat_coun
 abbrev pub known_of : TableId → EnvView → EnvKnown
 known_of env view = known env view.seat_count view.seat view.seen view.mine
 
+-- what a seat has seen
+abbrev pub sight_of : EnvKnown → Sight EnvEvent
+sight_of k = record { seat = k.seat; seen = k.seen; mine = k.mine }
+
 -- the seat that a view stands for, where it is one
 abbrev pub the : List EnvView → EnvView
-the [] = record { seat_count = 0; seat = 0; making = Nothing; seen = []; mine = [] }
-the (view ∷ views) = view
-
--- the other of two seats that a view stands for, where there are two
-abbrev pub the_second : List EnvView → EnvView
-the_second [] = the []
-the_second (view ∷ views) = the views
-
--- the view stands for one seat alone
-abbrev pub IsOne : List EnvView → Type 0
-IsOne [] = ⊥
-IsOne (view ∷ []) = Unit {0}
-IsOne (view ∷ other ∷ views) = ⊥
-
--- the view stands for two seats
-abbrev pub ArePair : List EnvView → Type 0
-ArePair [] = ⊥
-ArePair (view ∷ views) = IsOne views
+the = the_or (fresh_seat 0 0)
 
 -- What a seat has seen is a legal history by the seats that there are, and the seat's own events in it are just its own.
 pub record IsTrueToHistory (k : EnvKnown) : Type 0 where
@@ -68,15 +58,8 @@ pub record Grows (old new : EnvKnown) : Type 0 where
 
 -- the seats of a new environment, from a number on: none has seen or done anything
 abbrev pub AreNew : TableId → ℕ → ℕ → List EnvKnown → Type 0
-AreNew env seat_count from [] = Unit {0}
-AreNew env seat_count from (seat ∷ seats) = (seat ≡ known env seat_count from [] []) × AreNew env seat_count (suc from) seats
+AreNew env seat_count = AreNewBy (λ seat. known env seat_count seat [] [])
 
 -- Of two seats, one has seen all that the other has: a history that begins with what the other has seen, in which the events of both are just their own.
-pub record SawAllOf (ahead behind : EnvKnown) : Type 0 where
-  pub begins : BeginsWith ahead.seen behind.seen
-  pub own : env_own ahead.seen ahead.seat ≡ ahead.mine
-  pub theirs : env_own ahead.seen behind.seat ≡ behind.mine
-
--- Of two seats, one has seen all that the other has.
 abbrev pub AreOfOneHistory : EnvKnown → EnvKnown → Type 0
-AreOfOneHistory first second = SawAllOf first second ⊎ SawAllOf second first
+AreOfOneHistory first second = AreOfOneHistoryBy env_own (sight_of first) (sight_of second)

@@ -1,23 +1,21 @@
 -- The rule of an environment's table, whose words stand as `table_words.rt` names them: the clock at CLOCK, the next note's number at NEXT, and the notes from NOTES on.
-use Rattle.std.specs.Prelude.{◌≡◌, ℕ, suc, zero, ◌+◌, ◌^◌, ◌<◌, ◌≤◌, min, Bool, true, false, ◌==◌, List, [], ◌∷◌, length, Some, slice_index}
+use Rattle.std.specs.Prelude.{◌≡◌, ℕ, ◌+◌, ◌^◌, ◌<◌, ◌≤◌, min, false, List, [], ◌∷◌, length, Some, slice_index}
 use Rattle.atomic_table.specs.Table.{State as TableState}
 use Rattle.ns_model.specs.declared.environment.EnvEvent.{EnvEvent}
 use Rattle.ns_model.specs.Beginnings.{BeginsWith}
-use Rattle.ns_model.specs.Tallies.{total, one_if, Every}
+use Rattle.ns_model.specs.Tallies.{Every}
 use Rattle.ns_model.specs.Environments.{NoteStanding, IsLegalEnv, env_after, clock_of, takes_in, is_made, env_own, IsEnvBySeats}
 use Rattle.ns_note.specs.declared.note.NoteWord.{NoteWord}
 use Rattle.ns_note.specs.declared.view.Making.{Making}
 use Rattle.ns_note.specs.declared.view.Making.TheVariants.{Nothing, Adding, Taken}
 use Rattle.ns_note.specs.declared.view.EnvView.{EnvView}
 use Rattle.ns_note.specs.Words.{WordFits, word_of}
+use Rattle.ns_seats.specs.Meetings.{Holds as HoldsBy}
+use Rattle.ns_seats.specs.Views.{Views as ViewsOf, tally, is_numbered, numbered}
 
 -- what all seats know, a list for each seat of the table
 abbrev pub Views : Type 0
-Views = List (List EnvView)
-
--- a sum over all seats
-abbrev pub tally : (EnvView → ℕ) → Views → ℕ
-tally f views = total (total f) views
+Views = ViewsOf EnvView
 
 -- 1 for a seat that goes to take a number
 abbrev pub adds : Making → ℕ
@@ -31,7 +29,7 @@ is_adding view = adds view.making
 
 -- 1 for the seat of this number
 abbrev pub is_seat : ℕ → EnvView → ℕ
-is_seat seat view = one_if (view.seat == seat)
+is_seat = is_numbered (λ view. view.seat)
 
 -- a number that a seat has taken is its own, and its note isn't made yet
 abbrev pub MakingFits : List EnvEvent → ℕ → Making → Type 0
@@ -78,25 +76,18 @@ fresh_seat seat_count seat = record { seat_count = seat_count; seat = seat; maki
 
 -- the first views of so many seats, from a number on
 abbrev pub fresh : ℕ → ℕ → ℕ → List EnvView
-fresh seat_count from zero = []
-fresh seat_count from (suc k) = fresh_seat seat_count from ∷ fresh seat_count (suc from) k
+fresh seat_count = numbered (fresh_seat seat_count)
 
--- the first seat of a view, alone, and the rest
-abbrev pub first_of : List EnvView → List EnvView
-first_of [] = []
-first_of (v ∷ vs) = v ∷ []
-
--- the seats of a view but the first
-abbrev pub rest_of : List EnvView → List EnvView
-rest_of [] = []
-rest_of (v ∷ vs) = vs
+-- these words, of which the first two are the clock and the next number, are as this history leaves them
+abbrev pub RuledAt : ℕ → List ℕ → Views → List EnvEvent → Type 0
+RuledAt seat_count [] views h = ⊥
+RuledAt seat_count (clock ∷ []) views h = ⊥
+RuledAt seat_count (clock ∷ next ∷ notes) views h = IsRuled seat_count clock next notes views h
 
 -- The rule holds of these words: some history is as it says.
 abbrev pub HoldsAt : ℕ → List ℕ → Views → Type 0
-HoldsAt seat_count [] views = ⊥
-HoldsAt seat_count (clock ∷ []) views = ⊥
-HoldsAt seat_count (clock ∷ next ∷ notes) views = (h : List EnvEvent) × IsRuled seat_count clock next notes views h
+HoldsAt seat_count words views = (h : List EnvEvent) × RuledAt seat_count words views h
 
 -- The rule of a table with so many seats.
 abbrev pub Holds : {S : Type 0} → ℕ → TableState S (List EnvView) → Type 0
-Holds seat_count s = HoldsAt seat_count s.words s.views
+Holds seat_count = HoldsBy (λ words homes. RuledAt seat_count words)

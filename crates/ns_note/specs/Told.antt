@@ -8,8 +8,10 @@ use Rattle.ns_model.specs.Environments.{env_after, clock_of, takes_in, IsMade}
 use Rattle.ns_note.specs.declared.view.Making.TheVariants.{Nothing, Adding, Taken}
 use Rattle.ns_note.specs.declared.view.EnvView.{EnvView}
 use Rattle.ns_note.specs.Words.{note_of}
-use Rattle.ns_note.specs.Law.{NoteFits}
-use Rattle.ns_note.specs.Known.{known_of, the, the_second, IsOne, ArePair, Grows, AreOfOneHistory}
+use Rattle.ns_note.specs.Law.{NoteFits, fresh_seat}
+use Rattle.ns_note.specs.Known.{known_of, the, Grows, AreOfOneHistory}
+use Rattle.ns_seats.specs.Meetings.{HaveLearned as HaveLearnedBy}
+use Rattle.ns_seats.specs.Views.{IsOne}
 
 -- what a step tells of the seat's view before and after it
 abbrev pub ViewChange : Type 1
@@ -64,7 +66,7 @@ pub record HaveLearned (a b a' b' : EnvView) : Type 0 where
 
 -- two seats that stand together have learned the history so far, and hold what they held
 abbrev pub Learned : {S : Type 0} → Me S (List EnvView) → Me S (List EnvView) → Type 0
-Learned me now = ArePair now.0 × (now.1 ≡ me.1) × HaveLearned (the me.0) (the_second me.0) (the now.0) (the_second now.0)
+Learned = HaveLearnedBy (fresh_seat 0 0) HaveLearned
 
 -- the seat has taken this number, which is past all that it had seen taken
 abbrev pub HasTakenNumber : ℕ → ViewChange

@@ -4,7 +4,8 @@ ghost use Rattle.std.specs.Prelude.{◌≡◌, ◌<◌, ◌^◌, ◌++◌, ◌�
 ghost use Rattle.ns_model.specs.Beginnings.{IsBetween};
 ghost use Rattle.ns_model.specs.Environments.{IsMade, IsNotified, clock_of, earlier as earlier_of, env_after, expiry_of, is_made, is_notified, takes_in};
 ghost use Rattle.ns_note.specs.Answers.{LookAnswers, WaitAnswers};
-ghost use Rattle.ns_note.specs.Known.{AreNew, AreOfOneHistory, Grows, IsAtRest, IsOne, IsTrueToHistory, known_of, the};
+ghost use Rattle.ns_note.specs.Known.{AreNew, AreOfOneHistory, Grows, IsAtRest, IsTrueToHistory, known_of, the};
+ghost use Rattle.ns_seats.specs.Views.{IsOne};
 ghost use Rattle.ns_note.specs.Law.{note_word};
 ghost use Rattle.ns_note.specs.Told.{FoundFull, HasTakenNumber};
 ghost use Rattle.ns_note.specs.declared.view.Making.TheVariants.{Nothing};

@@ -2,7 +2,8 @@
 
 ghost use Rattle.std.specs.Prelude.{◌-◌, ◌++◌, []};
 ghost use Rattle.ns_note.specs.declared.table_words.TheConstants.{NOTES};
-ghost use Rattle.ns_note.specs.Law.{Holds, first_of, fresh, rest_of};
+ghost use Rattle.ns_note.specs.Law.{Holds, fresh};
+ghost use Rattle.ns_seats.specs.Views.{first_of, rest_of};
 ghost use Rattle.ns_note.specs.Told.{Added, AdvancedClock, Learned, LoadedClock, LoadedNext, LoadedNote, Made, NotifiedNote, OneLearns};
 
 use crate::view::View;

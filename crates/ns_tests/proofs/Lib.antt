@@ -1,2 +1,3 @@
+mod Meanings
 mod Seats
 mod Walking

@@ -1,13 +1,13 @@
 -- What the tests take of the seats of a new monitor.
-use Rattle.std.proofs.Common.{◌≡◌, ℕ, suc, List, [], ◌∷◌, ◌++◌, Some, ap}
+use Rattle.std.proofs.Common.{◌≡◌, ℕ, List, [], ◌∷◌, ◌++◌, Some, refl}
 use Rattle.std.specs.List.{All}
-use Rattle.std.proofs.lemmas.List.Elements.{All-nil, All-cons, All-pop}
-use Rattle.ns_monitor.specs.Known.{Known, AreNew}
+use Rattle.std.proofs.lemmas.List.Elements.{All-pop}
+use Rattle.ns_monitor.specs.Known.{Known, AreNew, new_seat}
+use Rattle.ns_seats.proofs.Numbered.{all_new}
 
 -- each is of that monitor
 pub all_of_monitor : {C : Type 0} {N : ℕ} (seat_count : ℕ) (monitor : _) (from : ℕ) (seats : List (Known C N)) → AreNew seat_count monitor from seats → All (λ seat. seat.monitor ≡ monitor) seats
-all_of_monitor {C} {N} seat_count monitor from [] new = All-nil (λ (s : Known C N). s.monitor ≡ monitor)
-all_of_monitor {C} {N} seat_count monitor from (seat ∷ seats) new = All-cons (λ (s : Known C N). s.monitor ≡ monitor) seat seats (ap (λ (s : Known C N). s.monitor) new.0) (all_of_monitor seat_count monitor (suc from) seats new.1)
+all_of_monitor {C} {N} seat_count monitor = all_new (new_seat {C = C} {N = N} monitor seat_count) (λ (s : Known C N). s.monitor ≡ monitor) (λ seat. refl)
 
 -- so are the two behind, taken in turn, and the rest
 pub two_of_monitor : {C : Type 0} {N : ℕ} (seat_count : ℕ) (monitor : _) (seats more rest : List (Known C N)) (last other : Known C N) → AreNew seat_count monitor 0 seats → seats ≡ more ++ last ∷ [] → more ≡ rest ++ other ∷ [] → (All (λ seat. seat.monitor ≡ monitor) rest × (other.monitor ≡ monitor)) × (last.monitor ≡ monitor)

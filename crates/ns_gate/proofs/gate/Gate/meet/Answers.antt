@@ -1,17 +1,18 @@
 use Rattle.std.proofs.Common.{rules, ap, ◌∙◌}
 use Rattle.ns_gate.specs.Prelude.{SeatOf}
-use Rattle.ns_gate.proofs.Starts.{cuts}
-use Rattle.ns_gate.proofs.Meets.{glues, learns, pair_of, met_at}
+use Rattle.ns_seats.proofs.Meetings.{cuts, glues}
+use Rattle.ns_seats.proofs.Views.{pair_of}
+use Rattle.ns_gate.proofs.Meets.{by_sums, learns, met_at}
 use Rattle.ns_gate.proofs.gate.Gate.meet.Goals as goal
 
 pub join_seat-requires : goal.join_seat-requires
-join_seat-requires g c = (search rules, search rules, c.requires.second.1.empty, search rules, glues _ _ _ _ _ _)
+join_seat-requires g c = (search rules, search rules, c.requires.second.1.empty, search rules, glues (by_sums _ _) _ _ _ _)
 
 pub load-requires : goal.load-requires
 load-requires g c = (search rules, search rules, learns _ _ _ _ c.join_seat.new.seat.me (pair_of c.args.first.me.0 c.args.second.me.0 _ c.requires.first.1.one c.requires.second.1.one (ap (λ (m : SeatOf _ _). m.0) c.join_seat.ensures.2)))
 
 pub split_seat-first-requires : goal.split_seat-first-requires
-split_seat-first-requires g c = (search rules, search rules, cuts _ _ _ _ _ _)
+split_seat-first-requires g c = (search rules, search rules, cuts (by_sums _ _) _ _)
 
 pub returns : goal.returns
 returns g c = record {

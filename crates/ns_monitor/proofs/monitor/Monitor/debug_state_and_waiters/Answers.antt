@@ -1,6 +1,7 @@
 use Rattle.std.proofs.Common.{◌∙◌, sym, subst, refl, arith, Some, None}
 use Rattle.ns_gate.specs.Prelude.{TableId, HasAnswered, HasSince, IsAtPlace, IsPackable, InShow, ReturnShown, Succeeded, ToChange, Word, bits_of, the}
 use Rattle.ns_gate.proofs.Calls.{since_itself, since_then, works}
+use Rattle.ns_gate.proofs.Room.{queues_fit}
 use Rattle.ns_monitor.proofs.Callers.{saw_more}
 use Rattle.ns_monitor.proofs.Shows.{stood_since}
 use Rattle.ns_monitor.proofs.Standing.{still_since, taken_packs}
@@ -15,7 +16,7 @@ put_back-requires g c = let t = g.C.Condition.means in let took = c.take_to_show
     let at = subst (λ (w : Word). IsAtPlace t (InShow (ReturnShown w)) me) (sym c.taken-taken.ensures) took.ensures.at in (
       omega arith,
       (
-        g.met.C.Gated.queues_fit,
+        queues_fit g.row.C g.row.N g.met.C.Condition.has_room,
         (
           omega arith,
           (

@@ -1,6 +1,7 @@
 use Rattle.std.proofs.Common.{◌≡◌, ◌∙◌, refl, subst, sym, arith, None, Some, true, rules}
 use Rattle.ns_gate.specs.Prelude.{TableId, HasSince, IsAtPlace, HasReached, the, CanStep, Performed, asked_of, IsPackable, got_of, Made, Saw, Word}
 use Rattle.ns_gate.proofs.Calls.{since, since_then}
+use Rattle.ns_gate.proofs.Room.{queues_fit}
 use Rattle.ns_monitor.proofs.Standing.{decided, can_go_by, goes_alone, goes_by, loads_first, may_by, misses, same_word}
 use Rattle.ns_monitor.specs.Prelude.{going_act, going_at, going_of, may_go}
 use Rattle.ns_monitor.proofs.monitor.Monitor.go_at_once.Given.{Over}
@@ -26,7 +27,7 @@ returns-then-not-may_go g c = record {
 pub exchange_to_go-requires : goal.exchange_to_go-requires
 exchange_to_go-requires g c = let t = g.C.Condition.means in let walk = c.args.walk in let word = c.load-word.result in let me = c.load-word.new.seat.me in let is = c.requires.going in
     let may = may_by c.args.going walk word c.may_go.result true is c.may_go.ensures c.if-not-may_go.false in
-    (omega arith, (g.met.C.Gated.queues_fit, (omega arith, (◌∙◌ {A = TableId} c.load-word.ensures.seat c.requires.of, (c.load-word.ensures.word, (may.0, subst (λ x. CanStep t None (going_act x word) me) (sym is) (can_go_by t walk word me c.requires.decides may.1 (at g (goal.at.exchange_to_go-requires g c).After-load-word may.1))))))))
+    (omega arith, (queues_fit g.row.C g.row.N g.met.C.Condition.has_room, (omega arith, (◌∙◌ {A = TableId} c.load-word.ensures.seat c.requires.of, (c.load-word.ensures.word, (may.0, subst (λ x. CanStep t None (going_act x word) me) (sym is) (can_go_by t walk word me c.requires.decides may.1 (at g (goal.at.exchange_to_go-requires g c).After-load-word may.1))))))))
 
 pub returns-in-Ok : goal.returns-in-Ok
 returns-in-Ok g c = record {

@@ -2,6 +2,7 @@ use Rattle.std.proofs.Common.{◌∙◌, sym, refl, arith, None, true, false, ru
 use Rattle.ns_gate.specs.Prelude.{TableId, the, Look, Looked, LookIn, InQueuing, InWait}
 use Rattle.ns_gate.proofs.Calls.{can_go, since, since_itself}
 use Rattle.ns_gate.proofs.Findings.{does}
+use Rattle.ns_gate.proofs.Room.{queues_fit}
 use Rattle.ns_monitor.proofs.Standing.{commits_none}
 use Rattle.ns_monitor.proofs.Returns.{by_limits, look_fresh, looks_in}
 use Rattle.ns_monitor.proofs.monitor.Monitor.look_before.Goals as goal
@@ -20,7 +21,7 @@ returns-then-not-is_some g c = record {
 
 pub look-requires : goal.look-requires
 look-requires g c = let t = g.C.Condition.means in let me = c.args.seat.now.me in let wait = c.args.wait in
-    (omega arith, (g.met.C.Gated.queues_fit, (omega arith, (◌∙◌ {A = TableId} c.requires.of (sym c.self.view_is), (c.requires.number, (g.W.Watch.names c.args.watch.now c.look-shown.new.self wait.limits c.look-shown.result c.requires.watches c.look-shown.ensures.shown, can_go t (InWait wait (InQueuing c.args.again LookIn)) (Look wait.limits c.args.again) me refl (by_limits t wait c.args.again true me (sym c.is_some.ensures ∙ c.if-not-is_some.false) c.requires.at)))))))
+    (omega arith, (queues_fit g.row.C g.row.N g.met.C.Condition.has_room, (omega arith, (◌∙◌ {A = TableId} c.requires.of (sym c.self.view_is), (c.requires.number, (g.W.Watch.names c.args.watch.now c.look-shown.new.self wait.limits c.look-shown.result c.requires.watches c.look-shown.ensures.shown, can_go t (InWait wait (InQueuing c.args.again LookIn)) (Look wait.limits c.args.again) me refl (by_limits t wait c.args.again true me (sym c.is_some.ensures ∙ c.if-not-is_some.false) c.requires.at)))))))
 
 pub returns : goal.returns
 returns g c = record {

@@ -1,31 +1,33 @@
-use Rattle.std.proofs.Common.{rules, arith, ap, sym, subst, ◌∙◌, ◌≡◌, ◌+◌, ◌<◌, ℕ, List, [], ◌∷◌, length, length-append}
+use Rattle.std.proofs.Common.{rules, arith, ap, sym, refl, subst, ◌∙◌, ◌≡◌, ◌+◌, ◌<◌, ℕ, List, [], ◌∷◌, length, length-append}
 use Rattle.ns_gate.specs.Prelude.{TableId, SeatOf, GateView, first_of, fresh_seat, rest_of, the}
-use Rattle.ns_gate.proofs.Starts.{fresh_first, fresh_rest}
-use Rattle.ns_monitor.proofs.Made.{all_of, new_more, new_rests}
-use Rattle.ns_monitor.specs.Prelude.{AreNew, IsNumberOf, known_of}
+use Rattle.ns_gate.proofs.Room.{queues_fit}
+use Rattle.ns_seats.proofs.Numbered.{all_new, new_more, numbered_first, numbered_rest}
+use Rattle.ns_monitor.proofs.Made.{new_rests}
+use Rattle.ns_monitor.specs.Known.{new_seat}
+use Rattle.ns_monitor.specs.Prelude.{AreNew, IsNumberOf, Known, known_of}
 use Rattle.ns_monitor.proofs.monitor.Monitor.new.Goals as goal
 
 pub seated-requires : goal.seated-requires
 seated-requires g c = let few = c.in_ok-gate.ensures.2 in let n = c.args.seats in let i = c.loop-number.number in let lt : i < n = omega arith in
-    let is = c.part-seat.ensures.part.1 ∙ ap (λ (vs : List (GateView g.row.C.Denot g.row.N)). (vs, [])) (ap first_of c.loop-number.invariant.1 ∙ fresh_first g.row.C.Denot g.row.N n i lt) in
+    let is = c.part-seat.ensures.part.1 ∙ ap (λ (vs : List (GateView g.row.C.Denot g.row.N)). (vs, [])) (ap first_of c.loop-number.invariant.1 ∙ numbered_first (fresh_seat {C = g.row.C.Denot} {N = g.row.N} n) n i lt) in
     let number : IsNumberOf i c.part-seat.result.me = (ap (λ (m : SeatOf g.row.C.Denot g.row.N). (the m.0).at.seat) (sym is), omega (arith, lt, few)) in
     let rests = new_rests g.row.C.Denot g.row.N g.C.Condition.means n i c.part-seat.result.me is in
-    (g.met.C.Gated.queues_fit, (search rules, (search rules, (rests.0, number, rests.1))))
+    (queues_fit g.row.C g.row.N g.met.C.Condition.has_room, (search rules, (search rules, (rests.0, number, rests.1))))
 
 pub loop-number-preserved : goal.loop-number-preserved
 loop-number-preserved g c = let v = c.loop-number.invariant in let n = c.args.seats in let i = c.loop-number.number in let lt : i < n = omega arith in let p = c.in_ok-add.ensures in let t = c.in_ok-gate.all.table_id in
-    let is = c.part-seat.ensures.part.1 ∙ ap (λ (vs : List (GateView g.row.C.Denot g.row.N)). (vs, [])) (ap first_of v.1 ∙ fresh_first g.row.C.Denot g.row.N n i lt) in
+    let is = c.part-seat.ensures.part.1 ∙ ap (λ (vs : List (GateView g.row.C.Denot g.row.N)). (vs, [])) (ap first_of v.1 ∙ numbered_first (fresh_seat {C = g.row.C.Denot} {N = g.row.N} n) n i lt) in
     let k : c.seated.result ≡ known_of t (fresh_seat n i ∷ [], []) = c.seated.ensures ∙ (λ j. known_of ((c.part-seat.ensures.part.0 ∙ v.0) j) (is j)) in
     let e : i ≡ 0 + length c.loop-number.given.items = omega arith in (
       c.part-seat.ensures.all.0 ∙ v.0,
-      c.part-seat.ensures.all.1 ∙ (ap rest_of v.1 ∙ fresh_rest g.row.C.Denot g.row.N n i lt),
+      c.part-seat.ensures.all.1 ∙ (ap rest_of v.1 ∙ numbered_rest (fresh_seat {C = g.row.C.Denot} {N = g.row.N} n) n i lt),
       omega (arith, ap length p, length-append c.loop-number.given.items (c.seated.result ∷ [])),
-      subst (AreNew n t 0) (sym p) (new_more g.row.C.Denot g.row.N n t 0 c.loop-number.given.items c.seated.result v.3 (k ∙ ap (λ (j : ℕ). known_of t (fresh_seat n j ∷ [], [])) e)),
+      subst (AreNew n t 0) (sym p) (new_more (new_seat {C = g.row.C.Denot} {N = g.row.N} t n) 0 c.loop-number.given.items c.seated.result v.3 (k ∙ ap (λ (j : ℕ). known_of t (fresh_seat n j ∷ [], [])) e)),
     )
 
 pub returns : goal.returns
 returns g c = record {
   made = search rules;
-  seats = all_of g.row.C.Denot g.row.N c.args.seats c.in_ok-gate.gate 0 c.loop-number.given.items (subst (λ (t : TableId). AreNew c.args.seats t 0 c.loop-number.given.items) c.in_ok-gate.ensures.0 c.loop-number.invariant.3);
+  seats = all_new (new_seat {C = g.row.C.Denot} {N = g.row.N} c.in_ok-gate.gate c.args.seats) (λ (seat : Known g.row.C.Denot g.row.N). seat.monitor ≡ c.in_ok-gate.gate) (λ seat. refl) 0 c.loop-number.given.items (subst (λ (t : TableId). AreNew c.args.seats t 0 c.loop-number.given.items) c.in_ok-gate.ensures.0 c.loop-number.invariant.3);
   refused = search rules;
 }

@@ -1,6 +1,7 @@
 use Rattle.std.proofs.Common.{◌≡◌, ◌∙◌, ◌++◌, ◌∷◌, [], Some, arith, subst, sym}
 use Rattle.ns_gate.proofs.Calls.{since_then}
 use Rattle.ns_gate.specs.Prelude.{HasAnswered, HasSince, InHand, SeatOf, section_of, Succeeded, TableId, the}
+use Rattle.ns_gate.proofs.Room.{queues_fit}
 use Rattle.ns_monitor.proofs.Callers.{grew, released, went_so}
 use Rattle.ns_monitor.proofs.Standing.{same_number}
 use Rattle.ns_monitor.specs.Prelude.{Grows, Known, releasing_by}
@@ -23,7 +24,7 @@ left g c = let t = g.C.Condition.means in let first = releasing_by c.args.releas
 
 pub seated-requires : goal.seated-requires
 seated-requires g c = let first = releasing_by c.args.releasing in let over = left g c in
-    let fit = g.met.C.Gated.queues_fit in
+    let fit = queues_fit g.row.C g.row.N g.met.C.Condition.has_room in
     (fit, (omega arith, (omega arith, (over.2.rest, same_number g.C.Condition.means (Some first) c.held.inside.number c.held.inside.seat.me c.match-go_at_once.seat.me c.held.invariant.1 over.1, over.2.means.left))))
 
 pub returns : goal.returns

@@ -2,9 +2,12 @@ use Rattle.std.proofs.Common.{rules, arith, ap, sym, subst, refl, ◌∙◌, ◌
 use Rattle.atomic_table.specs.Seated.{TableId}
 use Rattle.atomic_table.specs.Table.{Me}
 use Rattle.ns_note.specs.declared.view.EnvView.{EnvView}
-use Rattle.ns_note.specs.Law.{first_of, rest_of}
-use Rattle.ns_note.specs.Known.{the, IsAtRest, AreNew, known, known_of}
-use Rattle.ns_note.proofs.Seats.{all_of, begins_with, cuts, fresh_first, fresh_rest, new_more}
+use Rattle.ns_note.specs.Law.{fresh_seat}
+use Rattle.ns_seats.specs.Views.{first_of, rest_of}
+use Rattle.ns_note.specs.Known.{EnvKnown, the, IsAtRest, AreNew, known, known_of}
+use Rattle.ns_note.proofs.Seats.{begins_with, by_sums}
+use Rattle.ns_seats.proofs.Meetings.{cuts}
+use Rattle.ns_seats.proofs.Numbered.{all_new, numbered_first, numbered_rest, new_more}
 use Rattle.ns_note.proofs.env.Env.new.Goals as goal
 
 abbrev Seated : Type 0
@@ -14,23 +17,23 @@ pub of_words-requires : goal.of_words-requires
 of_words-requires c = begins_with c.args.seats _ (omega arith) refl
 
 pub split_seat-seat-requires : goal.split_seat-seat-requires
-split_seat-seat-requires c = (search rules, search rules, cuts _ _ _ _)
+split_seat-seat-requires c = (search rules, search rules, cuts (by_sums _ _) _ _)
 
 pub seated-requires : goal.seated-requires
 seated-requires c = let n = c.args.seats in let i = c.loop-number._number in let lt : i < n = omega arith in
-    let is = c.split_seat-seat.ensures.4 ∙ ap (λ (vs : List EnvView). (vs, [])) (ap first_of c.loop-number.invariant.1 ∙ fresh_first n i lt) in
+    let is = c.split_seat-seat.ensures.4 ∙ ap (λ (vs : List EnvView). (vs, [])) (ap first_of c.loop-number.invariant.1 ∙ numbered_first (fresh_seat n) n i lt) in
     subst (λ (m : Seated). IsAtRest c.split_seat-seat.result.table_id m) (sym is) (record { one = tt; empty = refl; idle = refl; true_to = record { legal = tt; by_seats = tt; own = refl } })
 
 pub loop-number-preserved : goal.loop-number-preserved
 loop-number-preserved c = let v = c.loop-number.invariant in let n = c.args.seats in let i = c.loop-number._number in let lt : i < n = omega arith in let s = c.split_seat-seat.ensures in let p = c.in_ok-add.ensures in let t = c.in_ok-table.rest.table_id in
-    let is = ap (λ (m : Seated). the m.0) (s.4 ∙ ap (λ (vs : List EnvView). (vs, [])) (ap first_of v.1 ∙ fresh_first n i lt)) in
+    let is = ap (λ (m : Seated). the m.0) (s.4 ∙ ap (λ (vs : List EnvView). (vs, [])) (ap first_of v.1 ∙ numbered_first (fresh_seat n) n i lt)) in
     let k : c.seated.result ≡ known t n i [] [] = c.seated.ensures ∙ (λ j. known_of ((s.3 ∙ v.0) j) (is j)) in
     let e : i ≡ 0 + length c.loop-number.given.items = omega arith in (
       s.0 ∙ v.0,
-      ap (λ (m : Seated). m.0) s.2 ∙ (ap rest_of v.1 ∙ fresh_rest n i lt),
+      ap (λ (m : Seated). m.0) s.2 ∙ (ap rest_of v.1 ∙ numbered_rest (fresh_seat n) n i lt),
       omega (arith, ap length p, length-append c.loop-number.given.items (c.seated.result ∷ [])),
-      subst (AreNew t n 0) (sym p) (new_more n t 0 c.loop-number.given.items c.seated.result v.3 (k ∙ ap (λ (j : ℕ). known t n j [] []) e)),
+      subst (AreNew t n 0) (sym p) (new_more (λ seat. known t n seat [] []) 0 c.loop-number.given.items c.seated.result v.3 (k ∙ ap (λ (j : ℕ). known t n j [] []) e)),
     )
 
 pub returns-clause-seats : goal.returns-clause-seats
-returns-clause-seats c = let e = c.in_ok-table in all_of e.table.shared.table_id c.args.seats 0 c.loop-number.given.items (subst (λ (t : TableId). AreNew t c.args.seats 0 c.loop-number.given.items) e.ensures.2 c.loop-number.invariant.3)
+returns-clause-seats c = let e = c.in_ok-table in all_new (λ seat. known e.table.shared.table_id c.args.seats seat [] []) (λ (k : EnvKnown). k.env ≡ e.table.shared.table_id) (λ seat. refl) 0 c.loop-number.given.items (subst (λ (t : TableId). AreNew t c.args.seats 0 c.loop-number.given.items) e.ensures.2 c.loop-number.invariant.3)

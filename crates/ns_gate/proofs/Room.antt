@@ -1,5 +1,5 @@
 -- The queues fit in memory, over any condition.
-use Rattle.std.specs.Prelude.{◌+◌, ◌*◌, ◌<◌, ◌^◌}
+use Rattle.std.specs.Prelude.{ℕ, ◌+◌, ◌*◌, ◌<◌, ◌^◌}
 use Rattle.std.proofs.Common.{arith}
 use Rattle.std.specs.Mem.{FitsInMemory}
 use prog.Memory.{size}
@@ -16,10 +16,6 @@ use Rattle.ns_model.specs.Room.{HasRoom, room, rooms, room_enough}
 small_by : (τ : Ty) → room τ < 2 ^ 63 → size τ < 2 ^ 63
 small_by τ few = let most = room_enough τ in omega (arith, most, few)
 
--- the lists fit in memory
-abbrev pub QueuesFit : (C N : RattleType) → Type 0
-QueuesFit C N = FitsInMemory (queues_row C N)
-
 -- one of them takes little by the bound
 list_room : (C N : RattleType) → HasRoom (copied 0 C) (param 1 N) → room (layout (list_row (waiter_row (copied 0 C)) (number 64) unit)) < 2 ^ 50
 list_room C N small = let one = room_enough (layout (waiter_row (copied 0 C))) in omega (arith, one, small.0)
@@ -29,7 +25,7 @@ five_small : (τ : Ty) → room τ < 2 ^ 50 → 2 + 3 * rooms (tcons τ (tcons (
 five_small τ few = let one = room_enough τ in omega (arith, one, few)
 
 -- they fit where a condition and a row have room
-pub queues_fit : (C N : RattleType) → HasRoom (copied 0 C) (param 1 N) → QueuesFit (copied 0 C) (param 1 N)
+pub queues_fit : (C : RattleType) (N : ℕ) → HasRoom (copied 0 C) (param 1 (number N)) → FitsInMemory (queues_row (copied 0 C) (param 1 (number N)))
 queues_fit C N small =
-    let few : room (layout (queues_row (copied 0 C) (param 1 N))) < 2 ^ 63 = five_small (layout (list_row (waiter_row (copied 0 C)) (number 64) unit)) (list_room C N small) in
-    small_by (layout (queues_row (copied 0 C) (param 1 N))) few
+    let few : room (layout (queues_row (copied 0 C) (param 1 (number N)))) < 2 ^ 63 = five_small (layout (list_row (waiter_row (copied 0 C)) (number 64) unit)) (list_room C (number N) small) in
+    small_by (layout (queues_row (copied 0 C) (param 1 (number N)))) few

@@ -1,0 +1,4 @@
+pub mod Meetings
+pub mod Numbered
+pub mod Sights
+pub mod Views

@@ -1,0 +1,3 @@
+pub mod Meetings
+pub mod Sights
+pub mod Views
