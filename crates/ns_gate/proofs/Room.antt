@@ -25,7 +25,11 @@ five_small : (τ : Ty) → room τ < 2 ^ 50 → 2 + 3 * rooms (tcons τ (tcons (
 five_small τ few = let one = room_enough τ in omega (arith, one, few)
 
 -- they fit where a condition and a row have room
+pub room_fits : (C N : RattleType) → HasRoom (copied 0 C) (param 1 N) → FitsInMemory (queues_row (copied 0 C) (param 1 N))
+room_fits C N small =
+    let few : room (layout (queues_row (copied 0 C) (param 1 N))) < 2 ^ 63 = five_small (layout (list_row (waiter_row (copied 0 C)) (number 64) unit)) (list_room C N small) in
+    small_by (layout (queues_row (copied 0 C) (param 1 N))) few
+
+-- the same at a width that is a number
 pub queues_fit : (C : RattleType) (N : ℕ) → HasRoom (copied 0 C) (param 1 (number N)) → FitsInMemory (queues_row (copied 0 C) (param 1 (number N)))
-queues_fit C N small =
-    let few : room (layout (queues_row (copied 0 C) (param 1 (number N)))) < 2 ^ 63 = five_small (layout (list_row (waiter_row (copied 0 C)) (number 64) unit)) (list_room C (number N) small) in
-    small_by (layout (queues_row (copied 0 C) (param 1 (number N)))) few
+queues_fit C N small = room_fits C (number N) small

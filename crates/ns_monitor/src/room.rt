@@ -1,17 +1,18 @@
 //! Code over any condition owes that the values that it passes on fit in memory.
 
 ghost use Rattle.std.specs.Mem.{FitsInMemory};
-ghost use Rattle.ns_gate.proofs.Room.{queues_fit};
+ghost use Rattle.ns_gate.proofs.Room.{room_fits};
 ghost use Rattle.ns_queue.specs.contracts.queues.Queues.{the_row as queues_row};
 
 use ns_model::condition::Condition;
 
-/// What code over any condition knows of the room that a lock's waiters take: with this for its bound, it
-/// calls a monitor with no more ado. Every condition has it, so a caller never writes it.
+/// What code over any condition knows of the room that a lock's waiter queues take. Code that is generic in its
+/// condition takes this for its bound, and a monitor's calls ask nothing more of it. Every condition has it, so
+/// nobody implements it.
 pub trait Gated<const N: usize>: Condition<N> {
     ghost queues_fit: { FitsInMemory (queues_row Self.row N.row) };
 }
 
 impl<C: Condition<N>, const N: usize> Gated<N> for C {
-    ghost queues_fit = { queues_fit Self.row N C.has_room };
+    ghost queues_fit = { room_fits Self.row N.row C.has_room };
 }
