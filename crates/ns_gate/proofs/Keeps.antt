@@ -3,8 +3,7 @@ use Rattle.std.specs.Prelude.{nat_lt, slice_get}
 use Rattle.std.proofs.Common.{◌≡◌, ◌≢◌, ◌⊎◌, inl, inr, ℕ, zero, suc, ◌<◌, ◌≤◌, true, false, cond, eqb, List, [], ◌∷◌, ◌++◌, Option, None, Some, IfSome, set, slice_set, take, drop, refl, ap, sym, ◌∙◌, subst, arith, eq-eqb}
 use Rattle.std.proofs.lemmas.Option.{slice_get_within}
 use Rattle.ns_gate.specs.Prelude.{GateView, Views, Homes, is_seat, HasCome, Fits, Shows, AtHome, Underlying, IsRuled, walk_by, course_by, MayBegin, HasStepped, BeginsWith, row_after, standing_after, total, one_if, Every, Truths, QuietKeeps, Event, asked_of, BeginsIf, SeatStep, view_in, CallGoes, SoFar, course_after, IsLawful, ViewFits, Course, course_from, LockState, Part, part_of, Effect, Step, IsTold, told_after, calls_of, takers, want_of, got_of, walk_after, has_queues, Found, Request, Held, SeatView, On, Idle, Done, Next, Walk}
-use Rattle.ns_model.proofs.Tallies.{total_set, total_none, Others, every_at, others_of, others_both, others_map, others_none, every_both, every_put}
-use Rattle.ns_seats.proofs.Numbered.{one_at_most}
+use Rattle.ns_model.proofs.Tallies.{one_most, total_set, total_none, Others, every_at, others_of, others_both, others_map, others_none, every_both, every_put}
 use Rattle.ns_word.proofs.Acts.{view_fits}
 use Rattle.ns_word.proofs.Courses.{takes_on, begins_unchanged}
 use Rattle.ns_word.proofs.EnvKeeps.{set_here, set_there}
@@ -28,7 +27,7 @@ hand_of Q (Some held) never so = (held, refl, so)
 
 -- a seat stands in one view at most
 pub once : {C : Type 0} {N : ℕ} (truths : Truths C) (seat_count : ℕ) (words : List ℕ) (homes : Homes C) (views : Views C N) (shown : Underlying C N) → IsRuled truths seat_count words homes views shown → (seat : ℕ) → total (total (is_seat seat)) views ≤ 1
-once truths seat_count words homes views shown r seat = subst (λ n. n ≤ 1) (sym (r.seats seat)) (one_at_most (nat_lt seat seat_count))
+once truths seat_count words homes views shown r seat = subst (λ n. n ≤ 1) (sym (r.seats seat)) (one_most (nat_lt seat seat_count))
 
 module _ {C : Type 0} {N : ℕ} where
   -- the view in the call that it begins stands at the place where the step is made

@@ -66,7 +66,7 @@ module _ {C : Type 0} {N : ℕ} where
 
 -- ---- the two learn
 
--- the rule reads the views by sums over what has to do with their numbers
+-- the rule reads the views by sums over what has to do with their numbers, and by what holds of each
 pub by_sums : {C : Type 0} {N : ℕ} (truths : Truths C) (seat_count : ℕ) → IsBySums {K = ℕ} number_of_seat (λ (shown : Underlying C N). Fits truths seat_count shown.history shown.state) (IsRuled truths seat_count)
 by_sums truths seat_count = record {
   each = λ words homes views shown r. r.each;

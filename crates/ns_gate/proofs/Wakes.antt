@@ -131,9 +131,6 @@ module _ {C : Type 0} where
 
   -- ---- by the names of the machine's change, where this is the word last seen
 
-  pub woken_lists : (seat : ℕ) (waking : Waking) (k : ℕ) (last : Word) (held : Bool) (lists : Lists C) → is_held last ≡ held → changed seat (WakeWaiters waking k) last lists ≡ lists_woken waking k held lists
-  woken_lists seat waking k last held lists is = ap (λ (b : Bool). lists_woken waking k b lists) is
-
   pub woken_some : (waking : Waking) (k : ℕ) (last : Word) (held : Bool) (lists : Lists C) → is_held last ≡ held → moves (WakeWaiters waking k) last lists ≡ (held && has_some (taken_from waking k lists))
   woken_some waking k last held lists is = ap (λ (b : Bool). b && has_some (taken_from waking k lists)) is
 

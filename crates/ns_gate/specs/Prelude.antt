@@ -1,6 +1,6 @@
 -- The names that contracts and proofs of calls between threads cite, passed on from one place. Declares nothing.
 pub use Rattle.atomic_table.specs.Seated.{TableId}
-pub use Rattle.atomic_table.specs.Table.{Allows, Final, Joins, Me, Seen, Splits, Valid, carried_after, gives, homes_after, opening, rest, step, takes}
+pub use Rattle.atomic_table.specs.Table.{Allows, Final, Me, Seen, Valid, carried_after, gives, homes_after, opening, rest, step, takes}
 pub use Rattle.ns_gate.specs.Calls.{HasAnswered, HasReached, HasSince, IsAtPlace, IsAtRest, IsTrueToHistory, IsWide, OwesBelow, SeatOf}
 pub use Rattle.ns_gate.specs.Endings.{EndsAs}
 pub use Rattle.ns_gate.specs.Law.{AtHome, Fits, GateView, HasCome, Holds, Homes, IsRuled, RefusesGate, Shows, Underlying, Views, fresh, fresh_seat, is_seat, no_lists, number_of_seat}
@@ -28,7 +28,7 @@ pub use Rattle.ns_queue.specs.Scans.{is_eligible, is_satisfied, left_of, tests_o
 pub use Rattle.ns_queue.specs.Waiters.{HaveSeats, has_condition, reads, seats_of, times_in, writes}
 pub use Rattle.ns_queue.specs.declared.waiter.Waiter.{Waiter}
 pub use Rattle.ns_queue.specs.declared.waiter.Which.{Which}
-pub use Rattle.ns_seats.specs.Sights.{AreOfOneHistory, HasSight}
+pub use Rattle.ns_seats.specs.Sights.{HasSight}
 pub use Rattle.ns_seats.specs.Views.{ArePair, IsOne, first_of, rest_of}
 pub use Rattle.ns_word.specs.Asked.{asked_of}
 pub use Rattle.ns_word.specs.Begins.{BeginsIf, IsFirst, SeatStep, fresh_state, fresh_views, view_in}

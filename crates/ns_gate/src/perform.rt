@@ -1,7 +1,7 @@
 //! One function for every act that a seat's call wants, for whoever runs walks as values.
 
 ghost use Rattle.std.specs.Prelude.{◌≡◌};
-ghost use Rattle.ns_gate.specs.Prelude.{IsOnWord, IsTurned, Needs, CanStep, Performed, act_returning, the, tried_for};
+ghost use Rattle.ns_gate.specs.Prelude.{IsOnWord, IsTurned, Needs, CanStep, Performed, act_returning, tried_for};
 
 use crate::gate::{Gate, GateSeat};
 use crate::queues::{Returning, Turned};

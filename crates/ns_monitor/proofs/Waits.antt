@@ -25,10 +25,6 @@ module _ {C : Type 0} where
   home_there (OnCondition c) is = tt
   home_there (OnVariable k) is = is
 
-  -- where a wait goes that was woken, by its flag
-  pub woken_next : (N : ℕ) (wait : Wait C) (value : ℕ) → value ≢ 1 → got_of N (InWait wait AwaitWakeInWait) (Flag value) ≡ On (InAcquire (ForWait wait (woken_by wait.on value)) (AcquireLoad (arrival_of 0 value)))
-  woken_next N wait value clear = ap (λ (b : Bool). cond b (rest_or_look wait) (On (InAcquire (ForWait wait (woken_by wait.on value)) (AcquireLoad (arrival_of 0 value))))) (ne_eqb value 1 clear)
-
   -- one that was taken while it left was ended by this cause, if it was ended
   pub taken_ended : (on : Subject C) (cause : Cause) (flag : ℕ) (outcome : Outcome) → outcome ≡ outcome_taken on cause flag → IfEnded outcome (λ other. other ≡ cause)
   taken_ended on cause flag outcome is = subst (λ o. IfEnded o (λ (other : Cause). other ≡ cause)) (sym is) (by on) where

@@ -7,7 +7,7 @@ ghost use Rattle.ns_monitor.specs.Prelude.{HasSaved, IsFresh, saved_after, value
 use ns_gate::gate::GateSeat;
 use ns_model::condition::Condition;
 use ns_model::event::Mode;
-use std::marker::{Model, PhantomData};
+use std::marker::Model;
 
 /// What a caller has in hand.
 pub trait Hand<C, const N: usize> {

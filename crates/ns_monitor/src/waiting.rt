@@ -1,6 +1,6 @@
 //! A wait outside: it leaves its section and queues, waits to be woken or ended, and may leave its list.
 
-ghost use Rattle.std.specs.Prelude.{◌≡◌, ◌≢◌, None, Some, IfErr, true};
+ghost use Rattle.std.specs.Prelude.{◌≡◌, None, Some, IfErr, true};
 ghost use Rattle.ns_gate.specs.Prelude.{row_in, IsInRange, is_limited, AcquireLoad, ForWait, LeaveLoad, Load, AwaitWakeInWait, InLeaving, InQueuing, InAcquire, InWait, HasSince, IsAtPlace, the};
 ghost use Rattle.ns_monitor.specs.Prelude.{HasAcquired, HasRow, HasTakenAt, IfEnded, IsNumberOf, WokenOrEnded, lacks_row};
 

@@ -32,9 +32,6 @@ grew k env env' es v w is same a = subst (λ (z : EnvKnown × TableId). Grows z.
 pub grows_through : (a b c : EnvKnown) → Grows a b → Grows b c → Grows a c
 grows_through a b c f g = record { env = g.env ∙ f.env; seat_count = g.seat_count ∙ f.seat_count; seat = g.seat ∙ f.seat; begins = begins_through c.seen b.seen a.seen g.begins f.begins; true_to = g.true_to }
 
-pub grows_not : (k : EnvKnown) → IsTrueToHistory k → Grows k k
-grows_not k t = record { env = refl; seat_count = refl; seat = refl; begins = begins_itself k.seen; true_to = t }
-
 -- two steps
 pub adds_through : (es fs : List EnvEvent) (u v w : EnvView) → Adds es u v → Adds fs v w → Adds (es ++ fs) u w
 adds_through es fs u v w a b = record {
@@ -52,9 +49,6 @@ pub record IsSince (old new : EnvKnown) : Type 0 where
 
 pub since_now : (k : EnvKnown) → IsSince k k
 since_now k = record { env = refl; seat_count = refl; seat = refl; begins = begins_itself k.seen; mine = refl }
-
-pub grows_since : (a b c : EnvKnown) → IsSince a b → Grows b c → Grows a c
-grows_since a b c s g = record { env = g.env ∙ s.env; seat_count = g.seat_count ∙ s.seat_count; seat = g.seat ∙ s.seat; begins = begins_through c.seen b.seen a.seen g.begins s.begins; true_to = g.true_to }
 
 pub since_grows : (a b c : EnvKnown) → IsSince a b → Grows b c → c.mine ≡ b.mine → IsSince a c
 since_grows a b c s g m = record { env = g.env ∙ s.env; seat_count = g.seat_count ∙ s.seat_count; seat = g.seat ∙ s.seat; begins = begins_through c.seen b.seen a.seen g.begins s.begins; mine = m ∙ s.mine }

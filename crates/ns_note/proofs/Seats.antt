@@ -1,12 +1,13 @@
 -- Seats of a new environment, and seats that meet.
 use Rattle.std.specs.Prelude.{nat_lt}
-use Rattle.std.proofs.Common.{◌≡◌, ℕ, zero, suc, ◌+◌, ◌≤◌, eqb, List, [], ◌∷◌, get_or, replicate, sym, refl, ap, ◌∙◌, subst, arith, append-nil}
+use Rattle.std.proofs.Common.{◌≡◌, ℕ, zero, suc, ◌+◌, ◌≤◌, eqb, List, [], ◌∷◌, get_or, replicate, sym, refl, ◌∙◌, subst, arith, append-nil}
 use Rattle.std.proofs.lemmas.List.{length-replicate}
 use Rattle.atomic_table.specs.Seated.{TableId}
 use Rattle.atomic_table.specs.Table.{Me, Allows}
 use Rattle.ns_model.specs.declared.environment.EnvEvent.{EnvEvent}
 use Rattle.ns_model.specs.Environments.{IsLegalEnv, IsEnvBySeats, env_own}
 use Rattle.ns_model.specs.Tallies.{total, Every, one_if}
+use Rattle.ns_model.proofs.Tallies.{one_most}
 use Rattle.ns_model.proofs.Beginnings.{begins_itself}
 use Rattle.ns_model.proofs.Environments.{env_own-append}
 use Rattle.ns_note.specs.declared.view.Making.{Making}
@@ -19,7 +20,7 @@ use Rattle.ns_seats.specs.Meetings.{IsBySums}
 use Rattle.ns_seats.specs.Sights.{HasSight}
 use Rattle.ns_seats.specs.Views.{ArePair, tally}
 use Rattle.ns_seats.proofs.Meetings.{learns as joined_learn}
-use Rattle.ns_seats.proofs.Numbered.{one_at_most, one_of_each}
+use Rattle.ns_seats.proofs.Numbered.{one_of_each}
 use Rattle.ns_seats.proofs.Sights.{one_history}
 
 -- the rule reads the views by sums over what has to do with their numbers and with what they make, and by what holds of each
@@ -98,7 +99,7 @@ fresh_count seat_count from zero = refl
 fresh_count seat_count from (suc k) = let b = fresh_count seat_count (suc from) k in omega arith
 
 seat_once : (w seat_count : ℕ) → total (is_seat w) (fresh seat_count 0 seat_count) ≤ 1
-seat_once w seat_count = subst (λ n. n ≤ 1) (sym (one_of_each (fresh_seat seat_count) (λ v. v.seat) (λ k. refl) 0 seat_count w (omega arith))) (one_at_most (nat_lt w (0 + seat_count)))
+seat_once w seat_count = subst (λ n. n ≤ 1) (sym (one_of_each (fresh_seat seat_count) (λ v. v.seat) (λ k. refl) 0 seat_count w (omega arith))) (one_most (nat_lt w (0 + seat_count)))
 
 fresh_fits : (seat_count from k : ℕ) → from + k ≤ seat_count → Every (Fits seat_count []) (fresh seat_count from k)
 fresh_fits seat_count from zero h = tt

@@ -1,6 +1,6 @@
 -- The seats of a new table.
 use Rattle.std.specs.Prelude.{nat_lt}
-use Rattle.std.proofs.Common.{◌≡◌, ◌≢◌, ℕ, zero, suc, ◌+◌, ◌-◌, ◌<◌, ◌≤◌, Bool, true, false, eqb, List, [], ◌∷◌, ◌++◌, length, refl, sym, ap, ◌∙◌, subst, arith, eq-eqb, inl, inr}
+use Rattle.std.proofs.Common.{◌≡◌, ◌≢◌, ℕ, zero, suc, ◌+◌, ◌-◌, ◌<◌, ◌≤◌, eqb, List, [], ◌∷◌, ◌++◌, length, refl, sym, ap, ◌∙◌, subst, arith, eq-eqb, inl, inr}
 use Rattle.std.specs.List.{All}
 use Rattle.std.proofs.lemmas.List.Elements.{All-nil, All-cons}
 use Rattle.std.proofs.lemmas.Bool.{ne_eqb, cases_eq, le-ltb, lt-ltb}
@@ -12,11 +12,6 @@ above a b low ne = omega (arith, low, ne)
 
 more : (n i : ℕ) → i < n → n - i ≡ suc (n - (i + 1))
 more n i low = omega (arith, low)
-
--- a seat stands in one view at most
-pub one_at_most : (b : Bool) → one_if b ≤ 1
-one_at_most true = omega arith
-one_at_most false = omega arith
 
 module _ {V : Type 0} (new : ℕ → V) where
   pub numbered_first : (n i : ℕ) → i < n → first_of (numbered new i (n - i)) ≡ new i ∷ []

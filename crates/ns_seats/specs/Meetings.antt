@@ -5,11 +5,11 @@ use Rattle.atomic_table.specs.Table.{State as TableState, Me}
 use Rattle.ns_model.specs.Tallies.{Every}
 use Rattle.ns_seats.specs.Views.{Views, tally, the_or, the_second_or, ArePair}
 
--- what a table's words, slots and views are as, with what stands behind them and no word shows, as the history
+-- How a table stands: its words, what lies in its slots, its views, and what lies behind them that is in no word, as a history is.
 abbrev pub Ruling : Type 0 → Type 0 → Type 0 → Type 1
 Ruling S V B = List ℕ → List (Option S) → Views V → B → Type 0
 
--- The rule of a table: something stands behind it so.
+-- The rule holds of a table: with its words, slots and views as they are, something behind them fits.
 abbrev pub Holds : {S V B : Type 0} → Ruling S V B → TableState S (List V) → Type 0
 Holds {B = B} Ruled s = (behind : B) × Ruled s.words s.homes s.views behind
 

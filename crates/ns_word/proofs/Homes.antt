@@ -11,7 +11,8 @@ use Rattle.ns_word.specs.Views.{takers}
 use Rattle.ns_word.specs.Lawful.{bits_in}
 use Rattle.ns_word.proofs.Groups.{Homed}
 use Rattle.ns_model.specs.Tallies.{one_if}
-use Rattle.ns_word.proofs.Views.{one_most, view_of, takers_at}
+use Rattle.ns_model.proofs.Tallies.{one_most}
+use Rattle.ns_word.proofs.Views.{view_of, takers_at}
 
 module _ {C : Type 0} {N : ℕ} (front : List (SeatView C N)) (who : ℕ) (walk : Option (Walk C)) (held : Option (Held C N)) (owed : List ℕ) (walk' : Option (Walk C)) (held' : Option (Held C N)) (owed' : List ℕ) (back : List (SeatView C N)) where
   abbrev olds : List (SeatView C N)

@@ -14,6 +14,7 @@ use Rattle.ns_model.specs.Seats.{is_in}
 use Rattle.ns_model.specs.Sections.{phase_after}
 use Rattle.ns_model.specs.Histories.{Standing, first_standing, standing_after, standing_next, IsLegalEvent, who_of}
 use Rattle.ns_model.specs.Tallies.{one_if, Every}
+use Rattle.ns_model.proofs.Tallies.{one_most}
 use Rattle.ns_model.specs.Truths.{Truths}
 use Rattle.ns_model.proofs.Histories.{standing_from-append}
 use Rattle.ns_queue.specs.declared.waiter.Waiter.{Waiter}
@@ -45,7 +46,7 @@ use Rattle.ns_word.specs.Places.{IsSettledBy, PlaceFits}
 use Rattle.ns_word.specs.Lawful.{IsExpected, is_armed, is_unwoken, ViewFits, WaitersOwn, VariableWaiterFits, VariablesTell, lock_stance, bits_in, phase_before}
 use Rattle.ns_word.proofs.Groups.{Safe, Homed, Known, Groups}
 use Rattle.ns_word.proofs.Knows.{is_loud, due_flag, nothing_called, rests as known_rests, acquires as known_acquires, arms as known_arms, puts, withdraws as known_withdraws, moves_in as known_moves, releases as known_releases, scans as known_scans, pays_one as known_pays, sees_wake as known_sees}
-use Rattle.ns_word.proofs.Views.{one_most, view_of, apart_parts, each_parts, called_most, walk_here}
+use Rattle.ns_word.proofs.Views.{view_of, apart_parts, each_parts, called_most, walk_here}
 use Rattle.ns_word.proofs.Waits.{not_due, cleared, placed_here, rested, armed, taken, entered, withdraws as withdrawn, woke, seen}
 use Rattle.ns_word.proofs.Owns.{own_stays, own_same, nowhere, own_queued, own_scanned, own_waited, own_without, own_moved}
 use Rattle.ns_word.proofs.Variables.{one_of, tell_same, tell_moves, tell_enters, tell_leaves, tell_lists, tell_taken}

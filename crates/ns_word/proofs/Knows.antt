@@ -25,7 +25,8 @@ use Rattle.ns_word.specs.Lawful.{WaitersPlaced, NobodyCouldGoOn, is_armed, is_un
 use Rattle.ns_word.proofs.Groups.{Homed, Known}
 use Rattle.ns_word.proofs.Scans.{times_scan, times_seats, some_queued, writer_eligible, none_eligible, woken_none, woken_some}
 use Rattle.ns_model.specs.Tallies.{one_if}
-use Rattle.ns_word.proofs.Views.{one_most, view_of, takers_at, queuers_at, called_at, called_most, walk_here, walk_there}
+use Rattle.ns_model.proofs.Tallies.{one_most}
+use Rattle.ns_word.proofs.Views.{view_of, takers_at, queuers_at, called_at, called_most, walk_here, walk_there}
 use Rattle.ns_word.proofs.Waits.{cleared, due_of, placed_here}
 use Rattle.ns_word.specs.Steps.{flags_with}
 

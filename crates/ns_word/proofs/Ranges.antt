@@ -20,7 +20,8 @@ use Rattle.ns_model.specs.Truths.{Truths}
 use Rattle.ns_word.specs.Steps.{LockState, flags_with}
 use Rattle.ns_word.specs.Lawful.{EachFits, WaitersPlaced, IsLawful, is_unwoken}
 use Rattle.ns_model.specs.Tallies.{one_if}
-use Rattle.ns_word.proofs.Views.{one_most, owed_at, none_parts, each_parts}
+use Rattle.ns_model.proofs.Tallies.{one_most}
+use Rattle.ns_word.proofs.Views.{owed_at, none_parts, each_parts}
 use Rattle.ns_word.proofs.Knows.{due_awaits}
 
 -- ---- seats that wait

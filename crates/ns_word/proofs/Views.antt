@@ -32,10 +32,6 @@ use Rattle.ns_word.specs.Lawful.{ViewFits, SectionFits, EachFits, IsExpected, Is
 abbrev pub view_of : {C : Type 0} {N : ℕ} → ℕ → Option (Walk C) → Option (Held C N) → List ℕ → SeatView C N
 view_of seat walk held owed = record { seat = seat; walk = walk; held = held; owed = owed }
 
-pub one_most : (b : Bool) → one_if b ≤ 1
-one_most true = omega arith
-one_most false = omega arith
-
 one_of : (b : Bool) → cond b 1 0 + cond (not b) 1 0 ≡ 1
 one_of true = refl
 one_of false = refl

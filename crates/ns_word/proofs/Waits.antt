@@ -15,7 +15,8 @@ use Rattle.ns_word.specs.Views.{owed_to, walk_at, NoneIs}
 use Rattle.ns_word.specs.Steps.{flags_with}
 use Rattle.ns_word.specs.Lawful.{is_armed, is_unwoken, WaitersPlaced}
 use Rattle.ns_model.specs.Tallies.{one_if}
-use Rattle.ns_word.proofs.Views.{one_most, view_of, owed_at, walk_here, walk_there}
+use Rattle.ns_model.proofs.Tallies.{one_most}
+use Rattle.ns_word.proofs.Views.{view_of, owed_at, walk_here, walk_there}
 
 pub not_due : {C : Type 0} (walk : Option (Walk C)) (flag : ℕ) → awaits walk ≡ false → is_unwoken walk flag ≡ false
 not_due walk flag e = rw e refl

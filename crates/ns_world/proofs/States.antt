@@ -17,6 +17,7 @@ use Rattle.ns_word.specs.Lists.{times_among}
 use Rattle.ns_word.specs.Walks.{has_armed}
 use Rattle.ns_word.specs.Views.{owed_to, walk_at}
 use Rattle.ns_model.specs.Truths.{Truths}
+use Rattle.ns_model.proofs.Tallies.{one_most}
 use Rattle.ns_word.specs.Steps.{LockState}
 use Rattle.ns_word.specs.Lawful.{IsLawful, is_unwoken}
 use Rattle.ns_word.proofs.Acts.{view_fits, stands_nowhere, has_list}
@@ -76,10 +77,6 @@ times_front {C} seat (x ∷ xs) rest =
     let more = times_in-cons seat (wake {C = C} x) (map (wake {C = C}) xs ++ rest) in
     let others = times_front seat xs rest in
     omega (arith, more, others)
-
-one_most : (b : Bool) → cond b 1 0 ≤ 1
-one_most true = omega arith
-one_most false = omega arith
 
 module _ {C : Type 0} {N : ℕ} where
   times_owing : (seat : ℕ) (views : List (SeatView C N)) → times_in seat (owing views) ≡ owed_to seat views

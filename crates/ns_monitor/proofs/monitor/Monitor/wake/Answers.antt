@@ -1,4 +1,4 @@
-use Rattle.std.proofs.Common.{◌≡◌, ◌∙◌, ap, sym, arith, None, Some, rules}
+use Rattle.std.proofs.Common.{◌∙◌, sym, arith, Some, rules}
 use Rattle.ns_gate.specs.Prelude.{TableId, HasSince, is_held, taken_from, the, woken_nobody}
 use Rattle.ns_gate.proofs.Calls.{since_then}
 use Rattle.ns_gate.proofs.Wakes.{found_nobody, takes_nobody}
