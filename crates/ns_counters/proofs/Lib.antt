@@ -1,0 +1,7 @@
+pub mod Acts
+pub mod Counters
+pub mod Courses
+pub mod Keeps
+pub mod Objects
+pub mod Onces
+pub mod Words

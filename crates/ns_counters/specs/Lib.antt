@@ -1,0 +1,9 @@
+pub mod Acted
+pub mod Counters
+pub mod Courses
+pub mod Lawful
+pub mod Meanings
+pub mod Objects
+pub mod Onces
+pub mod Steps
+pub mod Words
