@@ -1,0 +1,5 @@
+pub mod Allowed
+pub mod Changes
+pub mod Rests
+pub mod Rounds
+pub mod Seats

@@ -1,0 +1,119 @@
+-- Seats of new objects, and seats that meet.
+use Rattle.std.specs.Prelude.{nat_lt}
+use Rattle.std.proofs.Common.{◌≡◌, ℕ, zero, suc, ◌+◌, ◌-◌, ◌<◌, ◌≤◌, eqb, List, [], ◌∷◌, ◌++◌, length, length-append, get_or, replicate, sym, refl, ap, subst, arith, ◌∙◌}
+use Rattle.std.proofs.lemmas.List.{length-replicate}
+use Rattle.atomic_table.specs.Seated.{TableId}
+use Rattle.atomic_table.specs.Table.{Me, Allows}
+use Rattle.ns_model.specs.Tallies.{total, Every, one_if}
+use Rattle.ns_model.proofs.Beginnings.{begins_itself}
+use Rattle.ns_model.proofs.Tallies.{one_most}
+use Rattle.ns_counters.specs.declared.object.ObjectEvent.{ObjectEvent}
+use Rattle.ns_counters.specs.declared.object.ObjectView.{ObjectView}
+use Rattle.ns_counters.specs.declared.object.Setup.{Setup}
+use Rattle.ns_counters.specs.Counters.{most}
+use Rattle.ns_counters.specs.Lawful.{AreWordsOf, HasWords, ViewFits, IsLawful}
+use Rattle.ns_counters.specs.Objects.{first_objects, IsLegalObjects, objects_own, AreObjectsBySeats}
+use Rattle.ns_counters.proofs.Objects.{own-append}
+use Rattle.ns_objects.specs.Known.{known_of, sight_of, no_setup}
+use Rattle.ns_objects.specs.Law.{is_seat, IsRuled, fresh_seat, fresh, Holds}
+use Rattle.ns_objects.specs.Made.{padded, setup_of, first_words}
+use Rattle.ns_objects.specs.Told.{HaveMet, Learned}
+use Rattle.ns_seats.specs.Meetings.{IsBySums}
+use Rattle.ns_seats.specs.Sights.{HasSight}
+use Rattle.ns_seats.specs.Views.{ArePair}
+use Rattle.ns_seats.proofs.Meetings.{learns as joined_learn}
+use Rattle.ns_seats.proofs.Numbered.{one_of_each}
+use Rattle.ns_seats.proofs.Sights.{one_history}
+
+-- the rule reads the views by sums over what has to do with their numbers, and by what holds of each
+pub by_sums : (S : Type 0) (setup : Setup) → IsBySums {S = S} {K = ℕ} (λ (v : ObjectView). v.seat) (ViewFits setup) (λ words homes views history. IsRuled setup words views history)
+by_sums S setup = record {
+  each = λ words homes views h rule. rule.each;
+  same = λ words homes views views' h rule same each. record {
+    lawful = rule.lawful;
+    seats = same (λ k. 1) ∙ rule.seats;
+    once = λ seat. let e = same (λ k. one_if (eqb k seat)) in let was = rule.once seat in omega (arith, e, was);
+    each = each;
+  };
+}
+
+-- ---- two that are joined see one history
+
+abbrev seen_now : List ObjectEvent → ObjectView → ObjectView
+seen_now h v = record { setup = v.setup; seat = v.seat; place = v.place; seen = h; mine = v.mine }
+
+has_sight : (setup : Setup) (h : List ObjectEvent) (v : ObjectView) (objects : TableId) → ViewFits setup h v → HasSight objects_own h (sight_of (known_of objects v))
+has_sight setup h v objects f = record { begins = f.seen; own = f.mine; own_seen = f.mine_seen }
+
+fits_now : (setup : Setup) (h : List ObjectEvent) (v : ObjectView) → ViewFits setup h v → ViewFits setup h (seen_now h v)
+fits_now setup h v f = record { made = f.made; below = f.below; seen = begins_itself h; mine = f.mine; mine_seen = f.mine; place = f.place }
+
+have_met : (setup : Setup) (words : List ℕ) (h : List ObjectEvent) → IsLawful setup words h → (v u : ObjectView) → ViewFits setup h v → ViewFits setup h u → HaveMet v u (seen_now h v) (seen_now h u)
+have_met setup words h law v u f g = record {
+  first = λ objects. record { objects = refl; setup = refl; seat = refl; begins = f.seen; true_to = record { room = subst HasWords (sym f.made) law.room; legal = subst (λ (s : Setup). IsLegalObjects s h) (sym f.made) law.legal; by_seats = subst (λ (s : Setup). AreObjectsBySeats s h) (sym f.made) law.by_seats; own = f.mine } };
+  second = λ objects. record { objects = refl; setup = refl; seat = refl; begins = g.seen; true_to = record { room = subst HasWords (sym g.made) law.room; legal = subst (λ (s : Setup). IsLegalObjects s h) (sym g.made) law.legal; by_seats = subst (λ (s : Setup). AreObjectsBySeats s h) (sym g.made) law.by_seats; own = g.mine } };
+  first_mine = refl;
+  second_mine = refl;
+  first_place = refl;
+  second_place = refl;
+  same = refl;
+  before = λ objects. one_history objects_own (λ seat front rest. own-append front rest seat) h (sight_of (known_of objects v)) (sight_of (known_of objects u)) (has_sight setup h v objects f) (has_sight setup h u objects g);
+}
+
+-- two seats that are joined may learn
+pub learns : (S : Type 0) (setup : Setup) (id slots : ℕ) (me : Me S (List ObjectView)) → ArePair me.0 → Allows (Holds setup) slots id me 0 (λ n. n) (λ found now. Learned me now)
+learns S setup id slots me two = joined_learn (by_sums S setup) (fresh_seat no_setup 0) HaveMet seen_now (λ h v. refl)
+    (λ words homes views h rule. fits_now setup h) (λ id words homes views h rule v u at. have_met setup words h rule.lawful v u) slots id me two
+
+-- ---- a table at its start
+
+fresh_count : (setup : Setup) (from k : ℕ) → total (λ (v : ObjectView). 1) (fresh setup from k) ≡ k
+fresh_count setup from zero = refl
+fresh_count setup from (suc k) = let b = fresh_count setup (suc from) k in omega (arith, b)
+
+seat_once : (seat : ℕ) (setup : Setup) → total (is_seat seat) (fresh setup 0 setup.seats) ≤ 1
+seat_once seat setup = subst (λ n. n ≤ 1) (sym (one_of_each (fresh_seat setup) (λ v. v.seat) (λ k. refl) 0 setup.seats seat (omega arith))) (one_most (nat_lt seat (0 + setup.seats)))
+
+fresh_fits : (setup : Setup) (from k : ℕ) → from + k ≤ setup.seats → Every (ViewFits setup []) (fresh setup from k)
+fresh_fits setup from zero h = tt
+fresh_fits setup from (suc k) h = (record { made = refl; below = omega (arith, h); seen = ([], refl); mine = refl; mine_seen = refl; place = tt }, fresh_fits setup (suc from) k (omega (arith, h)))
+
+pub begins : (setup : Setup) (words : List ℕ) → setup.seats ≤ 64 → HasWords setup → AreWordsOf (first_objects setup) words → (h : List ObjectEvent) × IsRuled setup words (fresh setup 0 setup.seats ∷ []) h
+begins setup words few room are = (
+  [],
+  record {
+    lawful = record { few = few; room = room; words_are = are; legal = tt; by_seats = tt };
+    seats = let a = fresh_count setup 0 setup.seats in omega (arith, a);
+    once = λ seat. let a = seat_once seat setup in omega (arith, a);
+    each = (fresh_fits setup 0 setup.seats (omega arith), tt);
+  },
+)
+
+-- ---- the words of new objects
+
+get_zero : (m k : ℕ) → ◌≡◌ {A = ℕ} (get_or (replicate m 0) k 0) 0
+get_zero zero k = refl
+get_zero (suc m) zero = refl
+get_zero (suc m) (suc k) = get_zero m k
+
+padded_few : (values : List ℕ) (m : ℕ) → ((k : ℕ) → get_or values k 0 ≤ most) → (k : ℕ) → get_or (values ++ replicate m 0) k 0 ≤ most
+padded_few [] m few k = let z = get_zero m k in omega (arith, z)
+padded_few (x ∷ values) m few zero = few zero
+padded_few (x ∷ values) m few (suc k) = padded_few values m (λ n. few (suc n)) k
+
+before_zeros : (l : List ℕ) (m k : ℕ) → k < length l → get_or (l ++ replicate m 0) k 0 ≡ get_or l k 0
+before_zeros [] m k low = absurd (omega (arith, low))
+before_zeros (x ∷ l) m zero low = refl
+before_zeros (x ∷ l) m (suc k) low = before_zeros l m k (omega (arith, low))
+
+behind_zeros : (l : List ℕ) (m k : ℕ) → get_or (l ++ replicate m 0) (length l + k) 0 ≡ 0
+behind_zeros [] m k = get_zero m (0 + k)
+behind_zeros (x ∷ l) m k = let up : suc (length l) + k ≡ suc (length l + k) = omega arith in ap (λ n. get_or (x ∷ (l ++ replicate m 0)) n 0) up ∙ behind_zeros l m k
+
+pub first_words_are : (seats : ℕ) (values : List ℕ) (cells : ℕ) → length values ≤ 16 → ((k : ℕ) → get_or values k 0 ≤ most) → AreWordsOf (first_objects (setup_of seats values cells)) (first_words (padded values))
+first_words_are seats values cells short few =
+    let wide : length (padded values) ≡ 16 = let a = length-append values (replicate (16 - length values) 0) in let r = length-replicate {A = ℕ} (16 - length values) 0 in omega (arith, a, r, short) in record {
+      width = let a = length-append (padded values) (replicate 16 0) in let r = length-replicate {A = ℕ} 16 0 in omega (arith, a, r, wide);
+      counters = λ k below. let is = before_zeros (padded values) 16 k (omega (arith, wide, below)) in (omega (arith, is), padded_few values (16 - length values) few k);
+      onces = λ k below. subst (λ n. get_or (first_words (padded values)) (n + k) 0 ≡ 0) wide (behind_zeros (padded values) 16 k);
+    }

@@ -1,0 +1,52 @@
+use Rattle.std.proofs.Common.{ℕ, List, rules, ap, sym, subst, ◌∙◌}
+use Rattle.atomic_table.specs.Table.{Me}
+use Rattle.atomic_table.specs.Seated.{TableId}
+use Rattle.ns_counters.specs.declared.object.ObjectView.{ObjectView}
+use Rattle.ns_objects.specs.Known.{ObjectsKnown, no_setup, known_of, the, Grows, AreOfOneHistory}
+use Rattle.ns_objects.proofs.Rests.{grew}
+use Rattle.ns_objects.specs.Law.{fresh_seat}
+use Rattle.ns_objects.specs.Told.{HaveMet}
+use Rattle.ns_objects.proofs.Seats.{by_sums, learns}
+use Rattle.ns_seats.proofs.Meetings.{cuts, glues, meets}
+use Rattle.ns_seats.proofs.Views.{pair_of}
+use Rattle.ns_objects.proofs.objects.Objects.meet.Goals as goal
+
+abbrev views : {S : Type 0} → Me S (List ObjectView) → List ObjectView
+views m = m.0
+
+abbrev held : {S : Type 0} → Me S (List ObjectView) → List (ℕ × S)
+held m = m.1
+
+pub join_seat-requires : goal.join_seat-requires
+join_seat-requires c = (search rules, search rules, c.second.invariant.empty, search rules, glues (by_sums _ _) _ _ _ _)
+
+pub load-requires : goal.load-requires
+load-requires c = (search rules, search rules, learns _ _ _ _ c.join_seat.new.seat.me (pair_of _ _ _ c.first.invariant.one c.second.invariant.one (ap views c.join_seat.ensures.2)))
+
+pub split_seat-first-requires : goal.split_seat-first-requires
+split_seat-first-requires c = (search rules, search rules, cuts (by_sums _ _) _ _)
+
+pub seated-requires : goal.seated-requires
+seated-requires c = let l = c.load.ensures.2 in let s = c.split_seat-first.ensures in
+    let m = meets (fresh_seat no_setup 0) HaveMet c.first.inside.seat.me.0 c.second.inside.seat.me.0 _ _ _ _ c.first.invariant.one c.second.invariant.one (ap views c.join_seat.ensures.2) l.pair l.met (ap views s.4) (ap views s.2) in
+    record { one = m.0; empty = ap held s.4; free = m.2.first_place ∙ c.first.invariant.free; true_to = (m.2.first c.split_seat-first.result.table_id).true_to }
+
+pub seated-requires-2 : goal.seated-requires-2
+seated-requires-2 c = let l = c.load.ensures.2 in let s = c.split_seat-first.ensures in
+    let m = meets (fresh_seat no_setup 0) HaveMet c.first.inside.seat.me.0 c.second.inside.seat.me.0 _ _ _ _ c.first.invariant.one c.second.invariant.one (ap views c.join_seat.ensures.2) l.pair l.met (ap views s.4) (ap views s.2) in
+    record { one = m.1; empty = ap held s.2 ∙ (l.carried ∙ (ap held c.join_seat.ensures.2 ∙ c.first.invariant.empty)); free = m.2.second_place ∙ c.second.invariant.free; true_to = (m.2.second c.split_seat-first.new.seat.table_id).true_to }
+
+pub returns-clause-grows : goal.returns-clause-grows
+returns-clause-grows c = let l = c.load.ensures.2 in let s = c.split_seat-first.ensures in
+    let m = meets (fresh_seat no_setup 0) HaveMet c.first.inside.seat.me.0 c.second.inside.seat.me.0 _ _ _ _ c.first.invariant.one c.second.invariant.one (ap views c.join_seat.ensures.2) l.pair l.met (ap views s.4) (ap views s.2) in
+    let of_first = ap (λ (k : ObjectsKnown). k.objects) c.first.view_is ∙ c.requires.0 in let of_second = ap (λ (k : ObjectsKnown). k.objects) c.second.view_is ∙ c.requires.1 in
+    let kept = c.load.ensures.0 ∙ c.join_seat.ensures.0 in (
+      subst (Grows c.args.first) (sym c.seated.ensures) (grew c.args.first _ _ (the c.first.inside.seat.me.0) (the c.split_seat-first.result.me.0) c.first.view_is (s.3 ∙ kept) m.2.first),
+      subst (Grows c.args.second) (sym c.seated-2.ensures) (grew c.args.second _ _ (the c.second.inside.seat.me.0) (the c.split_seat-first.new.seat.me.0) c.second.view_is (s.0 ∙ (kept ∙ (of_first ∙ sym of_second))) m.2.second),
+    )
+
+pub returns-clause-before : goal.returns-clause-before
+returns-clause-before c = let l = c.load.ensures.2 in let s = c.split_seat-first.ensures in
+    let m = meets (fresh_seat no_setup 0) HaveMet c.first.inside.seat.me.0 c.second.inside.seat.me.0 _ _ _ _ c.first.invariant.one c.second.invariant.one (ap views c.join_seat.ensures.2) l.pair l.met (ap views s.4) (ap views s.2) in
+    let of_first = ap (λ (k : ObjectsKnown). k.objects) c.first.view_is ∙ c.requires.0 in let of_second = ap (λ (k : ObjectsKnown). k.objects) c.second.view_is ∙ c.requires.1 in
+    subst (λ (z : ObjectsKnown × ObjectsKnown). AreOfOneHistory z.0 z.1) (λ i. (c.first.view_is i, (ap (λ (t : TableId). known_of t (the c.second.inside.seat.me.0)) (of_first ∙ sym of_second) ∙ c.second.view_is) i)) (m.2.before c.first.inside.seat.table_id)

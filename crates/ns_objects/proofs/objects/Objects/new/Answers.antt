@@ -1,0 +1,49 @@
+use Rattle.std.proofs.Common.{rules, arith, ap, sym, subst, refl, ◌∙◌, ◌≡◌, ◌+◌, ◌<◌, ℕ, List, [], ◌∷◌, length, length-append}
+use Rattle.atomic_table.specs.Seated.{TableId}
+use Rattle.atomic_table.specs.Table.{Me}
+use Rattle.ns_counters.specs.declared.object.ObjectEvent.{ObjectEvent}
+use Rattle.ns_counters.specs.declared.object.ObjectView.{ObjectView}
+use Rattle.ns_objects.specs.Known.{ObjectsKnown, the, IsAtRest, AreNew, known, known_of}
+use Rattle.ns_objects.specs.Law.{IsRuled, fresh_seat, fresh}
+use Rattle.ns_objects.specs.Made.{padded, setup_of, first_words}
+use Rattle.ns_seats.specs.Views.{first_of, rest_of}
+use Rattle.ns_objects.proofs.Seats.{begins, by_sums, first_words_are}
+use Rattle.ns_seats.proofs.Meetings.{cuts}
+use Rattle.ns_seats.proofs.Numbered.{all_new, numbered_first, numbered_rest, new_more}
+use Rattle.ns_objects.proofs.objects.Objects.new.Goals as goal
+
+abbrev Seated : Type 0
+Seated = Me (Unit {0}) (List ObjectView)
+
+-- objects that begin with these words, of which counters have these values
+abbrev Begins : ℕ → ℕ → ℕ → List ℕ → List ℕ → Type 0
+Begins seats counters cells starts words = (h : List ObjectEvent) × IsRuled (record { seats = seats; counters = counters; starts = starts; cells = cells }) words (fresh (record { seats = seats; counters = counters; starts = starts; cells = cells }) 0 seats ∷ []) h
+
+pub of_words-requires : goal.of_words-requires
+of_words-requires c = let values = c.args.counters.now in
+    subst (λ (z : List ℕ × List ℕ). Begins c.args.seats (length values) c.args.onces z.0 z.1) (λ i. (sym c.starts_of.ensures i, sym (c.words_of.ensures ∙ ap first_words c.starts_of.ensures) i))
+    (begins (setup_of c.args.seats values c.args.onces) (first_words (padded values)) c.if-seats-gt64.false (c.requires.counters, c.requires.onces)
+    (first_words_are c.args.seats values c.args.onces c.requires.counters (λ k. let f = c.type_inv.counters k in omega (arith, f))))
+
+pub split_seat-seat-requires : goal.split_seat-seat-requires
+split_seat-seat-requires c = (search rules, search rules, cuts (by_sums _ _) _ _)
+
+pub seated-requires : goal.seated-requires
+seated-requires c = let n = c.args.seats in let setup = setup_of n c.args.counters.now c.args.onces in let i = c.loop-number._number in let lt : i < n = omega arith in
+    let is = c.split_seat-seat.ensures.4 ∙ ap (λ (vs : List ObjectView). (vs, [])) (ap first_of c.loop-number.invariant.1 ∙ numbered_first (fresh_seat setup) n i lt) in
+    subst (λ (m : Seated). IsAtRest c.split_seat-seat.result.table_id m) (sym is) (record { one = tt; empty = refl; free = refl; true_to = record { room = (c.requires.counters, c.requires.onces); legal = tt; by_seats = tt; own = refl } })
+
+pub loop-number-preserved : goal.loop-number-preserved
+loop-number-preserved c = let v = c.loop-number.invariant in let n = c.args.seats in let setup = setup_of n c.args.counters.now c.args.onces in let i = c.loop-number._number in let lt : i < n = omega arith in let s = c.split_seat-seat.ensures in let p = c.in_ok-add.ensures in let t = c.in_ok-table.rest.table_id in
+    let is = ap (λ (m : Seated). the m.0) (s.4 ∙ ap (λ (vs : List ObjectView). (vs, [])) (ap first_of v.1 ∙ numbered_first (fresh_seat setup) n i lt)) in
+    let k : c.seated.result ≡ known t setup i [] [] = c.seated.ensures ∙ (λ j. known_of ((s.3 ∙ v.0) j) (is j)) in
+    let e : i ≡ 0 + length c.loop-number.given.items = omega arith in (
+      s.0 ∙ v.0,
+      ap (λ (m : Seated). m.0) s.2 ∙ (ap rest_of v.1 ∙ numbered_rest (fresh_seat setup) n i lt),
+      omega (arith, ap length p, length-append c.loop-number.given.items (c.seated.result ∷ [])),
+      subst (AreNew t setup 0) (sym p) (new_more (λ seat. known t setup seat [] []) 0 c.loop-number.given.items c.seated.result v.3 (k ∙ ap (λ (j : ℕ). known t setup j [] []) e)),
+    )
+
+pub returns-clause-seats : goal.returns-clause-seats
+returns-clause-seats c = let e = c.in_ok-table in let setup = setup_of c.args.seats c.args.counters.now c.args.onces in
+    all_new (λ seat. known e.table.shared.table_id setup seat [] []) (λ (k : ObjectsKnown). (k.objects ≡ e.table.shared.table_id) × (k.setup ≡ setup)) (λ seat. (refl, refl)) 0 c.loop-number.given.items (subst (λ (t : TableId). AreNew t setup 0 c.loop-number.given.items) e.ensures.2 c.loop-number.invariant.3)

@@ -1,0 +1,7 @@
+pub mod Any
+pub mod Known
+pub mod Law
+pub mod Made
+pub mod Running
+pub mod Told
+pub mod Waiting

@@ -1,0 +1,15 @@
+-- How objects are made.
+use Rattle.std.specs.Prelude.{ℕ, ◌-◌, List, ◌++◌, length, replicate}
+use Rattle.ns_counters.specs.declared.object.Setup.{Setup}
+
+-- the values by number, and 0 past the last, 16 in all
+abbrev pub padded : List ℕ → List ℕ
+padded values = values ++ replicate (16 - length values) 0
+
+-- for so many seats, a counter for each of the values, and so many once cells
+abbrev pub setup_of : ℕ → List ℕ → ℕ → Setup
+setup_of seats counters cells = record { seats = seats; counters = length counters; starts = padded counters; cells = cells }
+
+-- the words of new counters with these values, and of 16 unused once cells
+abbrev pub first_words : List ℕ → List ℕ
+first_words starts = starts ++ replicate 16 0

@@ -1,0 +1,115 @@
+//! Waits for any of several notes and counters.
+
+ghost use Rattle.std.specs.Prelude.{◌≡◌, ◌≤◌, length};
+ghost use Rattle.ns_model.specs.Tallies.{Every};
+ghost use Rattle.ns_note.specs.Known.{Grows as EnvGrows, IsTrueToHistory as EnvTrue};
+ghost use Rattle.ns_objects.specs.Any.{AnyAnswers, IsKnown, RoundAnswers, WasReady};
+ghost use Rattle.ns_objects.specs.Known.{Grows, IsTrueToHistory};
+
+use crate::objects::Objects;
+use crate::seat::ObjSeat;
+use crossbeam_utils::Backoff;
+use ns_note::env::Env;
+use ns_note::note::Note;
+use ns_note::seat::EnvSeat;
+use std::sync::Wait;
+
+/// One of the objects that a wait for any of several is for.
+#[derive(Clone, Copy, Debug)]
+pub enum Item {
+    /// A note, which is ready where it is notified.
+    Note(Note),
+    /// A counter, by its number, which is ready where its value is 0.
+    Counter(u8),
+}
+
+impl Objects {
+    /// Whether an item is ready.
+    fn is_ready(&self, seat: &mut ObjSeat, item: Item, env: &Env, watch: &mut EnvSeat) -> bool
+        requires objects { seat.old.objects ≡ self.now }
+        requires env { watch.old.env ≡ env.now }
+        requires known { IsKnown seat.old watch.old item }
+        requires true_to { IsTrueToHistory seat.old }
+        requires env_true_to { EnvTrue watch.old }
+        ensures grows { Grows seat.old seat.new }
+        ensures mine { seat.new.mine ≡ seat.old.mine }
+        ensures watch { EnvGrows watch.old watch.new }
+        ensures watched { watch.new.mine ≡ watch.old.mine }
+        ensures ready { WasReady result (seat.old, watch.old) (seat.new, watch.new) item }
+    {
+        match item {
+            Item::Note(note) => env.is_notified(watch, note),
+            Item::Counter(counter) => self.counter_value(seat, counter) == 0,
+        }
+    }
+
+    /// One round of a wait for any: the clock, and then each item in order up to the first that is ready.
+    /// Answers its place, or the number of items where none is ready and the deadline, in ticks, has
+    /// come, or nothing.
+    pub(crate) fn look_at_any(
+        &self,
+        seat: &mut ObjSeat,
+        items: &[Item],
+        deadline: Option<u64>,
+        env: &Env,
+        watch: &mut EnvSeat,
+    ) -> Option<usize>
+        requires objects { seat.old.objects ≡ self.now }
+        requires env { watch.old.env ≡ env.now }
+        requires known { Every (IsKnown seat.old watch.old) items.now }
+        requires true_to { IsTrueToHistory seat.old }
+        ensures grows { Grows seat.old seat.new }
+        ensures mine { seat.new.mine ≡ seat.old.mine }
+        ensures watch { EnvGrows watch.old watch.new }
+        ensures watched { watch.new.mine ≡ watch.old.mine }
+        ensures answers { RoundAnswers items.now deadline (seat.old, watch.old) (seat.new, watch.new) result }
+    {
+        let clock = env.now(watch);
+        for (i, item) in items.iter().enumerate() {
+            if self.is_ready(seat, *item, env, watch) {
+                return Some(i);
+            }
+        }
+        match deadline {
+            Some(moment) if moment <= clock => Some(items.len()),
+            _ => None,
+        }
+    }
+
+    /// Waits until one of the items is ready, or until the clock of the environment has reached the
+    /// deadline, in ticks. Answers the place of the first item that is ready, or the number of items where
+    /// the deadline came first. With no deadline it waits for the items alone. nsync's `nsync_wait_n`.
+    ///
+    /// Begins no wait for a counter: it may rise from 0 later. Needs at most 16 items, counters of these
+    /// objects, notes that the caller's seat of the environment has seen made, and that seat.
+    pub fn wait_any<R: Wait>(
+        &self,
+        rt: &R,
+        seat: &mut ObjSeat,
+        items: &[Item],
+        deadline: Option<u64>,
+        env: &Env,
+        watch: &mut EnvSeat,
+    ) -> usize
+        requires objects { seat.old.objects ≡ self.now }
+        requires env { watch.old.env ≡ env.now }
+        requires few { length items.now ≤ 16 }
+        requires known { Every (IsKnown seat.old watch.old) items.now }
+        ensures grows { Grows seat.old seat.new }
+        ensures mine { seat.new.mine ≡ seat.old.mine }
+        ensures watch { EnvGrows watch.old watch.new }
+        ensures watched { watch.new.mine ≡ watch.old.mine }
+        ensures answers { AnyAnswers items.now deadline (seat.old, watch.old) (seat.new, watch.new) result }
+    {
+        seat.attest();
+        watch.attest();
+        let backoff = Backoff::new();
+        for _ in rt.forever() {
+            if let Some(place) = self.look_at_any(seat, items, deadline, env, watch) {
+                return place;
+            }
+            backoff.snooze();
+        }
+        unreachable!()
+    }
+}

@@ -1,0 +1,45 @@
+//! Counters and once cells, shared between threads, and waits for any of several.
+//!
+//! A counter counts up and down in 32 bits, and who waits for it waits for 0. A once cell has a
+//! function run once: by the first that calls, while the others wait for its end.
+//!
+//! ```rust
+//! let (objects, mut seats) = Objects::new(rt.alloc(), &[2], 1, 2)?; // a seat for each thread
+//! let (Some(mut theirs), Some(mut mine)) = (seats.pop(), seats.pop()) else {
+//!     return Ok(());
+//! };
+//!
+//! // one thread has done its part of the work, and then the other has:
+//! let left = objects.counter_add(&rt, &mut theirs, 0, -1); // Ok(1)
+//! let left = objects.counter_add(&rt, &mut mine, 0, -1); // Ok(0)
+//!
+//! // who waits for both goes on; from here on the counter doesn't rise any more
+//! let zero = objects.counter_wait(&rt, &mut mine, 0, None, &env, &mut watch);
+//!
+//! // whoever comes first makes it, and the others find it made
+//! let made = objects.run_once(&rt, &mut mine, 0, || 7); // Once::Ran(7)
+//! ```
+//!
+//! The behaviour is that of nsync's headers `nsync_counter.h`, `nsync_once.h` and `nsync_waiter.h`.
+//! An [`objects::Objects`] is a table of 32 atomic words, one for each counter and each cell; only
+//! its making takes memory. Deadlines are moments in ticks of the clock of an
+//! [`Env`](ns_note::env::Env), which only callers move.
+//!
+//! What is promised: there is one history of all objects of a table, legal by the definitions of
+//! `ns_counters`, that begins with what each [`seat::ObjSeat`] has seen, and in which each seat's own
+//! events are just those that its calls have added. Each call says which events it adds, and at
+//! which point of the history its answer is right. Two callers compare their histories by
+//! [`objects::Objects::meet`]; between callers that never met, nothing is said of the order.
+#![tactic(auto)]
+
+mod adding;
+pub mod any;
+pub mod objects;
+mod plays;
+pub mod running;
+mod saying;
+pub mod seat;
+#[cfg(test)]
+mod tests;
+mod view;
+mod waiting;
