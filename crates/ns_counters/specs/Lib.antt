@@ -2,6 +2,7 @@ pub mod Acted
 pub mod Counters
 pub mod Courses
 pub mod Lawful
+pub mod Made
 pub mod Meanings
 pub mod Objects
 pub mod Onces

@@ -1,7 +1,7 @@
 //! What histories of counters and once cells mean, and the law of the steps on them. Each function
 //! is a theorem: its clause holds, and it does nothing.
 
-ghost use Rattle.std.specs.Prelude.{◌≡◌, ℕ, ◌≤◌, ◌≢◌, ℤ, pos, ◌+ℤ◌, true, ◌++◌, List, slice_index, slice_set};
+ghost use Rattle.std.specs.Prelude.{◌≡◌, ℕ, ◌≤◌, ◌≢◌, ℤ, pos, ◌+ℤ◌, true, ◌++◌, List, [], length, slice_index, slice_set};
 ghost use Rattle.std.specs.List.{fold, list_any};
 ghost use Rattle.ns_counters.specs.declared.act.ObjectAct.{ObjectAct};
 ghost use Rattle.ns_counters.specs.declared.counter.CounterEvent.{CounterEvent};
@@ -11,9 +11,10 @@ ghost use Rattle.ns_counters.specs.declared.object.ObjectView.{ObjectView};
 ghost use Rattle.ns_counters.specs.declared.object.Setup.{Setup};
 ghost use Rattle.ns_counters.specs.declared.once.OnceEvent.{OnceEvent};
 ghost use Rattle.ns_counters.specs.Acted.{HasActed, acted, events_of};
-ghost use Rattle.ns_counters.specs.Counters.{IsLegalCounter, IsLegalCounterEvent, counter_after, counter_next, judged};
+ghost use Rattle.ns_counters.specs.Counters.{IsLegalCounter, IsLegalCounterEvent, counter_after, counter_next, judged, most};
 ghost use Rattle.ns_counters.specs.Courses.{IsLegalFrom};
 ghost use Rattle.ns_counters.specs.Lawful.{IsLawful, ViewFits};
+ghost use Rattle.ns_counters.specs.Made.{first_words, padded, setup_of};
 ghost use Rattle.ns_counters.specs.Meanings.{AnswersRightly, IsCourseOfOnce, added_by, is_begun, is_ran};
 ghost use Rattle.ns_counters.specs.Objects.{IsLegalObjects, of_counter, of_once, objects_after};
 ghost use Rattle.ns_counters.specs.Onces.{IsLegalOnce, is_done, once_after};
@@ -66,6 +67,12 @@ pub fn each_counter_has_a_legal_history()
 pub fn each_cell_has_a_legal_history()
     ensures { (setup : Setup) (history : List ObjectEvent) (number : ℕ) → IsLegalObjects setup history →
         IsLegalOnce (of_once number history) × ((objects_after setup history).onces number ≡ once_after (of_once number history)) }
+{}
+
+/// New objects are lawful, before any event.
+pub fn new_objects_are_lawful()
+    ensures { (seats : ℕ) (values : List ℕ) (cells : ℕ) → seats ≤ 64 → length values ≤ 16 → cells ≤ 16 → ((number : ℕ) → slice_index values number ≤ most) →
+        IsLawful (setup_of seats values cells) (first_words (padded values)) [] }
 {}
 
 /// A step that its caller may make keeps the law, and what has happened by it comes to the history.

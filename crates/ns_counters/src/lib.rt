@@ -28,6 +28,7 @@
 pub mod act;
 pub mod counter;
 pub mod law;
+pub mod made;
 pub mod object;
 pub mod once;
 pub mod word;

@@ -10,13 +10,11 @@ use Rattle.ns_model.proofs.Tallies.{one_most}
 use Rattle.ns_counters.specs.declared.object.ObjectEvent.{ObjectEvent}
 use Rattle.ns_counters.specs.declared.object.ObjectView.{ObjectView}
 use Rattle.ns_counters.specs.declared.object.Setup.{Setup}
-use Rattle.ns_counters.specs.Counters.{most}
 use Rattle.ns_counters.specs.Lawful.{AreWordsOf, HasWords, ViewFits, IsLawful}
 use Rattle.ns_counters.specs.Objects.{first_objects, IsLegalObjects, objects_own, AreObjectsBySeats}
 use Rattle.ns_counters.proofs.Objects.{own-append}
 use Rattle.ns_objects.specs.Known.{known_of, sight_of, no_setup}
 use Rattle.ns_objects.specs.Law.{is_seat, IsRuled, fresh_seat, fresh, Holds}
-use Rattle.ns_objects.specs.Made.{padded, setup_of, first_words}
 use Rattle.ns_objects.specs.Told.{HaveMet, Learned}
 use Rattle.ns_seats.specs.Meetings.{IsBySums}
 use Rattle.ns_seats.specs.Sights.{HasSight}
@@ -78,42 +76,13 @@ fresh_fits : (setup : Setup) (from k : ℕ) → from + k ≤ setup.seats → Eve
 fresh_fits setup from zero h = tt
 fresh_fits setup from (suc k) h = (record { made = refl; below = omega (arith, h); seen = ([], refl); mine = refl; mine_seen = refl; place = tt }, fresh_fits setup (suc from) k (omega (arith, h)))
 
-pub begins : (setup : Setup) (words : List ℕ) → setup.seats ≤ 64 → HasWords setup → AreWordsOf (first_objects setup) words → (h : List ObjectEvent) × IsRuled setup words (fresh setup 0 setup.seats ∷ []) h
-begins setup words few room are = (
+pub begins : (setup : Setup) (words : List ℕ) → IsLawful setup words [] → (h : List ObjectEvent) × IsRuled setup words (fresh setup 0 setup.seats ∷ []) h
+begins setup words lawful = (
   [],
   record {
-    lawful = record { few = few; room = room; words_are = are; legal = tt; by_seats = tt };
+    lawful = lawful;
     seats = let a = fresh_count setup 0 setup.seats in omega (arith, a);
     once = λ seat. let a = seat_once seat setup in omega (arith, a);
     each = (fresh_fits setup 0 setup.seats (omega arith), tt);
   },
 )
-
--- ---- the words of new objects
-
-get_zero : (m k : ℕ) → ◌≡◌ {A = ℕ} (get_or (replicate m 0) k 0) 0
-get_zero zero k = refl
-get_zero (suc m) zero = refl
-get_zero (suc m) (suc k) = get_zero m k
-
-padded_few : (values : List ℕ) (m : ℕ) → ((k : ℕ) → get_or values k 0 ≤ most) → (k : ℕ) → get_or (values ++ replicate m 0) k 0 ≤ most
-padded_few [] m few k = let z = get_zero m k in omega (arith, z)
-padded_few (x ∷ values) m few zero = few zero
-padded_few (x ∷ values) m few (suc k) = padded_few values m (λ n. few (suc n)) k
-
-before_zeros : (l : List ℕ) (m k : ℕ) → k < length l → get_or (l ++ replicate m 0) k 0 ≡ get_or l k 0
-before_zeros [] m k low = absurd (omega (arith, low))
-before_zeros (x ∷ l) m zero low = refl
-before_zeros (x ∷ l) m (suc k) low = before_zeros l m k (omega (arith, low))
-
-behind_zeros : (l : List ℕ) (m k : ℕ) → get_or (l ++ replicate m 0) (length l + k) 0 ≡ 0
-behind_zeros [] m k = get_zero m (0 + k)
-behind_zeros (x ∷ l) m k = let up : suc (length l) + k ≡ suc (length l + k) = omega arith in ap (λ n. get_or (x ∷ (l ++ replicate m 0)) n 0) up ∙ behind_zeros l m k
-
-pub first_words_are : (seats : ℕ) (values : List ℕ) (cells : ℕ) → length values ≤ 16 → ((k : ℕ) → get_or values k 0 ≤ most) → AreWordsOf (first_objects (setup_of seats values cells)) (first_words (padded values))
-first_words_are seats values cells short few =
-    let wide : length (padded values) ≡ 16 = let a = length-append values (replicate (16 - length values) 0) in let r = length-replicate {A = ℕ} (16 - length values) 0 in omega (arith, a, r, short) in record {
-      width = let a = length-append (padded values) (replicate 16 0) in let r = length-replicate {A = ℕ} 16 0 in omega (arith, a, r, wide);
-      counters = λ k below. let is = before_zeros (padded values) 16 k (omega (arith, wide, below)) in (omega (arith, is), padded_few values (16 - length values) few k);
-      onces = λ k below. subst (λ n. get_or (first_words (padded values)) (n + k) 0 ≡ 0) wide (behind_zeros (padded values) 16 k);
-    }

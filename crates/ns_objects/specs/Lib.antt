@@ -1,7 +1,6 @@
 pub mod Any
 pub mod Known
 pub mod Law
-pub mod Made
 pub mod Running
 pub mod Told
 pub mod Waiting

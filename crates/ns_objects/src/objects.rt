@@ -1,22 +1,20 @@
 //! The counters and once cells of several callers.
 
 ghost use Rattle.std.specs.Prelude.{◌≡◌, ◌<◌, ◌≤◌, ◌++◌, ◌↔◌, [], ◌∷◌, All, length, IfOk, Err, OnOk, replicate, ◌-◌, ◌+◌};
+ghost use Rattle.ns_counters.specs.Made.{setup_of};
 ghost use Rattle.ns_counters.specs.Onces.{is_done};
 ghost use Rattle.ns_objects.specs.Known.{AreNew, AreOfOneHistory, Grows, IsAtRest, known_of, standing_of, the};
-ghost use Rattle.ns_objects.specs.Made.{first_words, padded, setup_of};
 
 use crate::plays::{FirstOut, Law, Learn, LoadCounter, LoadOnce, Together};
 use crate::seat::{ObjSeat, TableSeat};
 use crate::view::View;
 use atomic_table::Table;
+use ns_counters::made::MOST;
 use ns_counters::object::Setup;
 use ns_counters::word::{Stage, decode_counter, decode_once};
 use ns_note::fault::Fault;
 use std::alloc::{AllocError, Global};
 use std::marker::Model;
-
-/// How many counters there may be, and how many once cells.
-pub const MOST: usize = 16;
 
 /// Up to 16 counters and up to 16 once cells, shared by up to 64 callers. Each call takes its
 /// caller's seat, which has to be of these objects.
@@ -52,27 +50,6 @@ fn add(seats: &mut Vec<ObjSeat>, seat: ObjSeat) -> Result<(), AllocError>
     Ok(())
 }
 
-/// The values by number, and 0 past the last.
-fn starts_of(counters: &[u32]) -> [u32; MOST]
-    requires { length counters.now ≤ 16 }
-    ensures { result ≡ padded counters.now }
-{
-    let mut starts = [0; MOST];
-    starts[..counters.len()].copy_from_slice(counters);
-    starts
-}
-
-/// The words of new counters with these values, and of as many new once cells.
-fn words_of(starts: &[u32; MOST]) -> [u64; 32]
-    ensures { result ≡ first_words starts.now }
-{
-    let mut words = [0; 32];
-    for (i, start) in starts.iter().enumerate() {
-        words[i] = u64::from(*start);
-    }
-    words
-}
-
 impl Objects {
     /// A counter for each of the values, by number, so many once cells, and the seats, one for each
     /// caller. nsync's `nsync_counter_new` and `NSYNC_ONCE_INIT`.
@@ -95,13 +72,8 @@ impl Objects {
         if seats > 64 {
             return Err(Fault::TooManySeats);
         }
-        let setup = Setup {
-            seats: seats as u8,
-            counters: counters.len() as u8,
-            starts: starts_of(counters),
-            cells: onces as u8,
-        };
-        let (table, mut rest) = Table::of_words(alloc, &words_of(&setup.starts), &setup)?;
+        let setup = Setup::new(seats as u8, counters, onces as u8);
+        let (table, mut rest) = Table::of_words(alloc, &setup.words(), &setup)?;
         let mut given = Vec::new(alloc);
         for _number in 0..seats {
             let seat = table.shared.split_seat::<FirstOut>(&mut rest);

@@ -9,10 +9,11 @@ ghost use Rattle.ns_objects.specs.Told.{OneComes};
 ghost use Rattle.ns_objects.specs.Running.{MayRunOnceBegun, OnceAnswers};
 ghost use Rattle.ns_seats.specs.Views.{IsOne};
 
-use crate::objects::{MOST, Objects};
+use crate::objects::Objects;
 use crate::plays::{Begin, End, LoadOnce};
 use crate::seat::{ObjSeat, TableSeat};
 use crossbeam_utils::Backoff;
+use ns_counters::made::MOST;
 use ns_counters::object::{ObjectEvent, Place};
 use ns_counters::once::OnceEvent;
 use ns_counters::word::{Stage, decode_once, encode_once};

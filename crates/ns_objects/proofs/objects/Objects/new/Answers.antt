@@ -5,9 +5,11 @@ use Rattle.ns_counters.specs.declared.object.ObjectEvent.{ObjectEvent}
 use Rattle.ns_counters.specs.declared.object.ObjectView.{ObjectView}
 use Rattle.ns_objects.specs.Known.{ObjectsKnown, the, IsAtRest, AreNew, known, known_of}
 use Rattle.ns_objects.specs.Law.{IsRuled, fresh_seat, fresh}
-use Rattle.ns_objects.specs.Made.{padded, setup_of, first_words}
+use Rattle.ns_counters.specs.Made.{padded, setup_of, first_words}
 use Rattle.ns_seats.specs.Views.{first_of, rest_of}
-use Rattle.ns_objects.proofs.Seats.{begins, by_sums, first_words_are}
+use Rattle.ns_counters.proofs.NewObjects.{new_lawful}
+use Rattle.ns_counters.specs.declared.object.Setup.{Setup}
+use Rattle.ns_objects.proofs.Seats.{begins, by_sums}
 use Rattle.ns_seats.proofs.Meetings.{cuts}
 use Rattle.ns_seats.proofs.Numbered.{all_new, numbered_first, numbered_rest, new_more}
 use Rattle.ns_objects.proofs.objects.Objects.new.Goals as goal
@@ -15,15 +17,11 @@ use Rattle.ns_objects.proofs.objects.Objects.new.Goals as goal
 abbrev Seated : Type 0
 Seated = Me (Unit {0}) (List ObjectView)
 
--- objects that begin with these words, of which counters have these values
-abbrev Begins : ℕ → ℕ → ℕ → List ℕ → List ℕ → Type 0
-Begins seats counters cells starts words = (h : List ObjectEvent) × IsRuled (record { seats = seats; counters = counters; starts = starts; cells = cells }) words (fresh (record { seats = seats; counters = counters; starts = starts; cells = cells }) 0 seats ∷ []) h
-
 pub of_words-requires : goal.of_words-requires
 of_words-requires c = let values = c.args.counters.now in
-    subst (λ (z : List ℕ × List ℕ). Begins c.args.seats (length values) c.args.onces z.0 z.1) (λ i. (sym c.starts_of.ensures i, sym (c.words_of.ensures ∙ ap first_words c.starts_of.ensures) i))
-    (begins (setup_of c.args.seats values c.args.onces) (first_words (padded values)) c.if-seats-gt64.false (c.requires.counters, c.requires.onces)
-    (first_words_are c.args.seats values c.args.onces c.requires.counters (λ k. let f = c.type_inv.counters k in omega (arith, f))))
+    subst (λ (z : Setup × List ℕ). (h : List ObjectEvent) × IsRuled z.0 z.1 (fresh z.0 0 z.0.seats ∷ []) h) (λ i. (sym c.new-setup.ensures i, sym (c.words.ensures ∙ ap (λ (s : Setup). first_words s.starts) c.new-setup.ensures) i))
+    (begins (setup_of c.args.seats values c.args.onces) (first_words (padded values))
+    (new_lawful c.args.seats values c.args.onces c.if-seats-gt64.false c.requires.counters c.requires.onces (λ k. let f = c.type_inv.counters k in omega (arith, f))))
 
 pub split_seat-seat-requires : goal.split_seat-seat-requires
 split_seat-seat-requires c = (search rules, search rules, cuts (by_sums _ _) _ _)

@@ -1,5 +1,0 @@
-use Rattle.std.proofs.Common.{◌≡◌, ◌++◌, ◌-◌, take, replicate}
-use Rattle.ns_objects.proofs.objects.words_of.Given as goal
-
-abbrev pub invariant-loop-i : goal.invariant-loop-i
-invariant-loop-i l = l.words ≡ take l.i l.starts ++ replicate (32 - l.i) 0
