@@ -6,7 +6,7 @@ use Rattle.ns_gate.specs.Prelude.{GateView, Views, Homes, is_seat, HasCome, Fits
 use Rattle.ns_model.proofs.Tallies.{one_most, total_set, total_none, Others, every_at, others_of, others_both, others_map, others_none, every_both, every_put}
 use Rattle.ns_word.proofs.Acts.{view_fits}
 use Rattle.ns_word.proofs.Courses.{takes_on, begins_unchanged}
-use Rattle.ns_word.proofs.EnvKeeps.{set_here, set_there}
+use Rattle.ns_env.proofs.Asks.{set_here, set_there}
 use Rattle.ns_word.proofs.Numbers.{step_at, begin_at, set_same, split_at}
 use Rattle.ns_word.proofs.ToldAfter.{begins_if, seat_steps_keep, seat_step_tells, seat_step_by, told_there, seat_in}
 use lib.ListN.{get_elem?}

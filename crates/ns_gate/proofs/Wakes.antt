@@ -17,7 +17,7 @@ use Rattle.ns_queue.proofs.Parts.{below_in, none_without, times_with}
 use Rattle.ns_queue.proofs.Seats.{times_in-cons}
 use Rattle.ns_queue.proofs.Taken.{times_signaled}
 use Rattle.ns_word.proofs.Ranges.{lists_orderly}
-use Rattle.ns_gate.specs.Prelude.{SeatOf, the, Carries, Performed, changed, change_found, moves, seats_of, Act, Found, Walk, Truths, Lists, Waiter, HaveSeats, IsOrderly, bits_of, times, times_in, waiters_of, with_waiters, without, Part, SeatView, has_queues, has_some, is_held, kept_by, moved_to, taken_by, lists_left, lists_woken, owed_woken, taken_from, turned_to, without_each, woken_nobody, ReturnQueues, WakeWaiters, Woke, Waking, Broadcasting, Signaling, Word}
+use Rattle.ns_gate.specs.Prelude.{SeatOf, the, Carries, Performed, change_found, moves, seats_of, Act, Found, Walk, Truths, Lists, Waiter, HaveSeats, IsOrderly, bits_of, times, times_in, waiters_of, with_waiters, without, Part, SeatView, has_queues, has_some, is_held, kept_by, moved_to, taken_by, lists_left, lists_woken, owed_woken, taken_from, turned_to, without_each, woken_nobody, ReturnQueues, WakeWaiters, Woke, Waking, Broadcasting, Signaling, Word}
 use Rattle.ns_gate.specs.declared.queues.Turned.{Turned}
 use Rattle.ns_gate.proofs.Stays.{HasKeptItsQueues, effect_of, still_carries}
 

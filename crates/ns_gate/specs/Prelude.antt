@@ -42,7 +42,8 @@ pub use Rattle.ns_word.specs.Places.{ActFits, CanLeave, CanWait, HasMode, IsInRa
 pub use Rattle.ns_word.specs.Steps.{Effect, LockState, MayShow, Part, Step, change_commits, change_found, changed, exit_for, flags_with, held_after, held_by, kept_by, meets_at, moved_to, moves, newly_held, owed_after, part_of, section_of, taken_by, waited_in, waits_at, with_lock}
 pub use Rattle.ns_word.specs.Told.{IsTold, Told, calls_of, told_after}
 pub use Rattle.ns_word.specs.Views.{is_reading, is_writing, readers, takers, writers}
-pub use Rattle.ns_word.specs.Waits.{answer_of, arrival_of, home_of, is_limited, mode_for, outcome_taken, woken_by}
+pub use Rattle.ns_env.specs.Walks.{is_limited}
+pub use Rattle.ns_word.specs.Waits.{answer_of, arrival_of, home_of, mode_for, outcome_taken, woken_by}
 pub use Rattle.ns_word.specs.Walks.{armed_place, back_with, got_of, got_queuing, has_queues, judge_of, look_or_queue, pay_releasing, pay_waiting, pays, release_has_queues, rest_or_look, scan_place, test_place, unmet_by, wait_first, wait_has_queues, walk_after, want_of}
 pub use Rattle.ns_word.specs.Words.{is_held, may_acquire, mode_released, releasing_of, word_acquired, word_released, word_released_returning, word_returned, word_taken}
 pub use Rattle.ns_word.specs.declared.acquire_walk.AcquirePlace.TheVariants.{AcquireLoad, Arm, Queue}
@@ -56,9 +57,9 @@ pub use Rattle.ns_word.specs.declared.act.Waking.{Waking}
 pub use Rattle.ns_word.specs.declared.act.Waking.TheVariants.{Broadcasting, Signaling}
 pub use Rattle.ns_word.specs.declared.cell_walk.CellPlace.TheVariants.{GetLoad, QuietCells, QuietLast, SetStore}
 pub use Rattle.ns_word.specs.declared.cell_walk.Judging.TheVariants.{ToTell}
-pub use Rattle.ns_word.specs.declared.limits.Cause.{Cause}
-pub use Rattle.ns_word.specs.declared.limits.Cause.TheVariants.{Expired, Notified}
-pub use Rattle.ns_word.specs.declared.limits.Limits.{Limits}
+pub use Rattle.ns_env.specs.declared.limits.Cause.{Cause}
+pub use Rattle.ns_env.specs.declared.limits.Cause.TheVariants.{Expired, Notified}
+pub use Rattle.ns_env.specs.declared.limits.Limits.{Limits}
 pub use Rattle.ns_word.specs.declared.release_walk.ReleasePlace.TheVariants.{Pay, ReleaseLoad, ScanAndRelease, ScanCells}
 pub use Rattle.ns_word.specs.declared.request.Request.{Request}
 pub use Rattle.ns_word.specs.declared.request.Request.TheVariants.{Await, Get, IsQuiet, Set, TryLock}

@@ -9,7 +9,7 @@ use Rattle.ns_queue.specs.Queues.{Lists}
 use Rattle.ns_queue.specs.Scans.{woken_of, left_of}
 use Rattle.ns_word.specs.declared.word.Word.{Word}
 use Rattle.ns_word.specs.declared.view.SeatView.{SeatView}
-use Rattle.ns_word.specs.declared.limits.Cause.{Cause}
+use Rattle.ns_env.specs.declared.limits.Cause.{Cause}
 use Rattle.ns_word.specs.declared.walk.Walk.{Walk}
 use Rattle.ns_word.specs.declared.act.Act.{Act}
 use Rattle.ns_word.specs.declared.act.Act.TheVariants.{LoadWord, Acquire, TakeQueues, ReturnQueues, Release, ReleaseReturning, WaitReturning, LoadCell, JudgeQuiet, JudgeMet, StoreCell, ArmFlag, PayWake, LoadFlag}

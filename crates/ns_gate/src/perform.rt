@@ -5,9 +5,9 @@ ghost use Rattle.ns_gate.specs.Prelude.{IsOnWord, IsTurned, Needs, CanStep, Perf
 
 use crate::gate::{Gate, GateSeat};
 use crate::queues::{Returning, Turned};
+use ns_env::limits::Cause;
 use ns_model::condition::Condition;
 use ns_word::act::{Act, Found};
-use ns_word::limits::Cause;
 use ns_word::walk::Walk;
 use ns_word::word::Word;
 

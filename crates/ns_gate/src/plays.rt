@@ -6,9 +6,9 @@ ghost use Rattle.ns_gate.specs.Prelude.{Holds, first_of, fresh, rest_of, HaveLea
 use crate::saying::Telling;
 use crate::view::View;
 use atomic_table::{Join, Play, Split, TableRule};
+use ns_env::limits::Cause;
 use ns_model::condition::Condition;
 use ns_queue::queues::Queues;
-use ns_word::limits::Cause;
 use ns_word::walk::Walk;
 use std::marker::PhantomData;
 

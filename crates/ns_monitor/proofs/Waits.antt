@@ -2,7 +2,7 @@
 use Rattle.std.proofs.Common.{◌≡◌, ◌≢◌, ℕ, Bool, true, false, cond, nat_lt, ne_eqb, Option, None, Some, refl, ap, sym, ◌∙◌, subst}
 use Rattle.std.proofs.lemmas.Bool.{cond_both}
 use Rattle.ns_gate.proofs.Calls.{goes}
-use Rattle.ns_gate.specs.Prelude.{SeatOf, IsAtPlace, HasReached, the, Performed, Truths, IsList, waiters_of, times_in, Which, IsInRange, arrival_of, home_of, is_limited, outcome_taken, woken_by, armed_place, got_of, rest_or_look, AcquireLoad, ArmFlag, LoadFlag, Look, LeaveSelf, Flag, Looked, Made, Cause, Await, ForWait, AwaitWakeToLeave, Leave, LeaveLoad, Outcome, Ended, ArmToWait, Load, QueueToWait, Subject, OnCondition, OnVariable, Wait, AwaitWakeInWait, InLeaving, InQueuing, LookOut, Idle, On, InAcquire, InWait, Arrival, AsFresh, Word, LoadToScan, wait_has_queues}
+use Rattle.ns_gate.specs.Prelude.{SeatOf, IsAtPlace, HasReached, the, Performed, Truths, IsList, waiters_of, times_in, Which, IsInRange, arrival_of, home_of, is_limited, outcome_taken, armed_place, got_of, AcquireLoad, ArmFlag, LoadFlag, Look, LeaveSelf, Flag, Looked, Made, Cause, Await, ForWait, AwaitWakeToLeave, Leave, LeaveLoad, Outcome, Ended, ArmToWait, Load, QueueToWait, Subject, OnCondition, OnVariable, Wait, AwaitWakeInWait, InLeaving, InQueuing, LookOut, Idle, On, InAcquire, InWait, Arrival, AsFresh, Word, LoadToScan, wait_has_queues}
 use Rattle.ns_gate.specs.declared.queues.Returning.TheVariants.{Changed}
 use Rattle.ns_word.specs.Walks.{load_place}
 use Rattle.ns_monitor.proofs.Locks.{HasArmed, arms}

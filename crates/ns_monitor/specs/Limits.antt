@@ -7,8 +7,8 @@ use Rattle.ns_note.specs.Answers.{LookAnswers}
 use Rattle.ns_note.specs.Known.{EnvKnown}
 use Rattle.ns_note.specs.declared.note.Note.{Note}
 use Rattle.ns_word.specs.Waits.{answer_of}
-use Rattle.ns_word.specs.declared.limits.Cause.{Cause}
-use Rattle.ns_word.specs.declared.limits.Limits.{Limits}
+use Rattle.ns_env.specs.declared.limits.Cause.{Cause}
+use Rattle.ns_env.specs.declared.limits.Limits.{Limits}
 
 -- the seat is of the environment, and has seen the note made that the limits name, if they name one
 pub record IsLooking (env : TableId) (seat : EnvKnown) (note : Option Note) (limits : Limits) : Type 0 where

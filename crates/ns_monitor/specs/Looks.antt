@@ -5,16 +5,17 @@ use Rattle.ns_model.proofs.Beginnings.{begins_itself, begins_through}
 use Rattle.ns_model.specs.Beginnings.{BeginsWith}
 use Rattle.ns_model.specs.Environments.{IsMade}
 use Rattle.ns_model.specs.declared.environment.EnvEvent.{EnvEvent}
+use Rattle.ns_env.specs.Chains.{HasLooked}
 use Rattle.ns_monitor.specs.Limits.{HasLookedOn, IsLooking, LookShows}
-use Rattle.ns_note.specs.Answers.{LookAnswers}
+use Rattle.ns_note.specs.Answers.{limits_by, LookAnswers}
 use Rattle.ns_note.specs.Known.{EnvKnown}
 use Rattle.ns_note.specs.declared.note.Note.{Note}
 use Rattle.ns_model.specs.declared.event.Answer.TheVariants.{TimedOut}
 use Rattle.ns_word.specs.Steps.{MayShow}
 use Rattle.ns_word.specs.Waits.{answer_of}
-use Rattle.ns_word.specs.declared.limits.Cause.{Cause}
-use Rattle.ns_word.specs.declared.limits.Cause.TheVariants.{Expired, Notified}
-use Rattle.ns_word.specs.declared.limits.Limits.{Limits}
+use Rattle.ns_env.specs.declared.limits.Cause.{Cause}
+use Rattle.ns_env.specs.declared.limits.Cause.TheVariants.{Expired, Notified}
+use Rattle.ns_env.specs.declared.limits.Limits.{Limits}
 
 -- ---- a seat that looks on
 
@@ -37,11 +38,11 @@ still_looking env env' one two given given' limits same same' s is = subst (λ (
 given_deadline : (given : Option Note) (old new : EnvKnown) (limits : Limits) → LookShows given limits old new (Some Expired) → IsSome limits.deadline
 given_deadline given old new limits shown = by_deadline limits.deadline shown where
   by_deadline : (deadline : Option ℕ) → LookAnswers given deadline old.seen new.seen (Some TimedOut) → IsSome deadline
-  by_deadline None answers = absurd answers
+  by_deadline None answers = absurd answers.2.1
   by_deadline (Some d) answers = refl
 
 given_note : (given : Option Note) (old new : EnvKnown) (limits : Limits) → LookShows given limits old new (Some Notified) → IsSome (option_map (λ (n : Note). n.index) given)
-given_note None old new limits shown = absurd shown
+given_note None old new limits shown = absurd shown.2
 given_note (Some n) old new limits shown = refl
 
 -- a wait was given what it shows
@@ -55,16 +56,19 @@ pub nothing_named : (limits : Limits) (shown : Option Cause) → IfSome shown (�
 nothing_named limits None is = tt
 nothing_named limits (Some cause) is = absurd is
 
+-- what a look has found that began later, one that began sooner has found
+sooner : (limits : Limits) (cause : Option Cause) (old mid new : List EnvEvent) → BeginsWith mid old → HasLooked limits cause mid new → HasLooked limits cause old new
+sooner limits cause old mid new begins looked = (looked.0, (begins_through looked.0 mid old looked.1.0 begins, looked.1.1), looked.2)
+
 -- what was shown to one that had seen more was shown to one that had seen less
 shown_before : (given : Option Note) (deadline : Option ℕ) (old mid new : List EnvEvent) (shown : Option Cause) → BeginsWith mid old → LookAnswers given deadline mid new (option_map answer_of shown) → LookAnswers given deadline old new (option_map answer_of shown)
-shown_before given deadline old mid new None begins shows = (shows.0, (begins_through shows.0 mid old shows.1.0 begins, shows.1.1), shows.2, shows.3)
-shown_before given deadline old mid new (Some Notified) begins shows = shows
-shown_before given None old mid new (Some Expired) begins shows = absurd shows
-shown_before given (Some d) old mid new (Some Expired) begins shows = (shows.0, (begins_through shows.0 mid old shows.1.0 begins, shows.1.1), shows.2, shows.3)
+shown_before given deadline old mid new None begins shows = sooner (limits_by given deadline) None old mid new begins shows
+shown_before given deadline old mid new (Some Notified) begins shows = sooner (limits_by given deadline) (Some Notified) old mid new begins shows
+shown_before given deadline old mid new (Some Expired) begins shows = sooner (limits_by given deadline) (Some Expired) old mid new begins shows
 
 pub shown_since : (given given' : Option Note) (limits : Limits) (one two three : EnvKnown) (shown : Option Cause) → given' ≡ given → HasLookedOn one two → LookShows given' limits two three shown → LookShows given limits one three shown
 shown_since given given' limits one two three shown same s shows = shown_before given limits.deadline one.seen two.seen three.seen shown s.begins (subst (λ n. LookShows n limits two three shown) same shows)
 
 -- and that nothing was shown stays so
 pub none_shown : (given : Option Note) (limits : Limits) (one two three : EnvKnown) → LookShows given limits one two None → HasLookedOn two three → LookShows given limits one three None
-none_shown given limits one two three shows s = (shows.0, (shows.1.0, begins_through three.seen two.seen shows.0 s.begins shows.1.1), shows.2, shows.3)
+none_shown given limits one two three shows s = (shows.0, (shows.1.0, begins_through three.seen two.seen shows.0 s.begins shows.1.1), shows.2)

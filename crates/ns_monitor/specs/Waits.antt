@@ -16,13 +16,13 @@ use Rattle.ns_note.specs.declared.note.Note.{Note}
 use Rattle.ns_word.specs.Meanings.{InHand, IsBack}
 use Rattle.ns_word.specs.Steps.{entry_of, section_of}
 use Rattle.ns_word.specs.Waits.{answer_of}
-use Rattle.ns_word.specs.declared.limits.Cause.TheVariants.{Expired, Notified}
+use Rattle.ns_env.specs.declared.limits.Cause.TheVariants.{Expired, Notified}
 use Rattle.ns_word.specs.declared.view.Held.{Held}
 use Rattle.ns_word.specs.declared.wait.QueuePlace.TheVariants.{Load}
 use Rattle.ns_word.specs.declared.walk.Reply.TheVariants.{Answered}
 use Rattle.ns_word.specs.Walks.{got_of}
 use Rattle.ns_word.specs.declared.act.Found.TheVariants.{Flag}
-use Rattle.ns_word.specs.declared.limits.Cause.{Cause}
+use Rattle.ns_env.specs.declared.limits.Cause.{Cause}
 use Rattle.ns_word.specs.declared.request.Request.TheVariants.{Await}
 use Rattle.ns_word.specs.declared.wait.LeavePlace.TheVariants.{LeaveLoad}
 use Rattle.ns_word.specs.declared.wait.Outcome.{Outcome}

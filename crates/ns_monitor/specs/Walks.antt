@@ -4,7 +4,7 @@ use Rattle.ns_model.specs.declared.event.Mode.{Mode}
 use Rattle.ns_word.specs.declared.cell_walk.CellPlace.TheVariants.{GetLoad, SetLoad}
 use Rattle.ns_note.specs.declared.note.Note.{Note}
 use Rattle.ns_word.specs.Walks.{quiet_first, wait_first}
-use Rattle.ns_word.specs.declared.limits.Limits.{Limits}
+use Rattle.ns_env.specs.declared.limits.Limits.{Limits}
 use Rattle.ns_word.specs.declared.wait.Subject.TheVariants.{OnCondition, OnVariable}
 use Rattle.ns_word.specs.declared.wait.Wait.{Wait}
 use Rattle.ns_word.specs.declared.cell_walk.Judging.TheVariants.{ToTell}

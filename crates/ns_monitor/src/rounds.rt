@@ -9,13 +9,13 @@ ghost use Rattle.ns_monitor.specs.Prelude.{EndedBy, Grows, HadLooked, HasWaitedF
 use crate::caller::{Caller, Renewed};
 use crate::monitor::Monitor;
 use crate::watching::{Looker, Nothing, Watch};
+use ns_env::limits::{Cause, Limits};
 use ns_gate::gate::GateSeat;
 use ns_model::condition::Condition;
 use ns_model::event::Answer;
 use ns_note::env::Env;
 use ns_note::note::{Note, index_of};
 use ns_note::seat::EnvSeat;
-use ns_word::limits::{Cause, Limits};
 use ns_word::wait::{Outcome, Subject, Visit, Wait as Waiting, answer_of};
 use ns_word::walk::Walk;
 use std::sync::Wait;

@@ -8,12 +8,12 @@ ghost use Rattle.ns_monitor.specs.Prelude.{EndedBy, Grows, HasWaitedForVariable,
 use crate::caller::{Caller, Renewed};
 use crate::monitor::Monitor;
 use crate::watching::{Looker, Watch};
+use ns_env::limits::Limits;
 use ns_model::condition::Condition;
 use ns_model::event::Answer;
 use ns_note::env::Env;
 use ns_note::note::{Note, index_of};
 use ns_note::seat::EnvSeat;
-use ns_word::limits::Limits;
 use ns_word::wait::{QueuePlace, Subject, Wait as Waiting, WaitPlace};
 use ns_word::walk::Walk;
 use std::sync::Wait;

@@ -7,11 +7,11 @@ ghost use Rattle.ns_monitor.specs.Prelude.{HasAcquired, HasRow, HasTakenAt, IfEn
 use crate::monitor::Monitor;
 use crate::watching::Watch;
 use crossbeam_utils::Backoff;
+use ns_env::limits::Cause;
 use ns_gate::gate::GateSeat;
 use ns_gate::queues::{Returning, Turned};
 use ns_model::condition::Condition;
 use ns_word::act::Change;
-use ns_word::limits::Cause;
 use ns_word::wait::{
     Aim, LeavePlace, Outcome, QueuePlace, Subject, Wait as Waiting, WaitPlace, arrival_of,
 };

@@ -5,11 +5,11 @@ ghost use Rattle.std.proofs.Common.{◌∙◌};
 ghost use Rattle.ns_gate.specs.Prelude.{is_met, MayShow, answer_of, is_limited, Cause, Limits};
 ghost use Rattle.ns_monitor.specs.Prelude.{HasLookedOn, IsLooking, LookShows, may_show, none_shown, nothing_named, same_looker, shown_since, still_looking, then_looker};
 
+use ns_env::limits::{Cause, Limits};
 use ns_model::event::Answer;
 use ns_note::env::Env;
 use ns_note::note::Note;
 use ns_note::seat::EnvSeat;
-use ns_word::limits::{Cause, Limits};
 
 /// What watches for an early end of a wait: it looks, where the wait's limits let anything end it.
 pub trait Watch {

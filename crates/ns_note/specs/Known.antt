@@ -5,8 +5,8 @@ use Rattle.atomic_table.specs.Table.{Me}
 use Rattle.ns_model.specs.declared.environment.EnvEvent.{EnvEvent}
 use Rattle.ns_model.specs.Beginnings.{BeginsWith}
 use Rattle.ns_model.specs.Environments.{IsLegalEnv, IsEnvBySeats, env_own}
-use Rattle.ns_note.specs.declared.view.Making.TheVariants.{Nothing}
-use Rattle.ns_note.specs.declared.view.EnvView.{EnvView}
+use Rattle.ns_env.specs.declared.view.Making.TheVariants.{Nothing}
+use Rattle.ns_env.specs.declared.view.EnvView.{EnvView}
 use Rattle.ns_note.specs.Law.{fresh_seat}
 use Rattle.ns_seats.specs.Sights.{Sight, AreOfOneHistory as AreOfOneHistoryBy}
 use Rattle.ns_seats.specs.Views.{the_or, IsOne, AreNew as AreNewBy}

@@ -2,17 +2,17 @@
 
 ghost use Rattle.std.specs.Prelude.{◌≡◌, ◌<◌, ◌^◌, ◌++◌, ◌↔◌, [], ◌∷◌, true, false, All, List, length, IfSome, IfOk, IfErr, OnOk, option_map};
 ghost use Rattle.ns_model.specs.Beginnings.{IsBetween};
-ghost use Rattle.ns_model.specs.Environments.{IsMade, IsNotified, clock_of, earlier as earlier_of, env_after, expiry_of, is_made, is_notified, takes_in};
+ghost use Rattle.ns_model.specs.Environments.{IsMade, IsNotified, clock_of, env_after, expiry_of, is_made, is_notified, takes_in};
 ghost use Rattle.ns_note.specs.Answers.{LookAnswers, WaitAnswers};
 ghost use Rattle.ns_note.specs.Known.{AreNew, AreOfOneHistory, Grows, IsAtRest, IsTrueToHistory, known_of, the};
 ghost use Rattle.ns_seats.specs.Views.{IsOne};
-ghost use Rattle.ns_note.specs.Law.{note_word};
 ghost use Rattle.ns_note.specs.Told.{FoundFull, HasTakenNumber};
-ghost use Rattle.ns_note.specs.declared.view.Making.TheVariants.{Nothing};
+ghost use Rattle.ns_env.specs.declared.view.Making.TheVariants.{Nothing};
+ghost use Rattle.ns_env.specs.Notes.{state_of};
 ghost use Rattle.ns_note.specs.Words.{WordFits};
 
 use crate::fault::{Fault, NotesFull};
-use crate::note::{Note, NoteWord, decode_note, encode_note, index_of, is_due};
+use crate::note::{Note, decode_note, encode_note, index_of};
 use crate::plays::{
     FirstOut, Law, Learn, LoadClock, LoadNext, LoadNote, Make, Mark, MoveClock, Take, Together,
 };
@@ -21,6 +21,7 @@ use crate::table_words::{CLOCK, NEXT, NOTES, WORDS};
 use crate::view::View;
 use atomic_table::Table;
 use crossbeam_utils::Backoff;
+use ns_env::note::{NoteState, earlier, is_due};
 use ns_model::environment::EnvEvent;
 use ns_model::event::Answer;
 use std::alloc::{AllocError, Global};
@@ -148,8 +149,8 @@ impl Env {
         ensures full { IfErr result (λ _. (seat.new.mine ≡ seat.old.mine) × (takes_in seat.new.seen ≡ 64)) }
     {
         let index = self.take_number(&mut seat.seat)?;
-        let word = encode_note(NoteWord {
-            notified: false,
+        let word = encode_note(NoteState {
+            called: false,
             made: true,
             parent: index_of(parent),
             deadline,
@@ -200,12 +201,12 @@ impl Env {
     }
 
     /// What the word of a number tells now.
-    fn word(&self, seat: &mut EnvSeat, number: u8) -> NoteWord
+    fn word(&self, seat: &mut EnvSeat, number: u8) -> NoteState
         requires env { seat.old.env ≡ self.now }
         requires number { number < 64 }
         ensures grows { Grows seat.old seat.new }
         ensures mine { seat.new.mine ≡ seat.old.mine }
-        ensures word { result ≡ note_word ((env_after seat.new.seen).notes number) }
+        ensures word { result ≡ state_of ((env_after seat.new.seen).notes number) }
         ensures fits { WordFits result }
     {
         let word = self
@@ -342,16 +343,5 @@ impl Env {
             }
         }
         unreachable!()
-    }
-}
-
-/// The earlier of two deadlines, where there are two.
-fn earlier(one: Option<u64>, other: Option<u64>) -> Option<u64>
-    ensures { result ≡ earlier_of one other }
-{
-    match (one, other) {
-        (Some(moment), Some(later)) => Some(moment.min(later)),
-        (None, deadline) => deadline,
-        (deadline, None) => deadline,
     }
 }

@@ -1,8 +1,10 @@
 //! A note, and the word that a table keeps of it.
 
-ghost use Rattle.std.specs.Prelude.{◌≡◌, ◌<◌, ◌^◌, ◌||◌, IfSome, option_map};
-ghost use Rattle.ns_model.specs.Environments.{is_due as is_due_of};
+ghost use Rattle.std.specs.Prelude.{◌≡◌, ◌<◌, ◌^◌, IfSome, option_map};
+ghost use Rattle.ns_env.specs.declared.note.NoteState.{NoteState};
 ghost use Rattle.ns_note.specs.Words.{WordFits, deadline_at, deadline_code, note_of, parent_at, parent_code, word_of};
+
+use ns_env::note::NoteState;
 
 /// A note of an environment, by its number, from 0 to 63.
 #[derive(Clone, Copy, Debug, PartialEq, Eq)]
@@ -20,39 +22,6 @@ pub fn index_of(note: Option<Note>) -> Option<u8>
     match note {
         None => None,
         Some(Note { index }) => Some(index),
-    }
-}
-
-/// What a note's word tells. A deadline is a moment, in ticks.
-#[derive(Clone, Copy, Debug, PartialEq, Eq)]
-pub struct NoteWord {
-    /// Notified by a call. A note whose deadline has come, or whose parent is notified, need not
-    /// be marked.
-    pub notified: bool,
-    /// The note is made; a number that is only taken, or not even that, has no note yet.
-    pub made: bool,
-    /// The parent's number.
-    pub parent: Option<u8>,
-    /// The note's own deadline.
-    pub deadline: Option<u64>,
-}
-
-/// Whether the clock has reached the deadline, both in ticks. Where there is none, it never has.
-pub(crate) fn is_due(deadline: Option<u64>, clock: u64) -> bool
-    ensures { result ≡ is_due_of clock deadline }
-{
-    match deadline {
-        None => false,
-        Some(moment) => moment <= clock,
-    }
-}
-
-impl NoteWord {
-    /// Whether the note itself is notified, by a call or by its deadline. Needs the clock, in ticks.
-    pub(crate) fn is_over(self, clock: u64) -> bool
-        ensures { result ≡ (self.notified || is_due_of clock self.deadline) }
-    {
-        self.notified || is_due(self.deadline, clock)
     }
 }
 
@@ -106,11 +75,11 @@ const DEADLINE: u64 = 1 << 54;
 /// is set where there is one.
 ///
 /// Needs a parent below 64 and a deadline below 2^54, where there are any.
-pub fn encode_note(note: NoteWord) -> u64
+pub fn encode_note(note: NoteState) -> u64
     requires { WordFits note }
     ensures { result ≡ word_of note }
 {
-    u64::from(note.notified)
+    u64::from(note.called)
         + 2 * u64::from(note.made)
         + 4 * parent_bits(note.parent)
         + 512 * deadline_bits(note.deadline)
@@ -118,12 +87,12 @@ pub fn encode_note(note: NoteWord) -> u64
 
 /// The note that a word tells of: from the word that [`encode_note`] gives for a note, that very
 /// note.
-pub fn decode_note(word: u64) -> NoteWord
+pub fn decode_note(word: u64) -> NoteState
     ensures decoded { result ≡ note_of word }
-    ensures undoes { (note : NoteWord) → WordFits note → word ≡ word_of note → result ≡ note }
+    ensures undoes { (note : NoteState) → WordFits note → word ≡ word_of note → result ≡ note }
 {
-    NoteWord {
-        notified: word % 2 == 1,
+    NoteState {
+        called: word % 2 == 1,
         made: word / 2 % 2 == 1,
         parent: parent_of_bits((word / 4 % 128) as u8),
         deadline: deadline_of_bits(word / 512),

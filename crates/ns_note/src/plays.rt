@@ -4,7 +4,8 @@ ghost use Rattle.std.specs.Prelude.{◌-◌, ◌++◌, []};
 ghost use Rattle.ns_note.specs.declared.table_words.TheConstants.{NOTES};
 ghost use Rattle.ns_note.specs.Law.{Holds, fresh};
 ghost use Rattle.ns_seats.specs.Views.{first_of, rest_of};
-ghost use Rattle.ns_note.specs.Told.{Added, AdvancedClock, Learned, LoadedClock, LoadedNext, LoadedNote, Made, NotifiedNote, OneLearns};
+ghost use Rattle.ns_env.specs.declared.act.EnvAct.TheVariants as TheAct;
+ghost use Rattle.ns_note.specs.Told.{Learned, OneActs, OneMakes, note_stored};
 
 use crate::view::View;
 use atomic_table::{Join, Play, Split, TableRule};
@@ -22,49 +23,49 @@ impl TableRule<(), View, u8> for Law {
 pub struct LoadClock;
 
 impl Play<(), View> for LoadClock {
-    ghost then = { λ st me found now. OneLearns (LoadedClock found) me now };
+    ghost then = { λ st me found now. OneActs TheAct.LoadClock found me now };
 }
 
 /// A load of the next number, before one is taken.
 pub struct LoadNext;
 
 impl Play<(), View> for LoadNext {
-    ghost then = { λ st me found now. OneLearns (LoadedNext found) me now };
+    ghost then = { λ st me found now. OneActs TheAct.LoadNext found me now };
 }
 
 /// A load of a note's word.
 pub struct LoadNote;
 
 impl Play<(), View> for LoadNote {
-    ghost then = { λ st me found now. OneLearns (LoadedNote (st.word - NOTES) found) me now };
+    ghost then = { λ st me found now. OneActs (TheAct.LoadNote (st.word - NOTES)) found me now };
 }
 
 /// An addition of 1 to the next number.
 pub struct Take;
 
 impl Play<(), View> for Take {
-    ghost then = { λ st me found now. OneLearns (Added found) me now };
+    ghost then = { λ st me found now. OneActs TheAct.TakeNext found me now };
 }
 
 /// A store of a new note's word.
 pub struct Make;
 
 impl Play<(), View> for Make {
-    ghost then = { λ st me found now. OneLearns (Made (st.word - NOTES) st.first) me now };
+    ghost then = { λ st me found now. OneMakes (note_stored (st.word - NOTES) st.first) me now };
 }
 
 /// A mark on a note's word.
 pub struct Mark;
 
 impl Play<(), View> for Mark {
-    ghost then = { λ st me found now. OneLearns (NotifiedNote (st.word - NOTES)) me now };
+    ghost then = { λ st me found now. OneActs (TheAct.NotifyNote (st.word - NOTES)) found me now };
 }
 
 /// A move of the clock.
 pub struct MoveClock;
 
 impl Play<(), View> for MoveClock {
-    ghost then = { λ st me found now. OneLearns (AdvancedClock st.first) me now };
+    ghost then = { λ st me found now. OneActs (TheAct.MoveClock st.first) found me now };
 }
 
 /// A load by two seats that are joined: both see the history so far.

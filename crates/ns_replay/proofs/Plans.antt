@@ -8,7 +8,7 @@ use Rattle.std.proofs.lemmas.List.Elements.{All-nil, All-cons}
 use Rattle.serde_json.specs.Data.{Data}
 use Rattle.serde_json.specs.Find.{get, as_str, as_number, as_u64, as_array}
 use Rattle.ns_world.specs.declared.call.Call.{Call}
-use Rattle.ns_world.specs.declared.call.Call.TheVariants.{Lock, RLock, TryLock, TryRLock, Unlock, RUnlock, UnlockQuiet, Get, Set, Wait, CvWait, Signal, Broadcast, NewNote, Notify, Advance, IsNotified, Expiry, NoteWait}
+use Rattle.ns_world.specs.declared.call.Call.TheVariants.{Lock, RLock, TryLock, TryRLock, Unlock, RUnlock, UnlockQuiet, Get, Set, Wait, CvWait, Signal, Broadcast, NewNote, Notify, Advance, IsNotified, Expiry, NoteWait, Add, Value, CounterWait, Once, Done, WaitAny}
 use Rattle.ns_world.specs.declared.schedule.Turn.{Turn}
 use Rattle.ns_world.specs.Calls.{CallInRange, IsNoteNumber, IsVariable, IsMoment}
 use Rattle.ns_replay.specs.declared.path.ScriptPath.{ScriptPath}
@@ -16,11 +16,16 @@ use Rattle.ns_replay.specs.declared.path.ScriptPath.TheVariants as at
 use Rattle.ns_replay.specs.declared.fault.Fault.{Fault}
 use Rattle.ns_replay.specs.Faults.{◌>>=◌, need, each_from}
 use Rattle.ns_replay.specs.declared.condition.ScriptCondition.{ScriptCondition}
-use Rattle.ns_word.specs.declared.limits.Limits.{Limits}
-use Rattle.ns_replay.specs.Words.{parts, number_of, below, moment_of, moment_or_none_of, note_or_none_of}
+use Rattle.ns_env.specs.declared.limits.Limits.{Limits}
+use Rattle.ns_world.specs.declared.items.Item.{Item}
+use Rattle.ns_world.specs.declared.items.Items.{Items}
+use Rattle.ns_world.specs.Items.{no_items, with_item}
+use Rattle.ns_replay.specs.declared.objects.Declared.{Declared}
+use Rattle.ns_replay.specs.Objects.{any_wait_of, item_of, items_behind, items_in, one_more}
+use Rattle.ns_replay.specs.Words.{parts, number_of, below, change_of, moment_of, moment_or_none_of, note_or_none_of}
 use Rattle.ns_replay.specs.Waits.{condition_of, note_limit_of, limits_of, wait_of, variable_wait_of}
-use Rattle.ns_replay.specs.Calls.{call_of, brief_call_of, plain_call_of, short_call_of, long_call_of, actor_of, turn_of}
-use Rattle.ns_replay.specs.Script.{Plan, list_of, at_most, list_in, call_at, calls_at, threads_of, words_of, turn_at, schedule_of, members_of, version_of, variables_of, plan_in, json_of, script_of}
+use Rattle.ns_replay.specs.Calls.{add_of, call_of, brief_call_of, plain_call_of, short_call_of, long_call_of, actor_of, turn_of}
+use Rattle.ns_replay.specs.Script.{Plan, list_of, at_most, list_in, call_at, calls_at, threads_of, words_of, turn_at, schedule_of, members_of, version_of, counter_at, counters_of, onces_of, variables_of, plan_in, json_of, script_of}
 use Rattle.ns_replay.specs.Runnable.{IsShort, IsRunnable}
 
 -- ---- what a reading that succeeded went through
@@ -137,29 +142,33 @@ plain_fits name call =
 variable_fits : (cvs : ℕ) → cvs ≤ 4 → (word : List ℕ) (k : ℕ) → below cvs (number_of word) ≡ Some k → IsVariable k
 variable_fits cvs few word k e = let less = below_some cvs (number_of word) k e in omega (arith, few, less)
 
-short_fits : (cvs : ℕ) → cvs ≤ 4 → (name word : List ℕ) (call : Call ScriptCondition) → short_call_of cvs name word ≡ Some call → CallInRange 8 call
-short_fits cvs few name word call =
+short_fits : (declared : Declared) → declared.cvs ≤ 4 → (name word : List ℕ) (call : Call ScriptCondition) → short_call_of declared name word ≡ Some call → CallInRange 8 call
+short_fits declared few name word call =
     named (bytes_eq name (codes "get")) _ _ call (of_one Get (below 8 (number_of word)) call (below_some 8 (number_of word)))
     (named (bytes_eq name (codes "notify")) _ _ call (of_one Notify (below 64 (number_of word)) call (note_fits word))
     (named (bytes_eq name (codes "advance")) _ _ call (of_one Advance (moment_of word) call (moment_fits word))
     (named (bytes_eq name (codes "isnotified")) _ _ call (of_one IsNotified (below 64 (number_of word)) call (note_fits word))
     (named (bytes_eq name (codes "expiry")) _ _ call (of_one Expiry (below 64 (number_of word)) call (note_fits word))
-    (named (bytes_eq name (codes "signal")) _ _ call (of_one Signal (below cvs (number_of word)) call (variable_fits cvs few word))
-    (named (bytes_eq name (codes "broadcast")) _ _ call (of_one Broadcast (below cvs (number_of word)) call (variable_fits cvs few word)) (λ e. absurd cc)))))))
+    (named (bytes_eq name (codes "signal")) _ _ call (of_one Signal (below declared.cvs (number_of word)) call (variable_fits declared.cvs few word))
+    (named (bytes_eq name (codes "broadcast")) _ _ call (of_one Broadcast (below declared.cvs (number_of word)) call (variable_fits declared.cvs few word))
+    (named (bytes_eq name (codes "value")) _ _ call (of_one Value (below declared.counters (number_of word)) call (λ n e. tt))
+    (named (bytes_eq name (codes "once")) _ _ call (of_one Once (below declared.onces (number_of word)) call (λ n e. tt))
+    (named (bytes_eq name (codes "done")) _ _ call (of_one Done (below declared.onces (number_of word)) call (λ n e. tt)) (λ e. absurd cc))))))))))
 
-long_fits : (name first second : List ℕ) (call : Call ScriptCondition) → long_call_of name first second ≡ Some call → CallInRange 8 call
-long_fits name first second call =
+long_fits : (declared : Declared) (name first second : List ℕ) (call : Call ScriptCondition) → long_call_of declared name first second ≡ Some call → CallInRange 8 call
+long_fits declared name first second call =
     named (bytes_eq name (codes "set")) _ _ call (of_two Set (below 8 (number_of first)) (number_of second) call (λ i v cell value. below_some 8 (number_of first) i cell))
     (named (bytes_eq name (codes "newnote")) _ _ call (of_two NewNote (note_or_none_of first) (moment_or_none_of second) call (λ o p parent deadline. (note_or_none_fits first o parent, moment_or_none_fits second p deadline)))
-    (named (bytes_eq name (codes "notewait")) _ _ call (of_two NoteWait (below 64 (number_of first)) (moment_or_none_of second) call (λ n p note deadline. (note_fits first n note, moment_or_none_fits second p deadline))) (λ e. absurd cc)))
+    (named (bytes_eq name (codes "notewait")) _ _ call (of_two NoteWait (below 64 (number_of first)) (moment_or_none_of second) call (λ n p note deadline. (note_fits first n note, moment_or_none_fits second p deadline)))
+    (named (bytes_eq name (codes "cwait")) _ _ call (of_two CounterWait (below declared.counters (number_of first)) (moment_or_none_of second) call (λ c p counter deadline. moment_or_none_fits second p deadline)) (λ e. absurd cc))))
 
-brief_fits : (cvs : ℕ) → cvs ≤ 4 → (words : List (List ℕ)) (call : Call ScriptCondition) → brief_call_of cvs words ≡ Some call → CallInRange 8 call
+brief_fits : (declared : Declared) → declared.cvs ≤ 4 → (words : List (List ℕ)) (call : Call ScriptCondition) → brief_call_of declared words ≡ Some call → CallInRange 8 call
 unfolding brief_call_of
-brief_fits cvs few [] call e = absurd cc
-brief_fits cvs few (name ∷ []) call e = plain_fits name call e
-brief_fits cvs few (name ∷ word ∷ []) call e = short_fits cvs few name word call e
-brief_fits cvs few (name ∷ first ∷ second ∷ []) call e = long_fits name first second call e
-brief_fits cvs few (name ∷ first ∷ second ∷ third ∷ words) call e = absurd cc
+brief_fits declared few [] call e = absurd cc
+brief_fits declared few (name ∷ []) call e = plain_fits name call e
+brief_fits declared few (name ∷ word ∷ []) call e = short_fits declared few name word call e
+brief_fits declared few (name ∷ first ∷ second ∷ []) call e = long_fits declared name first second call e
+brief_fits declared few (name ∷ first ∷ second ∷ third ∷ words) call e = absurd cc
 
 -- ---- the limits of waits
 
@@ -225,16 +234,53 @@ variable_call_fits cvs few words call e =
     let fits = variable_wait_fits cvs few words w limits in
     subst (CallInRange 8) is (fits.0, fits.1.0, fits.1.1)
 
-call_fits : (cvs : ℕ) → cvs ≤ 4 → (words : List (List ℕ)) (call : Call ScriptCondition) → call_of cvs words ≡ Some call → CallInRange 8 call
-unfolding call_of
-call_fits cvs few [] call e = absurd cc
-call_fits cvs few (name ∷ words) call e = named (bytes_eq name (codes "wait")) _ _ call (wait_call_fits words call) (named (bytes_eq name (codes "cvwait")) _ _ call (variable_call_fits cvs few words call) (brief_fits cvs few (name ∷ words) call)) e
+-- ---- objects and changes
 
-call_at_fits : (cvs : ℕ) → cvs ≤ 4 → (thread number : ℕ) (d : Data) (call : Call ScriptCondition) → call_at cvs thread number d ≡ Ok call → CallInRange 8 call
+add_fits : (counters : ℕ) (words : List (List ℕ)) (call : Call ScriptCondition) → add_of counters words ≡ Some call → CallInRange 8 call
+unfolding add_of
+add_fits counters [] call e = absurd cc
+add_fits counters (counter ∷ []) call e = absurd cc
+add_fits counters (counter ∷ word ∷ []) call e = of_two Add (below counters (number_of counter)) (change_of (parts 45 word)) call (λ c d there change. tt) e
+add_fits counters (counter ∷ word ∷ more ∷ words) call e = absurd cc
+
+-- of objects there are at most 16
+one_few : (b : Bool) (items more : Items) (item : Item) → nat_lt items.count 16 ≡ b → cond b (Some (with_item items item)) None ≡ Some more → more.count ≤ 16
+one_few true items more item low e =
+    let is : with_item items item ≡ more = cc in
+    let room : items.count < 16 = grind (arith, nat_tests) in
+    rw (← is) (omega (arith, room))
+one_few false items more item low e = absurd cc
+
+items_few : (counters : ℕ) (words : List (List ℕ)) (items all : Items) → items.count ≤ 16 → items_behind counters items words ≡ Some all → all.count ≤ 16
+items_few counters [] items all few e = let is : items ≡ all = cc in rw (← is) few
+items_few counters (word ∷ words) items all few e =
+    let (it, item, rest) = then_some (λ item. option_and_then (λ more. items_behind counters more words) (one_more items item)) (item_of counters word) all e in
+    let (more, one, others) = then_some (λ more. items_behind counters more words) (one_more items it) all rest in
+    items_few counters words more all (one_few (nat_lt items.count 16) items more it refl one) others
+
+any_wait_fits : (counters : ℕ) (words : List (List ℕ)) (call : Call ScriptCondition) → option_map (λ w. WaitAny w.0 w.1) (any_wait_of counters words) ≡ Some call → CallInRange 8 call
+unfolding any_wait_of
+any_wait_fits counters [] call e = absurd cc
+any_wait_fits counters (word ∷ words) call e =
+    let (w, any, is) = map_some (λ w. WaitAny w.0 w.1) (any_wait_of counters (word ∷ words)) call e in
+    let (items, all, more) = then_some (λ items. option_map (λ deadline. (items, deadline)) (moment_or_none_of word)) (items_in counters words) w any in
+    let (deadline, moment, both) = map_some (λ deadline. (items, deadline)) (moment_or_none_of word) w more in
+    subst (CallInRange {C = ScriptCondition} 8) is (subst (λ x. CallInRange {C = ScriptCondition} 8 (WaitAny x.0 x.1)) both (items_few counters words no_items items (omega arith) all, moment_or_none_fits word deadline moment))
+
+call_fits : (declared : Declared) → declared.cvs ≤ 4 → (words : List (List ℕ)) (call : Call ScriptCondition) → call_of declared words ≡ Some call → CallInRange 8 call
+unfolding call_of
+call_fits declared few [] call e = absurd cc
+call_fits declared few (name ∷ words) call e =
+    named (bytes_eq name (codes "wait")) _ _ call (wait_call_fits words call)
+    (named (bytes_eq name (codes "cvwait")) _ _ call (variable_call_fits declared.cvs few words call)
+    (named (bytes_eq name (codes "waitany")) _ _ call (any_wait_fits declared.counters words call)
+    (named (bytes_eq name (codes "add")) _ _ call (add_fits declared.counters words call) (brief_fits declared few (name ∷ words) call)))) e
+
+call_at_fits : (declared : Declared) → declared.cvs ≤ 4 → (thread number : ℕ) (d : Data) (call : Call ScriptCondition) → call_at declared thread number d ≡ Ok call → CallInRange 8 call
 unfolding call_at
-call_at_fits cvs few thread number d call e =
+call_at_fits declared few thread number d call e =
     let (text, is, more) = bind_ok (need (at.Call thread number) (as_str d)) _ call e in
-    call_fits cvs few (parts 32 text) call (need_ok _ _ call more)
+    call_fits declared few (parts 32 text) call (need_ok _ _ call more)
 
 -- ---- the threads
 
@@ -244,32 +290,32 @@ list_few most path d ds e =
     let (list, is, few) = bind_ok (need path (option_map list_of (option_and_then as_array d))) (at_most most path) ds e in
     at_most_few most path list ds few
 
-calls_short : (cvs : ℕ) → cvs ≤ 4 → (thread : ℕ) (d : Data) (calls : List (Call ScriptCondition)) → calls_at cvs thread d ≡ Ok calls → IsShort calls
+calls_short : (declared : Declared) → declared.cvs ≤ 4 → (thread : ℕ) (d : Data) (calls : List (Call ScriptCondition)) → calls_at declared thread d ≡ Ok calls → IsShort calls
 unfolding calls_at
-calls_short cvs variables thread d calls e =
+calls_short declared variables thread d calls e =
     let (list, is, each) = bind_ok (list_in 256 (at.Thread thread) (Some d)) _ calls e in
     record {
-      few = rw (each_length (call_at cvs thread) 0 list calls each) (list_few 256 _ _ list is);
-      in_range = each_all (CallInRange 8) (call_at cvs thread) (call_at_fits cvs variables thread) 0 list calls each;
+      few = rw (each_length (call_at declared thread) 0 list calls each) (list_few 256 _ _ list is);
+      in_range = each_all (CallInRange 8) (call_at declared thread) (call_at_fits declared variables thread) 0 list calls each;
     }
 
-pub few_threads : (cvs : ℕ) (d : Data) (threads : List (List (Call ScriptCondition))) → threads_of cvs d ≡ Ok threads → length threads ≤ 64
+pub few_threads : (declared : Declared) (d : Data) (threads : List (List (Call ScriptCondition))) → threads_of declared d ≡ Ok threads → length threads ≤ 64
 unfolding threads_of
-few_threads cvs d threads e =
+few_threads declared d threads e =
     let (list, is, each) = bind_ok (list_in 64 at.Threads (get (codes "threads") d)) _ threads e in
-    rw (each_length (calls_at cvs) 0 list threads each) (list_few 64 _ _ list is)
+    rw (each_length (calls_at declared) 0 list threads each) (list_few 64 _ _ list is)
 
-pub few_lists : (cvs : ℕ) (d : Data) (threads : List (Vec (Call ScriptCondition))) → threads_of cvs d ≡ Ok (map (λ w. w.items) threads) → length threads ≤ 64
-few_lists cvs d threads e =
-    let few = few_threads cvs d (map (λ w. w.items) threads) e in
+pub few_lists : (declared : Declared) (d : Data) (threads : List (Vec (Call ScriptCondition))) → threads_of declared d ≡ Ok (map (λ w. w.items) threads) → length threads ≤ 64
+few_lists declared d threads e =
+    let few = few_threads declared d (map (λ w. w.items) threads) e in
     let same : length (map (λ (w : Vec (Call ScriptCondition)). w.items) threads) ≡ length threads = search (arith, length-map) in
     rw (← same) few
 
-threads_short : (cvs : ℕ) → cvs ≤ 4 → (d : Data) (threads : List (List (Call ScriptCondition))) → threads_of cvs d ≡ Ok threads → All IsShort threads
+threads_short : (declared : Declared) → declared.cvs ≤ 4 → (d : Data) (threads : List (List (Call ScriptCondition))) → threads_of declared d ≡ Ok threads → All IsShort threads
 unfolding threads_of
-threads_short cvs few d threads e =
+threads_short declared few d threads e =
     let (list, is, each) = bind_ok (list_in 64 at.Threads (get (codes "threads") d)) _ threads e in
-    each_all IsShort (calls_at cvs) (calls_short cvs few) 0 list threads each
+    each_all IsShort (calls_at declared) (calls_short declared few) 0 list threads each
 
 -- ---- the schedule
 
@@ -323,20 +369,43 @@ variables_few (Some d) cvs e =
     let (n, is, more) = bind_ok (need at.Variables (option_and_then as_u64 (as_number d))) _ cvs e in
     most_four (nat_le n 4) n cvs _ refl more
 
+most_sixteen : (b : Bool) (n onces : ℕ) (fault : Fault) → nat_le n 16 ≡ b → cond b (Ok n) (Err fault) ≡ Ok onces → onces ≤ 16
+most_sixteen true n onces fault small e = let is : n ≡ onces = cc in rw (← is) (grind (arith, nat_tests))
+most_sixteen false n onces fault small e = absurd cc
+
+onces_few : (d : Option Data) (onces : ℕ) → onces_of d ≡ Ok onces → onces ≤ 16
+unfolding onces_of
+onces_few None onces e = let is : 0 ≡ onces = cc in rw (← is) (omega arith)
+onces_few (Some d) onces e =
+    let (n, is, more) = bind_ok (need at.Onces (option_and_then as_u64 (as_number d))) _ onces e in
+    most_sixteen (nat_le n 16) n onces _ refl more
+
+pub counters_few : (d : Option Data) (counters : List ℕ) → counters_of d ≡ Ok counters → length counters ≤ 16
+unfolding counters_of
+counters_few None counters e = let is : [] ≡ counters = cc in rw (← is) (omega arith)
+counters_few (Some d) counters e =
+    let (list, is, each) = bind_ok (list_in 16 at.Counters (Some d)) _ counters e in
+    rw (each_length counter_at 0 list counters each) (list_few 16 _ _ list is)
+
 plan_runs : (d : Data) (plan : Plan) → plan_in d ≡ Ok plan → IsRunnable plan
 unfolding plan_in
 plan_runs d plan e =
     let (ms, members, e1) = bind_ok (members_of d) _ plan e in
     let (n, version, e2) = bind_ok (version_of d) _ plan e1 in
-    let (cvs, variables, e2') = bind_ok (variables_of (get (codes "cvs") d)) _ plan e2 in
-    let (threads, calls, e3) = bind_ok (threads_of cvs d) _ plan e2' in
+    let (counters, starts, e2a) = bind_ok (counters_of (get (codes "counters") d)) _ plan e2 in
+    let (onces, cells, e2b) = bind_ok (onces_of (get (codes "onces") d)) _ plan e2a in
+    let (cvs, variables, e2') = bind_ok (variables_of (get (codes "cvs") d)) _ plan e2b in
+    let declared : Declared = record { counters = length counters; onces = onces; cvs = cvs } in
+    let (threads, calls, e3) = bind_ok (threads_of declared d) _ plan e2' in
     let few = variables_few (get (codes "cvs") d) cvs variables in
     let (schedule, turns, made) = bind_ok (schedule_of (length threads) d) _ plan e3 in
-    let is : record { cvs = cvs; threads = threads; schedule = schedule } ≡ plan = cc in
+    let is : record { counters = counters; onces = onces; cvs = cvs; threads = threads; schedule = schedule } ≡ plan = cc in
     subst IsRunnable is (record {
+      counters = counters_few (get (codes "counters") d) counters starts;
+      onces = onces_few (get (codes "onces") d) onces cells;
       variables = few;
-      few = few_threads cvs d threads calls;
-      short = threads_short cvs few d threads calls;
+      few = few_threads declared d threads calls;
+      short = threads_short declared few d threads calls;
       in_range = schedule_below (length threads) d schedule turns;
     })
 

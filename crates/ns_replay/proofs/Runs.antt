@@ -1,27 +1,28 @@
 -- Runs of scripts that were read: what they need, and why they fail.
-use Rattle.std.proofs.Common.{◌≡◌, ℕ, zero, suc, ◌+◌, ◌<◌, ◌≤◌, ◌⊎◌, inl, inr, Bool, true, false, cond, List, [], ◌∷◌, length, replicate, map, Option, Some, None, refl, sym, ap, ◌∙◌, subst, arith}
+use Rattle.std.proofs.Common.{◌≡◌, ℕ, zero, suc, ◌+◌, ◌<◌, ◌≤◌, ◌⊎◌, inl, inr, Bool, true, false, cond, List, [], ◌∷◌, length, replicate, map, Option, Some, None, is_some, ◌||◌, refl, sym, ap, ◌∙◌, subst, arith}
 use Rattle.std.specs.Prelude.{◌==◌, All}
 use Rattle.std.specs.List.{AllByRecursion}
 use Rattle.std.specs.Global.{Vec}
 use Rattle.std.proofs.lemmas.List.{length-set, length-map}
 use Rattle.std.proofs.lemmas.List.Elements.{All-nil, All-append, All-replicate, All-from_recursion, recursion_from_All}
 use Rattle.ns_world.specs.declared.call.Call.{Call}
+use Rattle.ns_world.specs.declared.schedule.Line.{Line}
 use Rattle.ns_world.specs.declared.schedule.Turn.{Turn}
 use Rattle.ns_world.specs.declared.step.Step.{Step}
 use Rattle.ns_world.specs.declared.step.Step.TheVariants.{Went, Idle, Finished, Nothing}
 use Rattle.ns_world.specs.declared.fault.Fault.{Fault as WorldFault}
 use Rattle.ns_world.specs.declared.fault.Fault.TheVariants as world
-use Rattle.ns_word.specs.declared.env_walk.EnvNext.{EnvNext}
-use Rattle.ns_word.specs.declared.env_walk.EnvNext.TheVariants.{Go, Repeat, Over, LookOver}
-use Rattle.ns_word.specs.EnvWalks.{env_got_of}
 use Rattle.ns_word.specs.Begins.{fresh_views}
 use Rattle.ns_word.specs.declared.view.SeatView.{SeatView}
 use Rattle.ns_world.specs.declared.call.Start.{Start}
-use Rattle.ns_world.specs.declared.call.Start.TheVariants.{OnLock, Ask}
+use Rattle.ns_world.specs.declared.call.Start.TheVariants.{OnLock, Ask, OnObjects}
 use Rattle.ns_world.specs.Begins.{begun_at}
 use Rattle.ns_world.specs.Calls.{start_of, mode_of}
-use Rattle.ns_world.specs.World.{Now, Goes, LookGoes, Moves, StepOf, fresh, is_walking, is_asking, is_busy}
-use Rattle.ns_world.specs.Runs.{Progress, GoesOnOrBegins, TurnOf, TurnsOf, Turned, Item, items_of, rest_of, is_end, progressed, start, StopsFor, RunFault, ListFits}
+use Rattle.ns_world.specs.Whole.{Whole, WholeMoves, WholeStep, fresh_whole, whole_busy}
+use Rattle.ns_world.specs.World.{Now, is_walking, is_asking, is_busy}
+use Rattle.ns_world.proofs.Turns.{moves_stay}
+use Rattle.ns_world.proofs.Walks.{none_stand}
+use Rattle.ns_world.specs.Runs.{Runs, Progress, GoesOnOrBegins, TurnOf, TurnsOf, Turned, Item, items_of, rest_of, is_end, progressed, start, StopsFor, RunFault, ListFits}
 use Rattle.ns_world.proofs.Fresh.{length_views}
 use Rattle.ns_replay.specs.Condition.{script_truths}
 use Rattle.ns_replay.specs.declared.condition.ScriptCondition.{ScriptCondition}
@@ -29,43 +30,36 @@ use Rattle.ns_replay.specs.Faults.{fault_of_world}
 use Rattle.ns_replay.specs.declared.script.Script.{Script}
 use Rattle.ns_replay.specs.Script.{Plan, plan_of}
 use Rattle.ns_replay.specs.Runnable.{IsShort, IsRunnable}
-use Rattle.ns_replay.specs.Replaying.{world_for, IsRunFault}
+use Rattle.ns_replay.specs.Replaying.{world_for, RunsTo, IsRunFault}
 
 -- ---- a run keeps the number of seats
 
 module _ {C : Type 0} {N : ℕ} where
-  abbrev pub seats_of : Now C N → ℕ
-  seats_of now = length now.state.views
+  abbrev pub seats_of : Whole C N → ℕ
+  seats_of now = length now.lock.state.views
 
-  goes_keeps : (old new : Now C N) (seat : ℕ) (step : Step) → Goes old new seat step → seats_of new ≡ seats_of old
-  goes_keeps old new seat step goes = rw goes.others (length-set _ _ _)
-
-  look_keeps : (next : EnvNext) (old new : Now C N) (seat : ℕ) (step : Step) → LookGoes next old new seat step → seats_of new ≡ seats_of old
-  look_keeps (Go next) old new seat step (is, went) = ap seats_of is
-  look_keeps (LookOver cause) old new seat step (goes, looked) = goes_keeps old new seat step goes
-  look_keeps (Repeat next) old new seat step h = absurd h
-  look_keeps (Over reply) old new seat step h = absurd h
-
-  moves_keep : (old new : Now C N) (seat : ℕ) (step : Step) → Moves old new seat step → seats_of new ≡ seats_of old
-  moves_keep old new seat step (inl acts) = goes_keeps old new seat step acts.goes
-  moves_keep old new seat step (inr (inl asks)) = ap seats_of asks.others
-  moves_keep old new seat step (inr (inr looks)) = look_keeps (env_got_of looks.place looks.found) old new seat step looks.goes
-
-  begun_keeps : (old : Now C N) (seat : ℕ) (view : SeatView C N) (start : Start C) → seats_of (begun_at old seat view start) ≡ seats_of old
+  begun_keeps : (old : Now C N) (seat : ℕ) (view : SeatView C N) (start : Start C) → length (begun_at old seat view start).state.views ≡ length old.state.views
   begun_keeps old seat view (OnLock walk) = length-set _ _ _
   begun_keeps old seat view (Ask walk) = refl
+  begun_keeps old seat view (OnObjects walk) = refl
 
-  step_keeps : (old new : Now C N) (seat : ℕ) (step : Step) → StepOf old new seat step → seats_of new ≡ seats_of old
+  moves_keep : (old new : Whole C N) (seat : ℕ) (step : Step) → WholeMoves old new seat step → seats_of new ≡ seats_of old
+  moves_keep old new seat step (inl p) = moves_stay old.lock new.lock seat step p.moves
+  moves_keep old new seat step (inr p) = ap (λ (lock : Now C N). length lock.state.views) p.same
+
+  step_keeps : (old new : Whole C N) (seat : ℕ) (step : Step) → WholeStep old new seat step → seats_of new ≡ seats_of old
   step_keeps old new seat Went h = moves_keep old new seat Went h
   step_keeps old new seat Idle h = moves_keep old new seat Idle h
   step_keeps old new seat (Finished reply) h = moves_keep old new seat (Finished reply) h
   step_keeps old new seat Nothing h = rw h.0 refl
 
-  leads_keeps : (lists : List (List (Call C))) (p : Progress C N) (seat : ℕ) (now : Now C N) → GoesOnOrBegins lists p seat now → seats_of now ≡ seats_of p.world
+  leads_keeps : (lists : List (List (Call C))) (p : Progress C N) (seat : ℕ) (now : Whole C N) → GoesOnOrBegins lists p seat now → seats_of now ≡ seats_of p.world
   leads_keeps lists p seat now (inl (busy, e)) = rw e refl
-  leads_keeps lists p seat now (inr (call, next, starts)) = ap seats_of starts.begins ∙ begun_keeps p.world seat starts.view (start_of N (mode_of starts.view.held) call)
+  leads_keeps lists p seat now (inr (call, next, begins)) =
+      let starts = begins.starts in
+      ap (λ (lock : Now C N). length lock.state.views) starts.begins ∙ begun_keeps p.world.lock seat starts.view (start_of N (mode_of starts.view.held) call)
 
-  progressed_world : (p : Progress C N) (seat : ℕ) (step : Step) (now : Now C N) → (progressed p seat step now).world ≡ now
+  progressed_world : (p : Progress C N) (seat : ℕ) (step : Step) (now : Whole C N) → (progressed p seat step now).world ≡ now
   progressed_world p seat Went now = refl
   progressed_world p seat Idle now = refl
   progressed_world p seat (Finished reply) now = refl
@@ -104,33 +98,38 @@ items_in seats (turn ∷ turns) h =
 
 -- ---- why a run fails
 
-no_seat : {C : Type 0} {N : ℕ} (limit : ℕ) (now : Now C N) (made seats : ℕ) (turns : List Turned) (left : List Item) → length now.state.views ≡ seats → AllByRecursion (λ item. item.seat < seats) left → StopsFor limit now made turns left world.NoSuchSeat → ⊥
+no_seat : {C : Type 0} {N : ℕ} (limit : ℕ) (now : Whole C N) (made seats : ℕ) (turns : List Turned) (left : List Item) → length now.lock.state.views ≡ seats → AllByRecursion (λ item. item.seat < seats) left → StopsFor limit now made turns left world.NoSuchSeat → ⊥
 no_seat limit now made seats turns [] same each h = h
 no_seat limit now made seats turns (item ∷ left) same each h = absurd (omega (arith, same, each.0, h))
 
-no_room : {C : Type 0} {N : ℕ} (limit : ℕ) (now : Now C N) (made : ℕ) (turns : List Turned) (left : List Item) → StopsFor limit now made turns left world.TooManySeats → ⊥
+no_room : {C : Type 0} {N : ℕ} (limit : ℕ) (now : Whole C N) (made : ℕ) (turns : List Turned) (left : List Item) → StopsFor limit now made turns left world.TooManySeats → ⊥
 no_room limit now made turns [] h = h
 no_room limit now made turns (item ∷ left) h = h
 
-seat_there : (limit : ℕ) (plan : Plan) (now : Now ScriptCondition 8) → IsRunnable plan → RunFault plan.threads plan.schedule limit (world_for plan) now world.NoSuchSeat → ⊥
+seat_there : (limit : ℕ) (plan : Plan) (now : Whole ScriptCondition 8) → IsRunnable plan → RunFault plan.threads plan.schedule limit (world_for plan) now world.NoSuchSeat → ⊥
 seat_there limit plan now runnable stops =
-    let first : length (world_for plan).state.views ≡ length plan.threads = length_views ScriptCondition 8 0 (length plan.threads) in
+    let first : length (world_for plan).lock.state.views ≡ length plan.threads = length_views ScriptCondition 8 0 (length plan.threads) in
     let kept = turns_keep plan.threads (start (world_for plan)) stops.advances.turns stops.end stops.advances.made in
-    let same : length now.state.views ≡ length plan.threads = ap (λ (w : Now ScriptCondition 8). length w.state.views) (sym stops.here) ∙ kept ∙ first in
+    let same : length now.lock.state.views ≡ length plan.threads = ap (λ (w : Whole ScriptCondition 8). length w.lock.state.views) (sym stops.here) ∙ kept ∙ first in
     let items = items_in (length plan.threads) plan.schedule (recursion_from_All _ _ runnable.in_range) in
     no_seat limit now stops.after (length plan.threads) stops.advances.turns stops.left same (rest_each _ (items_of plan.schedule) stops.advances.turns stops.left stops.advances.rest (recursion_from_All _ _ items)) stops.why
 
 -- A run of a script that was read fails by want of memory, or by the limit.
-pub run_fails : (limit : ℕ) (plan : Plan) (now : Now ScriptCondition 8) (fault : WorldFault) → IsRunnable plan → RunFault plan.threads plan.schedule limit (world_for plan) now fault → IsRunFault limit plan (fault_of_world fault)
+pub run_fails : (limit : ℕ) (plan : Plan) (now : Whole ScriptCondition 8) (fault : WorldFault) → IsRunnable plan → RunFault plan.threads plan.schedule limit (world_for plan) now fault → IsRunFault limit plan (fault_of_world fault)
 run_fails limit plan now world.OutOfMemory runnable stops = tt
 run_fails limit plan now world.StepLimit runnable stops = (now, stops)
 run_fails limit plan now world.NoSuchSeat runnable stops = absurd (seat_there limit plan now runnable stops)
 run_fails limit plan now world.TooManySeats runnable stops = absurd (no_room limit now stops.after stops.advances.turns stops.left stops.why)
 
 -- the same, as a run over the lists of a script gives it
-pub script_fails : (limit : ℕ) (script : Script) (old now : Now ScriptCondition 8) (fault : WorldFault) → IsRunnable (plan_of script) → old ≡ world_for (plan_of script) →
+pub script_fails : (limit : ℕ) (script : Script) (old now : Whole ScriptCondition 8) (fault : WorldFault) → IsRunnable (plan_of script) → old ≡ world_for (plan_of script) →
     RunFault (map (λ calls. calls.items) script.threads.items) script.schedule.items limit old now fault → IsRunFault limit (plan_of script) (fault_of_world fault)
 script_fails limit script old now fault runnable first stops = run_fails limit (plan_of script) now fault runnable (rw first at stops)
+
+-- A run of a script that was read, as a run over its lists gives it.
+pub script_runs : (limit : ℕ) (script : Script) (old now : Whole ScriptCondition 8) (lines : List Line) → old ≡ world_for (plan_of script) →
+    Runs (map (λ calls. calls.items) script.threads.items) script.schedule.items limit old now lines → RunsTo limit (plan_of script) now lines
+script_runs limit script old now lines first runs = rw first at runs
 
 -- ---- what a run needs
 
@@ -143,10 +142,10 @@ few_threads script runnable =
     let same : length (map (λ (calls : Vec (Call ScriptCondition)). calls.items) script.threads.items) ≡ length script.threads.items = length-map script.threads.items (λ calls. calls.items) in
     rw (← same) runnable.few
 
-pub world_is : (script : Script) (n : ℕ) (now : Now ScriptCondition 8) → n ≡ length script.threads.items → now ≡ fresh script_truths n → now ≡ world_for (plan_of script)
+pub world_is : (script : Script) (n : ℕ) (now : Whole ScriptCondition 8) → n ≡ length script.threads.items → now ≡ fresh_whole script_truths n script.counters.items script.onces → now ≡ world_for (plan_of script)
 world_is script n now count first =
     let same : length (map (λ (calls : Vec (Call ScriptCondition)). calls.items) script.threads.items) ≡ length script.threads.items = length-map script.threads.items (λ calls. calls.items) in
-    first ∙ ap (λ (m : ℕ). fresh script_truths m) (count ∙ sym same)
+    first ∙ ap (λ (m : ℕ). fresh_whole script_truths m script.counters.items script.onces) (count ∙ sym same)
 
 unwalked : (first n seat : ℕ) → is_walking (fresh_views {C = ScriptCondition} {N = 8} first n) seat ≡ false
 unwalked first zero seat = refl
@@ -161,8 +160,8 @@ unasked (suc n) (suc seat) = unasked n seat
 idle_fresh : (n seat : ℕ) → is_busy (fresh_views {C = ScriptCondition} {N = 8} 0 n) (replicate n None) seat ≡ false
 idle_fresh n seat = rw (unwalked 0 n seat, unasked n seat) refl
 
-pub idle_world : (n seat : ℕ) (now : Now ScriptCondition 8) → now ≡ fresh script_truths n → is_busy now.state.views now.asking seat ≡ false
-idle_world n seat now first = rw first (idle_fresh n seat)
+pub idle_world : (n seat : ℕ) (counters : List ℕ) (onces : ℕ) (now : Whole ScriptCondition 8) → now ≡ fresh_whole script_truths n counters onces → whole_busy now seat ≡ false
+idle_world n seat counters onces now first = rw first (λ i. idle_fresh n seat i || is_some (none_stand 64 seat i))
 
 pub lists_fit : (lists : List (Vec (Call ScriptCondition))) → All IsShort (map (λ calls. calls.items) lists) → All (λ calls. ListFits 8 calls.items) lists
 lists_fit lists h = All-from_recursion _ lists (lists_by lists (recursion_from_All _ _ h))

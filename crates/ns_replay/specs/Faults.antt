@@ -11,6 +11,9 @@ use Rattle.ns_replay.specs.declared.fault.Fault.TheVariants.{OutOfMemory, NotJso
 abbrev pub path_text : ScriptPath → List ℕ
 path_text at.Root = codes "/"
 path_text at.Version = codes "/version"
+path_text at.Counters = codes "/counters"
+path_text (at.Counter counter) = codes "/counters/" ++ decimal counter
+path_text at.Onces = codes "/onces"
 path_text at.Variables = codes "/cvs"
 path_text at.Threads = codes "/threads"
 path_text (at.Thread thread) = codes "/threads/" ++ decimal thread

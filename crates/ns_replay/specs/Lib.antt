@@ -2,6 +2,7 @@ pub mod Calls
 pub mod Condition
 pub mod ConditionLaws
 pub mod Faults
+pub mod Objects
 pub mod Replaying
 pub mod Runnable
 pub mod Script

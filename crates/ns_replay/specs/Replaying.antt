@@ -3,7 +3,7 @@ use Rattle.std.specs.Prelude.{◌≡◌, ℕ, ◌<◌, ◌≤◌, ◌⊎◌, ⊤
 use Rattle.std.specs.Io.KnownBytes.{Appends, IsAtEnd, Keeps}
 use Rattle.ns_world.specs.declared.fault.Fault.TheVariants as TheFault
 use Rattle.ns_world.specs.declared.schedule.Line.{Line}
-use Rattle.ns_world.specs.World.{Now, fresh}
+use Rattle.ns_world.specs.Whole.{Whole, fresh_whole}
 use Rattle.ns_world.specs.Runs.{Runs, RunFault}
 use Rattle.ns_replay.specs.declared.condition.ScriptCondition.{ScriptCondition}
 use Rattle.ns_replay.specs.Condition.{script_truths}
@@ -19,17 +19,17 @@ use Rattle.ns_replay.specs.Transfer.{max_bytes}
 
 -- ---- a run
 
--- before the run of a script: a free lock, and a seat for each thread
-abbrev pub world_for : Plan → Now ScriptCondition 8
-world_for plan = fresh script_truths (length plan.threads)
+-- before the run of a script: a free lock, its counters and once cells, and a seat for each thread
+abbrev pub world_for : Plan → Whole ScriptCondition 8
+world_for plan = fresh_whole script_truths (length plan.threads) plan.counters plan.onces
 
 -- A run of the script in at most so many turns ends in this world, and gives these lines.
-abbrev pub RunsTo : ℕ → Plan → Now ScriptCondition 8 → List Line → Type 0
+abbrev pub RunsTo : ℕ → Plan → Whole ScriptCondition 8 → List Line → Type 0
 RunsTo limit plan world lines = Runs plan.threads plan.schedule limit (world_for plan) world lines
 
 -- A run of the script has made as many turns as it may, and its schedule needs one more.
 abbrev pub NeedsMore : ℕ → Plan → Type 0
-NeedsMore limit plan = (world : Now ScriptCondition 8) × RunFault plan.threads plan.schedule limit (world_for plan) world TheFault.StepLimit
+NeedsMore limit plan = (world : Whole ScriptCondition 8) × RunFault plan.threads plan.schedule limit (world_for plan) world TheFault.StepLimit
 
 -- a run fails by want of memory, or by the limit
 abbrev pub IsRunFault : ℕ → Plan → Fault → Type 0
@@ -44,7 +44,7 @@ unfoldable pub plan_from : List ℕ → Result Plan Fault
 plan_from bytes = if nat_lt max_bytes (length bytes) then Err (TooMany at.Root) else script_of bytes
 
 -- The bytes give this script, and it runs to this world and gives these lines, in at most so many turns.
-pub record HasRun (limit : ℕ) (bytes : List ℕ) (plan : Plan) (world : Now ScriptCondition 8) (lines : List Line) : Type 0 where
+pub record HasRun (limit : ℕ) (bytes : List ℕ) (plan : Plan) (world : Whole ScriptCondition 8) (lines : List Line) : Type 0 where
   pub read : plan_from bytes ≡ Ok plan
   pub runs : RunsTo limit plan world lines
   pub runnable : IsRunnable plan
@@ -52,7 +52,7 @@ pub record HasRun (limit : ℕ) (bytes : List ℕ) (plan : Plan) (world : Now Sc
 -- The text is that of a run of the script that the bytes give.
 pub record IsText (options : Options) (bytes text : List ℕ) : Type 0 where
   pub plan : Plan
-  pub world : Now ScriptCondition 8
+  pub world : Whole ScriptCondition 8
   pub lines : List Line
   pub has_run : HasRun options.limit bytes plan world lines
   pub is : text ≡ text_of options plan.cvs plan.threads lines world

@@ -10,8 +10,10 @@ pub record IsShort (calls : List (Call ScriptCondition)) : Type 0 where
   pub few : length calls ≤ 256
   pub in_range : All (CallInRange 8) calls
 
--- at most four condition variables and 64 threads, and only those have turns
+-- at most 16 counters, 16 once cells, four condition variables and 64 threads, and only those have turns
 pub record IsRunnable (plan : Plan) : Type 0 where
+  pub counters : length plan.counters ≤ 16
+  pub onces : plan.onces ≤ 16
   pub variables : plan.cvs ≤ 4
   pub few : length plan.threads ≤ 64
   pub short : All IsShort plan.threads

@@ -7,6 +7,7 @@ use Rattle.serde_json.specs.Read.{read}
 use Rattle.ns_world.specs.declared.call.Call.{Call}
 use Rattle.ns_world.specs.declared.schedule.Turn.{Turn}
 use Rattle.ns_replay.specs.declared.script.Script.{Script}
+use Rattle.ns_replay.specs.declared.objects.Declared.{Declared}
 use Rattle.ns_replay.specs.declared.path.ScriptPath.{ScriptPath}
 use Rattle.ns_replay.specs.declared.path.ScriptPath.TheVariants as at
 use Rattle.ns_replay.specs.declared.fault.Fault.{Fault}
@@ -16,15 +17,17 @@ use Rattle.ns_replay.specs.declared.condition.ScriptCondition.{ScriptCondition}
 use Rattle.ns_replay.specs.Words.{parts}
 use Rattle.ns_replay.specs.Calls.{call_of, turn_of}
 
--- what to run: how many condition variables there are, the calls of each thread, and whose turn it is
+-- what to run: what each counter begins with, how many once cells and condition variables there are, the calls of each thread, and whose turn it is
 pub record Plan : Type 0 where
+  pub counters : List ℕ
+  pub onces : ℕ
   pub cvs : ℕ
   pub threads : List (List (Call ScriptCondition))
   pub schedule : List Turn
 
 -- what a script that was read runs
 abbrev pub plan_of : Script → Plan
-plan_of script = record { cvs = script.cvs; threads = map (λ v. v.items) script.threads.items; schedule = script.schedule.items }
+plan_of script = record { counters = script.counters.items; onces = script.onces; cvs = script.cvs; threads = map (λ v. v.items) script.threads.items; schedule = script.schedule.items }
 
 -- the values of an array, in order
 abbrev pub list_of : Items → List Data
@@ -39,23 +42,23 @@ at_most most path xs = if nat_le (length xs) most then Ok xs else Err (TooMany p
 unfoldable pub list_in : ℕ → ScriptPath → Option Data → Result (List Data) Fault
 list_in most path d = need path (option_map list_of (option_and_then as_array d)) >>= at_most most path
 
--- a call, where there are so many condition variables: a text of words parted by one space
-unfoldable pub call_at : ℕ → ℕ → ℕ → Data → Result (Call ScriptCondition) Fault
-call_at cvs thread number d = do
+-- a call, where so many counters, once cells and condition variables are declared: a text of words parted by one space
+unfoldable pub call_at : Declared → ℕ → ℕ → Data → Result (Call ScriptCondition) Fault
+call_at declared thread number d = do
   text ← need (at.Call thread number) (as_str d)
-  need (at.Call thread number) (call_of cvs (parts 32 text))
+  need (at.Call thread number) (call_of declared (parts 32 text))
 
 -- a thread: at most 256 calls
-unfoldable pub calls_at : ℕ → ℕ → Data → Result (List (Call ScriptCondition)) Fault
-calls_at cvs thread d = do
+unfoldable pub calls_at : Declared → ℕ → Data → Result (List (Call ScriptCondition)) Fault
+calls_at declared thread d = do
   list ← list_in 256 (at.Thread thread) (Some d)
-  each_from (call_at cvs thread) 0 list
+  each_from (call_at declared thread) 0 list
 
 -- `threads`: at most 64 of them
-unfoldable pub threads_of : ℕ → Data → Result (List (List (Call ScriptCondition))) Fault
-threads_of cvs d = do
+unfoldable pub threads_of : Declared → Data → Result (List (List (Call ScriptCondition))) Fault
+threads_of declared d = do
   list ← list_in 64 at.Threads (get (codes "threads") d)
-  each_from (calls_at cvs) 0 list
+  each_from (calls_at declared) 0 list
 
 -- words parted by one space; the empty text has none
 abbrev pub words_of : List ℕ → List (List ℕ)
@@ -74,7 +77,7 @@ schedule_of threads d = do
 
 -- a script has a member of this name
 abbrev pub is_known : List ℕ → Bool
-is_known name = bytes_eq name (codes "version") || bytes_eq name (codes "cvs") || bytes_eq name (codes "threads") || bytes_eq name (codes "schedule")
+is_known name = bytes_eq name (codes "version") || bytes_eq name (codes "counters") || bytes_eq name (codes "onces") || bytes_eq name (codes "cvs") || bytes_eq name (codes "threads") || bytes_eq name (codes "schedule")
 
 -- a script has each of these members
 abbrev pub are_known : Members → Bool
@@ -88,6 +91,24 @@ members_of d = need at.Root (as_object d) >>= λ ms. if are_known ms then Ok ms 
 -- `version`: the number 1
 unfoldable pub version_of : Data → Result ℕ Fault
 version_of d = need at.Version (option_and_then (λ n. if n == 1 then Some n else None) (option_and_then as_u64 (option_and_then as_number (get (codes "version") d))))
+
+-- one of `counters`: a whole number of 32 bits
+unfoldable pub counter_at : ℕ → Data → Result ℕ Fault
+counter_at number d = need (at.Counter number) (option_and_then (λ n. if nat_le n 4294967295 then Some n else None) (option_and_then as_u64 (as_number d)))
+
+-- what the counters begin with, of which there are at most 16: there are none, where it isn't said
+unfoldable pub counters_of : Option Data → Result (List ℕ) Fault
+counters_of None = Ok []
+counters_of (Some d) = list_in 16 at.Counters (Some d) >>= each_from counter_at 0
+
+-- `onces`: a whole number, of at most 16
+abbrev pub onces_in : Data → Result ℕ Fault
+onces_in d = need at.Onces (option_and_then as_u64 (as_number d)) >>= λ n. if nat_le n 16 then Ok n else Err (TooMany at.Onces)
+
+-- how many once cells there are: none, where it isn't said
+unfoldable pub onces_of : Option Data → Result ℕ Fault
+onces_of None = Ok 0
+onces_of (Some d) = onces_in d
 
 -- `cvs`: a whole number, of at most 4
 abbrev pub variables_in : Data → Result ℕ Fault
@@ -103,10 +124,12 @@ unfoldable pub plan_in : Data → Result Plan Fault
 plan_in d = do
   members ← members_of d
   version ← version_of d
+  counters ← counters_of (get (codes "counters") d)
+  onces ← onces_of (get (codes "onces") d)
   cvs ← variables_of (get (codes "cvs") d)
-  threads ← threads_of cvs d
+  threads ← threads_of (record { counters = length counters; onces = onces; cvs = cvs }) d
   schedule ← schedule_of (length threads) d
-  Ok (record { cvs = cvs; threads = threads; schedule = schedule })
+  Ok (record { counters = counters; onces = onces; cvs = cvs; threads = threads; schedule = schedule })
 
 -- the value that a JSON text gives, if it is one
 abbrev pub json_read : Option Data → Result Data Fault

@@ -16,14 +16,16 @@ use Rattle.ns_model.specs.declared.seats.Seats.{Seats}
 use Rattle.ns_model.specs.Seats.{is_in}
 use Rattle.ns_queue.specs.declared.waiter.Shown.{Shown}
 use Rattle.ns_word.specs.declared.word.Word.{Word}
-use Rattle.ns_word.specs.declared.walk.Reply.{Reply}
-use Rattle.ns_word.specs.declared.walk.Reply.TheVariants.{Succeeded, Busy, Noisy, Number, NotesFull, Is, Expiry, Answered, Misuse}
+use Rattle.ns_counters.specs.declared.counter.CounterFault.{CounterFault}
+use Rattle.ns_counters.specs.declared.counter.CounterFault.TheVariants.{Under, Over, AfterWait}
+use Rattle.ns_world.specs.declared.reply.Reply.{Reply}
+use Rattle.ns_world.specs.declared.reply.Reply.TheVariants.{Succeeded, Busy, Noisy, Number, NotesFull, Is, Expiry, Answered, Misuse, Refused, Ran, Already}
 use Rattle.ns_world.specs.declared.call.Call.{Call}
 use Rattle.ns_world.specs.declared.call.Call.TheVariants.{Unlock, RUnlock, UnlockQuiet}
 use Rattle.ns_world.specs.declared.schedule.Line.{Line}
 use Rattle.ns_replay.specs.declared.condition.ScriptCondition.{ScriptCondition}
 use Rattle.ns_queue.specs.Waiters.{shown_of}
-use Rattle.ns_world.specs.World.{Now, is_busy}
+use Rattle.ns_world.specs.Whole.{Whole, whole_busy}
 use Rattle.ns_world.specs.Shows.{lists_shown, wakes_owed}
 use Rattle.ns_replay.specs.Condition.{condition_text}
 use Rattle.ns_replay.specs.declared.options.Options.{Options}
@@ -46,6 +48,12 @@ abbrev pub expiry_text : Option ℕ → List ℕ
 expiry_text None = codes "never"
 expiry_text (Some moment) = decimal moment
 
+-- why the change of a counter was refused
+abbrev pub refusal_text : CounterFault → List ℕ
+refusal_text Under = codes "under"
+refusal_text Over = codes "over"
+refusal_text AfterWait = codes "afterwait"
+
 -- what a call answered
 abbrev pub reply_text : Reply → List ℕ
 reply_text Succeeded = codes "ok"
@@ -57,6 +65,9 @@ reply_text (Is truth) = truth_text truth
 reply_text (Expiry moment) = expiry_text moment
 reply_text (Answered answer) = answer_text answer
 reply_text Misuse = codes "misuse"
+reply_text (Refused fault) = refusal_text fault
+reply_text Ran = codes "ran"
+reply_text Already = codes "already"
 
 -- the call was made, and had nothing else to answer
 abbrev pub is_ok : Reply → Bool
@@ -236,10 +247,10 @@ state_text asked cvs word waiters lists wakes = if asked then lock_text cvs word
 -- ---- a run
 
 -- The text of a run with so many condition variables and these calls: the lines that it finished, and what its world is after it.
-unfoldable pub text_of : Options → ℕ → List (List (Call ScriptCondition)) → List Line → Now ScriptCondition 8 → List ℕ
+unfoldable pub text_of : Options → ℕ → List (List (Call ScriptCondition)) → List Line → Whole ScriptCondition 8 → List ℕ
 text_of options cvs threads lines world =
     lines_text options.tests threads lines
-    ++ lefts_text (is_busy world.state.views world.asking) lines (length threads)
-    ++ row_text world.state.row
-    ++ history_text options.history world.history
-    ++ state_text options.state cvs world.state.word (map shown_of (lists_shown world).lock) (map (map shown_of) (lists_shown world).cvs) (wakes_owed world.state.views)
+    ++ lefts_text (whole_busy world) lines (length threads)
+    ++ row_text world.lock.state.row
+    ++ history_text options.history world.lock.history
+    ++ state_text options.state cvs world.lock.state.word (map shown_of (lists_shown world.lock).lock) (map (map shown_of) (lists_shown world.lock).cvs) (wakes_owed world.lock.state.views)

@@ -1,5 +1,5 @@
 -- The words of a text, and the numbers that they write.
-use Rattle.std.specs.Prelude.{ℕ, ◌^◌, ◌==◌, ◌&&◌, ◌||◌, not, List, length, slice_index, Bool, codes, bytes_eq, nat_lt, if◌then◌else◌, Option, Some, None, option_map, option_and_then}
+use Rattle.std.specs.Prelude.{ℕ, ℤ, pos, neg_ℤ, ◌+◌, ◌^◌, ◌==◌, ◌&&◌, ◌||◌, not, List, [], ◌∷◌, length, slice_index, Bool, codes, bytes_eq, nat_lt, if◌then◌else◌, Option, Some, None, option_map, option_and_then}
 use Rattle.std.specs.List.{slice_split}
 use Rattle.std.specs.Str.{all_ascii_digits}
 use Rattle.std.specs.Str.Parse.{digits_value}
@@ -35,3 +35,17 @@ moment_or_none_of word = or_none word (moment_of word)
 -- the number of a note, or none for a dash
 abbrev pub note_or_none_of : List ℕ → Option (Option ℕ)
 note_or_none_of word = or_none word (below 64 (number_of word))
+
+-- a number that is no larger than 2^63 - 1
+abbrev pub up_of : Option ℕ → Option ℤ
+up_of number = option_map pos (below (2 ^ 63) number)
+
+-- one below 0 by a number of at most 2^63, or 0
+abbrev pub down_of : Option ℕ → Option ℤ
+down_of number = option_map (λ n. neg_ℤ (pos n)) (below (2 ^ 63 + 1) number)
+
+-- a change, by the parts of its word at `-`: `N` or `-N`
+unfoldable pub change_of : List (List ℕ) → Option ℤ
+change_of (digits ∷ []) = up_of (number_of digits)
+change_of ([] ∷ digits ∷ []) = down_of (number_of digits)
+change_of _ = None

@@ -1,12 +1,13 @@
 //! What the words of a call and of a schedule write.
 
 ghost use Rattle.std.specs.Prelude.{◌≡◌, map, IfOk};
-ghost use Rattle.ns_replay.specs.Calls.{plain_call_of, short_call_of, long_call_of, brief_call_of, call_of, actor_of, turn_of, repeats_of};
+ghost use Rattle.ns_replay.specs.Calls.{add_of, plain_call_of, short_call_of, long_call_of, brief_call_of, call_of, actor_of, turn_of, repeats_of};
 
 use crate::condition::ScriptCondition;
+use crate::objects::{Declared, any_wait};
 use crate::waits::{variable_wait, wait};
 use crate::words::{
-    CELLS, NOTES, moment, moment_or_none, note_or_none, number, number_below, parts_at,
+    CELLS, NOTES, change, moment, moment_or_none, note_or_none, number, number_below, parts_at,
 };
 use ns_world::call::Call;
 use ns_world::schedule::Turn;
@@ -28,9 +29,10 @@ fn plain_call(name: &str) -> Option<Call<ScriptCondition>>
     }
 }
 
-/// The call that a name and a word write, where there are so many condition variables.
-fn short_call(name: &str, word: &str, cvs: u8) -> Option<Call<ScriptCondition>>
-    ensures { result ≡ short_call_of cvs name.now word.now }
+/// The call that a name and a word write, where so many counters, once cells and condition variables
+/// are declared.
+fn short_call(name: &str, word: &str, declared: Declared) -> Option<Call<ScriptCondition>>
+    ensures { result ≡ short_call_of declared name.now word.now }
 {
     match name {
         "get" => {
@@ -54,20 +56,37 @@ fn short_call(name: &str, word: &str, cvs: u8) -> Option<Call<ScriptCondition>>
             Some(Call::Expiry(note))
         }
         "signal" => {
-            let k = number_below(word, cvs)?;
+            let k = number_below(word, declared.cvs)?;
             Some(Call::Signal(k))
         }
         "broadcast" => {
-            let k = number_below(word, cvs)?;
+            let k = number_below(word, declared.cvs)?;
             Some(Call::Broadcast(k))
+        }
+        "value" => {
+            let counter = number_below(word, declared.counters)?;
+            Some(Call::Value(counter))
+        }
+        "once" => {
+            let once = number_below(word, declared.onces)?;
+            Some(Call::Once(once))
+        }
+        "done" => {
+            let once = number_below(word, declared.onces)?;
+            Some(Call::Done(once))
         }
         _ => None,
     }
 }
 
 /// The call that a name and two words write.
-fn long_call(name: &str, first: &str, second: &str) -> Option<Call<ScriptCondition>>
-    ensures { result ≡ long_call_of name.now first.now second.now }
+fn long_call(
+    name: &str,
+    first: &str,
+    second: &str,
+    declared: Declared,
+) -> Option<Call<ScriptCondition>>
+    ensures { result ≡ long_call_of declared name.now first.now second.now }
 {
     match name {
         "set" => {
@@ -85,31 +104,57 @@ fn long_call(name: &str, first: &str, second: &str) -> Option<Call<ScriptConditi
             let deadline = moment_or_none(second)?;
             Some(Call::NoteWait(note, deadline))
         }
+        "cwait" => {
+            let counter = number_below(first, declared.counters)?;
+            let deadline = moment_or_none(second)?;
+            Some(Call::CounterWait(counter, deadline))
+        }
         _ => None,
     }
 }
 
 /// The call that a name and at most two words after it write.
 #[tactic(auto, unfolding(crate::specs::Calls::brief_call_of))]
-fn brief_call(words: &[&str], cvs: u8) -> Option<Call<ScriptCondition>>
-    ensures { result ≡ brief_call_of cvs (map (λ x. x.now) words.now) }
+fn brief_call(words: &[&str], declared: Declared) -> Option<Call<ScriptCondition>>
+    ensures { result ≡ brief_call_of declared (map (λ x. x.now) words.now) }
 {
     match words {
         [name] => plain_call(name),
-        [name, word] => short_call(name, word, cvs),
-        [name, first, second] => long_call(name, first, second),
+        [name, word] => short_call(name, word, declared),
+        [name, first, second] => long_call(name, first, second, declared),
         _ => None,
     }
 }
 
-/// The call that words write, where there are so many condition variables.
+/// The change of a counter that words after `add` write, where there are so many counters: `C D`.
+#[tactic(auto, unfolding(crate::specs::Calls::add_of))]
+fn add(
+    alloc: Global,
+    words: &[&str],
+    counters: u8,
+) -> Result<Option<Call<ScriptCondition>>, AllocError>
+    ensures { IfOk result (λ o. o ≡ add_of counters (map (λ x. x.now) words.now)) }
+{
+    match words {
+        [counter, word] => {
+            let parts = parts_at(alloc, word, '-')?;
+            match (number_below(counter, counters), change(&parts)) {
+                (Some(counter), Some(delta)) => Ok(Some(Call::Add(counter, delta))),
+                _ => Ok(None),
+            }
+        }
+        _ => Ok(None),
+    }
+}
+
+/// The call that words write, where so many counters, once cells and condition variables are declared.
 #[tactic(auto, unfolding(crate::specs::Calls::call_of))]
 pub fn call(
     alloc: Global,
     words: &[&str],
-    cvs: u8,
+    declared: Declared,
 ) -> Result<Option<Call<ScriptCondition>>, AllocError>
-    ensures { IfOk result (λ o. o ≡ call_of cvs (map (λ x. x.now) words.now)) }
+    ensures { IfOk result (λ o. o ≡ call_of declared (map (λ x. x.now) words.now)) }
 {
     match words {
         [name, rest @ ..] => {
@@ -119,12 +164,19 @@ pub fn call(
                     None => Ok(None),
                 }
             } else if *name == "cvwait" {
-                match variable_wait(rest, cvs) {
+                match variable_wait(rest, declared.cvs) {
                     Some((k, limits)) => Ok(Some(Call::CvWait(k, limits))),
                     None => Ok(None),
                 }
+            } else if *name == "waitany" {
+                match any_wait(alloc, rest, declared.counters)? {
+                    Some((items, deadline)) => Ok(Some(Call::WaitAny(items, deadline))),
+                    None => Ok(None),
+                }
+            } else if *name == "add" {
+                add(alloc, rest, declared.counters)
             } else {
-                Ok(brief_call(words, cvs))
+                Ok(brief_call(words, declared))
             }
         }
         _ => Ok(None),

@@ -29,6 +29,7 @@ mod adapters;
 mod calls;
 mod condition;
 mod fault;
+mod objects;
 mod options;
 mod path;
 mod replaying;

@@ -12,6 +12,12 @@ pub enum ScriptPath {
     Root,
     /// The member `version`.
     Version,
+    /// The member `counters`.
+    Counters,
+    /// One of the counters.
+    Counter(usize),
+    /// The member `onces`.
+    Onces,
     /// The member `cvs`.
     Variables,
     /// The member `threads`.
@@ -36,6 +42,9 @@ impl fmt::Display for ScriptPath {
         match self {
             ScriptPath::Root => write!(f, "/"),
             ScriptPath::Version => write!(f, "/version"),
+            ScriptPath::Counters => write!(f, "/counters"),
+            ScriptPath::Counter(counter) => write!(f, "/counters/{counter}"),
+            ScriptPath::Onces => write!(f, "/onces"),
             ScriptPath::Variables => write!(f, "/cvs"),
             ScriptPath::Threads => write!(f, "/threads"),
             ScriptPath::Thread(thread) => write!(f, "/threads/{thread}"),

@@ -8,7 +8,7 @@ ghost use Rattle.ns_replay.specs.Transfer.{Gave, IsAskedEnough, IsEnough, IsFine
 ghost use Rattle.ns_replay.specs.Replaying.{Answers, Ended, HasRun, IsText, IsRefused, WasRead};
 ghost use Rattle.ns_replay.specs.Condition.{script_truths};
 ghost use Rattle.ns_replay.specs.Script.{plan_of};
-ghost use Rattle.ns_world.specs.World.{now_of};
+ghost use Rattle.ns_world.specs.Whole.{whole_of};
 
 use crate::fault::Fault;
 use crate::options::Options;
@@ -28,7 +28,7 @@ use std::alloc::Global;
 /// Needs at most 1 MiB.
 pub fn run_bytes(alloc: Global, bytes: &[u8], limit: u32) -> Result<(Script, Run), Fault>
     requires { length bytes.now ≤ 1048576 }
-    ensures ok { IfOk result (λ ran. HasRun limit bytes.now (plan_of ran.0) (now_of script_truths ran.1.world) ran.1.lines.items) }
+    ensures ok { IfOk result (λ ran. HasRun limit bytes.now (plan_of ran.0) (whole_of script_truths ran.1.world) ran.1.lines.items) }
     ensures err { IfErr result (λ fault. IsRefused limit bytes.now fault) }
 {
     let script = read_script(alloc, bytes)?;

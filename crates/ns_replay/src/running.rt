@@ -1,7 +1,7 @@
 //! The run of a script in a new world, and its text.
 
 ghost use Rattle.std.specs.Prelude.{◌≡◌, ◌≤◌, length, string_bytes, IfOk, IfErr};
-ghost use Rattle.ns_world.specs.World.{now_of};
+ghost use Rattle.ns_world.specs.Whole.{whole_of};
 ghost use Rattle.ns_replay.specs.Condition.{script_truths};
 ghost use Rattle.ns_replay.specs.Script.{plan_of};
 ghost use Rattle.ns_replay.specs.Runnable.{IsRunnable};
@@ -29,10 +29,15 @@ pub struct Run {
 /// Runs a script in a new world, which has a seat for each thread.
 pub fn run_script(alloc: Global, script: &Script, limit: u32) -> Result<Run, Fault>
     requires { IsRunnable (plan_of script.now) }
-    ensures ok { IfOk result (λ run. RunsTo limit (plan_of script.now) (now_of script_truths run.world) run.lines.items) }
+    ensures ok { IfOk result (λ run. RunsTo limit (plan_of script.now) (whole_of script_truths run.world) run.lines.items) }
     ensures err { IfErr result (λ fault. IsRunFault limit (plan_of script.now) fault) }
 {
-    let mut world = World::new(alloc, script.threads.len(), &[], 0)?;
+    let mut world = World::new(
+        alloc,
+        script.threads.len(),
+        &script.counters,
+        script.onces as usize,
+    )?;
     let lines = world.run(alloc, &script.threads, &script.schedule, limit)?;
     Ok(Run { world, lines })
 }
@@ -46,7 +51,7 @@ pub fn run_text(
     options: Options,
 ) -> Result<String, AllocError>
     requires { length script.now.threads.items ≤ 64 }
-    ensures { IfOk result (λ text. string_bytes text ≡ text_of options (plan_of script.now).cvs (plan_of script.now).threads run.now.lines.items (now_of script_truths run.now.world)) }
+    ensures { IfOk result (λ text. string_bytes text ≡ text_of options (plan_of script.now).cvs (plan_of script.now).threads run.now.lines.items (whole_of script_truths run.now.world)) }
 {
     let state = run.world.state();
     let threads = script.threads.as_slice();

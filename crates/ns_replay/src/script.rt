@@ -1,7 +1,7 @@
 //! Scripts, read from JSON.
 //!
-//! A script is an object with the members `version`, `cvs`, `threads` and `schedule`, checked in this
-//! order; each member for its kind, then for its size, then element by element in the same way.
+//! A script is an object with the members `version`, `counters`, `onces`, `cvs`, `threads` and
+//! `schedule`, checked in this order; each member for its kind, then for its size, then element by element in the same way.
 //! `specs/Script.antt` says the same by cases, with a definition for each function here.
 
 ghost use Rattle.std.specs.Prelude.{◌≡◌, ◌≤◌, map, option_map, IfOk, string_bytes};
@@ -9,11 +9,12 @@ ghost use Rattle.std.specs.List.{list_all};
 ghost use Rattle.std.specs.BTreeMap.{keys};
 ghost use Rattle.serde_json.specs.View.{view, members_view};
 ghost use Rattle.ns_replay.specs.Faults.{Gives, each_from};
-ghost use Rattle.ns_replay.specs.Script.{is_known, list_in, call_at, calls_at, threads_of, words_of, turn_at, schedule_of, members_of, version_of, variables_of, plan_in, plan_of, json_of, script_of};
+ghost use Rattle.ns_replay.specs.Script.{is_known, list_in, call_at, calls_at, threads_of, words_of, turn_at, schedule_of, members_of, version_of, counter_at, counters_of, onces_of, variables_of, plan_in, plan_of, json_of, script_of};
 
 use crate::calls;
 use crate::condition::ScriptCondition;
 use crate::fault::Fault;
+use crate::objects::Declared;
 use crate::path::ScriptPath;
 use crate::words::parts_at;
 use ns_world::call::Call;
@@ -21,10 +22,14 @@ use ns_world::schedule::Turn;
 use serde_json::{Map, Value};
 use std::alloc::{AllocError, Global};
 
-/// What to run: how many condition variables there are, the calls of each thread, and whose turn
-/// it is.
+/// What to run: the counters, how many once cells and condition variables there are, the calls of
+/// each thread, and whose turn it is.
 #[derive(Drop)]
 pub struct Script {
+    /// What each counter begins with.
+    pub counters: Vec<u32>,
+    /// How many once cells there are.
+    pub onces: u8,
     /// How many condition variables there are.
     pub cvs: u8,
     /// The calls of each thread, in order.
@@ -55,18 +60,18 @@ fn list<'a>(value: Option<&'a Value>, path: ScriptPath, most: usize) -> Result<&
 fn call_in(
     alloc: Global,
     value: &Value,
-    cvs: u8,
+    declared: Declared,
     thread: usize,
     number: usize,
 ) -> Result<Call<ScriptCondition>, Fault>
-    ensures { Gives (λ c. c) result (call_at cvs thread number (view value.now)) }
+    ensures { Gives (λ c. c) result (call_at declared thread number (view value.now)) }
 {
     let path = ScriptPath::Call(thread, number);
     let Some(text) = value.as_str() else {
         return Err(Fault::BadScript(path));
     };
     let words = parts_at(alloc, text, ' ')?;
-    match calls::call(alloc, &words, cvs)? {
+    match calls::call(alloc, &words, declared)? {
         Some(call) => Ok(call),
         None => Err(Fault::BadScript(path)),
     }
@@ -76,14 +81,14 @@ fn call_in(
 fn each_call(
     alloc: Global,
     values: &[Value],
-    cvs: u8,
+    declared: Declared,
     thread: usize,
 ) -> Result<Vec<Call<ScriptCondition>>, Fault>
-    ensures { Gives (λ v. v.items) result (each_from (call_at cvs thread) 0 (map view values.now)) }
+    ensures { Gives (λ v. v.items) result (each_from (call_at declared thread) 0 (map view values.now)) }
 {
     let mut calls = Vec::new(alloc);
     for (number, value) in values.iter().enumerate() {
-        let call = call_in(alloc, value, cvs, thread, number)?;
+        let call = call_in(alloc, value, declared, thread, number)?;
         calls.push(call)?;
     }
     Ok(calls)
@@ -94,26 +99,26 @@ fn each_call(
 fn calls(
     alloc: Global,
     value: &Value,
-    cvs: u8,
+    declared: Declared,
     thread: usize,
 ) -> Result<Vec<Call<ScriptCondition>>, Fault>
-    ensures { Gives (λ v. v.items) result (calls_at cvs thread (view value.now)) }
+    ensures { Gives (λ v. v.items) result (calls_at declared thread (view value.now)) }
 {
     let values = list(Some(value), ScriptPath::Thread(thread), 256)?;
-    each_call(alloc, values, cvs, thread)
+    each_call(alloc, values, declared, thread)
 }
 
 /// The threads, one by one.
 fn each_thread(
     alloc: Global,
     values: &[Value],
-    cvs: u8,
+    declared: Declared,
 ) -> Result<Vec<Vec<Call<ScriptCondition>>>, Fault>
-    ensures { Gives (λ v. map (λ w. w.items) v.items) result (each_from (calls_at cvs) 0 (map view values.now)) }
+    ensures { Gives (λ v. map (λ w. w.items) v.items) result (each_from (calls_at declared) 0 (map view values.now)) }
 {
     let mut threads = Vec::new(alloc);
     for (thread, value) in values.iter().enumerate() {
-        let calls = calls(alloc, value, cvs, thread)?;
+        let calls = calls(alloc, value, declared, thread)?;
         threads.push(calls)?;
     }
     Ok(threads)
@@ -121,11 +126,15 @@ fn each_thread(
 
 /// The threads of a script.
 #[tactic(auto, unfolding(crate::specs::Script::threads_of))]
-fn threads(alloc: Global, value: &Value, cvs: u8) -> Result<Vec<Vec<Call<ScriptCondition>>>, Fault>
-    ensures { Gives (λ v. map (λ w. w.items) v.items) result (threads_of cvs (view value.now)) }
+fn threads(
+    alloc: Global,
+    value: &Value,
+    declared: Declared,
+) -> Result<Vec<Vec<Call<ScriptCondition>>>, Fault>
+    ensures { Gives (λ v. map (λ w. w.items) v.items) result (threads_of declared (view value.now)) }
 {
     let values = list(value.get("threads"), ScriptPath::Threads, 64)?;
-    each_thread(alloc, values, cvs)
+    each_thread(alloc, values, declared)
 }
 
 /// The words of a schedule.
@@ -180,7 +189,12 @@ fn schedule(alloc: Global, value: &Value, threads: u8) -> Result<Vec<Turn>, Faul
 fn known(name: &str) -> bool
     ensures { result ≡ is_known name.now }
 {
-    name == "version" || name == "cvs" || name == "threads" || name == "schedule"
+    name == "version"
+        || name == "counters"
+        || name == "onces"
+        || name == "cvs"
+        || name == "threads"
+        || name == "schedule"
 }
 
 fn all_known(members: &Map<String, Value>) -> bool
@@ -214,6 +228,58 @@ fn version(value: &Value) -> Result<u64, Fault>
     }
 }
 
+/// What a counter begins with.
+#[tactic(auto, unfolding(crate::specs::Script::counter_at))]
+fn counter(value: &Value, number: usize) -> Result<u32, Fault>
+    ensures { Gives (λ n. n) result (counter_at number (view value.now)) }
+{
+    match value.as_u64() {
+        Some(start) if start <= u32::MAX as u64 => Ok(start as u32),
+        _ => Err(Fault::BadScript(ScriptPath::Counter(number))),
+    }
+}
+
+/// What the counters begin with, one by one.
+fn each_counter(alloc: Global, values: &[Value]) -> Result<Vec<u32>, Fault>
+    ensures { Gives (λ v. v.items) result (each_from counter_at 0 (map view values.now)) }
+{
+    let mut starts = Vec::new(alloc);
+    for (number, value) in values.iter().enumerate() {
+        let start = counter(value, number)?;
+        starts.push(start)?;
+    }
+    Ok(starts)
+}
+
+/// What the counters begin with: there are none, where the script doesn't say.
+#[tactic(auto, unfolding(crate::specs::Script::counters_of))]
+fn counters(alloc: Global, value: Option<&Value>) -> Result<Vec<u32>, Fault>
+    ensures { Gives (λ v. v.items) result (counters_of (option_map (λ v. view v.now) value.entry)) }
+{
+    if value.is_none() {
+        return Ok(Vec::new(alloc));
+    }
+    let values = list(value, ScriptPath::Counters, 16)?;
+    each_counter(alloc, values)
+}
+
+/// How many once cells there are: none, where the script doesn't say.
+#[tactic(auto, unfolding(crate::specs::Script::onces_of))]
+fn onces(value: Option<&Value>) -> Result<u8, Fault>
+    ensures { Gives (λ n. n) result (onces_of (option_map (λ v. view v.now) value.entry)) }
+{
+    let Some(value) = value else {
+        return Ok(0);
+    };
+    let Some(count) = value.as_u64() else {
+        return Err(Fault::BadScript(ScriptPath::Onces));
+    };
+    if count > 16 {
+        return Err(Fault::TooMany(ScriptPath::Onces));
+    }
+    Ok(count as u8)
+}
+
 /// How many condition variables there are: none, where the script doesn't say.
 #[tactic(auto, unfolding(crate::specs::Script::variables_of))]
 fn variables(value: Option<&Value>) -> Result<u8, Fault>
@@ -238,10 +304,19 @@ fn script_in(alloc: Global, value: &Value) -> Result<Script, Fault>
 {
     let _ = members(value)?;
     let _ = version(value)?;
+    let counters = counters(alloc, value.get("counters"))?;
+    let onces = onces(value.get("onces"))?;
     let cvs = variables(value.get("cvs"))?;
-    let threads = threads(alloc, value, cvs)?;
+    let declared = Declared {
+        counters: counters.len() as u8,
+        onces,
+        cvs,
+    };
+    let threads = threads(alloc, value, declared)?;
     let schedule = schedule(alloc, value, threads.len() as u8)?;
     Ok(Script {
+        counters,
+        onces,
         cvs,
         threads,
         schedule,

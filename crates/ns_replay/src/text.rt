@@ -5,18 +5,19 @@
 
 ghost use Rattle.std.specs.Prelude.{◌≡◌, ◌≤◌, ◌<◌, ◌++◌, ◌||◌, map, flat_map, string_bytes, OnOk, IfOk};
 ghost use Rattle.ns_model.specs.Seats.{is_in};
-ghost use Rattle.ns_replay.specs.Text.{truth_text, expiry_text, reply_text, is_release, tests_text, line_text, lines_text, finished_calls, left_text, lefts_text, row_text, after_comma, numbers_text, mode_text, answer_text, entry_text, exit_text, section_text, rows_text, seat_text, seats_text, event_words, event_text, events_text, history_text, bit_text, bits_text, word_text, waiter_text, queue_text, variable_text, variables_text, wake_text, wakes_text, lock_text, state_text};
+ghost use Rattle.ns_replay.specs.Text.{truth_text, expiry_text, refusal_text, reply_text, is_release, tests_text, line_text, lines_text, finished_calls, left_text, lefts_text, row_text, after_comma, numbers_text, mode_text, answer_text, entry_text, exit_text, section_text, rows_text, seat_text, seats_text, event_words, event_text, events_text, history_text, bit_text, bits_text, word_text, waiter_text, queue_text, variable_text, variables_text, wake_text, wakes_text, lock_text, state_text};
 
 use crate::condition::ScriptCondition;
 use arrayvec::ArrayVec;
+use ns_counters::counter::CounterFault;
 use ns_model::event::{Answer, Entry, Event, Exit, Mode};
 use ns_model::seats::Seats;
 use ns_queue::waiter::Shown;
-use ns_word::walk::Reply;
 use ns_word::word::Word;
 use ns_world::call::Call;
+use ns_world::reply::Reply;
 use ns_world::schedule::Line;
-use ns_world::world::State;
+use ns_world::state::State;
 use std::alloc::AllocError;
 
 /// How a wait ended.
@@ -51,6 +52,17 @@ fn push_expiry(out: &mut String, expiry: Option<u64>) -> Result<(), AllocError>
     }
 }
 
+/// Why the change of a counter was refused.
+fn push_refusal(out: &mut String, fault: CounterFault) -> Result<(), AllocError>
+    ensures { OnOk result (string_bytes out.new ≡ string_bytes out.old ++ refusal_text fault) }
+{
+    match fault {
+        CounterFault::Under => out.push_str("under"),
+        CounterFault::Over => out.push_str("over"),
+        CounterFault::AfterWait => out.push_str("afterwait"),
+    }
+}
+
 /// What a call answered.
 pub fn push_reply(out: &mut String, reply: Reply) -> Result<(), AllocError>
     ensures { OnOk result (string_bytes out.new ≡ string_bytes out.old ++ reply_text reply) }
@@ -65,6 +77,9 @@ pub fn push_reply(out: &mut String, reply: Reply) -> Result<(), AllocError>
         Reply::Expiry(expiry) => push_expiry(out, expiry),
         Reply::Answered(answer) => push_answer(out, answer),
         Reply::Misuse => out.push_str("misuse"),
+        Reply::Refused(fault) => push_refusal(out, fault),
+        Reply::Ran => out.push_str("ran"),
+        Reply::Already => out.push_str("already"),
     }
 }
 

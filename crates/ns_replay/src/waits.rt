@@ -6,7 +6,7 @@ ghost use Rattle.ns_replay.specs.Waits.{bounded_cell_of, at_least_of, condition_
 
 use crate::condition::{AtLeast, ScriptCondition};
 use crate::words::{CELLS, NOTES, moment, number, number_below, parts_at};
-use ns_word::limits::Limits;
+use ns_env::limits::Limits;
 use std::alloc::{AllocError, Global};
 
 /// The cell that the parts of `I>` at `>` write.

@@ -1,7 +1,7 @@
 //! The words of a text: its parts between separators, and the numbers that they write.
 
 ghost use Rattle.std.specs.Prelude.{◌≡◌, ◌<◌, map, IfOk};
-ghost use Rattle.ns_replay.specs.Words.{parts, number_of, below, moment_of, moment_or_none_of, note_or_none_of};
+ghost use Rattle.ns_replay.specs.Words.{parts, number_of, below, change_of, moment_of, moment_or_none_of, note_or_none_of};
 
 use std::alloc::{AllocError, Global};
 
@@ -74,4 +74,26 @@ pub fn note_or_none(word: &str) -> Option<Option<u8>>
     }
     let n = number_below(word, NOTES)?;
     Some(Some(n))
+}
+
+/// The change that the parts of a word at `-` write: `N` or `-N`, of a number that an `i64` holds.
+#[tactic(auto, unfolding(crate::specs::Words::change_of))]
+pub fn change(words: &[&str]) -> Option<i64>
+    ensures { result ≡ change_of (map (λ x. x.now) words.now) }
+{
+    match words {
+        [digits] => {
+            let n = number(digits)?;
+            i64::try_from(n).ok()
+        }
+        [empty, digits] => {
+            let n = number(digits)?;
+            if empty.is_empty() {
+                i64::try_from(-i128::from(n)).ok()
+            } else {
+                None
+            }
+        }
+        _ => None,
+    }
 }

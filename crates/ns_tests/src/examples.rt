@@ -1,9 +1,12 @@
-//! The examples at the heads of ns_model, ns_queue, ns_word and ns_world. Those of ns_note and
+//! The examples at the heads of ns_model, ns_env, ns_queue, ns_word and ns_world. Those of ns_note and
 //! ns_replay stand beside their other tests.
 
 ghost use Rattle.std.specs.Prelude.{false};
 ghost use Rattle.ns_model.specs.Truths.{truths};
 
+use ns_env::act::{EnvAct, EnvFound};
+use ns_env::reply::EnvReply;
+use ns_env::walk::{EnvNext, EnvWalk};
 use ns_model::condition::Condition;
 use ns_model::event::{Entry, Event, Exit, Mode};
 use ns_model::history::{legal, row_after};
@@ -14,6 +17,7 @@ use ns_word::codec::encode;
 use ns_word::walk::{Next, Reply, Walk};
 use ns_word::word::{Arrival, Word};
 use ns_world::call::Call;
+use ns_world::reply;
 use ns_world::step::Step;
 use ns_world::world::World;
 use std::test::Fail;
@@ -143,15 +147,32 @@ fn a_walk(rt: HostRuntime) -> Result<(), Fail> {
 }
 
 #[test]
+fn a_walk_on_notes(rt: HostRuntime) -> Result<(), Fail> {
+    // a call is a walk: a place that wants an act next, and goes on by what the act found
+    let place = EnvWalk::NextLoad(None, Some(7));
+    assert!(rt; matches!(place.want(), EnvAct::LoadNext));
+    let EnvNext::Go(place) = place.got(EnvFound::NextNumber(3)) else {
+        return Ok(());
+    };
+    assert!(rt; matches!(place.want(), EnvAct::TakeNext)); // a number was still left
+    let EnvNext::Go(place) = place.got(EnvFound::Taken(4)) else {
+        return Ok(());
+    };
+    let over = place.got(EnvFound::Stored);
+    assert!(rt; matches!(over, EnvNext::Over(EnvReply::Number(4))));
+    Ok(())
+}
+
+#[test]
 fn a_world(rt: HostRuntime) -> Result<(), Fail> {
     let mut world = World::<Never, 8>::new(rt.alloc(), 2, &[], 0)?; // `Never` is any `Condition<8>`
     world.begin(0, Call::TryLock)?;
     world.step(0)?; // Step::Went: the word was loaded
     let step = world.step(0)?;
-    assert!(rt; step == Step::Finished(Reply::Succeeded)); // seat 0 has the lock
+    assert!(rt; step == Step::Finished(reply::Reply::Succeeded)); // seat 0 has the lock
     world.begin(1, Call::TryLock)?;
     let step = world.step(1)?;
-    assert!(rt; step == Step::Finished(Reply::Busy));
+    assert!(rt; step == Step::Finished(reply::Reply::Busy));
     assert!(rt; world.state().word.write && legal(world.history()));
     Ok(())
 }

@@ -14,6 +14,7 @@ ghost use Rattle.ns_word.specs.Walks.{got_of, want_of};
 ghost use Rattle.ns_word.specs.declared.request.Request.TheVariants.{Await};
 
 use crate::examples::Plain;
+use ns_env::limits::Limits;
 use ns_gate::fault::Fault;
 use ns_gate::gate::{Gate, GateSeat};
 use ns_gate::perform::Beside;
@@ -22,7 +23,6 @@ use ns_model::condition::Condition;
 use ns_model::event::{Answer, Mode};
 use ns_monitor::room::Gated;
 use ns_word::act::{Act, Found};
-use ns_word::limits::Limits;
 use ns_word::wait::{Subject, Wait};
 use ns_word::walk::{Next, Reply, Walk};
 use ns_word::word::{Bits, Releasing};

@@ -4,10 +4,11 @@
 ghost use Rattle.std.specs.Prelude.{◌≡◌, ◌<◌, ◌^◌, IfSome};
 ghost use Rattle.std.specs.Thread.{IsSync};
 
+use ns_env::note::NoteState;
 use ns_model::event::Answer;
 use ns_note::env::Env;
 use ns_note::fault::Fault;
-use ns_note::note::{Note, NoteWord, decode_note, encode_note};
+use ns_note::note::{Note, decode_note, encode_note};
 use ns_note::seat::EnvSeat;
 use std::alloc::Global;
 use std::sync::Wait;
@@ -218,16 +219,16 @@ fn seats_of_an_environment(rt: HostRuntime) -> Result<(), Fail> {
 /// The word of note 1 under note 0 with deadline 5, and of a notified note with neither.
 #[test]
 fn words(rt: HostRuntime) -> Result<(), Fail> {
-    let below = NoteWord {
-        notified: false,
+    let below = NoteState {
+        called: false,
         made: true,
         parent: Some(0),
         deadline: Some(5),
     };
     assert_eq!(rt; encode_note(below), 9_223_372_036_854_778_374);
     assert_eq!(rt; decode_note(9_223_372_036_854_778_374), below);
-    let alone = NoteWord {
-        notified: true,
+    let alone = NoteState {
+        called: true,
         made: true,
         parent: None,
         deadline: None,

@@ -1,7 +1,7 @@
 -- Of what there is a picture.
 use Rattle.std.specs.Prelude.{ℕ, List}
 use Rattle.ns_world.specs.declared.schedule.Line.{Line}
-use Rattle.ns_world.specs.World.{Now}
+use Rattle.ns_world.specs.Whole.{Whole}
 use Rattle.ns_replay.specs.declared.condition.ScriptCondition.{ScriptCondition}
 use Rattle.ns_replay.specs.Replaying.{HasRun}
 use Rattle.ns_replay.specs.Script.{Plan}
@@ -9,7 +9,7 @@ use Rattle.ns_replay.specs.Script.{Plan}
 -- The bytes give a script that has a run in at most so many turns.
 pub record RunsIn (limit : ℕ) (bytes : List ℕ) : Type 0 where
   pub plan : Plan
-  pub world : Now ScriptCondition 8
+  pub world : Whole ScriptCondition 8
   pub lines : List Line
   pub has_run : HasRun limit bytes plan world lines
 

@@ -1,8 +1,9 @@
 //! A call, in the words in which a script has it.
 
+use ns_env::limits::Limits;
 use ns_replay::ScriptCondition;
-use ns_word::limits::Limits;
 use ns_world::call::Call;
+use ns_world::items::{Item, Items};
 use std::alloc::AllocError;
 
 /// The name of a call.
@@ -27,6 +28,12 @@ pub fn name(call: Call<ScriptCondition>) -> &'static str {
         Call::IsNotified(_) => "isnotified",
         Call::Expiry(_) => "expiry",
         Call::NoteWait(_, _) => "notewait",
+        Call::Add(_, _) => "add",
+        Call::Value(_) => "value",
+        Call::CounterWait(_, _) => "cwait",
+        Call::Once(_) => "once",
+        Call::Done(_) => "done",
+        Call::WaitAny(_, _) => "waitany",
     }
 }
 
@@ -66,6 +73,35 @@ fn push_note_words(out: &mut String, call: Call<ScriptCondition>) -> Result<(), 
     }
 }
 
+/// The objects of a wait for any of several.
+fn push_items(out: &mut String, items: &Items) -> Result<(), AllocError> {
+    for place in 0..items.count {
+        match items.get(place) {
+            Some(Item::OnNote(note)) => write!(out, " n{note}")?,
+            Some(Item::OnCounter(counter)) => write!(out, " c{counter}")?,
+            None => {}
+        }
+    }
+    Ok(())
+}
+
+/// The words behind the name of a call on counters and once cells.
+fn push_object_words(out: &mut String, call: Call<ScriptCondition>) -> Result<(), AllocError> {
+    match call {
+        Call::Add(counter, delta) => write!(out, " {counter} {delta}"),
+        Call::Value(object) | Call::Once(object) | Call::Done(object) => write!(out, " {object}"),
+        Call::CounterWait(counter, deadline) => {
+            write!(out, " {counter}")?;
+            push_number_or_dash(out, deadline)
+        }
+        Call::WaitAny(items, deadline) => {
+            push_number_or_dash(out, deadline)?;
+            push_items(out, &items)
+        }
+        _ => push_note_words(out, call),
+    }
+}
+
 /// The words behind the name of a call.
 fn push_words(out: &mut String, call: Call<ScriptCondition>) -> Result<(), AllocError> {
     match call {
@@ -80,7 +116,7 @@ fn push_words(out: &mut String, call: Call<ScriptCondition>) -> Result<(), Alloc
             push_limits(out, limits)
         }
         Call::Signal(k) | Call::Broadcast(k) => write!(out, " {k}"),
-        _ => push_note_words(out, call),
+        _ => push_object_words(out, call),
     }
 }
 

@@ -56,7 +56,12 @@ fn picture_of(alloc: Global, script: &Script, run: &Run, limit: u32) -> Result<V
     let shown = busiest(&begun(run), threads.len() as u8);
     let mut drawing = headed(alloc, shown, threads.len() <= 16)?;
     // There are no more threads than seats, so that only memory can be refused.
-    let Ok(mut world) = World::new(alloc, threads.len(), &[], 0) else {
+    let Ok(mut world) = World::new(
+        alloc,
+        threads.len(),
+        &script.counters,
+        script.onces as usize,
+    ) else {
         return Err(AllocError);
     };
     draw_schedule(&mut drawing, &mut world, threads, &script.schedule, limit)?;

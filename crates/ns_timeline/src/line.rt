@@ -6,8 +6,8 @@ use crate::columns::{push_columns, push_numbers};
 use crate::sight::{Sight, both, only};
 use ns_model::seats::Seats;
 use ns_replay::{ScriptCondition, push_reply};
-use ns_word::walk::Reply;
 use ns_world::call::Call;
+use ns_world::reply::Reply;
 use std::alloc::AllocError;
 
 /// How many characters a line may have.

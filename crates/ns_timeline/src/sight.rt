@@ -3,7 +3,7 @@
 use ns_model::seats::Seats;
 use ns_queue::waiter::Shown;
 use ns_word::word::Word;
-use ns_world::world::State;
+use ns_world::state::State;
 
 /// What can be seen of a world between two turns. The threads are its seats.
 #[derive(Clone, Copy, PartialEq, Eq)]

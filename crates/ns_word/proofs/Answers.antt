@@ -7,9 +7,9 @@ use Rattle.ns_model.specs.declared.event.Entry.TheVariants.{Waited, AfterCv}
 use Rattle.ns_model.specs.declared.event.Event.{Event}
 use Rattle.ns_model.specs.Sections.{is_met}
 use Rattle.ns_model.specs.Histories.{standing_after}
-use Rattle.ns_word.specs.declared.limits.Limits.{Limits}
-use Rattle.ns_word.specs.declared.limits.Cause.{Cause}
-use Rattle.ns_word.specs.declared.limits.Cause.TheVariants.{Expired, Notified}
+use Rattle.ns_env.specs.declared.limits.Limits.{Limits}
+use Rattle.ns_env.specs.declared.limits.Cause.{Cause}
+use Rattle.ns_env.specs.declared.limits.Cause.TheVariants.{Expired, Notified}
 use Rattle.ns_word.specs.declared.word.Releasing.{Releasing}
 use Rattle.ns_word.specs.declared.word.Arrival.{Arrival}
 use Rattle.ns_word.specs.declared.word.Word.{Word}
@@ -53,7 +53,8 @@ use Rattle.ns_word.specs.declared.walk.Reply.{Reply}
 use Rattle.ns_word.specs.declared.walk.Reply.TheVariants.{Answered}
 use Rattle.ns_word.specs.declared.walk.Next.{Next}
 use Rattle.ns_word.specs.declared.walk.Next.TheVariants.{On, Done}
-use Rattle.ns_word.specs.Waits.{answer_of, answer_of_wait, is_limited, mode_for}
+use Rattle.ns_env.specs.Walks.{is_limited}
+use Rattle.ns_word.specs.Waits.{answer_of, answer_of_wait, mode_for}
 use Rattle.ns_word.specs.Walks.{judge_of, want_waiting, want_trying, want_acquiring, want_releasing, want_in_cells, want_leaving, want_signaling, want_showing, want_of, got_waiting, got_acquiring, got_of, reply_of, acquire_by, back_with, unmet_by, look_or_queue}
 use Rattle.ns_word.specs.Words.{may_acquire}
 use Rattle.ns_model.specs.Truths.{Truths}

@@ -6,7 +6,7 @@ use Rattle.ns_word.specs.declared.word.Arrival.{Arrival}
 use Rattle.ns_word.specs.declared.word.Arrival.TheVariants.{AsFresh}
 use Rattle.ns_word.specs.declared.word.Releasing.{Releasing}
 use Rattle.ns_word.specs.declared.word.Releasing.TheVariants.{QuietWriter}
-use Rattle.ns_word.specs.declared.limits.Cause.{Cause}
+use Rattle.ns_env.specs.declared.limits.Cause.{Cause}
 use Rattle.ns_word.specs.declared.wait.Subject.{Subject}
 use Rattle.ns_word.specs.declared.wait.Subject.TheVariants.{OnCondition, OnVariable}
 use Rattle.ns_word.specs.declared.wait.Outcome.{Outcome}
@@ -49,7 +49,8 @@ use Rattle.ns_word.specs.declared.act.Found.TheVariants.{Saw, Made, Cell, Quiet,
 use Rattle.ns_word.specs.declared.request.Request.{Request}
 use Rattle.ns_word.specs.declared.request.Request.TheVariants.{TryLock, Release, Await, Wake, Show}
 use Rattle.ns_word.specs.Words.{may_acquire, needs_scan}
-use Rattle.ns_word.specs.Waits.{arrival_of, is_limited, mode_for, outcome_taken, woken_by}
+use Rattle.ns_env.specs.Walks.{is_limited}
+use Rattle.ns_word.specs.Waits.{arrival_of, mode_for, outcome_taken, woken_by}
 use Rattle.ns_word.specs.Walks.{got_of, got_trying, got_acquiring, got_releasing, got_in_cells, got_waiting, got_queuing, got_leaving, got_signaling, got_showing, walk_after, acquire_by, acquired_for, back_with, release_by, quiet_place, test_place, unmet_by, look_or_queue, rest_or_look}
 use Rattle.ns_word.specs.Asked.{asked_to_judge, asked_in_cells, asked_of}
 

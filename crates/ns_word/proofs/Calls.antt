@@ -20,7 +20,8 @@ use Rattle.ns_word.specs.Asked.{asked_in_cells, asked_of, asked_to_judge}
 use Rattle.ns_word.specs.Places.{PlaceFits}
 use Rattle.ns_word.specs.Lawful.{EachFits, IsLawful}
 use Rattle.ns_word.specs.Steps.{Effect, Part, LockState, Step, changed, kept_by, moved_to, part_of, taken_by, wake_of}
-use Rattle.ns_word.specs.Waits.{arrival_of, is_limited, mode_for, outcome_taken, woken_by}
+use Rattle.ns_env.specs.Walks.{is_limited}
+use Rattle.ns_word.specs.Waits.{arrival_of, mode_for, outcome_taken, woken_by}
 use Rattle.ns_word.specs.Walks.{acquire_by, acquired_for, back_with, got_acquiring, got_in_cells, got_leaving, got_of, got_queuing, got_releasing, got_signaling, got_showing, got_trying, got_waiting, is_arrival_woken, judge_of, look_or_queue, pays, release_by, rest_or_look, test_place, unmet_by, walk_after, want_acquiring, want_in_cells, want_leaving, want_of, want_releasing, want_signaling, want_showing, want_trying, want_waiting, was_woken}
 use Rattle.ns_word.specs.Words.{is_held, is_woken, may_acquire, needs_scan}
 use Rattle.ns_word.specs.declared.acquire_walk.AcquirePlace.{AcquirePlace}
@@ -35,8 +36,8 @@ use Rattle.ns_word.specs.declared.cell_walk.CellPlace.{CellPlace}
 use Rattle.ns_word.specs.declared.cell_walk.CellPlace.TheVariants.{GetLoad, QuietCells, QuietLast, SetLoad, SetStore}
 use Rattle.ns_word.specs.declared.cell_walk.Judging.{Judging}
 use Rattle.ns_word.specs.declared.cell_walk.Judging.TheVariants.{ToRelease, ToTell}
-use Rattle.ns_word.specs.declared.limits.Cause.{Cause}
-use Rattle.ns_word.specs.declared.limits.Limits.{Limits}
+use Rattle.ns_env.specs.declared.limits.Cause.{Cause}
+use Rattle.ns_env.specs.declared.limits.Limits.{Limits}
 use Rattle.ns_word.specs.declared.release_walk.ReleasePlace.{ReleasePlace}
 use Rattle.ns_word.specs.declared.release_walk.ReleasePlace.TheVariants.{Pay, ReleaseExchange, ReleaseLoad, ScanAndRelease, ScanCells, TakeToScan}
 use Rattle.ns_word.specs.declared.request.Request.TheVariants.{Await, Wake}

@@ -23,7 +23,8 @@ use Rattle.ns_word.specs.Lists.{has_some}
 use Rattle.ns_word.specs.Meanings.{ConditionWaitMeans, Course, HasLocked, HasReleased, HasWoken, InHand, IsQuietSection, MayAnswer, Means, Unchanged, VariableWaitMeans, leave_told, new_section}
 use Rattle.ns_word.specs.Places.{AimFits, CanLeave, CanWait, CellFits, ComesBack, IsForCondition, IsLeft, MayWait, PlaceFits, QueueFits, ReleaseFits, Tests, WaitFits}
 use Rattle.ns_word.specs.Steps.{LockState, Step, part_of, Effect, MayShow, Part, entry_of, exit_for, held_after, held_by, leave_of, newly_held, opening_by, section_of, taken_by, wake_of}
-use Rattle.ns_word.specs.Waits.{answer_of, answer_of_wait, arrival_of, cause_in, home_of, is_limited, mode_for, outcome_taken, woken_by}
+use Rattle.ns_env.specs.Walks.{is_limited}
+use Rattle.ns_word.specs.Waits.{answer_of, answer_of_wait, arrival_of, cause_in, home_of, mode_for, outcome_taken, woken_by}
 use Rattle.ns_word.specs.Walks.{acquire_by, acquired_for, armed_place, back_with, got_acquiring, got_in_cells, got_leaving, got_of, got_queuing, got_releasing, got_signaling, got_showing, got_trying, got_waiting, judge_of, leave_by, load_place, look_or_queue, pay_releasing, pay_waiting, pay_woken, queue_by, quiet_place, release_by, rest_or_look, scan_place, signal_by, show_by, test_place, unmet_by, want_acquiring, want_in_cells, want_leaving, want_of, want_queuing, want_releasing, want_signaling, want_showing, want_trying, want_waiting}
 use Rattle.ns_word.specs.Words.{is_held, is_woken, may_acquire, mode_released, needs_scan, tries_of, word_taken}
 use Rattle.ns_word.specs.declared.acquire_walk.AcquirePlace.{AcquirePlace}
@@ -35,9 +36,9 @@ use Rattle.ns_word.specs.declared.act.Waking.{Waking}
 use Rattle.ns_word.specs.declared.cell_walk.CellPlace.{CellPlace}
 use Rattle.ns_word.specs.declared.cell_walk.CellPlace.TheVariants.{GetLoad, QuietCells, QuietLast, SetLoad, SetStore}
 use Rattle.ns_word.specs.declared.cell_walk.Judging.TheVariants.{ToRelease, ToTell}
-use Rattle.ns_word.specs.declared.limits.Cause.{Cause}
-use Rattle.ns_word.specs.declared.limits.Cause.TheVariants.{Expired, Notified}
-use Rattle.ns_word.specs.declared.limits.Limits.{Limits}
+use Rattle.ns_env.specs.declared.limits.Cause.{Cause}
+use Rattle.ns_env.specs.declared.limits.Cause.TheVariants.{Expired, Notified}
+use Rattle.ns_env.specs.declared.limits.Limits.{Limits}
 use Rattle.ns_word.specs.declared.release_walk.ReleasePlace.{ReleasePlace}
 use Rattle.ns_word.specs.declared.release_walk.ReleasePlace.TheVariants.{Pay, ReleaseExchange, ReleaseLoad, ScanAndRelease, ScanCells, TakeToScan}
 use Rattle.ns_word.specs.declared.request.Request.{Request}

@@ -3,8 +3,8 @@ use Rattle.std.proofs.Common.{◌≡◌, ℕ, ◌+◌, ◌-◌, Bool, true, fals
 use Rattle.ns_model.specs.declared.event.Answer.{Answer}
 use Rattle.ns_model.specs.declared.event.Answer.TheVariants.{Met, TimedOut, Canceled}
 use Rattle.ns_model.specs.declared.event.Event.{Event}
-use Rattle.ns_word.specs.declared.limits.Cause.{Cause}
-use Rattle.ns_word.specs.declared.limits.Cause.TheVariants.{Expired, Notified}
+use Rattle.ns_env.specs.declared.limits.Cause.{Cause}
+use Rattle.ns_env.specs.declared.limits.Cause.TheVariants.{Expired, Notified}
 use Rattle.ns_word.specs.declared.word.Word.{Word}
 use Rattle.ns_word.specs.declared.word.Releasing.{Releasing}
 use Rattle.ns_word.specs.declared.word.Arrival.{Arrival}
@@ -44,7 +44,8 @@ use Rattle.ns_word.specs.declared.walk.Reply.TheVariants.{Answered}
 use Rattle.ns_word.specs.declared.walk.Next.{Next}
 use Rattle.ns_word.specs.declared.walk.Next.TheVariants.{On, Idle, Done}
 use Rattle.ns_word.specs.Words.{may_acquire, needs_scan}
-use Rattle.ns_word.specs.Waits.{answer_of, cause_in, is_limited, mode_for, outcome_taken}
+use Rattle.ns_env.specs.Walks.{is_limited}
+use Rattle.ns_word.specs.Waits.{answer_of, cause_in, mode_for, outcome_taken}
 use Rattle.ns_word.specs.Walks.{want_of, got_waiting, got_signaling, got_showing, got_of, walk_after, unmet_by, look_or_queue, test_place, load_place, armed_place, acquire_by, back_with, acquired_for, release_by}
 use Rattle.ns_model.specs.Truths.{Truths}
 use Rattle.ns_word.specs.Steps.{LockState, Part, Effect, Step, part_of}

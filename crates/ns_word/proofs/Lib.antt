@@ -2,15 +2,9 @@ pub mod Acts
 pub mod Answers
 pub mod Asked
 pub mod Calls
-pub mod Chains
 pub mod Codes
 pub mod Courses
 pub mod Dispatch
-pub mod EnvBegins
-pub mod EnvCourses
-pub mod EnvKeeps
-pub mod EnvLooks
-pub mod EnvRanges
 pub mod Finds
 pub mod Firsts
 pub mod Groups

@@ -37,7 +37,7 @@ use Rattle.ns_word.specs.declared.act.Act.{Act}
 use Rattle.ns_word.specs.declared.act.Act.TheVariants.{LoadWord, Acquire, TakeQueues, ReturnQueues, Release, ReleaseReturning, WaitReturning, LoadCell, JudgeQuiet, JudgeMet, StoreCell, ArmFlag, PayWake, LoadFlag, Look}
 use Rattle.ns_word.specs.declared.act.Found.{Found}
 use Rattle.ns_word.specs.declared.act.Found.TheVariants.{Saw, Made, Cell, Quiet, Tested, Scanned, Paid, Left, Woke, Flag, Looked}
-use Rattle.ns_word.specs.declared.limits.Cause.{Cause}
+use Rattle.ns_env.specs.declared.limits.Cause.{Cause}
 use Rattle.ns_word.specs.Words.{is_woken, may_acquire}
 use Rattle.ns_word.specs.Waits.{mode_for}
 use Rattle.ns_word.specs.Walks.{want_of, judge_of, want_releasing, want_in_cells, want_queuing, want_leaving, want_waiting, want_signaling, want_showing, was_woken}

@@ -10,7 +10,7 @@ use Rattle.ns_word.specs.declared.word.Releasing.{Releasing}
 use Rattle.ns_word.specs.declared.word.Releasing.TheVariants.{QuietWriter}
 use Rattle.ns_word.specs.declared.word.Taking.{Taking}
 use Rattle.ns_word.specs.declared.word.Taking.TheVariants.{ToChange, ToQueue}
-use Rattle.ns_word.specs.declared.limits.Cause.{Cause}
+use Rattle.ns_env.specs.declared.limits.Cause.{Cause}
 use Rattle.ns_word.specs.declared.wait.Subject.{Subject}
 use Rattle.ns_word.specs.declared.wait.Subject.TheVariants.{OnCondition, OnVariable}
 use Rattle.ns_word.specs.declared.wait.Outcome.{Outcome}
@@ -52,7 +52,8 @@ use Rattle.ns_word.specs.declared.act.Found.{Found}
 use Rattle.ns_word.specs.declared.act.Found.TheVariants.{Saw, Made, Cell, Quiet, Tested, Scanned, Paid, Left, Woke, Flag, Looked}
 use Rattle.ns_word.specs.Codec.{IsPackable}
 use Rattle.ns_word.specs.Words.{may_acquire, needs_scan, word_taken}
-use Rattle.ns_word.specs.Waits.{arrival_of, is_limited, mode_for, outcome_taken, woken_by}
+use Rattle.ns_env.specs.Walks.{is_limited}
+use Rattle.ns_word.specs.Waits.{arrival_of, mode_for, outcome_taken, woken_by}
 use Rattle.ns_word.specs.Views.{readers}
 use Rattle.ns_word.specs.Walks.{got_of, got_trying, got_acquiring, got_releasing, got_in_cells, got_waiting, got_queuing, got_leaving, got_signaling, got_showing, walk_after, acquire_by, acquired_for, back_with, release_by, scan_place, test_place, load_place, armed_place, unmet_by, look_or_queue, queue_by, leave_by, signal_by, show_by, rest_or_look}
 use Rattle.ns_word.specs.Steps.{Part, LockState, Effect}

@@ -18,8 +18,8 @@ use Rattle.ns_word.specs.declared.act.Found.TheVariants.{Flag, Looked, Made, Saw
 use Rattle.ns_word.specs.declared.act.Waking.{Waking}
 use Rattle.ns_word.specs.declared.cell_walk.CellPlace.{CellPlace}
 use Rattle.ns_word.specs.declared.cell_walk.CellPlace.TheVariants.{GetLoad, QuietCells, QuietLast, SetLoad, SetStore}
-use Rattle.ns_word.specs.declared.limits.Cause.{Cause}
-use Rattle.ns_word.specs.declared.limits.Limits.{Limits}
+use Rattle.ns_env.specs.declared.limits.Cause.{Cause}
+use Rattle.ns_env.specs.declared.limits.Limits.{Limits}
 use Rattle.ns_word.specs.declared.release_walk.ReleasePlace.{ReleasePlace}
 use Rattle.ns_word.specs.declared.release_walk.ReleasePlace.TheVariants.{Pay, ReleaseExchange, ReleaseLoad, ScanAndRelease, ScanCells, TakeToScan}
 use Rattle.ns_word.specs.declared.show_walk.ShowPlace.{ShowPlace}

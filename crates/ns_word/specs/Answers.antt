@@ -1,6 +1,6 @@
 -- When a wait for a condition has come back, and is about to answer; and what ends it early, once a look has shown that.
 use Rattle.std.specs.Prelude.{Bool, true, false, Option, None, Some}
-use Rattle.ns_word.specs.declared.limits.Cause.{Cause}
+use Rattle.ns_env.specs.declared.limits.Cause.{Cause}
 use Rattle.ns_word.specs.declared.wait.Aim.{Aim}
 use Rattle.ns_word.specs.declared.wait.Aim.TheVariants.{ForLock, ForWait}
 use Rattle.ns_word.specs.declared.wait.Visit.{Visit}

@@ -3,8 +3,8 @@ use Rattle.std.specs.Prelude.{◌≡◌, ℕ, Bool, true, false, List, [], ◌�
 use Rattle.ns_model.specs.declared.event.Event.{Event}
 use Rattle.ns_model.specs.declared.event.Event.TheVariants as TheEvent
 use Rattle.ns_model.specs.Truths.{Truths}
-use Rattle.ns_word.specs.declared.limits.Limits.{Limits}
-use Rattle.ns_word.specs.declared.limits.Cause.{Cause}
+use Rattle.ns_env.specs.declared.limits.Limits.{Limits}
+use Rattle.ns_env.specs.declared.limits.Cause.{Cause}
 use Rattle.ns_word.specs.declared.wait.Subject.{Subject}
 use Rattle.ns_word.specs.declared.wait.Subject.TheVariants.{OnCondition, OnVariable}
 use Rattle.ns_word.specs.declared.wait.Visit.{Visit}
@@ -32,7 +32,8 @@ use Rattle.ns_word.specs.declared.walk.Walk.TheVariants.{InTry, InAcquire, InRel
 use Rattle.ns_word.specs.declared.walk.Next.{Next}
 use Rattle.ns_word.specs.declared.walk.Next.TheVariants.{On, Idle, Done}
 use Rattle.ns_word.specs.Asked.{asked_of}
-use Rattle.ns_word.specs.Waits.{cause_in, is_limited}
+use Rattle.ns_env.specs.Walks.{is_limited}
+use Rattle.ns_word.specs.Waits.{cause_in}
 use Rattle.ns_word.specs.Places.{IsUnmet}
 use Rattle.ns_word.specs.Steps.{section_of, exit_for}
 use Rattle.ns_word.specs.Meanings.{Course, Unchanged, HasReleased, HasWoken, Means}

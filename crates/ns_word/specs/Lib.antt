@@ -1,12 +1,8 @@
 pub mod Answers
 pub mod Asked
 pub mod Begins
-pub mod Chains
 pub mod Codec
 pub mod Courses
-pub mod EnvMeanings
-pub mod EnvSteps
-pub mod EnvWalks
 pub mod Finds
 pub mod Lawful
 pub mod Lists

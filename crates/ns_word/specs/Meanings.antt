@@ -13,9 +13,9 @@ use Rattle.ns_model.specs.Truths.{Truths}
 use Rattle.ns_queue.specs.declared.waiter.Waiter.{Waiter}
 use Rattle.ns_word.specs.declared.word.Releasing.{Releasing}
 use Rattle.ns_word.specs.declared.word.Releasing.TheVariants.{QuietWriter}
-use Rattle.ns_word.specs.declared.limits.Limits.{Limits}
-use Rattle.ns_word.specs.declared.limits.Cause.{Cause}
-use Rattle.ns_word.specs.declared.limits.Cause.TheVariants.{Expired, Notified}
+use Rattle.ns_env.specs.declared.limits.Limits.{Limits}
+use Rattle.ns_env.specs.declared.limits.Cause.{Cause}
+use Rattle.ns_env.specs.declared.limits.Cause.TheVariants.{Expired, Notified}
 use Rattle.ns_word.specs.declared.wait.Subject.{Subject}
 use Rattle.ns_word.specs.declared.wait.Subject.TheVariants.{OnCondition, OnVariable}
 use Rattle.ns_word.specs.declared.view.Opening.TheVariants.{Locked}

@@ -1,13 +1,12 @@
 -- Waits, for a condition or for a condition variable.
-use Rattle.std.specs.Prelude.{◌≡◌, ℕ, Bool, ◌||◌, ◌==◌, if◌then◌else◌, is_some, Option, None, Some}
+use Rattle.std.specs.Prelude.{◌≡◌, ℕ, ◌==◌, if◌then◌else◌, Option, None, Some}
 use Rattle.ns_model.specs.declared.event.Mode.{Mode}
 use Rattle.ns_model.specs.declared.event.Answer.{Answer}
 use Rattle.ns_model.specs.declared.event.Answer.TheVariants.{Met, TimedOut, Canceled}
 use Rattle.ns_model.specs.declared.phase.Phase.{Phase}
 use Rattle.ns_model.specs.declared.phase.Phase.TheVariants.{Idle, Cond, Woken, Left}
-use Rattle.ns_word.specs.declared.limits.Limits.{Limits}
-use Rattle.ns_word.specs.declared.limits.Cause.{Cause}
-use Rattle.ns_word.specs.declared.limits.Cause.TheVariants.{Expired, Notified}
+use Rattle.ns_env.specs.declared.limits.Cause.{Cause}
+use Rattle.ns_env.specs.declared.limits.Cause.TheVariants.{Expired, Notified}
 use Rattle.ns_queue.specs.declared.waiter.Which.{Which}
 use Rattle.ns_queue.specs.declared.waiter.Which.TheVariants.{Lock, Cv}
 use Rattle.ns_word.specs.declared.word.Arrival.{Arrival}
@@ -67,10 +66,6 @@ IsWokenBy (OnVariable k) by = by ≡ Some k
 abbrev pub OutcomeFits : {C : Type 0} → Subject C → Outcome → Type 0
 OutcomeFits on (TheOutcome.Woken by) = IsWokenBy on by
 OutcomeFits on (Ended cause) = Unit {0}
-
--- something may end the wait early
-abbrev pub is_limited : Limits → Bool
-is_limited limits = is_some limits.deadline || is_some limits.note
 
 -- the mode in which the lock is acquired
 abbrev pub mode_for : {C : Type 0} → Aim C → Mode

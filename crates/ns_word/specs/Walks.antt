@@ -11,7 +11,7 @@ use Rattle.ns_word.specs.declared.word.Releasing.TheVariants.{QuietWriter}
 use Rattle.ns_word.specs.declared.word.Taking.TheVariants.{ToChange, ToQueue}
 use Rattle.ns_word.specs.declared.word.Arrival.{Arrival}
 use Rattle.ns_word.specs.declared.word.Arrival.TheVariants.{AsFresh}
-use Rattle.ns_word.specs.declared.limits.Cause.{Cause}
+use Rattle.ns_env.specs.declared.limits.Cause.{Cause}
 use Rattle.ns_word.specs.declared.wait.Subject.{Subject}
 use Rattle.ns_word.specs.declared.wait.Subject.TheVariants.{OnCondition, OnVariable}
 use Rattle.ns_word.specs.declared.wait.Wait.{Wait}
@@ -54,7 +54,8 @@ use Rattle.ns_word.specs.declared.walk.Reply.TheVariants.{Succeeded, Busy, Noisy
 use Rattle.ns_word.specs.declared.walk.Next.{Next}
 use Rattle.ns_word.specs.declared.walk.Next.TheVariants.{On, Idle, Done}
 use Rattle.ns_word.specs.Words.{is_woken, tries_of, may_acquire, needs_scan, word_taken}
-use Rattle.ns_word.specs.Waits.{answer_of, answer_of_wait, arrival_of, home_of, is_limited, mode_for, outcome_taken, phase_for, woken_by}
+use Rattle.ns_env.specs.Walks.{is_limited}
+use Rattle.ns_word.specs.Waits.{answer_of, answer_of_wait, arrival_of, home_of, mode_for, outcome_taken, phase_for, woken_by}
 
 -- ---- what a place wants
 

@@ -2,9 +2,9 @@
 
 ghost use Rattle.std.specs.Prelude.{◌≡◌, ⊤};
 
-use crate::limits::{Cause, Limits};
 use crate::wait::{Aim, Wait};
 use crate::word::{Arrival, Releasing, Taking, Word};
+use ns_env::limits::{Cause, Limits};
 use ns_model::event::Mode;
 use ns_queue::waiter::Which;
 use std::alloc::AllocError;

@@ -10,8 +10,8 @@ ghost use Rattle.ns_word.specs.declared.act.Act.TheVariants.{LoadFlag, Look, Pay
 ghost use Rattle.ns_word.specs.declared.act.Found.{Found};
 ghost use Rattle.ns_word.specs.declared.act.Found.TheVariants.{Flag, Looked, Made, Saw};
 ghost use Rattle.ns_word.specs.declared.act.Waking.{Waking};
-ghost use Rattle.ns_word.specs.declared.limits.Cause.{Cause};
-ghost use Rattle.ns_word.specs.declared.limits.Limits.{Limits};
+ghost use Rattle.ns_env.specs.declared.limits.Cause.{Cause};
+ghost use Rattle.ns_env.specs.declared.limits.Limits.{Limits};
 ghost use Rattle.ns_word.specs.declared.request.Request.TheVariants.{Await, Wake};
 ghost use Rattle.ns_model.specs.declared.event.Mode.{Mode};
 ghost use Rattle.ns_model.specs.declared.event.Mode.TheVariants.{Read};
@@ -36,7 +36,8 @@ ghost use Rattle.ns_word.specs.Courses.{course_after, CallGoes, SoFar};
 ghost use Rattle.ns_word.specs.Lawful.{IsLawful};
 ghost use Rattle.ns_word.specs.Meanings.{Course, course_from};
 ghost use Rattle.ns_word.specs.Steps.{LockState, Step, kept_by, taken_by, wake_of};
-ghost use Rattle.ns_word.specs.Waits.{answer_of, is_limited};
+ghost use Rattle.ns_env.specs.Walks.{is_limited};
+ghost use Rattle.ns_word.specs.Waits.{answer_of};
 ghost use Rattle.ns_word.specs.Walks.{want_of, got_of, calls_from_lock, walk_after, was_woken};
 ghost use Rattle.ns_word.specs.Words.{may_acquire, tries_of};
 

@@ -11,7 +11,7 @@ ghost use Rattle.ns_model.specs.Histories.{phase_of};
 ghost use Rattle.ns_model.specs.Sections.{is_met};
 ghost use Rattle.ns_queue.specs.declared.waiter.Waiter.{Waiter};
 ghost use Rattle.ns_queue.specs.Waiters.{is_long};
-ghost use Rattle.ns_word.specs.declared.limits.Cause.{Cause};
+ghost use Rattle.ns_env.specs.declared.limits.Cause.{Cause};
 ghost use Rattle.ns_word.specs.declared.wait.Aim.TheVariants.{ForWait};
 ghost use Rattle.ns_word.specs.declared.wait.Outcome.{Outcome};
 ghost use Rattle.ns_word.specs.declared.wait.Subject.TheVariants.{OnCondition, OnVariable};

@@ -1,10 +1,10 @@
 //! Waits, for a condition or for a condition variable.
 
 ghost use Rattle.std.specs.Prelude.{◌≡◌, ⊤};
-ghost use Rattle.ns_word.specs.Waits.{answer_of, answer_of_wait, arrival_of, home_of, is_limited, mode_for, outcome_taken, woken_by};
+ghost use Rattle.ns_word.specs.Waits.{answer_of, answer_of_wait, arrival_of, home_of, mode_for, outcome_taken, woken_by};
 
-use crate::limits::{Cause, Limits};
 use crate::word::{Arrival, Word};
+use ns_env::limits::{Cause, Limits};
 use ns_model::event::{Answer, Mode};
 use ns_queue::waiter::Which;
 use std::alloc::AllocError;
@@ -202,15 +202,6 @@ impl<C: Copy> Subject<C> {
             Subject::OnCondition(_) => Outcome::Ended(cause),
             Subject::OnVariable(_) => self.woken_by(flag),
         }
-    }
-}
-
-impl Limits {
-    /// Whether anything may end a wait early.
-    pub fn is_some(self) -> bool
-        ensures { result ≡ is_limited self }
-    {
-        self.deadline.is_some() || self.note.is_some()
     }
 }
 

@@ -34,12 +34,12 @@ ghost use Rattle.ns_word.specs.Walks.{want_queuing, want_leaving, want_waiting, 
 
 use crate::acquire_walk::AcquirePlace;
 use crate::act::{Act, Change, Found};
-use crate::limits::Cause;
 use crate::wait::{
     Aim, LeavePlace, Outcome, QueuePlace, Subject, Visit, Wait, WaitPlace, answer_of, arrival_of,
 };
 use crate::walk::{Next, Reply, Walk};
 use crate::word::{Arrival, Taking, Word};
+use ns_env::limits::Cause;
 use ns_model::event::Answer;
 
 /// Where a wait goes that tests its condition and has loaded so many cells.

@@ -98,18 +98,12 @@ pub enum Reply {
     Busy,
     /// Not released, since the section isn't quiet.
     Noisy,
-    /// A cell's value, or the number of a note that was made.
+    /// A cell's value.
     Number(u64),
-    /// No note was made, since 64 numbers are taken.
-    NotesFull,
-    /// Whether a note is notified, or a section is quiet.
+    /// Whether a section is quiet.
     Is(bool),
-    /// The expiry of a note, in ticks, if it has one.
-    Expiry(Option<u64>),
     /// How a wait came back.
     Answered(Answer),
-    /// The call's need was not met as it began. It made no step, and no walk answers it.
-    Misuse,
 }
 
 /// Where a walk goes.

@@ -5,7 +5,7 @@ use Rattle.std.proofs.lemmas.Bool.{cases_eq, ne_eqb}
 use Rattle.std.proofs.lemmas.List.{take_more, map-append, length-map}
 use Rattle.std.specs.Option.{option_map_or}
 use Rattle.ns_word.specs.declared.view.SeatView.{SeatView}
-use Rattle.ns_word.specs.declared.env_walk.EnvWalk.{EnvWalk}
+use Rattle.ns_env.specs.declared.walk.EnvWalk.{EnvWalk}
 use Rattle.ns_world.specs.declared.seat.Seat.{Seat}
 use Rattle.ns_world.specs.Performs.{view_of}
 use Rattle.ns_world.specs.World.{is_walking, is_asking, is_busy}

@@ -1,30 +1,38 @@
 -- No seat is past its last call.
-use Rattle.std.proofs.Common.{◌≡◌, ◌≢◌, ℕ, zero, suc, ◌+◌, ◌<◌, ◌≤◌, inl, inr, Bool, true, false, cond, List, [], ◌∷◌, None, Some, is_some, Vec, Global, length, map, get_or, slice_set, slice_get, slice_index, replicate, refl, ap, sym, ◌∙◌, subst, arith}
+use Rattle.std.proofs.Common.{◌≡◌, ◌≢◌, ℕ, zero, suc, ◌+◌, ◌<◌, ◌≤◌, inl, inr, Bool, true, false, cond, List, [], ◌∷◌, None, Some, is_some, ◌||◌, Option, Vec, Global, length, map, get_or, slice_set, slice_get, slice_index, replicate, refl, ap, sym, ◌∙◌, subst, arith}
 use Rattle.std.specs.Prelude.{All, IfSome}
 use Rattle.std.proofs.lemmas.Bool.{cases_eq}
 use Rattle.std.proofs.lemmas.List.{length-set, get_or-set_same, get_or-set_other}
 use Rattle.std.proofs.lemmas.List.Elements.{All-head, All-tail, All-nil}
 use Rattle.std.proofs.lemmas.Option.{slice_get_within}
-use Rattle.ns_word.specs.declared.walk.Reply.{Reply}
+use Rattle.ns_world.specs.declared.reply.Reply.{Reply}
 use Rattle.ns_word.specs.declared.walk.Next.{Next}
 use Rattle.ns_word.specs.declared.walk.Next.TheVariants.{On, Done}
 use Rattle.ns_word.specs.declared.walk.Next.TheVariants as TheNext
-use Rattle.ns_word.specs.declared.env_walk.EnvNext.{EnvNext}
-use Rattle.ns_word.specs.declared.env_walk.EnvNext.TheVariants.{Go, Repeat, Over, LookOver}
-use Rattle.ns_word.specs.EnvWalks.{env_got_of, env_walk_after}
+use Rattle.ns_env.specs.declared.walk.EnvNext.{EnvNext}
+use Rattle.ns_env.specs.declared.walk.EnvNext.TheVariants.{Go, Repeat, Over, LookOver}
+use Rattle.ns_env.specs.Walks.{env_got_of, env_walk_after}
 use Rattle.ns_word.specs.Walks.{got_of, walk_after}
 use Rattle.ns_world.specs.Asks.{env_step_of}
 use Rattle.ns_world.specs.declared.call.Call.{Call}
 use Rattle.ns_world.specs.declared.schedule.Line.{Line}
 use Rattle.ns_world.specs.declared.step.Step.{Step}
 use Rattle.ns_world.specs.declared.step.Step.TheVariants.{Went, Idle, Finished, Nothing}
-use Rattle.ns_world.specs.Calls.{CallInRange, start_of, mode_of}
+use Rattle.ns_world.specs.Calls.{CallInRange, start_of, object_start, mode_of}
 use Rattle.ns_world.specs.Performs.{step_of}
 use Rattle.ns_world.specs.Looks.{look_of}
 use Rattle.ns_world.specs.World.{Now, Goes, LookGoes, Moves, is_walking, is_asking, is_busy}
 use Rattle.ns_world.specs.Runs.{Progress, progress, progressed, calls_of, GoesOnOrBegins, TurnOf, Counts, IsCounted, ListFits}
 use Rattle.ns_world.proofs.Busy.{both, walking_at, walking_set_same, walking_set_other, asking_set_same, asking_set_other, asking_set_none}
-use Rattle.ns_world.proofs.Turns.{is_busy_of, is_idle_of, begun_others}
+use Rattle.ns_world.proofs.Turns.{is_idle_of, is_whole_busy, is_whole_idle, begun_others}
+use Rattle.ns_world.proofs.Walks.{put_there, put_none}
+use Rattle.ns_world.specs.declared.object_walk.ObjectNext.{ObjectNext}
+use Rattle.ns_world.specs.declared.object_walk.ObjectNext.TheVariants as TheObject
+use Rattle.ns_world.specs.declared.object_walk.ObjectWalk.{ObjectWalk}
+use Rattle.ns_world.specs.declared.objects.Objects.{Objects}
+use Rattle.ns_world.specs.Objects.{walk_in, object_step_of, objects_begun}
+use Rattle.ns_world.specs.ObjectWalks.{object_got, object_after}
+use Rattle.ns_world.specs.Whole.{Whole, WholeMoves, whole_busy}
 
 -- ---- the lists
 
@@ -58,6 +66,16 @@ over_unasked (Repeat walk) reply e = absurd (cc)
 over_unasked (Over answer) reply e = refl
 over_unasked (LookOver cause) reply e = refl
 
+-- a call on counters and once cells that is over leaves its seat nowhere
+over_nowhere : (next : ObjectNext) (reply : Reply) → Finished reply ≡ object_step_of next → object_after next ≡ None
+over_nowhere (TheObject.Go walk) reply e = absurd (cc)
+over_nowhere (TheObject.Repeat walk) reply e = absurd (cc)
+over_nowhere (TheObject.Over answer) reply e = refl
+
+begun_elsewhere : (objects : Objects) (seat : ℕ) (place : Option ObjectWalk) (other : ℕ) → other ≢ seat → walk_in (objects_begun objects seat place).walks other ≡ walk_in objects.walks other
+begun_elsewhere objects seat None other ne = refl
+begun_elsewhere objects seat (Some walk) other ne = put_there objects.walks seat (Some walk) other ne
+
 set_others : (over : List ℕ) (seat n other : ℕ) → other ≢ seat → slice_index (slice_set over seat n) other ≡ slice_index over other
 set_others over seat n other ne = get_or-set_other over seat other n 0 ne
 
@@ -68,13 +86,13 @@ zeros (suc n) (suc i) = zeros n i
 
 module _ {C : Type 0} {N : ℕ} where
   -- a seat and its count change, and no other's
-  changes : (old new : Now C N) (over over' : List ℕ) (seat : ℕ) →
-      ((other : ℕ) → other ≢ seat → is_busy new.state.views new.asking other ≡ is_busy old.state.views old.asking other) → ((other : ℕ) → other ≢ seat → slice_index over' other ≡ slice_index over other) →
-      slice_index over' seat + cond (is_busy new.state.views new.asking seat) 1 0 ≤ 256 →
-      ((other : ℕ) → slice_index over other + cond (is_busy old.state.views old.asking other) 1 0 ≤ 256) → (other : ℕ) → slice_index over' other + cond (is_busy new.state.views new.asking other) 1 0 ≤ 256
+  changes : (old new : Whole C N) (over over' : List ℕ) (seat : ℕ) →
+      ((other : ℕ) → other ≢ seat → whole_busy new other ≡ whole_busy old other) → ((other : ℕ) → other ≢ seat → slice_index over' other ≡ slice_index over other) →
+      slice_index over' seat + cond (whole_busy new seat) 1 0 ≤ 256 →
+      ((other : ℕ) → slice_index over other + cond (whole_busy old other) 1 0 ≤ 256) → (other : ℕ) → slice_index over' other + cond (whole_busy new other) 1 0 ≤ 256
   changes old new over over' seat same count here p other =
       elim (cases_eq other seat) [
-        | inl e ↦ subst (λ n. slice_index over' n + cond (is_busy new.state.views new.asking n) 1 0 ≤ 256) (sym e) here
+        | inl e ↦ subst (λ n. slice_index over' n + cond (whole_busy new n) 1 0 ≤ 256) (sym e) here
         | inr ne ↦ rw (same other ne, count other ne) (p other)
       ]
 
@@ -121,21 +139,34 @@ module _ {C : Type 0} {N : ℕ} where
       (ap (λ (world : Now C N). is_walking world.state.views seat) asks.others ∙ walking_at old.state.views seat asks.view asks.at ∙ ap is_some asks.idle)
       (ap (λ askings. is_asking askings seat) asks.makes.becomes ∙ asking_set_same old.asking seat _ (slice_get_within old.asking seat (Some asks.makes.walk) asks.makes.walks) ∙ over_unasked (env_got_of asks.makes.walk asks.found) reply asks.answers)
 
+  whole_others : (old new : Whole C N) (seat : ℕ) (step : Step) → WholeMoves old new seat step → (other : ℕ) → other ≢ seat → whole_busy new other ≡ whole_busy old other
+  whole_others old new seat step (inl p) other ne = (λ i. moves_others old.lock new.lock seat step p.moves other ne i || is_some (walk_in (p.same i).walks other))
+  whole_others old new seat step (inr p) other ne =
+      (λ i. is_busy (p.same i).state.views (p.same i).asking other || is_some ((ap (λ (o : Objects). walk_in o.walks other) p.operated.becomes ∙ put_there old.objects.walks seat (object_after (object_got p.walk p.operated.found)) other ne) i))
+
+  whole_over : (old new : Whole C N) (seat : ℕ) (reply : Reply) → WholeMoves old new seat (Finished reply) → whole_busy new seat ≡ false
+  whole_over old new seat reply (inl p) = (λ i. moves_over old.lock new.lock seat reply p.moves i || is_some ((ap (λ (o : Objects). walk_in o.walks seat) p.same ∙ p.elsewhere) i))
+  whole_over old new seat reply (inr p) =
+      (λ i. (ap (λ (world : Now C N). is_busy world.state.views world.asking seat) p.same ∙ is_idle_of old.lock seat p.idle) i
+      || is_some ((ap (λ (o : Objects). walk_in o.walks seat) p.operated.becomes ∙ ap (λ w. walk_in (slice_set old.objects.walks seat w) seat) (over_nowhere (object_got p.walk p.operated.found) reply p.operated.answers) ∙ put_none old.objects.walks seat) i))
+
   -- a call that goes on or begins is one of the seat's, so it is not past its last
-  leads_below : (lists : List (List (Call C))) (p : Progress C N) (seat : ℕ) (begun : Now C N) → length (calls_of lists seat) ≤ 256 → GoesOnOrBegins lists p seat begun →
-      slice_index p.over seat + cond (is_busy p.world.state.views p.world.asking seat) 1 0 ≤ 256 → slice_index p.over seat + 1 ≤ 256
+  leads_below : (lists : List (List (Call C))) (p : Progress C N) (seat : ℕ) (begun : Whole C N) → length (calls_of lists seat) ≤ 256 → GoesOnOrBegins lists p seat begun →
+      slice_index p.over seat + cond (whole_busy p.world seat) 1 0 ≤ 256 → slice_index p.over seat + 1 ≤ 256
   leads_below lists p seat begun few (inl busy) most =
-      let yes = is_busy_of p.world seat busy.0 in
+      let yes = is_whole_busy p.world seat busy.0 in
       omega (arith, rw yes at most)
   leads_below lists p seat begun few (inr called) most =
       let within = slice_get_within (calls_of lists seat) (slice_index p.over seat) called.0 called.1 in
       omega (arith, within, few)
 
-  leads_others : (lists : List (List (Call C))) (p : Progress C N) (seat : ℕ) (begun : Now C N) → GoesOnOrBegins lists p seat begun →
-      (other : ℕ) → other ≢ seat → is_busy begun.state.views begun.asking other ≡ is_busy p.world.state.views p.world.asking other
-  leads_others lists p seat begun (inl busy) other ne = ap (λ (world : Now C N). is_busy world.state.views world.asking other) busy.1
+  leads_others : (lists : List (List (Call C))) (p : Progress C N) (seat : ℕ) (begun : Whole C N) → GoesOnOrBegins lists p seat begun →
+      (other : ℕ) → other ≢ seat → whole_busy begun other ≡ whole_busy p.world other
+  leads_others lists p seat begun (inl busy) other ne = ap (λ (world : Whole C N). whole_busy world other) busy.1
   leads_others lists p seat begun (inr called) other ne =
-      ap (λ (world : Now C N). is_busy world.state.views world.asking other) called.2.begins ∙ begun_others p.world seat called.2.view (start_of N (mode_of called.2.view.held) called.0) other ne
+      let s = called.2.starts in
+      (λ i. (ap (λ (world : Now C N). is_busy world.state.views world.asking other) s.begins ∙ begun_others p.world.lock seat s.view (start_of N (mode_of s.view.held) called.0) other ne) i
+      || is_some ((ap (λ (o : Objects). walk_in o.walks other) called.2.becomes ∙ begun_elsewhere p.world.objects seat (object_start called.0) other ne) i))
 
   -- a turn keeps the count
   pub turn_counted : (lists : List (List (Call C))) (p q : Progress C N) (seat : ℕ) (step : Step) → length (calls_of lists seat) ≤ 256 → seat < 64 → TurnOf lists p seat step q →
@@ -144,27 +175,27 @@ module _ {C : Type 0} {N : ℕ} where
       subst (λ (x : Progress C N). IsCounted x.world x.over) (sym t.after) (record {
         many = c.many;
         most = changes p.world t.world p.over p.over seat
-            (λ other ne. moves_others t.begun t.world seat Went t.steps other ne ∙ leads_others lists p seat t.begun t.leads other ne)
+            (λ other ne. whole_others t.begun t.world seat Went t.steps other ne ∙ leads_others lists p seat t.begun t.leads other ne)
             (λ other ne. refl)
-            (let below = leads_below lists p seat t.begun few t.leads (c.most seat) in omega (arith, below, bit_most (is_busy t.world.state.views t.world.asking seat)))
+            (let below = leads_below lists p seat t.begun few t.leads (c.most seat) in omega (arith, below, bit_most (whole_busy t.world seat)))
             c.most;
       })
   turn_counted lists p q seat Idle few low (inl t) c =
       subst (λ (x : Progress C N). IsCounted x.world x.over) (sym t.after) (record {
         many = c.many;
         most = changes p.world t.world p.over p.over seat
-            (λ other ne. moves_others t.begun t.world seat Idle t.steps other ne ∙ leads_others lists p seat t.begun t.leads other ne)
+            (λ other ne. whole_others t.begun t.world seat Idle t.steps other ne ∙ leads_others lists p seat t.begun t.leads other ne)
             (λ other ne. refl)
-            (let below = leads_below lists p seat t.begun few t.leads (c.most seat) in omega (arith, below, bit_most (is_busy t.world.state.views t.world.asking seat)))
+            (let below = leads_below lists p seat t.begun few t.leads (c.most seat) in omega (arith, below, bit_most (whole_busy t.world seat)))
             c.most;
       })
   turn_counted lists p q seat (Finished reply) few low (inl t) c =
       subst (λ (x : Progress C N). IsCounted x.world x.over) (sym t.after) (record {
         many = length-set p.over seat _ ∙ c.many;
         most = changes p.world t.world p.over (slice_set p.over seat (slice_index p.over seat + 1)) seat
-            (λ other ne. moves_others t.begun t.world seat (Finished reply) t.steps other ne ∙ leads_others lists p seat t.begun t.leads other ne)
+            (λ other ne. whole_others t.begun t.world seat (Finished reply) t.steps other ne ∙ leads_others lists p seat t.begun t.leads other ne)
             (λ other ne. set_others p.over seat (slice_index p.over seat + 1) other ne)
-            (rw (moves_over t.begun t.world seat reply t.steps, get_or-set_same p.over seat (slice_index p.over seat + 1) 0 (omega (arith, c.many, low)))
+            (rw (whole_over t.begun t.world seat reply t.steps, get_or-set_same p.over seat (slice_index p.over seat + 1) 0 (omega (arith, c.many, low)))
             (let below = leads_below lists p seat t.begun few t.leads (c.most seat) in omega (arith, below)))
             c.most;
       })
@@ -176,17 +207,18 @@ module _ {C : Type 0} {N : ℕ} where
             (λ other ne. refl)
             (λ other ne. set_others p.over seat (slice_index p.over seat + 1) other ne)
             (let within = slice_get_within (calls_of lists seat) (slice_index p.over seat) t.call t.next in
-            let idle = is_idle_of p.world seat (record { view = t.refused.1.view; at = t.refused.1.at; idle = t.refused.1.idle; unasked = t.refused.1.unasked }) in
+            let r = t.refused.1 in
+            let idle = is_whole_idle p.world seat (record { view = r.view; at = r.at; idle = r.idle; unasked = r.unasked }, t.refused.2) in
             rw (idle, get_or-set_same p.over seat (slice_index p.over seat + 1) 0 (omega (arith, c.many, low))) (omega (arith, within, few)))
             c.most;
       })
   turn_counted lists p q seat step few low (inr (inr t)) c = subst (λ (x : Progress C N). IsCounted x.world x.over) (sym t.after) c
 
   -- before the first turn
-  pub start_counted : (world : Now C N) → ((seat : ℕ) → is_busy world.state.views world.asking seat ≡ false) → IsCounted world (replicate 64 0)
+  pub start_counted : (world : Whole C N) → ((seat : ℕ) → whole_busy world seat ≡ false) → IsCounted world (replicate 64 0)
   start_counted world idle = record { many = refl; most = λ seat. rw (idle seat, zeros 64 seat) (omega arith) }
 
-  counts_now : (world new : Now C N) (over over' : List ℕ) (lines lines' : List Line) (seat : ℕ) (step : Step) → Counts over lines seat step (slice_index new.tests seat) over' lines' →
+  counts_now : (world new : Whole C N) (over over' : List ℕ) (lines lines' : List Line) (seat : ℕ) (step : Step) → Counts over lines seat step (slice_index new.lock.tests seat) over' lines' →
       progress new over' lines' ≡ progressed (progress world over lines) seat step new
   counts_now world new over over' lines lines' seat Went e = ap (λ o. progress new o lines') e.0 ∙ ap (λ l. progress new over l) e.1
   counts_now world new over over' lines lines' seat Idle e = ap (λ o. progress new o lines') e.0 ∙ ap (λ l. progress new over l) e.1
@@ -194,7 +226,7 @@ module _ {C : Type 0} {N : ℕ} where
   counts_now world new over over' lines lines' seat (Finished reply) e = ap (λ o. progress new o lines') e.0 ∙ ap (λ l. progress new (slice_set over seat (slice_index over seat + 1)) l) e.1
 
   -- what was counted, with the count of tests of the world after, is what the turn leaves
-  pub counts_progress : (world new : Now C N) (over over' : List ℕ) (lines lines' : List Line) (seat tests : ℕ) (step : Step) → tests ≡ slice_index new.tests seat → Counts over lines seat step tests over' lines' →
+  pub counts_progress : (world new : Whole C N) (over over' : List ℕ) (lines lines' : List Line) (seat tests : ℕ) (step : Step) → tests ≡ slice_index new.lock.tests seat → Counts over lines seat step tests over' lines' →
       progress new over' lines' ≡ progressed (progress world over lines) seat step new
   counts_progress world new over over' lines lines' seat tests step same e =
       counts_now world new over over' lines lines' seat step (subst (λ n. Counts over lines seat step n over' lines') same e)

@@ -1,42 +1,30 @@
 -- Each step extends what has happened to the clock and the notes.
-use Rattle.std.specs.Prelude.{nat_lt}
-use Rattle.std.proofs.Common.{Bool, true, false, cond, ◌∷◌, ℕ, ◌<◌, inl, inr, List, [], ◌++◌, Some, None, length, slice_set, refl, sym, ◌∙◌, subst}
+use Rattle.std.proofs.Common.{ℕ, ◌<◌, inl, inr, List, [], ◌++◌, Some, None, length, slice_set, refl, sym, ◌∙◌, subst}
 use Rattle.std.proofs.lemmas.List.{append-nil}
 use Rattle.std.proofs.lemmas.Option.{slice_get_within}
 use Rattle.ns_model.specs.declared.environment.EnvEvent.{EnvEvent}
-use Rattle.ns_word.specs.declared.env_walk.EnvNext.{EnvNext}
-use Rattle.ns_word.specs.declared.env_walk.EnvNext.TheVariants.{Go, LookOver}
-use Rattle.ns_word.specs.EnvWalks.{env_want_of, env_got_of, env_walk_after}
-use Rattle.ns_word.specs.EnvSteps.{EnvPlain, EnvEffect, IsLawfulEnv, IfMade}
+use Rattle.ns_env.specs.declared.walk.EnvNext.{EnvNext}
+use Rattle.ns_env.specs.declared.walk.EnvNext.TheVariants.{Go, LookOver}
+use Rattle.ns_env.specs.Walks.{env_want_of, env_got_of, env_walk_after}
+use Rattle.ns_env.specs.Asks.{EnvEffect, IsLawfulEnv, IfMade}
+use Rattle.ns_env.specs.Steps.{EnvPlain}
 use Rattle.ns_word.specs.Walks.{got_of, walk_after}
-use Rattle.ns_word.proofs.EnvKeeps.{set_here, keeps_env}
+use Rattle.ns_env.proofs.Asks.{set_here, keeps_env}
+use Rattle.ns_env.proofs.Keeps.{outcome_by}
 use Rattle.ns_world.specs.declared.step.Step.{Step}
 use Rattle.ns_world.specs.declared.step.Step.TheVariants.{Went, Idle, Finished, Nothing}
 use Rattle.ns_world.specs.Asks.{env_state}
 use Rattle.ns_world.specs.Looks.{look_of, note_in}
-use Rattle.ns_model.specs.declared.environment.EnvEvent.TheVariants.{Take}
-use Rattle.ns_word.specs.declared.env_act.EnvAct.{EnvAct}
-use Rattle.ns_word.specs.declared.env_act.EnvAct.TheVariants.{LoadNext, TakeNext, StoreNote, NotifyNote, MoveClock, LoadClock, LoadNote}
-use Rattle.ns_word.specs.declared.env_act.EnvFound.{EnvFound}
-use Rattle.ns_word.specs.declared.env_act.EnvFound.TheVariants.{NextNumber, Taken, Stored, Clock, Note}
-use Rattle.ns_world.specs.World.{Now, Goes, Acts, Asks, Looks, LookGoes, Moves, StepOf, IsLawfulWorld, LedTo, AreEnvBy, env_done, step_done}
+use Rattle.ns_env.specs.declared.act.EnvAct.{EnvAct}
+use Rattle.ns_env.specs.declared.act.EnvFound.{EnvFound}
+use Rattle.ns_world.specs.World.{Now, Goes, Acts, Asks, Looks, LookGoes, Moves, IsLawfulWorld, LedTo, AreEnvBy, env_done}
 use Rattle.ns_world.proofs.Looking.{first_if, noted}
 use Rattle.ns_world.proofs.Worlds.{env_begins}
 use Rattle.ns_word.proofs.Numbers.{set_same, set_again}
 
 -- what a step does to the clock and the notes is its seat's
 pub events_by : (seat : ℕ) (act : EnvAct) (old : EnvPlain) (found : EnvFound) (new : EnvPlain) (events : List EnvEvent) → EnvEffect seat act old found new events → AreEnvBy seat events
-events_by seat LoadNext old (NextNumber next) new events e = subst (AreEnvBy seat) (sym e.2) tt
-events_by seat TakeNext old (Taken number) new events e = subst (AreEnvBy seat) (sym e.2) (taken (nat_lt number 64)) where
-  taken : (b : Bool) → AreEnvBy seat (cond b (Take seat number ∷ []) [])
-  taken true = (refl, tt)
-  taken false = tt
-events_by seat (StoreNote note parent deadline) old Stored new events e = subst (AreEnvBy seat) (sym e.1) (refl, tt)
-events_by seat (NotifyNote note) old Stored new events e = subst (AreEnvBy seat) (sym e.1) (refl, tt)
-events_by seat (MoveClock moment) old Stored new events e = subst (AreEnvBy seat) (sym e.1) (refl, tt)
-events_by seat LoadClock old (Clock clock) new events e = subst (AreEnvBy seat) (sym e.2) tt
-events_by seat (LoadNote at) old (Note note) new events e = subst (AreEnvBy seat) (sym e.2) tt
-events_by seat act old found new events e = absurd e
+events_by seat act old found new events e = subst (AreEnvBy seat) (sym e.events_are) (outcome_by seat act old)
 
 module _ {C : Type 0} {N : ℕ} (events : List EnvEvent) (old new : Now C N) (seat : ℕ) (step : Step) (lawful : IsLawfulWorld old) (led : LedTo events old) where
   -- a step of the lock's machine, by a seat that has left the clock and the notes
@@ -73,14 +61,7 @@ module _ {C : Type 0} {N : ℕ} (events : List EnvEvent) (old new : Now C N) (se
       let kept = keeps_env events [] (env_state old.env old.asking) (env_state old.env (slice_set old.asking seat (env_walk_after (env_got_of p.place p.found)))) seat p.found (record { walk = p.place; walks = p.stands; effect = p.effect; becomes = refl }) led in
       looking within (env_got_of p.place p.found) (subst (λ es. IsLawfulEnv es (env_state old.env (slice_set old.asking seat (env_walk_after (env_got_of p.place p.found))))) (append-nil events) kept) p.goes
 
-  moves_led : (p : Moves old new seat step) → AreEnvBy seat (env_done p) × LedTo (events ++ env_done p) new
+  pub moves_led : (p : Moves old new seat step) → AreEnvBy seat (env_done p) × LedTo (events ++ env_done p) new
   moves_led (inl p) = nothing_more (acts_led p)
   moves_led (inr (inl p)) = (events_by seat (env_want_of p.makes.walk) (env_state old.env old.asking).plain p.found (env_state new.env new.asking).plain p.events p.makes.effect, asks_led p)
   moves_led (inr (inr p)) = nothing_more (looks_led p)
-
--- what has led to a world, and the events of a step, which are its seat's, lead to the world after it
-pub steps_led : {C : Type 0} {N : ℕ} (events : List EnvEvent) (old new : Now C N) (seat : ℕ) (step : Step) → IsLawfulWorld old → LedTo events old → (p : StepOf old new seat step) → AreEnvBy seat (step_done old new seat step p) × LedTo (events ++ step_done old new seat step p) new
-steps_led events old new seat Nothing lawful led p = (tt, subst (λ es. LedTo es new) (sym (append-nil events)) (subst (λ (world : Now _ _). LedTo events world) (sym p.0) led))
-steps_led events old new seat Went lawful led p = moves_led events old new seat Went lawful led p
-steps_led events old new seat Idle lawful led p = moves_led events old new seat Idle lawful led p
-steps_led events old new seat (Finished reply) lawful led p = moves_led events old new seat (Finished reply) lawful led p

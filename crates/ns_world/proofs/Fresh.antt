@@ -6,12 +6,12 @@ use Rattle.ns_word.specs.Begins.{fresh_views}
 use Rattle.ns_world.specs.declared.seat.Seat.{Seat}
 use Rattle.ns_model.specs.Truths.{Truths}
 use Rattle.ns_model.specs.Environments.{NoteStanding, no_note}
-use Rattle.ns_word.specs.EnvWalks.{standing_of, state_of}
-use Rattle.ns_word.proofs.EnvBegins.{fresh_lawful}
+use Rattle.ns_env.specs.Notes.{standing_of, state_of}
+use Rattle.ns_env.proofs.Begins.{fresh_lawful}
 use Rattle.ns_word.proofs.Starts.{lawful_fresh}
 use Rattle.ns_world.specs.Asks.{note_at}
 use Rattle.ns_world.specs.Performs.{view_of, flag_at}
-use Rattle.ns_word.specs.EnvSteps.{IfMade}
+use Rattle.ns_env.specs.Asks.{IfMade}
 use Rattle.ns_world.specs.Looks.{AsksFor, note_in}
 use Rattle.ns_word.specs.Views.{AreNumbered}
 use Rattle.ns_world.specs.World.{IsLawfulWorld, fresh}

@@ -4,6 +4,8 @@ pub mod EnvGrows
 pub mod Fresh
 pub mod Looking
 pub mod Mapped
+pub mod ObjectCourses
+pub mod ObjectLaw
 pub mod Placed
 pub mod Places
 pub mod Released
@@ -13,4 +15,7 @@ pub mod States
 pub mod Turns
 pub mod Underway
 pub mod Waited
+pub mod Walks
+pub mod WholeCalls
+pub mod Wholes
 pub mod Worlds

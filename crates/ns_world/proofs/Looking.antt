@@ -1,12 +1,11 @@
 -- The looks of a wait, over plain data: where a wait goes that looks, and what it needs of the notes.
-use Rattle.std.proofs.Common.{◌≡◌, ℕ, ◌+◌, ◌-◌, not, Bool, true, false, cond, List, [], Option, None, Some, IsSome, refl, ap, sym, ◌∙◌, subst, eq-eqb, inl, inr}
+use Rattle.std.proofs.Common.{◌≡◌, ℕ, ◌+◌, ◌-◌, not, Bool, true, false, cond, List, [], Option, None, Some, IsSome, refl, ap, sym, ◌∙◌, subst}
 use Rattle.std.specs.Prelude.{nat_lt, ◌==◌}
-use Rattle.std.proofs.lemmas.Bool.{cases_eq, ne_eqb}
 use Rattle.ns_model.specs.declared.environment.EnvEvent.{EnvEvent}
-use Rattle.ns_model.specs.Environments.{NoteStanding, is_due, is_over, but_at, made_note, notified_note}
-use Rattle.ns_word.specs.declared.limits.Limits.{Limits}
-use Rattle.ns_word.specs.declared.limits.Cause.{Cause}
-use Rattle.ns_word.specs.declared.limits.Cause.TheVariants.{Expired}
+use Rattle.ns_model.specs.Environments.{NoteStanding, is_due, is_over}
+use Rattle.ns_env.specs.declared.limits.Limits.{Limits}
+use Rattle.ns_env.specs.declared.limits.Cause.{Cause}
+use Rattle.ns_env.specs.declared.limits.Cause.TheVariants.{Expired}
 use Rattle.ns_word.specs.declared.word.Word.{Word}
 use Rattle.ns_word.specs.declared.word.Releasing.{Releasing}
 use Rattle.ns_word.specs.declared.word.Arrival.{Arrival}
@@ -29,11 +28,11 @@ use Rattle.ns_word.specs.declared.acquire_walk.AcquirePlace.TheVariants.{Acquire
 use Rattle.ns_word.specs.declared.release_walk.ReleasePlace.TheVariants.{ReleaseLoad, ReleaseExchange, TakeToScan, ScanCells, ScanAndRelease, Pay}
 use Rattle.ns_word.specs.declared.cell_walk.Judging.TheVariants.{ToTell, ToRelease}
 use Rattle.ns_word.specs.declared.cell_walk.CellPlace.TheVariants.{GetLoad, SetLoad, SetStore, QuietCells, QuietLast}
-use Rattle.ns_word.specs.declared.env_walk.Chain.TheVariants.{ForLook}
-use Rattle.ns_word.specs.declared.env_walk.EnvWalk.{EnvWalk}
-use Rattle.ns_word.specs.declared.env_walk.EnvWalk.TheVariants.{ClockLoad, NoteLoad}
-use Rattle.ns_word.specs.declared.env_walk.EnvNext.{EnvNext}
-use Rattle.ns_word.specs.declared.env_walk.EnvNext.TheVariants.{Go, LookOver}
+use Rattle.ns_env.specs.declared.walk.Chain.TheVariants.{ForLook}
+use Rattle.ns_env.specs.declared.walk.EnvWalk.{EnvWalk}
+use Rattle.ns_env.specs.declared.walk.EnvWalk.TheVariants.{ClockLoad, NoteLoad}
+use Rattle.ns_env.specs.declared.walk.EnvNext.{EnvNext}
+use Rattle.ns_env.specs.declared.walk.EnvNext.TheVariants.{Go, LookOver}
 use Rattle.ns_word.specs.declared.walk.Walk.{Walk}
 use Rattle.ns_word.specs.declared.show_walk.ShowPlace.TheVariants.{ShowLoad, TakeToShow, ReturnShown}
 use Rattle.ns_word.specs.declared.signal_walk.SignalPlace.TheVariants.{SignalLoad, TakeToWake, WakeAndReturn, PayTheWoken}
@@ -44,16 +43,15 @@ use Rattle.ns_word.specs.declared.act.Act.{Act}
 use Rattle.ns_word.specs.declared.act.Act.TheVariants.{Look}
 use Rattle.ns_word.specs.declared.act.Found.{Found}
 use Rattle.ns_word.specs.declared.act.Found.TheVariants.{Saw, Made, Cell, Quiet, Tested, Scanned, Paid, Left, Woke, Flag, Looked}
-use Rattle.ns_word.specs.declared.env_act.EnvAct.{EnvAct}
-use Rattle.ns_word.specs.declared.env_act.EnvAct.TheVariants.{LoadNext, TakeNext, StoreNote, NotifyNote, MoveClock, LoadClock, LoadNote}
-use Rattle.ns_word.specs.declared.env_act.EnvFound.{EnvFound}
-use Rattle.ns_word.specs.declared.env_act.EnvFound.TheVariants.{NextNumber, Taken, Stored, Clock, Note}
-use Rattle.ns_word.specs.EnvWalks.{standing_of, env_want_of, env_got_of, passed, up_to, stopped}
-use Rattle.ns_word.specs.EnvSteps.{EnvPlain, EnvEffect, IfMade, IsFirstAsk, events_of}
+use Rattle.ns_env.specs.declared.act.EnvFound.{EnvFound}
+use Rattle.ns_env.specs.Walks.{env_want_of, env_got_of, passed, up_to, stopped}
+use Rattle.ns_env.specs.Asks.{EnvEffect, IfMade, IsFirstAsk}
+use Rattle.ns_env.specs.Steps.{EnvPlain, outcome}
 use Rattle.ns_word.proofs.Answers.{look_of_act, try_looks_not, acquire_looks_not, release_looks_not, cells_look_not, leaver_looks_not, judge_looks_not, signal_looks_not, show_looks_not}
 use Rattle.ns_word.specs.Walks.{want_trying, want_acquiring, want_releasing, want_in_cells, want_leaving, want_signaling, want_showing, judge_of, want_of, got_of, got_waiting, walk_after, acquire_by, acquired_for, back_with, release_by, test_place, unmet_by}
 use Rattle.ns_word.specs.Words.{may_acquire, needs_scan}
-use Rattle.ns_word.specs.Waits.{is_limited, mode_for}
+use Rattle.ns_env.specs.Walks.{is_limited}
+use Rattle.ns_word.specs.Waits.{mode_for}
 use Rattle.ns_model.specs.Truths.{Truths}
 use Rattle.ns_word.specs.Steps.{Part, Effect, MayShow, held_after}
 use Rattle.ns_world.specs.Looks.{looks_at, came_back, look_place, look_of, LookFits, AsksFor, note_for, note_in}
@@ -165,30 +163,6 @@ module _ {C : Type 0} (N : ℕ) (P : Option ℕ → Type 0) where
   pub noted : (walk : Walk C) (found : Found) → P None → P (note_in (Some walk)) → P (note_in (walk_after (got_of N walk found)))
   noted walk found none p = (walk_noted walk found none p).note
 
--- a note that is made stays made
-but_made : (notes : ℕ → NoteStanding) (at : ℕ) (note : NoteStanding) (n : ℕ) → note.made ≡ true → (notes n).made ≡ true → ((but_at at note notes) n).made ≡ true
-but_made notes at note n p q = elim (n == at) as (λ b. (cond b note (notes n)).made ≡ true) [ true ↦ p | false ↦ q ]
-
-but_called : (notes : ℕ → NoteStanding) (at n : ℕ) → (notes n).made ≡ true → ((but_at at (notified_note (notes at)) notes) n).made ≡ true
-but_called notes at n q = elim (cases_eq n at) [
-  | inl e ↦ rw (eq-eqb n at e) (subst (λ m. (notes m).made ≡ true) e q)
-  | inr ne ↦ rw (ne_eqb n at ne) q
-]
-
-pub made_stays : (seat : ℕ) (act : EnvAct) (old new : EnvPlain) (found : EnvFound) (events : List EnvEvent) → EnvEffect seat act old found new events → (n : ℕ) → (old.notes n).made ≡ true → (new.notes n).made ≡ true
-made_stays seat LoadNext old new (NextNumber next) events e n p = subst (λ (x : EnvPlain). (x.notes n).made ≡ true) (sym e.1) p
-made_stays seat TakeNext old new (Taken number) events e n p = subst (λ (x : EnvPlain). (x.notes n).made ≡ true) (sym e.1) p
-made_stays seat (StoreNote note parent deadline) old new Stored events e n p = subst (λ (x : EnvPlain). (x.notes n).made ≡ true) (sym e.0) (but_made old.notes note (made_note parent deadline) n refl p)
-made_stays seat (NotifyNote note) old new Stored events e n p = subst (λ (x : EnvPlain). (x.notes n).made ≡ true) (sym e.0) (but_called old.notes note n p)
-made_stays seat (MoveClock moment) old new Stored events e n p = subst (λ (x : EnvPlain). (x.notes n).made ≡ true) (sym e.0) p
-made_stays seat LoadClock old new (Clock clock) events e n p = subst (λ (x : EnvPlain). (x.notes n).made ≡ true) (sym e.1) p
-made_stays seat (LoadNote at) old new (Note note) events e n p = subst (λ (x : EnvPlain). (x.notes n).made ≡ true) (sym e.1) p
-made_stays seat act old new found events e n p = absurd e
-
-pub if_made_stays : (seat : ℕ) (act : EnvAct) (old new : EnvPlain) (found : EnvFound) (events : List EnvEvent) → EnvEffect seat act old found new events → (given : Option ℕ) → IfMade old.notes given → IfMade new.notes given
-if_made_stays seat act old new found events e None p = tt
-if_made_stays seat act old new found events e (Some n) p = made_stays seat act old new found events e n p
-
 -- ---- where a look begins
 
 -- the first place of a look that is to begin, if one is
@@ -236,20 +210,16 @@ module _ {C : Type 0} where
 -- ---- a step of a look
 
 -- it is a load, and no event
-pub look_effect : (limits : Limits) (place : EnvWalk) → LookFits limits place → (seat : ℕ) (old new : EnvPlain) (found : EnvFound) → EnvEffect seat (env_want_of place) old found new (events_of seat (env_want_of place) found) →
+pub look_effect : (limits : Limits) (place : EnvWalk) → LookFits limits place → (seat : ℕ) (old new : EnvPlain) (found : EnvFound) → EnvEffect seat (env_want_of place) old found new (outcome seat (env_want_of place) old).events →
     EnvEffect seat (env_want_of place) old found new [] × (new ≡ old)
-look_effect limits (ClockLoad (ForLook by)) fits seat old new (Clock clock) e = (e, e.1)
-look_effect limits (NoteLoad (ForLook by) clock note) fits seat old new (Note state) e = (e, e.1)
-look_effect limits (ClockLoad (ForLook by)) fits seat old new found e = absurd e
-look_effect limits (NoteLoad (ForLook by) clock note) fits seat old new found e = absurd e
+look_effect limits (ClockLoad (ForLook by)) fits seat old new found e = (e, e.leaves)
+look_effect limits (NoteLoad (ForLook by) clock note) fits seat old new found e = (e, e.leaves)
 look_effect limits place fits seat old new found e = absurd fits
 
 -- so it leaves the clock and the notes as they are
 pub look_stays : (limits : Limits) (place : EnvWalk) → LookFits limits place → (seat : ℕ) (old new : EnvPlain) (found : EnvFound) → EnvEffect seat (env_want_of place) old found new [] → new ≡ old
-look_stays limits (ClockLoad (ForLook by)) fits seat old new (Clock clock) e = e.1
-look_stays limits (NoteLoad (ForLook by) clock note) fits seat old new (Note state) e = e.1
-look_stays limits (ClockLoad (ForLook by)) fits seat old new found e = absurd e
-look_stays limits (NoteLoad (ForLook by) clock note) fits seat old new found e = absurd e
+look_stays limits (ClockLoad (ForLook by)) fits seat old new found e = e.leaves
+look_stays limits (NoteLoad (ForLook by) clock note) fits seat old new found e = e.leaves
 look_stays limits place fits seat old new found e = absurd fits
 
 -- it goes on, or shows what its limits may show
@@ -278,11 +248,11 @@ over_leads by limits clock false None e some = passed_leads by limits clock e
 over_leads by limits clock false (Some n) e some = (e, some)
 
 pub look_leads : (limits : Limits) (place : EnvWalk) → LookFits limits place → (seat : ℕ) (old new : EnvPlain) (found : EnvFound) (events : List EnvEvent) → EnvEffect seat (env_want_of place) old found new events → LookLeads limits (env_got_of place found)
-look_leads limits (ClockLoad (ForLook by)) fits seat old new (Clock clock) events e = clock_leads by limits clock by.note fits refl
-look_leads limits (NoteLoad (ForLook by) clock note) fits seat old new (Note state) events e = over_leads by limits clock (is_over clock (standing_of state)) state.parent fits.0 fits.1
-look_leads limits (ClockLoad (ForLook by)) fits seat old new found events e = absurd e
-look_leads limits (NoteLoad (ForLook by) clock note) fits seat old new found events e = absurd e
-look_leads limits place fits seat old new found events e = absurd fits
+look_leads limits place fits seat old new found events e = subst (λ (f : EnvFound). LookLeads limits (env_got_of place f)) (sym e.found_is) (finds place fits) where
+  finds : (place : EnvWalk) → LookFits limits place → LookLeads limits (env_got_of place (outcome seat (env_want_of place) old).found)
+  finds (ClockLoad (ForLook by)) fits = clock_leads by limits old.clock by.note fits refl
+  finds (NoteLoad (ForLook by) clock note) fits = over_leads by limits clock (is_over clock (old.notes note)) (old.notes note).parent fits.0 fits.1
+  finds place fits = absurd fits
 
 -- what it shows is a step of the wait
 pub shown_effect : {C : Type 0} {N : ℕ} (truths : Truths C) (seat : ℕ) (act : Act C) (limits : Limits) (cause : Option Cause) (part : Part C N) → looks_at act ≡ Some limits → MayShow limits cause →

@@ -1,14 +1,15 @@
 -- What a call that begins is in a world.
 use Rattle.std.proofs.Common.{◌≡◌, ℕ, ◌<◌, ◌||◌, true, false, List, Option, Some, None, length, map, get_or, is_some, slice_get, slice_set, refl, ap, sym, ◌∙◌, inl, inr}
+use Rattle.ns_counters.specs.declared.object.Setup.{Setup}
 use Rattle.ns_model.specs.declared.event.Event.{Event}
 use Rattle.ns_queue.specs.Queues.{Lists}
 use Rattle.ns_word.specs.declared.word.Word.{Word}
 use Rattle.ns_word.specs.declared.walk.Walk.{Walk}
-use Rattle.ns_word.specs.declared.env_walk.EnvWalk.{EnvWalk}
+use Rattle.ns_env.specs.declared.walk.EnvWalk.{EnvWalk}
 use Rattle.ns_model.specs.Truths.{Truths}
 use Rattle.ns_world.specs.declared.call.Call.{Call}
 use Rattle.ns_world.specs.declared.call.Start.{Start}
-use Rattle.ns_world.specs.declared.call.Start.TheVariants.{OnLock, Ask}
+use Rattle.ns_world.specs.declared.call.Start.TheVariants.{OnLock, Ask, OnObjects}
 use Rattle.ns_world.specs.declared.environment.Environment.{Environment}
 use Rattle.ns_world.specs.declared.seat.Seat.{Seat}
 use Rattle.ns_world.specs.Asks.{plain_of}
@@ -57,10 +58,18 @@ module _ {C : Type 0} {N : ℕ} (truths : Truths C) (word : Word) (row : List �
         tests = map-set (λ s. s.tests) seats i next k;
         asking = map-set (λ s. s.asking) seats i next k;
       })
+  begun_here (OnObjects walk) =
+      let old : Now C N = now_with truths word row queues flags env seats history in
+      let next : Seat C N = placed (get_or seats i seat) (OnObjects walk) in
+      (λ k. record old {
+        state = record old.state { views = (map-set view_of seats i next ∙ sym (map-set view_of seats i (get_or seats i seat)) ∙ ap (map view_of) (set-get_or seats i seat)) k };
+        tests = map-set (λ s. s.tests) seats i next k;
+        asking = (map-set (λ s. s.asking) seats i next ∙ sym (map-set (λ s. s.asking) seats i (get_or seats i seat)) ∙ ap (map (λ s. s.asking)) (set-get_or seats i seat)) k;
+      })
 
-  pub starts_here : (call : Call C) (start : Start C) → start ≡ start_of N (mode_of (get_or seats i seat).held) call → (get_or seats i seat).walk ≡ None → (get_or seats i seat).asking ≡ None → CallFits (plain_of env).notes call (mode_of (get_or seats i seat).held) →
-      Starts (now_with truths word row queues flags env seats history) (now_with truths word row queues flags env (slice_set seats i (placed (get_or seats i seat) start)) history) i call
-  starts_here call start is walk ask fits = record {
+  pub starts_here : (setup : Setup) (call : Call C) (start : Start C) → start ≡ start_of N (mode_of (get_or seats i seat).held) call → (get_or seats i seat).walk ≡ None → (get_or seats i seat).asking ≡ None → CallFits setup (plain_of env).notes call (mode_of (get_or seats i seat).held) →
+      Starts setup (now_with truths word row queues flags env seats history) (now_with truths word row queues flags env (slice_set seats i (placed (get_or seats i seat) start)) history) i call
+  starts_here setup call start is walk ask fits = record {
     view = view_of (get_or seats i seat);
     at = got-map view_of seats i seat within;
     idle = walk;

@@ -5,7 +5,7 @@ use Rattle.ns_model.specs.declared.event.Mode.{Mode}
 use Rattle.ns_model.specs.declared.event.Mode.TheVariants.{Write, Read}
 use Rattle.ns_word.specs.declared.view.Held.{Held}
 use Rattle.ns_word.specs.declared.word.Releasing.TheVariants.{Writer, Reader}
-use Rattle.ns_word.specs.declared.limits.Limits.{Limits}
+use Rattle.ns_env.specs.declared.limits.Limits.{Limits}
 use Rattle.ns_word.specs.declared.wait.Subject.{Subject}
 use Rattle.ns_word.specs.declared.wait.Subject.TheVariants.{OnCondition, OnVariable}
 use Rattle.ns_word.specs.declared.wait.Wait.{Wait as WaitFor}
@@ -17,24 +17,26 @@ use Rattle.ns_word.specs.declared.cell_walk.CellPlace.TheVariants.{QuietCells, Q
 use Rattle.ns_word.specs.declared.walk.Walk.TheVariants.{InCells, InWait}
 use Rattle.ns_word.specs.declared.act.Act.{Act}
 use Rattle.ns_word.specs.declared.act.Act.TheVariants.{LoadWord, Acquire, TakeQueues, ReturnQueues, Release, ReleaseReturning, WaitReturning, LoadCell, JudgeQuiet, JudgeMet, StoreCell, ArmFlag, PayWake, LoadFlag, Look}
+use Rattle.ns_counters.specs.declared.object.Setup.{Setup}
 use Rattle.ns_model.specs.Truths.{Truths}
 use Rattle.ns_word.specs.Steps.{Part}
 use Rattle.ns_word.specs.Places.{HasMode, IsSettled, CanLeave, PlaceFits, ActFits, MayWait, OwesOne}
 use Rattle.ns_word.specs.Begins.{IsFirst}
 use Rattle.ns_world.specs.declared.call.Call.{Call}
-use Rattle.ns_world.specs.declared.call.Call.TheVariants.{Lock, RLock, TryLock, TryRLock, Unlock, RUnlock, UnlockQuiet, Get, Set, Wait, CvWait, Signal, Broadcast, NewNote, Notify, Advance, IsNotified, Expiry, NoteWait}
+use Rattle.ns_world.specs.declared.call.Call.TheVariants.{Lock, RLock, TryLock, TryRLock, Unlock, RUnlock, UnlockQuiet, Get, Set, Wait, CvWait, Signal, Broadcast, NewNote, Notify, Advance, IsNotified, Expiry, NoteWait, Add, Value, CounterWait, Once, Done, WaitAny}
 use Rattle.ns_model.specs.Environments.{NoteStanding}
-use Rattle.ns_word.specs.EnvSteps.{IfMade, IsFirstAsk}
+use Rattle.ns_env.specs.Asks.{IfMade, IsFirstAsk}
 use Rattle.ns_word.specs.Walks.{want_of}
 use Rattle.ns_world.specs.Looks.{looks_at, note_in}
 use Rattle.ns_world.specs.declared.call.Start.{Start}
-use Rattle.ns_world.specs.declared.call.Start.TheVariants.{OnLock, Ask}
+use Rattle.ns_world.specs.declared.call.Start.TheVariants.{OnLock, Ask, OnObjects}
 use Rattle.ns_world.specs.Calls.{start_of, CallFits, CallInRange, mode_of}
 
 -- the first place of a call goes with the seat and the notes
 abbrev pub StartFits : {C : Type 0} {N : ℕ} → Truths C → (ℕ → NoteStanding) → Start C → Option (Held C N) → Type 0
 StartFits {C} {N} truths notes (OnLock walk) held = IsFirst N walk × PlaceFits truths (Some walk) held × IfMade notes (note_in (Some walk)) × (looks_at (want_of walk) ≡ None)
 StartFits truths notes (Ask walk) held = IsFirstAsk notes walk
+StartFits truths notes (OnObjects walk) held = Unit {0}
 
 owes_more : (few many : ℕ) (owed : List ℕ) → few ≤ many → OwesOne few owed → OwesOne many owed
 owes_more few many [] le p = p
@@ -78,29 +80,35 @@ module _ {C : Type 0} {N : ℕ} (truths : Truths C) (notes : ℕ → NoteStandin
       ((refl, tt), ((may, tt), tt), made, refl)
 
   -- a call whose need is met begins at the first place of a walk: on the lock, at one that goes with the section in hand; on the clock and the notes, at one whose notes are made
-  pub start_fits : (call : Call C) (held : Option (Held C N)) → 1 ≤ N → CallInRange N call → CallFits notes call (mode_of held) → IsSettled truths held → StartFits truths notes (start_of N (mode_of held) call) held
-  start_fits Lock held some range fits settled = (refl, (nothing held fits, tt, tt), tt, refl)
-  start_fits RLock held some range fits settled = (refl, (nothing held fits, tt, tt), tt, refl)
-  start_fits TryLock held some range fits settled = (tt, (nothing held fits, tt), tt, refl)
-  start_fits TryRLock held some range fits settled = (tt, (nothing held fits, tt), tt, refl)
-  start_fits Unlock held some range fits settled = (tt, can_write held fits settled, tt, refl)
-  start_fits RUnlock held some range fits settled = (tt, can_read held fits settled, tt, refl)
-  start_fits UnlockQuiet held some range fits settled = quiet_fits held (nat_lt 0 (N - 1)) refl some (has_mode Write held fits) settled
-  start_fits (Get i) None some range fits settled = absurd (cc)
-  start_fits (Get i) (Some held) some range fits settled = (tt, ((refl, range), settled), tt, refl)
-  start_fits (Set i v) held some range fits settled = (tt, ((has_mode Write held fits, range), settled), tt, refl)
-  start_fits (Wait c limits) None some range fits settled = absurd (cc (fits.0))
-  start_fits (Wait c limits) (Some held) some range fits settled = wait_fits c limits held (nat_lt 0 (N - 1)) refl some fits.1 settled
-  start_fits (CvWait k limits) None some range fits settled = absurd (cc (fits.0))
-  start_fits (CvWait k limits) (Some held) some range fits settled = cv_wait_fits k limits held range.0 fits.1 settled
-  start_fits (Signal k) held some range fits settled = (tt, (tt, range, settled), tt, refl)
-  start_fits (Broadcast k) held some range fits settled = (tt, (tt, range, settled), tt, refl)
-  start_fits (NewNote parent deadline) held some range fits settled = fits
-  start_fits (Notify note) held some range fits settled = fits
-  start_fits (Advance moment) held some range fits settled = tt
-  start_fits (IsNotified note) held some range fits settled = fits
-  start_fits (Expiry note) held some range fits settled = (refl, refl, fits)
-  start_fits (NoteWait note deadline) held some range fits settled = fits
+  pub start_fits : (setup : Setup) (call : Call C) (held : Option (Held C N)) → 1 ≤ N → CallInRange N call → CallFits setup notes call (mode_of held) → IsSettled truths held → StartFits truths notes (start_of N (mode_of held) call) held
+  start_fits setup Lock held some range fits settled = (refl, (nothing held fits, tt, tt), tt, refl)
+  start_fits setup RLock held some range fits settled = (refl, (nothing held fits, tt, tt), tt, refl)
+  start_fits setup TryLock held some range fits settled = (tt, (nothing held fits, tt), tt, refl)
+  start_fits setup TryRLock held some range fits settled = (tt, (nothing held fits, tt), tt, refl)
+  start_fits setup Unlock held some range fits settled = (tt, can_write held fits settled, tt, refl)
+  start_fits setup RUnlock held some range fits settled = (tt, can_read held fits settled, tt, refl)
+  start_fits setup UnlockQuiet held some range fits settled = quiet_fits held (nat_lt 0 (N - 1)) refl some (has_mode Write held fits) settled
+  start_fits setup (Get i) None some range fits settled = absurd (cc)
+  start_fits setup (Get i) (Some held) some range fits settled = (tt, ((refl, range), settled), tt, refl)
+  start_fits setup (Set i v) held some range fits settled = (tt, ((has_mode Write held fits, range), settled), tt, refl)
+  start_fits setup (Wait c limits) None some range fits settled = absurd (cc (fits.0))
+  start_fits setup (Wait c limits) (Some held) some range fits settled = wait_fits c limits held (nat_lt 0 (N - 1)) refl some fits.1 settled
+  start_fits setup (CvWait k limits) None some range fits settled = absurd (cc (fits.0))
+  start_fits setup (CvWait k limits) (Some held) some range fits settled = cv_wait_fits k limits held range.0 fits.1 settled
+  start_fits setup (Signal k) held some range fits settled = (tt, (tt, range, settled), tt, refl)
+  start_fits setup (Broadcast k) held some range fits settled = (tt, (tt, range, settled), tt, refl)
+  start_fits setup (NewNote parent deadline) held some range fits settled = fits
+  start_fits setup (Notify note) held some range fits settled = fits
+  start_fits setup (Advance moment) held some range fits settled = tt
+  start_fits setup (IsNotified note) held some range fits settled = fits
+  start_fits setup (Expiry note) held some range fits settled = (refl, refl, fits)
+  start_fits setup (NoteWait note deadline) held some range fits settled = fits
+  start_fits setup (Add counter delta) held some range fits settled = tt
+  start_fits setup (Value counter) held some range fits settled = tt
+  start_fits setup (CounterWait counter deadline) held some range fits settled = tt
+  start_fits setup (Once once) held some range fits settled = tt
+  start_fits setup (Done once) held some range fits settled = tt
+  start_fits setup (WaitAny items deadline) held some range fits settled = tt
 
 module _ {C : Type 0} {N : ℕ} (truths : Truths C) where
   -- what may be made by one of few seats may be by one of more

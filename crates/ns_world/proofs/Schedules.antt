@@ -8,7 +8,7 @@ use Rattle.ns_world.specs.declared.fault.Fault.TheVariants.{OutOfMemory, NoSuchS
 use Rattle.ns_world.specs.declared.schedule.Turn.{Turn}
 use Rattle.ns_world.specs.declared.step.Step.{Step}
 use Rattle.ns_world.specs.declared.step.Step.TheVariants.{Finished}
-use Rattle.ns_world.specs.World.{Now}
+use Rattle.ns_world.specs.Whole.{Whole}
 use Rattle.ns_world.specs.Runs.{Progress, Turned, Item, TurnOf, TurnsOf, TurnFault, rest_of, is_end, word_items, items_of, Advances, IsFinished, EndFinished, Stops, StopsFor}
 
 -- ---- what is left of the items
@@ -113,7 +113,7 @@ module _ {C : Type 0} {N : ℕ} (lists : List (List (Call C))) where
 
     -- ---- where a run stops
 
-    stops_for_more : (world : Now C N) (made : ℕ) (turns : List Turned) (left more : List Item) (fault : Fault) → StopsFor limit world made turns left fault → StopsFor limit world made turns (left ++ more) fault
+    stops_for_more : (world : Whole C N) (made : ℕ) (turns : List Turned) (left more : List Item) (fault : Fault) → StopsFor limit world made turns left fault → StopsFor limit world made turns (left ++ more) fault
     stops_for_more world made turns [] more OutOfMemory (inl p) = absurd p
     stops_for_more world made turns [] more OutOfMemory (inr p) = inr p
     stops_for_more world made turns [] more NoSuchSeat p = absurd p
@@ -125,7 +125,7 @@ module _ {C : Type 0} {N : ℕ} (lists : List (List (Call C))) where
     stops_for_more world made turns (item ∷ left) more TooManySeats p = p
 
     -- turns before
-    stops_for_after : (world : Now C N) (made : ℕ) (front turns : List Turned) (left : List Item) (fault : Fault) → StopsFor limit world made turns left fault → StopsFor limit world made (front ++ turns) left fault
+    stops_for_after : (world : Whole C N) (made : ℕ) (front turns : List Turned) (left : List Item) (fault : Fault) → StopsFor limit world made turns left fault → StopsFor limit world made (front ++ turns) left fault
     stops_for_after world made front turns left OutOfMemory (inl p) = inl p
     stops_for_after world made front turns left OutOfMemory (inr p) = inr (ends_after front turns p)
     stops_for_after world made front turns [] NoSuchSeat p = absurd p
@@ -141,7 +141,7 @@ module _ {C : Type 0} {N : ℕ} (lists : List (List (Call C))) where
     stops_now p before items fault within why = record { left = items; end = p; after = before; advances = advance_none p before items within; here = refl; why = why }
 
     -- where a turn was refused
-    pub turn_stops : (p : Progress C N) (before seat : ℕ) (whole : Bool) (world : Now C N) (fault : Fault) → before ≤ limit → (world ≡ p.world) × TurnFault p.world seat fault →
+    pub turn_stops : (p : Progress C N) (before seat : ℕ) (whole : Bool) (world : Whole C N) (fault : Fault) → before ≤ limit → (world ≡ p.world) × TurnFault p.world seat fault →
         Stops lists limit p before (record { seat = seat; whole = whole } ∷ []) world fault
     turn_stops p before seat whole world OutOfMemory within e = subst (λ w. Stops lists limit p before (record { seat = seat; whole = whole } ∷ []) w OutOfMemory) (sym e.0) (stops_now p before (record { seat = seat; whole = whole } ∷ []) OutOfMemory within (inl e.1))
     turn_stops p before seat whole world NoSuchSeat within e = subst (λ w. Stops lists limit p before (record { seat = seat; whole = whole } ∷ []) w NoSuchSeat) (sym e.0) (stops_now p before (record { seat = seat; whole = whole } ∷ []) NoSuchSeat within e.1)
@@ -149,7 +149,7 @@ module _ {C : Type 0} {N : ℕ} (lists : List (List (Call C))) where
     turn_stops p before seat whole world StepLimit within e = absurd e.1
 
     -- where a turn was made, and there was no memory to tell it
-    pub untold_stops : (p q : Progress C N) (before seat : ℕ) (whole : Bool) (step : Step) (world : Now C N) → TurnOf lists p seat step q → IsFinished step → before + 1 ≤ limit → q.world ≡ world →
+    pub untold_stops : (p q : Progress C N) (before seat : ℕ) (whole : Bool) (step : Step) (world : Whole C N) → TurnOf lists p seat step q → IsFinished step → before + 1 ≤ limit → q.world ≡ world →
         Stops lists limit p before (record { seat = seat; whole = whole } ∷ []) world OutOfMemory
     unfolding advance_one
     untold_stops p q before seat whole (Finished reply) world turn finished within e = record {
@@ -163,7 +163,7 @@ module _ {C : Type 0} {N : ℕ} (lists : List (List (Call C))) where
     untold_stops p q before seat whole step world turn finished within e = absurd finished
 
     -- items more at the end
-    pub stops_more : (p : Progress C N) (before : ℕ) (items more : List Item) (world : Now C N) (fault : Fault) → Stops lists limit p before items world fault → Stops lists limit p before (items ++ more) world fault
+    pub stops_more : (p : Progress C N) (before : ℕ) (items more : List Item) (world : Whole C N) (fault : Fault) → Stops lists limit p before items world fault → Stops lists limit p before (items ++ more) world fault
     unfolding advance_more
     stops_more p before items more world fault s = record {
       left = s.left ++ more;
@@ -175,7 +175,7 @@ module _ {C : Type 0} {N : ℕ} (lists : List (List (Call C))) where
     }
 
     -- turns before
-    pub stops_behind : (p q : Progress C N) (before mid : ℕ) (items left : List Item) (world : Now C N) (fault : Fault) →
+    pub stops_behind : (p q : Progress C N) (before mid : ℕ) (items left : List Item) (world : Whole C N) (fault : Fault) →
         Advances lists limit p before items left q mid → Stops lists limit q mid left world fault → Stops lists limit p before items world fault
     unfolding advance_join
     stops_behind p q before mid items left world fault a s = record {
@@ -188,7 +188,7 @@ module _ {C : Type 0} {N : ℕ} (lists : List (List (Call C))) where
     }
 
     -- all of the items, and then a stop in more
-    pub stops_both : (p q : Progress C N) (before mid : ℕ) (items more : List Item) (world : Now C N) (fault : Fault) →
+    pub stops_both : (p q : Progress C N) (before mid : ℕ) (items more : List Item) (world : Whole C N) (fault : Fault) →
         Advances lists limit p before items [] q mid → Stops lists limit q mid more world fault → Stops lists limit p before (items ++ more) world fault
     stops_both p q before mid items more world fault a s = stops_behind p q before mid (items ++ more) more world fault (advance_more p q before mid items [] more a) s
 
@@ -201,7 +201,7 @@ module _ {C : Type 0} {N : ℕ} (lists : List (List (Call C))) where
         subst (λ items. Advances lists limit p before items [] r behind) (replicate_more k item) (advance_both p q r before mid behind (replicate k item) (item ∷ []) a b)
 
     -- a stop in one of them
-    pub stops_again : (p q : Progress C N) (before mid k n : ℕ) (item : Item) (world : Now C N) (fault : Fault) → k < n →
+    pub stops_again : (p q : Progress C N) (before mid k n : ℕ) (item : Item) (world : Whole C N) (fault : Fault) → k < n →
         Advances lists limit p before (replicate k item) [] q mid → Stops lists limit q mid (item ∷ []) world fault → Stops lists limit p before (replicate n item ++ []) world fault
     stops_again p q before mid k n item world fault within a s =
         let rest = n - (k + 1) in
@@ -225,7 +225,7 @@ module _ {C : Type 0} {N : ℕ} (lists : List (List (Call C))) where
         subst (λ items. Advances lists limit p before items [] r behind) (sym whole) (advance_both p q r before mid behind (items_of (take i schedule)) (items_of (turn ∷ [])) a b)
 
     -- a stop in one of them
-    pub stops_word : (p q : Progress C N) (before mid i : ℕ) (schedule : List Turn) (d : Turn) (world : Now C N) (fault : Fault) → i < length schedule →
+    pub stops_word : (p q : Progress C N) (before mid i : ℕ) (schedule : List Turn) (d : Turn) (world : Whole C N) (fault : Fault) → i < length schedule →
         Advances lists limit p before (items_of (take i schedule)) [] q mid → Stops lists limit q mid (items_of (get_or schedule i d ∷ [])) world fault →
         Stops lists limit p before (items_of schedule) world fault
     stops_word p q before mid i schedule d world fault within a s =

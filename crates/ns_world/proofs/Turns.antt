@@ -9,37 +9,42 @@ use Rattle.ns_word.specs.declared.word.Word.{Word}
 use Rattle.ns_word.specs.declared.wait.WaitPlace.TheVariants.{TestCells, TestLast}
 use Rattle.ns_word.specs.declared.cell_walk.Judging.TheVariants.{ToRelease}
 use Rattle.ns_word.specs.declared.cell_walk.CellPlace.TheVariants.{QuietCells, QuietLast}
-use Rattle.ns_word.specs.declared.env_walk.EnvNext.{EnvNext}
-use Rattle.ns_word.specs.declared.env_walk.EnvNext.TheVariants.{Go, Repeat, Over, LookOver}
+use Rattle.ns_env.specs.declared.walk.EnvNext.{EnvNext}
+use Rattle.ns_env.specs.declared.walk.EnvNext.TheVariants.{Go, Repeat, Over, LookOver}
 use Rattle.ns_word.specs.declared.walk.Walk.TheVariants.{InCells, InWait}
-use Rattle.ns_word.specs.declared.walk.Reply.TheVariants as TheReply
+use Rattle.ns_world.specs.declared.reply.Reply.TheVariants as TheReply
 use Rattle.ns_word.specs.Walks.{want_of}
-use Rattle.ns_word.specs.declared.limits.Limits.{Limits}
+use Rattle.ns_env.specs.declared.limits.Limits.{Limits}
 use Rattle.ns_word.specs.declared.wait.Subject.TheVariants.{OnCondition}
 use Rattle.ns_word.specs.declared.wait.Visit.TheVariants.{OnEntry}
 use Rattle.ns_model.specs.declared.event.Mode.{Mode}
-use Rattle.ns_word.specs.EnvWalks.{env_got_of}
+use Rattle.ns_env.specs.Walks.{env_got_of}
 use Rattle.ns_world.specs.declared.call.Call.{Call}
 use Rattle.ns_world.specs.declared.call.Start.{Start}
-use Rattle.ns_world.specs.declared.call.Start.TheVariants.{OnLock, Ask}
-use Rattle.ns_world.specs.declared.call.Call.TheVariants.{Lock, RLock, TryLock, TryRLock, Unlock, RUnlock, UnlockQuiet, Get, Set, Wait, CvWait, Signal, Broadcast, NewNote, Notify, Advance, IsNotified, Expiry, NoteWait}
+use Rattle.ns_world.specs.declared.call.Start.TheVariants.{OnLock, Ask, OnObjects}
+use Rattle.ns_world.specs.declared.call.Call.TheVariants.{Lock, RLock, TryLock, TryRLock, Unlock, RUnlock, UnlockQuiet, Get, Set, Wait, CvWait, Signal, Broadcast, NewNote, Notify, Advance, IsNotified, Expiry, NoteWait, Add, Value, CounterWait, Once, Done, WaitAny}
 use Rattle.ns_world.specs.declared.fault.Fault.{Fault}
 use Rattle.ns_world.specs.declared.fault.Fault.TheVariants.{OutOfMemory, NoSuchSeat, TooManySeats, StepLimit}
 use Rattle.ns_world.specs.declared.step.Begun.TheVariants.{Misuse}
 use Rattle.ns_world.specs.declared.step.Step.{Step}
 use Rattle.ns_world.specs.declared.step.Step.TheVariants.{Went, Idle, Finished, Nothing}
-use Rattle.ns_world.specs.Calls.{start_of, mode_of, mode_waited}
+use Rattle.ns_counters.specs.declared.object.Setup.{Setup}
+use Rattle.ns_world.specs.declared.object_walk.ObjectWalk.{ObjectWalk}
+use Rattle.ns_world.specs.Calls.{start_of, object_start, mode_of, mode_waited}
+use Rattle.ns_world.specs.Objects.{walk_in}
+use Rattle.ns_world.specs.Whole.{Whole, WholeIsBusy, WholeIsIdle, WholeStarts, WholeBegins, WholeMoves, WholeStep, WholeFault, WholeCommits, whole_busy}
 use Rattle.ns_world.specs.Commits.{Commits}
-use Rattle.ns_world.specs.Begins.{BeginAnswers, BeginFault, Starts, begun_at}
+use Rattle.ns_world.specs.Begins.{BeginFault, Starts, begun_at}
 use Rattle.ns_world.specs.World.{Now, CommitsNext, LookGoes, Moves, IsWalking, IsBusy, IsIdle, StepOf, StepFault, is_walking, is_asking, is_busy}
 use Rattle.ns_world.specs.Runs.{Progress, progress, progressed, finished, GoesOnOrBegins, TurnOf, TurnsWith, TurnFault}
 use Rattle.ns_world.proofs.Busy.{or_true, both, walking_at, walking_set_same, walking_set_other, asking_at, asking_set_same, asking_set_other}
-use Rattle.ns_word.proofs.EnvKeeps.{set_here}
+use Rattle.ns_env.proofs.Asks.{set_here}
 
 -- the first step of a call may commit an event
 abbrev StartCommits : {C : Type 0} → ℕ → Start C → Word → Lists C → Type 0
 StartCommits seat (OnLock walk) word lists = Commits seat (want_of walk) word lists
 StartCommits seat (Ask walk) word lists = ⊥
+StartCommits seat (OnObjects walk) word lists = ⊥
 
 quiet_apart : (C : Type 0) (N : ℕ) (more : Bool) (seat : ℕ) (word : Word) (lists : Lists C) → Commits seat (want_of {C = C} (InCells (cond more (QuietCells ToRelease 0) (QuietLast ToRelease (N - 1))))) word lists → ⊥
 quiet_apart C N true seat word lists p = p
@@ -71,6 +76,46 @@ starts_apart N mode (Advance moment) seat word lists p = p
 starts_apart N mode (IsNotified note) seat word lists p = p
 starts_apart N mode (Expiry note) seat word lists p = p
 starts_apart N mode (NoteWait note deadline) seat word lists p = p
+starts_apart N mode (Add counter delta) seat word lists p = p
+starts_apart N mode (Value counter) seat word lists p = p
+starts_apart N mode (CounterWait counter deadline) seat word lists p = p
+starts_apart N mode (Once once) seat word lists p = p
+starts_apart N mode (Done once) seat word lists p = p
+starts_apart N mode (WaitAny items deadline) seat word lists p = p
+
+-- a call begins on counters and once cells just where its first place is there
+abbrev pub Pairs : {C : Type 0} → Start C → Option ObjectWalk → Type 0
+Pairs (OnLock walk) None = Unit {0}
+Pairs (Ask walk) None = Unit {0}
+Pairs (OnObjects walk) (Some place) = Unit {0}
+Pairs start place = ⊥
+
+pub pairs : {C : Type 0} (N : ℕ) (mode : Option Mode) (call : Call C) → Pairs (start_of N mode call) (object_start call)
+pairs N mode Lock = tt
+pairs N mode RLock = tt
+pairs N mode TryLock = tt
+pairs N mode TryRLock = tt
+pairs N mode Unlock = tt
+pairs N mode RUnlock = tt
+pairs N mode UnlockQuiet = tt
+pairs N mode (Get i) = tt
+pairs N mode (Set i v) = tt
+pairs N mode (Wait c limits) = tt
+pairs N mode (CvWait k limits) = tt
+pairs N mode (Signal k) = tt
+pairs N mode (Broadcast k) = tt
+pairs N mode (NewNote parent deadline) = tt
+pairs N mode (Notify note) = tt
+pairs N mode (Advance moment) = tt
+pairs N mode (IsNotified note) = tt
+pairs N mode (Expiry note) = tt
+pairs N mode (NoteWait note deadline) = tt
+pairs N mode (Add counter delta) = tt
+pairs N mode (Value counter) = tt
+pairs N mode (CounterWait counter deadline) = tt
+pairs N mode (Once once) = tt
+pairs N mode (Done once) = tt
+pairs N mode (WaitAny items deadline) = tt
 
 -- what holds of an answer's value, and of its fault, as something else
 pub map_ok : {X E : Type 0} {P Q : X → Type 0} (r : Result X E) → ((x : X) → P x → Q x) → IfOk r P → IfOk r Q
@@ -95,42 +140,61 @@ module _ {C : Type 0} {N : ℕ} where
   is_idle_of world seat idle = both world.state.views world.asking seat false false (walking_at world.state.views seat idle.view idle.at ∙ ap is_some idle.idle) (asking_at world.asking seat None idle.unasked)
 
   -- a seat that is put at the first place of a call is busy, and no other is more or less so
-  pub begun_busy : (old : Now C N) (seat : ℕ) (view : SeatView C N) (start : Start C) → slice_get old.state.views seat ≡ Some view → slice_get old.asking seat ≡ Some None →
-      is_busy (begun_at old seat view start).state.views (begun_at old seat view start).asking seat ≡ true
-  begun_busy old seat view (OnLock walk) at asks = ap (λ b. b || is_asking old.asking seat) (walking_set_same old.state.views seat (record view { walk = Some walk }) (slice_get_within old.state.views seat view at))
-  begun_busy old seat view (Ask walk) at asks = ap (λ b. is_walking old.state.views seat || b) (asking_set_same old.asking seat (Some walk) (slice_get_within old.asking seat None asks)) ∙ or_true (is_walking old.state.views seat)
+  begun_busy : (old : Now C N) (seat : ℕ) (view : SeatView C N) (start : Start C) (place : Option ObjectWalk) → Pairs start place → slice_get old.state.views seat ≡ Some view → slice_get old.asking seat ≡ Some None →
+      (is_busy (begun_at old seat view start).state.views (begun_at old seat view start).asking seat || is_some place) ≡ true
+  begun_busy old seat view (OnLock walk) place pair at asks = ap (λ b. (b || is_asking old.asking seat) || is_some place) (walking_set_same old.state.views seat (record view { walk = Some walk }) (slice_get_within old.state.views seat view at))
+  begun_busy old seat view (Ask walk) place pair at asks = ap (λ b. b || is_some place) (ap (λ b. is_walking old.state.views seat || b) (asking_set_same old.asking seat (Some walk) (slice_get_within old.asking seat None asks)) ∙ or_true (is_walking old.state.views seat))
+  begun_busy old seat view (OnObjects walk) (Some place) pair at asks = or_true (is_busy old.state.views old.asking seat)
+  begun_busy old seat view (OnObjects walk) None pair at asks = absurd pair
 
   pub begun_others : (old : Now C N) (seat : ℕ) (view : SeatView C N) (start : Start C) (other : ℕ) → other ≢ seat →
       is_busy (begun_at old seat view start).state.views (begun_at old seat view start).asking other ≡ is_busy old.state.views old.asking other
   begun_others old seat view (OnLock walk) other ne = ap (λ b. b || is_asking old.asking other) (walking_set_other old.state.views seat (record view { walk = Some walk }) other ne)
   begun_others old seat view (Ask walk) other ne = ap (λ b. is_walking old.state.views other || b) (asking_set_other old.asking seat (Some walk) other ne)
+  begun_others old seat view (OnObjects walk) other ne = refl
 
-  begun_stays : (old : Now C N) (seat : ℕ) (view : SeatView C N) (start : Start C) → length (begun_at old seat view start).state.views ≡ length old.state.views
+  pub begun_stays : (old : Now C N) (seat : ℕ) (view : SeatView C N) (start : Start C) → length (begun_at old seat view start).state.views ≡ length old.state.views
   begun_stays old seat view (OnLock walk) = length-set old.state.views seat _
   begun_stays old seat view (Ask walk) = refl
+  begun_stays old seat view (OnObjects walk) = refl
 
-  pub started_busy : (old new : Now C N) (seat : ℕ) (call : Call C) → Starts old new seat call → is_busy new.state.views new.asking seat ≡ true
+  -- ---- the same of a whole world
+
+  whole_busy_of : (old new : Whole C N) (seat : ℕ) (step : Step) → WholeMoves old new seat step → WholeIsBusy old seat
+  whole_busy_of old new seat step (inl p) = inl (busy_of old.lock new.lock seat step p.moves)
+  whole_busy_of old new seat step (inr p) = inr (p.walk, p.walks)
+
+  pub is_whole_busy : (world : Whole C N) (seat : ℕ) → WholeIsBusy world seat → whole_busy world seat ≡ true
+  is_whole_busy world seat (inl busy) = ap (λ b. b || is_some (walk_in world.objects.walks seat)) (is_busy_of world.lock seat busy)
+  is_whole_busy world seat (inr busy) = ap (λ w. is_busy world.lock.state.views world.lock.asking seat || is_some w) busy.1 ∙ or_true (is_busy world.lock.state.views world.lock.asking seat)
+
+  pub is_whole_idle : (world : Whole C N) (seat : ℕ) → WholeIsIdle world seat → whole_busy world seat ≡ false
+  is_whole_idle world seat idle = (λ i. is_idle_of world.lock seat idle.0 i || is_some (idle.1 i))
+
+  pub started_busy : (old new : Whole C N) (seat : ℕ) (call : Call C) → WholeStarts old new seat call → whole_busy new seat ≡ true
   started_busy old new seat call p =
-      ap (λ (world : Now C N). is_busy world.state.views world.asking seat) p.begins ∙ begun_busy old seat p.view (start_of N (mode_of p.view.held) call) p.at p.unasked
+      let s = p.starts in
+      (λ i. is_busy (s.begins i).state.views (s.begins i).asking seat || is_some (p.stands i))
+      ∙ begun_busy old.lock seat s.view (start_of N (mode_of s.view.held) call) (object_start call) (pairs N (mode_of s.view.held) call) s.at s.unasked
 
   -- no call is left: the step of the call in progress, or none
-  pub turns_without : (old new : Now C N) (seat : ℕ) (step : Step) → StepOf old new seat step → TurnsWith None old seat step new
+  pub turns_without : (old new : Whole C N) (seat : ℕ) (step : Step) → WholeStep old new seat step → TurnsWith None old seat step new
   turns_without old new seat Went p = λ lists over lines e.
-      inl (record { begun = old; leads = inl (busy_of old new seat Went p, refl); world = new; steps = p; goes = λ f. absurd (cc); after = refl })
+      inl (record { begun = old; leads = inl (whole_busy_of old new seat Went p, refl); world = new; steps = p; goes = λ f. absurd (cc); after = refl })
   turns_without old new seat Idle p = λ lists over lines e.
-      inl (record { begun = old; leads = inl (busy_of old new seat Idle p, refl); world = new; steps = p; goes = λ f. absurd (cc); after = refl })
+      inl (record { begun = old; leads = inl (whole_busy_of old new seat Idle p, refl); world = new; steps = p; goes = λ f. absurd (cc); after = refl })
   turns_without old new seat (Finished reply) p = λ lists over lines e.
-      inl (record { begun = old; leads = inl (busy_of old new seat (Finished reply) p, refl); world = new; steps = p; goes = λ f. absurd (cc); after = refl })
+      inl (record { begun = old; leads = inl (whole_busy_of old new seat (Finished reply) p, refl); world = new; steps = p; goes = λ f. absurd (cc); after = refl })
   turns_without old new seat Nothing p = λ lists over lines e.
       inr (inr (record { idle = p.1; none = e; answer = refl; after = ap (λ world. progress world over lines) p.0 }))
 
   -- the call was refused
-  pub turns_misused : (old new : Now C N) (seat : ℕ) (call : Call C) → BeginAnswers old new seat call Misuse → TurnsWith (Some call) old seat (Finished TheReply.Misuse) new
+  pub turns_misused : (old new : Whole C N) (seat : ℕ) (call : Call C) → WholeBegins old new seat call Misuse → TurnsWith (Some call) old seat (Finished TheReply.Misuse) new
   turns_misused old new seat call p = λ lists over lines e.
-      inr (inl (record { call = call; next = e; refused = (refl, p.1); answer = refl; after = ap (λ world. finished (progress old over lines) seat TheReply.Misuse world) p.0 }))
+      inr (inl (record { call = call; next = e; refused = (refl, p.1, p.2); answer = refl; after = ap (λ world. finished (progress old over lines) seat TheReply.Misuse world) p.0 }))
 
   -- the call began, and made its first step
-  pub turns_started : (old begun new : Now C N) (seat : ℕ) (call : Call C) (step : Step) → Starts old begun seat call → StepOf begun new seat step → TurnsWith (Some call) old seat step new
+  pub turns_started : (old begun new : Whole C N) (seat : ℕ) (call : Call C) (step : Step) → WholeStarts old begun seat call → WholeStep begun new seat step → TurnsWith (Some call) old seat step new
   turns_started old begun new seat call Went s p = λ lists over lines e.
       inl (record { begun = begun; leads = inr (call, e, s); world = new; steps = p; goes = λ f. absurd (cc); after = refl })
   turns_started old begun new seat call Idle s p = λ lists over lines e.
@@ -138,10 +202,10 @@ module _ {C : Type 0} {N : ℕ} where
   turns_started old begun new seat call (Finished reply) s p = λ lists over lines e.
       inl (record { begun = begun; leads = inr (call, e, s); world = new; steps = p; goes = λ f. absurd (cc); after = refl })
   turns_started old begun new seat call Nothing s p =
-      let yes = started_busy old begun seat call s in let no = is_idle_of begun seat p.1 in absurd (cc)
+      let yes = started_busy old begun seat call s in let no = is_whole_idle begun seat p.1 in absurd (cc)
 
   -- a call was in progress, and made a step
-  pub turns_busy : (old begun new : Now C N) (seat : ℕ) (call : Call C) (step : Step) → (begun ≡ old) × IsBusy old seat → StepOf begun new seat step → TurnsWith (Some call) old seat step new
+  pub turns_busy : (old begun new : Whole C N) (seat : ℕ) (call : Call C) (step : Step) → (begun ≡ old) × WholeIsBusy old seat → WholeStep begun new seat step → TurnsWith (Some call) old seat step new
   turns_busy old begun new seat call Went s p = λ lists over lines e.
       inl (record { begun = begun; leads = inl (s.1, s.0); world = new; steps = p; goes = λ f. absurd (cc); after = refl })
   turns_busy old begun new seat call Idle s p = λ lists over lines e.
@@ -149,9 +213,9 @@ module _ {C : Type 0} {N : ℕ} where
   turns_busy old begun new seat call (Finished reply) s p = λ lists over lines e.
       inl (record { begun = begun; leads = inl (s.1, s.0); world = new; steps = p; goes = λ f. absurd (cc); after = refl })
   turns_busy old begun new seat call Nothing s p =
-      let yes = is_busy_of old seat s.1 in
-      let no = is_idle_of begun seat p.1 in
-      let same = ap (λ (world : Now C N). is_busy world.state.views world.asking seat) s.0 in
+      let yes = is_whole_busy old seat s.1 in
+      let no = is_whole_idle begun seat p.1 in
+      let same = ap (λ (world : Whole C N). whole_busy world seat) s.0 in
       absurd (cc)
 
   -- a seat at the first place of a call is about to make no release
@@ -169,14 +233,25 @@ module _ {C : Type 0} {N : ℕ} where
       let is : w.view ≡ view = cc in
       let walks : Some w.walk ≡ None = sym w.walks ∙ ap (λ (v : SeatView C N). v.walk) is ∙ idle in
       absurd (cc)
+  begun_steps old begun seat view (OnObjects walk) at idle begins w p =
+      let same : Some w.view ≡ Some view = sym w.at ∙ ap (λ (world : Now C N). slice_get world.state.views seat) begins ∙ at in
+      let is : w.view ≡ view = cc in
+      let walks : Some w.walk ≡ None = sym w.walks ∙ ap (λ (v : SeatView C N). v.walk) is ∙ idle in
+      absurd (cc)
 
   -- a call's first step is never refused
-  pub started_steps : (old begun : Now C N) (seat : ℕ) (call : Call C) (fault : Fault) → Starts old begun seat call → StepFault begun seat fault → ⊥
-  started_steps old begun seat call OutOfMemory s p = starts_apart N (mode_of s.view.held) call seat begun.state.word begun.state.lists (begun_steps old begun seat s.view (start_of N (mode_of s.view.held) call) s.at s.idle s.begins p.0 p.1)
-  started_steps old begun seat call NoSuchSeat s p =
+  lock_starts : (setup : Setup) (old begun : Now C N) (seat : ℕ) (call : Call C) (fault : Fault) → Starts setup old begun seat call → StepFault begun seat fault → ⊥
+  lock_starts setup old begun seat call OutOfMemory s p = starts_apart N (mode_of s.view.held) call seat begun.state.word begun.state.lists (begun_steps old begun seat s.view (start_of N (mode_of s.view.held) call) s.at s.idle s.begins p.0 p.1)
+  lock_starts setup old begun seat call NoSuchSeat s p =
       let within = slice_get_within old.state.views seat s.view s.at in
       let same : length begun.state.views ≡ length old.state.views = ap (λ (world : Now C N). length world.state.views) s.begins ∙ begun_stays old seat s.view (start_of N (mode_of s.view.held) call) in
       absurd (omega (arith, within, same, p))
+  lock_starts setup old begun seat call TooManySeats s p = p
+  lock_starts setup old begun seat call StepLimit s p = p
+
+  pub started_steps : (old begun : Whole C N) (seat : ℕ) (call : Call C) (fault : Fault) → WholeStarts old begun seat call → WholeFault begun seat fault → ⊥
+  started_steps old begun seat call OutOfMemory s p = lock_starts old.objects.setup old.lock begun.lock seat call OutOfMemory s.starts p
+  started_steps old begun seat call NoSuchSeat s p = lock_starts old.objects.setup old.lock begun.lock seat call NoSuchSeat s.starts p
   started_steps old begun seat call TooManySeats s p = p
   started_steps old begun seat call StepLimit s p = p
 
@@ -186,48 +261,52 @@ module _ {C : Type 0} {N : ℕ} where
   look_stays old new seat step (Repeat walk) p = absurd p
   look_stays old new seat step (Over reply) p = absurd p
 
-  moves_stay : (old new : Now C N) (seat : ℕ) (step : Step) → Moves old new seat step → length new.state.views ≡ length old.state.views
+  pub moves_stay : (old new : Now C N) (seat : ℕ) (step : Step) → Moves old new seat step → length new.state.views ≡ length old.state.views
   moves_stay old new seat step (inl acts) = ap length acts.goes.others ∙ length-set old.state.views seat _
   moves_stay old new seat step (inr (inr looks)) = look_stays old new seat step (env_got_of looks.place looks.found) looks.goes
   moves_stay old new seat step (inr (inl asks)) = ap (λ (world : Now C N). length world.state.views) asks.others
 
-  step_stays : (old new : Now C N) (seat : ℕ) (step : Step) → StepOf old new seat step → length new.state.views ≡ length old.state.views
-  step_stays old new seat Went p = moves_stay old new seat Went p
-  step_stays old new seat Idle p = moves_stay old new seat Idle p
-  step_stays old new seat (Finished reply) p = moves_stay old new seat (Finished reply) p
-  step_stays old new seat Nothing p = ap (λ (world : Now C N). length world.state.views) p.0
+  whole_stays : (old new : Whole C N) (seat : ℕ) (step : Step) → WholeMoves old new seat step → length new.lock.state.views ≡ length old.lock.state.views
+  whole_stays old new seat step (inl p) = moves_stay old.lock new.lock seat step p.moves
+  whole_stays old new seat step (inr p) = ap (λ (world : Now C N). length world.state.views) p.same
 
-  leads_stays : (lists : List (List (Call C))) (p : Progress C N) (seat : ℕ) (begun : Now C N) → GoesOnOrBegins lists p seat begun → length begun.state.views ≡ length p.world.state.views
-  leads_stays lists p seat begun (inl busy) = ap (λ (world : Now C N). length world.state.views) busy.1
-  leads_stays lists p seat begun (inr called) = ap (λ (world : Now C N). length world.state.views) called.2.begins ∙ begun_stays p.world seat called.2.view (start_of N (mode_of called.2.view.held) called.0)
+  step_stays : (old new : Whole C N) (seat : ℕ) (step : Step) → WholeStep old new seat step → length new.lock.state.views ≡ length old.lock.state.views
+  step_stays old new seat Went p = whole_stays old new seat Went p
+  step_stays old new seat Idle p = whole_stays old new seat Idle p
+  step_stays old new seat (Finished reply) p = whole_stays old new seat (Finished reply) p
+  step_stays old new seat Nothing p = ap (λ (world : Whole C N). length world.lock.state.views) p.0
+
+  leads_stays : (lists : List (List (Call C))) (p : Progress C N) (seat : ℕ) (begun : Whole C N) → GoesOnOrBegins lists p seat begun → length begun.lock.state.views ≡ length p.world.lock.state.views
+  leads_stays lists p seat begun (inl busy) = ap (λ (world : Whole C N). length world.lock.state.views) busy.1
+  leads_stays lists p seat begun (inr called) = let s = called.2.starts in ap (λ (world : Now C N). length world.state.views) s.begins ∙ begun_stays p.world.lock seat s.view (start_of N (mode_of s.view.held) called.0)
 
   -- the world that a turn leaves
-  pub progressed_world : (p : Progress C N) (seat : ℕ) (step : Step) (new : Now C N) → (progressed p seat step new).world ≡ new
+  pub progressed_world : (p : Progress C N) (seat : ℕ) (step : Step) (new : Whole C N) → (progressed p seat step new).world ≡ new
   progressed_world p seat Went new = refl
   progressed_world p seat Idle new = refl
   progressed_world p seat Nothing new = refl
   progressed_world p seat (Finished reply) new = refl
 
-  turn_stays : (lists : List (List (Call C))) (p q : Progress C N) (seat : ℕ) (step : Step) → TurnOf lists p seat step q → length q.world.state.views ≡ length p.world.state.views
+  turn_stays : (lists : List (List (Call C))) (p q : Progress C N) (seat : ℕ) (step : Step) → TurnOf lists p seat step q → length q.world.lock.state.views ≡ length p.world.lock.state.views
   turn_stays lists p q seat step (inl t) =
-      ap (λ (x : Progress C N). length x.world.state.views) t.after ∙ ap (λ (w : Now C N). length w.state.views) (progressed_world p seat step t.world)
+      ap (λ (x : Progress C N). length x.world.lock.state.views) t.after ∙ ap (λ (w : Whole C N). length w.lock.state.views) (progressed_world p seat step t.world)
       ∙ step_stays t.begun t.world seat step t.steps ∙ leads_stays lists p seat t.begun t.leads
-  turn_stays lists p q seat step (inr (inl t)) = ap (λ (x : Progress C N). length x.world.state.views) t.after
-  turn_stays lists p q seat step (inr (inr t)) = ap (λ (x : Progress C N). length x.world.state.views) t.after
+  turn_stays lists p q seat step (inr (inl t)) = ap (λ (x : Progress C N). length x.world.lock.state.views) t.after
+  turn_stays lists p q seat step (inr (inr t)) = ap (λ (x : Progress C N). length x.world.lock.state.views) t.after
 
   -- a turn leaves as many seats
-  pub seats_stay : (lists : List (List (Call C))) (p : Progress C N) (seat : ℕ) (step : Step) (new : Now C N) → TurnOf lists p seat step (progressed p seat step new) →
-      length new.state.views ≡ length p.world.state.views
+  pub seats_stay : (lists : List (List (Call C))) (p : Progress C N) (seat : ℕ) (step : Step) (new : Whole C N) → TurnOf lists p seat step (progressed p seat step new) →
+      length new.lock.state.views ≡ length p.world.lock.state.views
   seats_stay lists p seat step new turn =
-      ap (λ (world : Now C N). length world.state.views) (sym (progressed_world p seat step new)) ∙ turn_stays lists p (progressed p seat step new) seat step turn
+      ap (λ (world : Whole C N). length world.lock.state.views) (sym (progressed_world p seat step new)) ∙ turn_stays lists p (progressed p seat step new) seat step turn
 
-  pub turn_fault : (old begun : Now C N) (seat : ℕ) (fault : Fault) → begun ≡ old → StepFault begun seat fault → TurnFault old seat fault
-  turn_fault old begun seat OutOfMemory e p = subst (λ (world : Now C N). CommitsNext world seat) e p
-  turn_fault old begun seat NoSuchSeat e p = subst (λ (world : Now C N). length world.state.views ≤ seat) e p
+  pub turn_fault : (old begun : Whole C N) (seat : ℕ) (fault : Fault) → begun ≡ old → WholeFault begun seat fault → TurnFault old seat fault
+  turn_fault old begun seat OutOfMemory e p = subst (λ (world : Whole C N). WholeCommits world seat) e p
+  turn_fault old begun seat NoSuchSeat e p = subst (λ (world : Whole C N). length world.lock.state.views ≤ seat) e p
   turn_fault old begun seat TooManySeats e p = p
   turn_fault old begun seat StepLimit e p = p
 
-  pub begin_fault : (world : Now C N) (seat : ℕ) (fault : Fault) → BeginFault world seat fault → TurnFault world seat fault
+  pub begin_fault : (world : Whole C N) (seat : ℕ) (fault : Fault) → BeginFault world.lock seat fault → TurnFault world seat fault
   begin_fault world seat OutOfMemory p = absurd p
   begin_fault world seat NoSuchSeat p = p
   begin_fault world seat TooManySeats p = p

@@ -1,13 +1,13 @@
 -- From its beginning to its answer a call is under way, whatever others do, and its answer means what it says.
 use Rattle.std.specs.Prelude.{slice_get}
-use Rattle.std.proofs.Common.{◌≡◌, ◌≢◌, inl, inr, ℕ, List, [], ◌∷◌, ◌++◌, Option, None, Some, slice_set, refl, ap, sym, ◌∙◌, subst, Bool, ◌⊎◌, zero, suc, length}
+use Rattle.std.proofs.Common.{◌≡◌, ◌≢◌, inl, inr, ℕ, List, [], ◌++◌, Option, None, Some, slice_set, refl, ap, sym, ◌∙◌, subst, Bool, ◌⊎◌, zero, suc, length}
 use Rattle.std.proofs.lemmas.List.{append-nil, append_assoc}
-use Rattle.std.proofs.lemmas.Bool.{ne_eqb, eq-eqb, cases_eq}
+use Rattle.std.proofs.lemmas.Bool.{cases_eq}
 use Rattle.std.proofs.lemmas.Option.{slice_get_within}
 use Rattle.ns_model.proofs.Beginnings.{begins_through, begins_itself}
 use Rattle.ns_model.proofs.Environments.{env_own-append}
 use Rattle.ns_model.specs.Beginnings.{BeginsWith}
-use Rattle.ns_model.specs.Environments.{NoteStanding, env_own, env_who}
+use Rattle.ns_model.specs.Environments.{NoteStanding, env_own}
 use Rattle.ns_model.specs.Histories.{own, row_after}
 use Rattle.ns_model.specs.Truths.{Truths}
 use Rattle.ns_model.specs.declared.environment.EnvEvent.{EnvEvent}
@@ -16,16 +16,19 @@ use Rattle.ns_model.specs.declared.event.Mode.{Mode}
 use Rattle.ns_word.proofs.Asked.{quiet_asks, test_asks}
 use Rattle.ns_word.proofs.Calls.{looks_by_asked}
 use Rattle.ns_word.proofs.Courses.{takes_on, begins_unchanged}
-use Rattle.ns_word.proofs.EnvCourses.{begins_course, others_leave_course, step_takes_on}
-use Rattle.ns_word.proofs.EnvKeeps.{set_there, set_here}
+use Rattle.ns_env.proofs.Acts.{env_own_all, env_own_none}
+use Rattle.ns_env.proofs.Chains.{looked_shows}
+use Rattle.ns_env.proofs.Courses.{begins_course, others_leave_course, step_takes_on}
+use Rattle.ns_env.proofs.Asks.{set_there, set_here}
 use Rattle.ns_word.proofs.Starts.{quiet_is_first, wait_is_first}
 use Rattle.ns_word.proofs.ToldAfter.{own_append, own_none, step_by, own_all}
 use Rattle.ns_word.specs.Asked.{asked_of}
 use Rattle.ns_word.specs.Begins.{IsFirst}
 use Rattle.ns_word.specs.Courses.{SoFar, CallGoes, GoesOn, course_after, looked_after}
-use Rattle.ns_word.specs.EnvMeanings.{AtSomePoint, EnvCourse, EnvSoFar, Shows, env_asked_of, env_course_at, EnvGoes, EnvGoesOn, LookMeans, env_course_after}
-use Rattle.ns_word.specs.EnvSteps.{EnvPlain, IfMade, IsFirstAsk}
-use Rattle.ns_word.specs.EnvWalks.{env_got_of, env_walk_after, env_want_of}
+use Rattle.ns_env.specs.Meanings.{AtSomePoint, EnvCourse, EnvSoFar, Shows, env_asked_of, env_course_at, EnvGoes, EnvGoesOn, LookMeans, env_course_after}
+use Rattle.ns_env.specs.Asks.{IfMade, IsFirstAsk}
+use Rattle.ns_env.specs.Steps.{EnvPlain}
+use Rattle.ns_env.specs.Walks.{env_got_of, env_walk_after, env_want_of}
 use Rattle.ns_word.specs.Meanings.{Course, Means, course_from}
 use Rattle.ns_word.specs.Steps.{Part, Effect, part_of}
 use Rattle.ns_word.specs.Told.{AreBy}
@@ -35,15 +38,15 @@ use Rattle.ns_word.specs.declared.act.Act.{Act}
 use Rattle.ns_word.specs.declared.act.Found.TheVariants.{Looked}
 use Rattle.ns_word.specs.declared.act.Found.{Found}
 use Rattle.ns_word.specs.declared.cell_walk.Judging.TheVariants.{ToRelease}
-use Rattle.ns_word.specs.declared.env_request.EnvRequest.TheVariants as TheEnvRequest
-use Rattle.ns_word.specs.declared.env_request.EnvRequest.{EnvRequest}
-use Rattle.ns_word.specs.declared.env_walk.Chain.TheVariants.{ForLook}
-use Rattle.ns_word.specs.declared.env_walk.EnvNext.TheVariants.{Go, LookOver, Repeat, Over}
-use Rattle.ns_word.specs.declared.env_walk.EnvNext.{EnvNext}
-use Rattle.ns_word.specs.declared.env_walk.EnvWalk.TheVariants.{ClockLoad, NoteLoad}
-use Rattle.ns_word.specs.declared.env_walk.EnvWalk.{EnvWalk}
-use Rattle.ns_word.specs.declared.limits.Cause.{Cause}
-use Rattle.ns_word.specs.declared.limits.Limits.{Limits}
+use Rattle.ns_env.specs.declared.request.EnvRequest.TheVariants as TheEnvRequest
+use Rattle.ns_env.specs.declared.request.EnvRequest.{EnvRequest}
+use Rattle.ns_env.specs.declared.walk.Chain.TheVariants.{ForLook}
+use Rattle.ns_env.specs.declared.walk.EnvNext.TheVariants.{Go, LookOver, Repeat, Over}
+use Rattle.ns_env.specs.declared.walk.EnvNext.{EnvNext}
+use Rattle.ns_env.specs.declared.walk.EnvWalk.TheVariants.{ClockLoad, NoteLoad}
+use Rattle.ns_env.specs.declared.walk.EnvWalk.{EnvWalk}
+use Rattle.ns_env.specs.declared.limits.Cause.{Cause}
+use Rattle.ns_env.specs.declared.limits.Limits.{Limits}
 use Rattle.ns_word.specs.declared.request.Request.{Request}
 use Rattle.ns_word.specs.declared.view.Held.{Held}
 use Rattle.ns_word.specs.declared.view.SeatView.{SeatView}
@@ -52,41 +55,31 @@ use Rattle.ns_word.specs.declared.wait.Visit.TheVariants.{OnEntry}
 use Rattle.ns_word.specs.declared.walk.Next.TheVariants as TheNext
 use Rattle.ns_word.specs.declared.walk.Next.TheVariants.{On, Done}
 use Rattle.ns_word.specs.declared.walk.Next.{Next}
-use Rattle.ns_word.specs.declared.walk.Reply.{Reply}
+use Rattle.ns_world.specs.declared.reply.Reply.{Reply}
 use Rattle.ns_word.specs.declared.walk.Walk.{Walk}
-use Rattle.ns_world.proofs.EnvGrows.{acts_led, asks_led, looks_led, steps_led, events_by}
+use Rattle.ns_world.proofs.EnvGrows.{acts_led, asks_led, looks_led, moves_led, events_by}
 use Rattle.ns_world.proofs.Looking.{FirstIf, first_if, noted}
 use Rattle.ns_world.proofs.Worlds.{env_begins}
 use Rattle.ns_world.specs.Asks.{env_state, env_step_of}
-use Rattle.ns_world.specs.Begins.{Starts, begun_at, BeginAnswers}
+use Rattle.ns_counters.specs.declared.object.Setup.{Setup}
+use Rattle.ns_world.specs.Begins.{Starts, begun_at}
 use Rattle.ns_world.specs.Calls.{mode_of, start_of, mode_waited, CallFits}
 use Rattle.ns_world.specs.Looks.{looks_at, LookFits, AsksFor, look_of, note_in}
-use Rattle.ns_world.specs.Meanings.{WasShown, AnswersTo, held_at, limits_of, asks_of, held_in, AnswersCall, IsUnfinished, Happens, Meanwhile, happened, done_by}
+use Rattle.ns_world.specs.Meanings.{WasShown, AnswersOfLock, AnswersOfNotes, held_at, limits_of, asks_of, held_in}
 use Rattle.ns_world.specs.Performs.{step_of}
-use Rattle.ns_world.specs.World.{AreEnvBy, Goes, LookGoes, Moves, Now, StepOf, Asks, IsLawfulWorld, LedTo, env_done, step_done}
-use Rattle.ns_world.specs.declared.call.Asked.TheVariants.{OfLock, OfNotes}
+use Rattle.ns_world.specs.World.{Goes, LookGoes, Moves, Now, Asks, IsLawfulWorld, LedTo, env_done}
+use Rattle.ns_world.specs.declared.call.Asked.TheVariants.{OfLock, OfNotes, OfObjects}
 use Rattle.ns_world.specs.declared.call.Asked.{Asked}
-use Rattle.ns_world.specs.declared.call.Call.TheVariants.{Lock, RLock, TryLock, TryRLock, Unlock, RUnlock, UnlockQuiet, Get, Set, Wait, CvWait, Signal, Broadcast, NewNote, Notify, Advance, IsNotified, Expiry, NoteWait}
+use Rattle.ns_world.specs.declared.call.Call.TheVariants.{Lock, RLock, TryLock, TryRLock, Unlock, RUnlock, UnlockQuiet, Get, Set, Wait, CvWait, Signal, Broadcast, NewNote, Notify, Advance, IsNotified, Expiry, NoteWait, Add, Value, CounterWait, Once, Done, WaitAny}
 use Rattle.ns_world.specs.declared.call.Call.{Call}
-use Rattle.ns_world.specs.declared.call.Start.TheVariants.{Ask, OnLock}
+use Rattle.ns_world.specs.declared.call.Start.TheVariants.{Ask, OnLock, OnObjects}
 use Rattle.ns_world.specs.declared.call.Start.{Start}
 use Rattle.ns_world.specs.declared.step.Begun.TheVariants.{Started}
 use Rattle.ns_world.specs.declared.step.Step.TheVariants.{Finished, Idle, Nothing, Went}
 use Rattle.ns_world.specs.declared.step.Step.{Step}
 
--- ---- whose events are whose
-
--- of a seat's own events all are its own, of another's none
-env_own_all : (seat : ℕ) (more : List EnvEvent) → AreEnvBy seat more → env_own more seat ≡ more
-env_own_all seat [] p = refl
-env_own_all seat (e ∷ es) p = rw (eq-eqb (env_who e) seat p.0) (ap (λ xs. e ∷ xs) (env_own_all seat es p.1))
-
-env_own_none : (seat other : ℕ) (more : List EnvEvent) → seat ≢ other → AreEnvBy seat more → env_own more other ≡ []
-env_own_none seat other [] ne p = refl
-env_own_none seat other (e ∷ es) ne p = rw (ne_eqb (env_who e) other (λ f. ne (sym p.0 ∙ f))) (env_own_none seat other es ne p.1)
-
 -- what a history begins with, it begins with when it has grown
-begins_on : {A : Type 0} (front now more : List A) → BeginsWith now front → BeginsWith (now ++ more) front
+pub begins_on : {A : Type 0} (front now more : List A) → BeginsWith now front → BeginsWith (now ++ more) front
 begins_on front now more begins = begins_through (now ++ more) now front (more, refl) begins
 
 -- what was so at some point was so at some point when more has happened
@@ -98,7 +91,7 @@ shown_on earlier now more limits None shown = tt
 shown_on earlier now more limits (Some cause) shown = some_point_on earlier now more (Shows limits cause) shown
 
 -- what a look of a wait has come to that is under way, and began after the wait
-abbrev LookSoFar : List EnvEvent → ℕ → List EnvEvent → Option EnvWalk → Type 0
+abbrev pub LookSoFar : List EnvEvent → ℕ → List EnvEvent → Option EnvWalk → Type 0
 LookSoFar earlier seat events None = Unit {0}
 LookSoFar earlier seat events (Some place) = (course : EnvCourse) × BeginsWith course.before earlier × EnvSoFar events seat course place
 
@@ -114,7 +107,7 @@ look_begins earlier seat events notes (Some place) since first = (env_course_at 
 -- ---- a call that is under way
 
 -- only a wait looks; a call of its own on the clock and the notes doesn't
-abbrev IsNoLook : EnvRequest → Type 0
+abbrev pub IsNoLook : EnvRequest → Type 0
 IsNoLook (TheEnvRequest.Look limits) = ⊥
 IsNoLook request = Unit {0}
 
@@ -124,55 +117,76 @@ means_no_look now request course cause own_call means = means
 
 module _ (C : Type 0) (N : ℕ) (before : Now C N) (earlier : List EnvEvent) (seat : ℕ) where
   -- one on the lock has come so far, and so has its look, if it is looking
-  record LockUnderway (request : Request C) (events : List EnvEvent) (world : Now C N) : Type 0 where
-    view : SeatView C N
-    at : slice_get world.state.views seat ≡ Some view
-    walk : Walk C
-    walks : view.walk ≡ Some walk
-    asked : asked_of walk ≡ request
-    course : Course C N
-    began : course.began ≡ held_at before seat
-    added : own world.history seat ≡ own before.history seat ++ course.committed
-    so_far : SoFar world.truths seat course walk view.held
-    shown : WasShown earlier events (limits_of request) course.looked
-    asking : Option EnvWalk
-    asks : slice_get world.asking seat ≡ Some asking
-    looking : LookSoFar earlier seat events asking
-    still : env_own events seat ≡ env_own earlier seat
+  pub record LockUnderway (request : Request C) (events : List EnvEvent) (world : Now C N) : Type 0 where
+    pub view : SeatView C N
+    pub at : slice_get world.state.views seat ≡ Some view
+    pub walk : Walk C
+    pub walks : view.walk ≡ Some walk
+    pub asked : asked_of walk ≡ request
+    pub course : Course C N
+    pub began : course.began ≡ held_at before seat
+    pub added : own world.history seat ≡ own before.history seat ++ course.committed
+    pub so_far : SoFar world.truths seat course walk view.held
+    pub shown : WasShown earlier events (limits_of request) course.looked
+    pub asking : Option EnvWalk
+    pub asks : slice_get world.asking seat ≡ Some asking
+    pub looking : LookSoFar earlier seat events asking
+    pub still : env_own events seat ≡ env_own earlier seat
 
   -- one on the clock and the notes has come so far
-  record NotesUnderway (request : EnvRequest) (events : List EnvEvent) (world : Now C N) : Type 0 where
-    view : SeatView C N
-    at : slice_get world.state.views seat ≡ Some view
-    idle : view.walk ≡ None
-    walk : EnvWalk
-    walks : slice_get world.asking seat ≡ Some (Some walk)
-    asked : env_asked_of walk ≡ request
-    course : EnvCourse
-    began : course.before ≡ earlier
-    added : env_own events seat ≡ env_own earlier seat ++ course.events
-    so_far : EnvSoFar events seat course walk
-    same : view.held ≡ held_at before seat
-    silent : own world.history seat ≡ own before.history seat
-    no_look : IsNoLook request
+  pub record NotesUnderway (request : EnvRequest) (events : List EnvEvent) (world : Now C N) : Type 0 where
+    pub view : SeatView C N
+    pub at : slice_get world.state.views seat ≡ Some view
+    pub idle : view.walk ≡ None
+    pub walk : EnvWalk
+    pub walks : slice_get world.asking seat ≡ Some (Some walk)
+    pub asked : env_asked_of walk ≡ request
+    pub course : EnvCourse
+    pub began : course.before ≡ earlier
+    pub added : env_own events seat ≡ env_own earlier seat ++ course.events
+    pub so_far : EnvSoFar events seat course walk
+    pub same : view.held ≡ held_at before seat
+    pub silent : own world.history seat ≡ own before.history seat
+    pub no_look : IsNoLook request
 
-  abbrev Underway : Asked C → List EnvEvent → Now C N → Type 0
+  -- while one on counters and once cells is under way, its seat is in no other, and does nothing to what this is about
+  pub record Elsewhere (events : List EnvEvent) (world : Now C N) : Type 0 where
+    pub view : SeatView C N
+    pub at : slice_get world.state.views seat ≡ Some view
+    pub same : view.held ≡ held_at before seat
+    pub silent : own world.history seat ≡ own before.history seat
+    pub still : env_own events seat ≡ env_own earlier seat
+
+  abbrev pub Underway : Asked C → List EnvEvent → Now C N → Type 0
   Underway (OfLock request) events world = LockUnderway request events world
   Underway (OfNotes request) events world = NotesUnderway request events world
+  Underway (OfObjects asked) events world = Elsewhere events world
+
+  -- the answer of a call on the lock, or on the clock and the notes
+  abbrev pub LockAnswers : Asked C → Reply → Now C N → List EnvEvent → Type 0
+  LockAnswers (OfLock request) reply world events = AnswersOfLock before earlier seat request reply world events
+  LockAnswers (OfNotes request) reply world events = AnswersOfNotes before earlier seat request reply world events
+  LockAnswers (OfObjects asked) reply world events = ⊥
 
   -- after a step the call is under way, or has its answer
-  abbrev Outcome : Asked C → Step → List EnvEvent → Now C N → Type 0
-  Outcome asked (Finished reply) events world = AnswersTo before earlier seat asked reply world events
+  abbrev pub Outcome : Asked C → Step → List EnvEvent → Now C N → Type 0
+  Outcome asked (Finished reply) events world = LockAnswers asked reply world events
   Outcome asked step events world = Underway asked events world
+
+  -- the call is one on the lock, or on the clock and the notes
+  abbrev pub IsOfLock : Asked C → Type 0
+  IsOfLock (OfLock request) = Unit {0}
+  IsOfLock (OfNotes request) = Unit {0}
+  IsOfLock (OfObjects asked) = ⊥
 
   -- ---- what others do
 
   -- nothing of the seat has changed
-  record Untouched (old new : Now C N) : Type 0 where
-    views : slice_get new.state.views seat ≡ slice_get old.state.views seat
-    asking : slice_get new.asking seat ≡ slice_get old.asking seat
-    own_same : own new.history seat ≡ own old.history seat
-    means : new.truths ≡ old.truths
+  pub record Untouched (old new : Now C N) : Type 0 where
+    pub views : slice_get new.state.views seat ≡ slice_get old.state.views seat
+    pub asking : slice_get new.asking seat ≡ slice_get old.asking seat
+    pub own_same : own new.history seat ≡ own old.history seat
+    pub means : new.truths ≡ old.truths
 
   lock_rests : (request : Request C) (events more : List EnvEvent) (old new : Now C N) → Untouched old new → env_own (events ++ more) seat ≡ env_own events seat → LockUnderway request events old → LockUnderway request (events ++ more) new
   lock_rests request events more old new same own_same u = record {
@@ -209,9 +223,13 @@ module _ (C : Type 0) (N : ℕ) (before : Now C N) (earlier : List EnvEvent) (se
     no_look = u.no_look;
   }
 
-  rests : (asked : Asked C) (events more : List EnvEvent) (old new : Now C N) → Untouched old new → env_own (events ++ more) seat ≡ env_own events seat → Underway asked events old → Underway asked (events ++ more) new
+  elsewhere_rests : (events more : List EnvEvent) (old new : Now C N) → Untouched old new → env_own (events ++ more) seat ≡ env_own events seat → Elsewhere events old → Elsewhere (events ++ more) new
+  elsewhere_rests events more old new same own_same u = record { view = u.view; at = same.views ∙ u.at; same = u.same; silent = same.own_same ∙ u.silent; still = own_same ∙ u.still }
+
+  pub rests : (asked : Asked C) (events more : List EnvEvent) (old new : Now C N) → Untouched old new → env_own (events ++ more) seat ≡ env_own events seat → Underway asked events old → Underway asked (events ++ more) new
   rests (OfLock request) events more old new same own_same u = lock_rests request events more old new same own_same u
   rests (OfNotes request) events more old new same own_same u = notes_rest request events more old new same own_same u
+  rests (OfObjects asked) events more old new same own_same u = elsewhere_rests events more old new same own_same u
 
   -- another seat's step on the lock
   goes_there : (old new : Now C N) (other : ℕ) (step : Step) → other ≢ seat → Goes old new other step → Untouched old new
@@ -238,18 +256,13 @@ module _ (C : Type 0) (N : ℕ) (before : Now C N) (earlier : List EnvEvent) (se
     looks_there (LookOver cause) q = goes_there old new other step ne q.0
     looks_there next q = absurd q
 
-  step_there : (old new : Now C N) (other : ℕ) (step : Step) → other ≢ seat → StepOf old new other step → Untouched old new
-  step_there old new other Nothing ne p = subst (λ world. Untouched old world) (sym p.0) (record { views = refl; asking = refl; own_same = refl; means = refl })
-  step_there old new other Went ne p = moves_there old new other Went ne p
-  step_there old new other Idle ne p = moves_there old new other Idle ne p
-  step_there old new other (Finished reply) ne p = moves_there old new other (Finished reply) ne p
-
   -- another seat begins a call
-  begin_there : (old new : Now C N) (other : ℕ) (call : Call C) → other ≢ seat → Starts old new other call → Untouched old new
-  begin_there old new other call ne p = subst (λ world. Untouched old world) (sym p.begins) (at_start (start_of N (mode_of p.view.held) call)) where
+  begin_there : (setup : Setup) (old new : Now C N) (other : ℕ) (call : Call C) → other ≢ seat → Starts setup old new other call → Untouched old new
+  begin_there setup old new other call ne p = subst (λ world. Untouched old world) (sym p.begins) (at_start (start_of N (mode_of p.view.held) call)) where
     at_start : (start : Start C) → Untouched old (begun_at old other p.view start)
     at_start (OnLock walk) = record { views = set_there old.state.views other seat _ (λ e. ne (sym e)); asking = refl; own_same = refl; means = refl }
     at_start (Ask walk) = record { views = refl; asking = set_there old.asking other seat _ (λ e. ne (sym e)); own_same = refl; means = refl }
+    at_start (OnObjects walk) = record { views = refl; asking = refl; own_same = refl; means = refl }
 
   -- ---- the seat's own step
 
@@ -306,6 +319,8 @@ module _ (C : Type 0) (N : ℕ) (before : Now C N) (earlier : List EnvEvent) (se
       added = added;
       shown = shown;
       still = still;
+      answer = reply;
+      tells = refl;
       means = subst (λ h. Means new.truths seat (row_after new.history) request course reply h) (sym (ap held_in at)) goes;
     }
 
@@ -372,8 +387,9 @@ module _ (C : Type 0) (N : ℕ) (before : Now C N) (earlier : List EnvEvent) (se
   -- a look that began after the wait shows what was so at some point of the wait
   look_means : (events : List EnvEvent) (course : EnvCourse) (limits : Limits) (asked : EnvRequest) (cause : Option Cause) → asked ≡ TheEnvRequest.Look limits → BeginsWith course.before earlier → LookMeans events asked course cause → AtSomePoint earlier events (Shows limits cause)
   look_means events course limits asked cause is since means =
-      let so = subst (λ r. LookMeans events r course cause) is means in
-      (so.1.0, (begins_through so.1.0 course.before earlier so.1.1.0 since, so.1.1.1), so.1.2)
+      let looked = subst (λ r. LookMeans events r course cause) is means in
+      let so = looked_shows limits cause course.before events looked.1 in
+      (so.0, (begins_through so.0 course.before earlier so.1.0 since, so.1.1), so.2)
 
   module _ (request : Request C) (events : List EnvEvent) (old new : Now C N) (step : Step) (lawful : IsLawfulWorld old) (since : BeginsWith events earlier) (u : LockUnderway request events old) where
     -- the look goes on, or the wait goes on with what it has shown
@@ -430,6 +446,8 @@ module _ (C : Type 0) (N : ℕ) (before : Now C N) (earlier : List EnvEvent) (se
       course = course;
       began = began;
       added = added;
+      answer = reply;
+      tells = refl;
       means = goes;
       same = ap held_in at ∙ same;
       silent = silent;
@@ -456,17 +474,17 @@ module _ (C : Type 0) (N : ℕ) (before : Now C N) (earlier : List EnvEvent) (se
 
   -- ---- any step of the seat
 
-  abbrev LedToOutcome : Asked C → List EnvEvent → Now C N → Step → List EnvEvent → Type 0
+  abbrev pub LedToOutcome : Asked C → List EnvEvent → Now C N → Step → List EnvEvent → Type 0
   LedToOutcome asked events new step more = LedTo (events ++ more) new × Outcome asked step (events ++ more) new
 
   -- where the world is led by no event
-  no_event : (events : List EnvEvent) (new : Now C N) → LedTo events new → LedTo (events ++ []) new
+  pub no_event : (events : List EnvEvent) (new : Now C N) → LedTo events new → LedTo (events ++ []) new
   no_event events new led = subst (λ es. LedTo es new) (sym (append-nil events)) led
 
-  no_more : (events : List EnvEvent) → env_own (events ++ []) seat ≡ env_own events seat
+  pub no_more : (events : List EnvEvent) → env_own (events ++ []) seat ≡ env_own events seat
   no_more events = ap (λ es. env_own es seat) (append-nil events)
 
-  same_world : (world : Now C N) → Untouched world world
+  pub same_world : (world : Now C N) → Untouched world world
   same_world world = record { views = refl; asking = refl; own_same = refl; means = refl }
 
   -- of a call on the lock
@@ -508,23 +526,19 @@ module _ (C : Type 0) (N : ℕ) (before : Now C N) (earlier : List EnvEvent) (se
       let view_is : p.view ≡ u.view = cc in
       let clash : None ≡ Some p.walk = sym u.idle ∙ ap (λ v. v.walk) (sym view_is) ∙ p.walks in absurd (cc)
 
-  moves_on : (asked : Asked C) (events : List EnvEvent) (old new : Now C N) (step : Step) → IsLawfulWorld old → LedTo events old → BeginsWith events earlier → Underway asked events old → (p : Moves old new seat step) → LedToOutcome asked events new step (env_done p)
-  moves_on (OfLock request) events old new step lawful led since u p = lock_moves request events old new step lawful led since u p
-  moves_on (OfNotes request) events old new step lawful led since u p = notes_move request events old new step lawful led u p
+  pub moves_on : (asked : Asked C) → IsOfLock asked → (events : List EnvEvent) (old new : Now C N) (step : Step) → IsLawfulWorld old → LedTo events old → BeginsWith events earlier → Underway asked events old → (p : Moves old new seat step) → LedToOutcome asked events new step (env_done p)
+  moves_on (OfLock request) of events old new step lawful led since u p = lock_moves request events old new step lawful led since u p
+  moves_on (OfNotes request) of events old new step lawful led since u p = notes_move request events old new step lawful led u p
+  moves_on (OfObjects asked) of events old new step lawful led since u p = absurd of
 
   -- a seat whose call is under way isn't idle
-  not_idle : (asked : Asked C) (events : List EnvEvent) (world : Now C N) (view : SeatView C N) → Underway asked events world → slice_get world.state.views seat ≡ Some view → view.walk ≡ None → slice_get world.asking seat ≡ Some None → ⊥
-  not_idle (OfLock request) events world view u at idle unasked =
+  pub not_idle : (asked : Asked C) → IsOfLock asked → (events : List EnvEvent) (world : Now C N) (view : SeatView C N) → Underway asked events world → slice_get world.state.views seat ≡ Some view → view.walk ≡ None → slice_get world.asking seat ≡ Some None → ⊥
+  not_idle (OfLock request) of events world view u at idle unasked =
       let views : Some view ≡ Some u.view = sym at ∙ u.at in
       let view_is : view ≡ u.view = cc in
       let clash : None ≡ Some u.walk = sym idle ∙ ap (λ v. v.walk) view_is ∙ u.walks in absurd (cc)
-  not_idle (OfNotes request) events world view u at idle unasked = let clash : Some None ≡ Some (Some u.walk) = sym unasked ∙ u.walks in absurd (cc)
-
-  step_on : (asked : Asked C) (events : List EnvEvent) (old new : Now C N) (step : Step) → IsLawfulWorld old → LedTo events old → BeginsWith events earlier → Underway asked events old → (p : StepOf old new seat step) → LedToOutcome asked events new step (step_done old new seat step p)
-  step_on asked events old new Nothing lawful led since u p = absurd (not_idle asked events old p.1.view u p.1.at p.1.idle p.1.unasked)
-  step_on asked events old new Went lawful led since u p = moves_on asked events old new Went lawful led since u p
-  step_on asked events old new Idle lawful led since u p = moves_on asked events old new Idle lawful led since u p
-  step_on asked events old new (Finished reply) lawful led since u p = moves_on asked events old new (Finished reply) lawful led since u p
+  not_idle (OfNotes request) of events world view u at idle unasked = let clash : Some None ≡ Some (Some u.walk) = sym unasked ∙ u.walks in absurd (cc)
+  not_idle (OfObjects asked) of events world view u at idle unasked = of
 
   -- ---- how a call begins
 
@@ -532,6 +546,7 @@ module _ (C : Type 0) (N : ℕ) (before : Now C N) (earlier : List EnvEvent) (se
   abbrev IsAskedAt : Asked C → Start C → Type 0
   IsAskedAt (OfLock request) (OnLock walk) = asked_of walk ≡ request
   IsAskedAt (OfNotes request) (Ask walk) = (env_asked_of walk ≡ request) × IsNoLook request
+  IsAskedAt (OfObjects asked) (OnObjects walk) = Unit {0}
   IsAskedAt asked start = ⊥
 
   asked_at : (mode : Option Mode) (call : Call C) → IsAskedAt (asks_of mode call) (start_of N mode call)
@@ -554,36 +569,50 @@ module _ (C : Type 0) (N : ℕ) (before : Now C N) (earlier : List EnvEvent) (se
   asked_at mode (IsNotified note) = (refl, tt)
   asked_at mode (Expiry note) = (refl, tt)
   asked_at mode (NoteWait note deadline) = (refl, tt)
+  asked_at mode (Add counter delta) = tt
+  asked_at mode (Value counter) = tt
+  asked_at mode (CounterWait counter deadline) = tt
+  asked_at mode (Once once) = tt
+  asked_at mode (Done once) = tt
+  asked_at mode (WaitAny items deadline) = tt
 
   -- it is a first place
   abbrev IsFirstAt : (ℕ → NoteStanding) → Start C → Type 0
   IsFirstAt notes (OnLock walk) = IsFirst N walk
   IsFirstAt notes (Ask walk) = IsFirstAsk notes walk
+  IsFirstAt notes (OnObjects walk) = Unit {0}
 
-  first_at : (notes : ℕ → NoteStanding) (mode : Option Mode) (call : Call C) → CallFits notes call mode → IsFirstAt notes (start_of N mode call)
-  first_at notes mode Lock fits = refl
-  first_at notes mode RLock fits = refl
-  first_at notes mode TryLock fits = tt
-  first_at notes mode TryRLock fits = tt
-  first_at notes mode Unlock fits = tt
-  first_at notes mode RUnlock fits = tt
-  first_at notes mode UnlockQuiet fits = quiet_is_first C N ToRelease
-  first_at notes mode (Get i) fits = tt
-  first_at notes mode (Set i value) fits = tt
-  first_at notes mode (Wait c limits) fits = wait_is_first N (record { mode = mode_waited mode; on = OnCondition c; limits = limits })
-  first_at notes mode (CvWait k limits) fits = wait_is_first {C = C} N (record { mode = mode_waited mode; on = OnVariable k; limits = limits })
-  first_at notes mode (Signal k) fits = tt
-  first_at notes mode (Broadcast k) fits = tt
-  first_at notes mode (NewNote parent deadline) fits = fits
-  first_at notes mode (Notify note) fits = fits
-  first_at notes mode (Advance moment) fits = tt
-  first_at notes mode (IsNotified note) fits = fits
-  first_at notes mode (Expiry note) fits = (refl, refl, fits)
-  first_at notes mode (NoteWait note deadline) fits = fits
+  first_at : (setup : Setup) (notes : ℕ → NoteStanding) (mode : Option Mode) (call : Call C) → CallFits setup notes call mode → IsFirstAt notes (start_of N mode call)
+  first_at setup notes mode Lock fits = refl
+  first_at setup notes mode RLock fits = refl
+  first_at setup notes mode TryLock fits = tt
+  first_at setup notes mode TryRLock fits = tt
+  first_at setup notes mode Unlock fits = tt
+  first_at setup notes mode RUnlock fits = tt
+  first_at setup notes mode UnlockQuiet fits = quiet_is_first C N ToRelease
+  first_at setup notes mode (Get i) fits = tt
+  first_at setup notes mode (Set i value) fits = tt
+  first_at setup notes mode (Wait c limits) fits = wait_is_first N (record { mode = mode_waited mode; on = OnCondition c; limits = limits })
+  first_at setup notes mode (CvWait k limits) fits = wait_is_first {C = C} N (record { mode = mode_waited mode; on = OnVariable k; limits = limits })
+  first_at setup notes mode (Signal k) fits = tt
+  first_at setup notes mode (Broadcast k) fits = tt
+  first_at setup notes mode (NewNote parent deadline) fits = fits
+  first_at setup notes mode (Notify note) fits = fits
+  first_at setup notes mode (Advance moment) fits = tt
+  first_at setup notes mode (IsNotified note) fits = fits
+  first_at setup notes mode (Expiry note) fits = (refl, refl, fits)
+  first_at setup notes mode (NoteWait note deadline) fits = fits
+  first_at setup notes mode (Add counter delta) fits = tt
+  first_at setup notes mode (Value counter) fits = tt
+  first_at setup notes mode (CounterWait counter deadline) fits = tt
+  first_at setup notes mode (Once once) fits = tt
+  first_at setup notes mode (Done once) fits = tt
+  first_at setup notes mode (WaitAny items deadline) fits = tt
 
   -- what has led to a world has led to it when a call has begun
   begins_led : (events : List EnvEvent) (old : Now C N) (who : ℕ) (view : SeatView C N) (start : Start C) → slice_get old.asking who ≡ Some None → IsFirstAt old.env.notes start → LedTo events old → LedTo events (begun_at old who view start)
   begins_led events old who view (OnLock walk) unasked first led = led
+  begins_led events old who view (OnObjects walk) unasked first led = led
   begins_led events old who view (Ask walk) unasked first led = env_begins events old.env old.asking who (Some walk) unasked first led
 
   -- a call has come so far as it begins
@@ -619,83 +648,47 @@ module _ (C : Type 0) (N : ℕ) (before : Now C N) (earlier : List EnvEvent) (se
     silent = refl;
     no_look = asked.1;
   }
+  starts_at (OfObjects place) (OnObjects walk) view asked first at idle unasked = record { view = view; at = at; same = sym (ap held_in at); silent = refl; still = refl }
+  starts_at (OfLock request) (OnObjects walk) view asked first at idle unasked = absurd asked
+  starts_at (OfNotes request) (OnObjects walk) view asked first at idle unasked = absurd asked
+  starts_at (OfObjects place) (OnLock walk) view asked first at idle unasked = absurd asked
+  starts_at (OfObjects place) (Ask walk) view asked first at idle unasked = absurd asked
   starts_at (OfLock request) (Ask walk) view asked first at idle unasked = absurd asked
   starts_at (OfNotes request) (OnLock walk) view asked first at idle unasked = absurd asked
 
   -- ---- from the beginning to the answer
 
   -- these events have led to a world in which the call is under way
-  record IsUnderway (asked : Asked C) (events : List EnvEvent) (world : Now C N) : Type 0 where
-    since : BeginsWith events earlier
-    led : LedTo events world
-    underway : Underway asked events world
+  pub record IsUnderway (asked : Asked C) (events : List EnvEvent) (world : Now C N) : Type 0 where
+    pub since : BeginsWith events earlier
+    pub led : LedTo events world
+    pub underway : Underway asked events world
 
-  begins_underway : (begun : Now C N) (call : Call C) → LedTo earlier before → Starts before begun seat call → IsUnderway (asks_of (mode_of (held_at before seat)) call) earlier begun
-  begins_underway begun call led p =
+  pub begins_underway : (setup : Setup) (begun : Now C N) (call : Call C) → LedTo earlier before → Starts setup before begun seat call → IsUnderway (asks_of (mode_of (held_at before seat)) call) earlier begun
+  begins_underway setup begun call led p =
       let mode = mode_of p.view.held in
       let is : held_at before seat ≡ p.view.held = ap held_in p.at in
-      let first = first_at before.env.notes mode call p.fits in
+      let first = first_at setup before.env.notes mode call p.fits in
       subst (λ held. IsUnderway (asks_of (mode_of held) call) earlier begun) (sym is) (subst (λ world. IsUnderway (asks_of mode call) earlier world) (sym p.begins) (record {
         since = begins_itself earlier;
         led = begins_led earlier before seat p.view (start_of N mode call) p.unasked first led;
         underway = starts_at (asks_of mode call) (start_of N mode call) p.view (asked_at mode call) first p.at p.idle p.unasked;
       }))
 
-  -- what isn't finished is under way
-  unfinished : (asked : Asked C) (step : Step) (events : List EnvEvent) (world : Now C N) → IsUnfinished step → Outcome asked step events world → Underway asked events world
-  unfinished asked Went events world goes p = p
-  unfinished asked Idle events world goes p = p
-  unfinished asked Nothing events world goes p = p
-  unfinished asked (Finished reply) events world goes p = absurd goes
-
-  -- a step of the seat that doesn't finish the call, and a step of another
-  step_here : (asked : Asked C) (events : List EnvEvent) (old new : Now C N) (step : Step) → IsLawfulWorld old → (p : StepOf old new seat step) → IsUnfinished step → IsUnderway asked events old → IsUnderway asked (events ++ step_done old new seat step p) new
-  step_here asked events old new step lawful p goes u =
-      let on = step_on asked events old new step lawful u.led u.since u.underway p in
-      record { since = begins_on earlier events (step_done old new seat step p) u.since; led = on.0; underway = unfinished asked step (events ++ step_done old new seat step p) new goes on.1 }
-
-  step_by_itself : (asked : Asked C) (events : List EnvEvent) (old new : Now C N) (who : ℕ) (step : Step) → who ≡ seat → IsLawfulWorld old → (p : StepOf old new who step) → IsUnfinished step → IsUnderway asked events old → IsUnderway asked (events ++ step_done old new who step p) new
-  step_by_itself asked events old new who step same lawful p goes u =
-      subst (λ n. (q : StepOf old new n step) → IsUnderway asked (events ++ step_done old new n step q) new) (sym same) (λ q. step_here asked events old new step lawful q goes u) p
-
-  step_away : (asked : Asked C) (events : List EnvEvent) (old new : Now C N) (other : ℕ) (step : Step) → other ≢ seat → IsLawfulWorld old → (p : StepOf old new other step) → IsUnderway asked events old → IsUnderway asked (events ++ step_done old new other step p) new
-  step_away asked events old new other step ne lawful p u =
-      let led = steps_led events old new other step lawful u.led p in
-      let more = step_done old new other step p in
+  -- a step of another
+  pub moves_away : (asked : Asked C) (events : List EnvEvent) (old new : Now C N) (other : ℕ) (step : Step) → other ≢ seat → IsLawfulWorld old → (p : Moves old new other step) → IsUnderway asked events old → IsUnderway asked (events ++ env_done p) new
+  moves_away asked events old new other step ne lawful p u =
+      let led = moves_led events old new other step lawful u.led p in
+      let more = env_done p in
       let own_same : env_own (events ++ more) seat ≡ env_own events seat = env_own-append events more seat ∙ ap (λ es. env_own events seat ++ es) (env_own_none other seat more ne led.0) ∙ append-nil (env_own events seat) in
-      record { since = begins_on earlier events more u.since; led = led.1; underway = rests asked events more old new (step_there old new other step ne p) own_same u.underway }
+      record { since = begins_on earlier events more u.since; led = led.1; underway = rests asked events more old new (moves_there old new other step ne p) own_same u.underway }
 
   -- another seat begins a call
-  begin_away : (asked : Asked C) (events : List EnvEvent) (old new : Now C N) (other : ℕ) (call : Call C) → other ≢ seat → Starts old new other call → IsUnderway asked events old → IsUnderway asked (events ++ []) new
-  begin_away asked events old new other call ne p u =
-      let led = subst (λ world. LedTo events world) (sym p.begins) (begins_led events old other p.view (start_of N (mode_of p.view.held) call) p.unasked (first_at old.env.notes (mode_of p.view.held) call p.fits) u.led) in
-      record { since = begins_on earlier events [] u.since; led = no_event events new led; underway = rests asked events [] old new (begin_there old new other call ne p) (no_more events) u.underway }
+  pub begin_away : (asked : Asked C) (setup : Setup) (events : List EnvEvent) (old new : Now C N) (other : ℕ) (call : Call C) → other ≢ seat → Starts setup old new other call → IsUnderway asked events old → IsUnderway asked (events ++ []) new
+  begin_away asked setup events old new other call ne p u =
+      let led = subst (λ world. LedTo events world) (sym p.begins) (begins_led events old other p.view (start_of N (mode_of p.view.held) call) p.unasked (first_at setup old.env.notes (mode_of p.view.held) call p.fits) u.led) in
+      record { since = begins_on earlier events [] u.since; led = no_event events new led; underway = rests asked events [] old new (begin_there setup old new other call ne p) (no_more events) u.underway }
 
-  happens_on : (asked : Asked C) (events : List EnvEvent) (old new : Now C N) → IsLawfulWorld old → (h : Happens seat old new) → IsUnderway asked events old → IsUnderway asked (events ++ done_by seat h.who old new h.what) new
-  happens_on asked events old new lawful h u = by_whom h.who h.what (cases_eq h.who seat) where
-    by_whom : (who : ℕ) (what : ((call : Call C) × BeginAnswers old new who call Started) ⊎ ((step : Step) × StepOf old new who step × (who ≡ seat → IsUnfinished step))) → (who ≡ seat) ⊎ (who ≢ seat) → IsUnderway asked (events ++ done_by seat who old new what) new
-    by_whom who (inl begun) (inl e) =
-        let at = subst (λ n. slice_get old.state.views n ≡ Some begun.1.view) e begun.1.at in
-        absurd (not_idle asked events old begun.1.view u.underway at begun.1.idle (subst (λ n. slice_get old.asking n ≡ Some None) e begun.1.unasked))
-    by_whom who (inl begun) (inr ne) = begin_away asked events old new who begun.0 ne begun.1 u
-    by_whom who (inr stepped) (inl e) = step_by_itself asked events old new who stepped.0 e lawful stepped.1 (stepped.2 e) u
-    by_whom who (inr stepped) (inr ne) = step_away asked events old new who stepped.0 ne lawful stepped.1 u
-
-  -- a lawful world in which the call is under way
-  meanwhile_on : (asked : Asked C) (n : ℕ) (events : List EnvEvent) (old new : Now C N) → IsLawfulWorld old → (meanwhile : Meanwhile seat n old new) → IsUnderway asked events old → IsLawfulWorld new × IsUnderway asked (events ++ happened seat n old new meanwhile) new
-  meanwhile_on asked zero events old new lawful p u =
-      (subst IsLawfulWorld (sym p) lawful, subst (λ es. IsUnderway asked es new) (sym (append-nil events)) (subst (λ world. IsUnderway asked events world) (sym p) u))
-  meanwhile_on asked (suc n) events old new lawful p u =
-      let done = done_by seat p.1.who old p.0 p.1.what in
-      let on = meanwhile_on asked n (events ++ done) p.0 new p.1.lawful p.2 (happens_on asked events old p.0 lawful p.1 u) in
-      (on.0, subst (λ es. IsUnderway asked es new) (append_assoc events done (happened seat n p.0 new p.2)) on.1)
-
--- Whatever others do between the beginning of a call and the step that finishes it, its answer means what it says.
-pub calls_mean : {C : Type 0} {N : ℕ} (n seat : ℕ) (before begun last after : Now C N) (earlier : List EnvEvent) (call : Call C) (reply : Reply) → LedTo earlier before → BeginAnswers before begun seat call Started → IsLawfulWorld begun →
-    (meanwhile : Meanwhile seat n begun last) (finish : StepOf last after seat (Finished reply)) → let later = earlier ++ happened seat n begun last meanwhile ++ step_done last after seat (Finished reply) finish in
-    LedTo later after × AnswersCall before earlier seat call reply after later
-calls_mean {C} {N} n seat before begun last after earlier call reply led starts lawful meanwhile finish =
-    let asked = asks_of (mode_of (held_at before seat)) call in
-    let on = meanwhile_on C N before earlier seat asked n earlier begun last lawful meanwhile (begins_underway C N before earlier seat begun call led starts) in
-    let end = step_on C N before earlier seat asked (earlier ++ happened seat n begun last meanwhile) last after (Finished reply) on.0 on.1.led on.1.since on.1.underway finish in
-    end
+  -- nothing happens here
+  pub stays_underway : (asked : Asked C) (events : List EnvEvent) (world : Now C N) → IsUnderway asked events world → IsUnderway asked (events ++ []) world
+  stays_underway asked events world u = record { since = begins_on earlier events [] u.since; led = no_event events world u.led; underway = rests asked events [] world world (same_world world) (no_more events) u.underway }

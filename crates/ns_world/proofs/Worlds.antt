@@ -13,13 +13,14 @@ use Rattle.ns_word.specs.declared.walk.Next.TheVariants.{On, Done}
 use Rattle.ns_word.specs.declared.walk.Next.TheVariants as TheNext
 use Rattle.ns_word.specs.declared.act.Found.{Found}
 use Rattle.ns_word.specs.declared.act.Found.TheVariants as TheFound
-use Rattle.ns_word.specs.declared.limits.Cause.{Cause}
+use Rattle.ns_env.specs.declared.limits.Cause.{Cause}
 use Rattle.ns_model.specs.Environments.{NoteStanding}
-use Rattle.ns_word.specs.declared.env_walk.EnvWalk.{EnvWalk}
-use Rattle.ns_word.specs.declared.env_walk.EnvNext.{EnvNext}
-use Rattle.ns_word.specs.declared.env_walk.EnvNext.TheVariants.{Go, Repeat, Over, LookOver}
-use Rattle.ns_word.specs.EnvWalks.{env_want_of, env_got_of, env_walk_after}
-use Rattle.ns_word.specs.EnvSteps.{EnvPlain, EnvBegins, EnvStep, EnvActFits, EnvEffect, IfMade, IsFirstAsk, IsLawfulEnv, events_of}
+use Rattle.ns_env.specs.declared.walk.EnvWalk.{EnvWalk}
+use Rattle.ns_env.specs.declared.walk.EnvNext.{EnvNext}
+use Rattle.ns_env.specs.declared.walk.EnvNext.TheVariants.{Go, Repeat, Over, LookOver}
+use Rattle.ns_env.specs.Walks.{env_want_of, env_got_of, env_walk_after}
+use Rattle.ns_env.specs.Asks.{EnvBegins, EnvStep, EnvActFits, EnvEffect, IfMade, IsFirstAsk, IsLawfulEnv}
+use Rattle.ns_env.specs.Steps.{EnvPlain, outcome}
 use Rattle.ns_word.specs.Walks.{want_of, got_of, walk_after}
 use Rattle.ns_model.specs.Truths.{Truths, QuietKeeps}
 use Rattle.ns_word.specs.Steps.{LockState, Effect, MayShow}
@@ -29,12 +30,13 @@ use Rattle.ns_word.specs.Lawful.{IsLawful}
 use Rattle.ns_word.proofs.Acts.{act_fits, view_fits}
 use Rattle.ns_word.proofs.Dispatch.{keeps}
 use Rattle.ns_word.proofs.Starts.{begins}
-use Rattle.ns_word.proofs.EnvKeeps.{set_here, set_there, keeps_env}
-use Rattle.ns_word.proofs.EnvBegins.{begins_env}
-use Rattle.ns_word.proofs.EnvRanges.{asks_in_range}
+use Rattle.ns_env.proofs.Asks.{if_made_stays, set_here, set_there, keeps_env}
+use Rattle.ns_env.proofs.Begins.{begins_env}
+use Rattle.ns_env.proofs.Ranges.{asks_in_range}
 use Rattle.ns_model.specs.declared.environment.EnvEvent.{EnvEvent}
+use Rattle.ns_world.specs.declared.object_walk.ObjectWalk.{ObjectWalk}
 use Rattle.ns_world.specs.declared.call.Start.{Start}
-use Rattle.ns_world.specs.declared.call.Start.TheVariants.{OnLock, Ask}
+use Rattle.ns_world.specs.declared.call.Start.TheVariants.{OnLock, Ask, OnObjects}
 use Rattle.ns_world.specs.declared.environment.Environment.{Environment}
 use Rattle.ns_world.specs.Asks.{Asked, plain_of, env_state, env_step_of}
 use Rattle.ns_world.specs.Begins.{placed}
@@ -45,7 +47,7 @@ use Rattle.ns_world.specs.Performs.{Performs, view_of, seat_part, step_of, tests
 use Rattle.ns_world.specs.Looks.{AsksFor, LookFits, look_of, looks_at, note_in}
 use Rattle.ns_world.specs.Looked.{EnvMoves, LookStep, MovesFrom, SeatLooks, Sees}
 use Rattle.ns_world.specs.World.{Now, now_with, Goes, Acts, Asks, Looks, LookGoes, Moves, StepOf, IsLawfulWorld, StandRight, NotesMade}
-use Rattle.ns_world.proofs.Looking.{FirstIf, LookLeads, first_if, if_made_stays, look_leads, look_stays, noted, right_here, shown_effect}
+use Rattle.ns_world.proofs.Looking.{FirstIf, LookLeads, first_if, look_leads, look_stays, noted, right_here, shown_effect}
 use Rattle.ns_world.proofs.Mapped.{got-map, map-set, index-map}
 use Rattle.ns_word.proofs.Numbers.{number_at, numbers_stay, split_at, step_at, begin_at, set_same, set_again}
 use Rattle.ns_world.proofs.Places.{StartFits, fits_more}
@@ -311,11 +313,11 @@ module _ {C : Type 0} {N : ℕ} (truths : Truths C) (some : 0 < N) (quiet : Quie
       at = got-map view_of seats i d within;
       idle = over;
       found = p.found;
-      events = events_of i (env_want_of walk) p.found;
+      events = (outcome i (env_want_of walk) (plain_of env)).events;
       makes = record {
         walk = walk;
         walks = asks_at ∙ ap Some walks;
-        effect = subst (λ n. EnvEffect n (env_want_of walk) (plain_of env) p.found (plain_of env') (events_of n (env_want_of walk) p.found)) number_here p.effect;
+        effect = subst (λ n. EnvEffect n (env_want_of walk) (plain_of env) p.found (plain_of env') (outcome n (env_want_of walk) (plain_of env)).events) number_here p.effect;
         becomes = map-set (λ s. s.asking) seats i next ∙ ap (slice_set (map (λ s. s.asking) seats) i) (ap (λ s. s.asking) p.goes);
       };
       others = asks_alone env' next same_view ∙ ap (λ (ts : List ℕ). record (now_with truths word row queues flags env seats history) { env = plain_of env'; asking = map (λ s. s.asking) (slice_set seats i next); tests = ts }) tests_stay;
@@ -328,12 +330,12 @@ module _ {C : Type 0} {N : ℕ} (truths : Truths C) (some : 0 < N) (quiet : Quie
     lawful_asked =
         let becomes : map (λ s. s.asking) (slice_set seats i next) ≡ slice_set (map (λ s. s.asking) seats) i (env_walk_after (env_got_of walk p.found)) = map-set (λ s. s.asking) seats i next ∙ ap (slice_set (map (λ s. s.asking) seats) i) (ap (λ s. s.asking) p.goes) in
         subst IsLawfulWorld (sym (asks_alone env' next same_view))
-        (lawful_env (now_with truths word row queues flags env seats history) (plain_of env') (map (λ s. s.asking) (slice_set seats i next)) (map (λ s. s.tests) (slice_set seats i next)) (lawful.events ++ events_of i (env_want_of walk) p.found)
+        (lawful_env (now_with truths word row queues flags env seats history) (plain_of env') (map (λ s. s.asking) (slice_set seats i next)) (map (λ s. s.tests) (slice_set seats i next)) (lawful.events ++ (outcome i (env_want_of walk) (plain_of env)).events)
         (ap length becomes ∙ length-set (map (λ s. s.asking) seats) i _)
         (subst (λ (ws : List (Option EnvWalk)). StandRight (map view_of seats) ws) (sym becomes) (right_asks (map view_of seats) (map (λ s. s.asking) seats) i (view_of (get_or seats i d)) (env_walk_after (env_got_of walk p.found)) (got-map view_of seats i d within) in_asks lawful.right
         (subst (λ w. AsksFor w (env_walk_after (env_got_of walk p.found))) (sym over) tt)))
         (λ seat view at. if_made_stays (get_or seats i d).number (env_want_of walk) (plain_of env) (plain_of env') p.found _ p.effect (note_in view.walk) (lawful.noted seat view at))
-        (keeps_env lawful.events (events_of i (env_want_of walk) p.found) (env_state (plain_of env) (map (λ s. s.asking) seats)) (env_state (plain_of env') (map (λ s. s.asking) (slice_set seats i next))) i p.found asks_here.makes lawful.env_lawful)
+        (keeps_env lawful.events (outcome i (env_want_of walk) (plain_of env)).events (env_state (plain_of env) (map (λ s. s.asking) seats)) (env_state (plain_of env') (map (λ s. s.asking) (slice_set seats i next))) i p.found asks_here.makes lawful.env_lawful)
         lawful)
 
   -- ---- a step of a look
@@ -479,11 +481,22 @@ module _ {C : Type 0} {N : ℕ} (truths : Truths C) (some : 0 < N) (quiet : Quie
       (begins_env lawful.events (env_state (plain_of env) (map (λ s. s.asking) seats)) (env_state (plain_of env) (map (λ s. s.asking) (slice_set seats i next))) i walk begun lawful.env_lawful)
       lawful)
 
+  -- a call on counters and once cells that begins: only the count of tests changes
+  lawful_elsewhere : (walk : ObjectWalk) → IsLawfulWorld (now_with truths word row queues flags env (slice_set seats i (placed (get_or seats i d) (OnObjects walk))) history)
+  lawful_elsewhere walk =
+      let next : Seat C N = placed (get_or seats i d) (OnObjects walk) in
+      let same_views : map view_of (slice_set seats i next) ≡ map view_of seats = map-set view_of seats i next ∙ sym (map-set view_of seats i (get_or seats i d)) ∙ ap (map view_of) (set-get_or seats i d) in
+      let same_asking : map (λ s. s.asking) (slice_set seats i next) ≡ map (λ s. s.asking) seats = map-set (λ s. s.asking) seats i next ∙ sym (map-set (λ s. s.asking) seats i (get_or seats i d)) ∙ ap (map (λ s. s.asking)) (set-get_or seats i d) in
+      let now : Now C N = now_with truths word row queues flags env seats history in
+      let same : now_with truths word row queues flags env (slice_set seats i next) history ≡ record now { tests = map (λ s. s.tests) (slice_set seats i next) } = (λ k. record now { state = record now.state { views = same_views k }; tests = map (λ s. s.tests) (slice_set seats i next); asking = same_asking k }) in
+      subst IsLawfulWorld (sym same) (record { few = lawful.few; numbered = lawful.numbered; lawful = lawful.lawful; as_many = lawful.as_many; right = lawful.right; noted = lawful.noted; events = lawful.events; env_lawful = lawful.env_lawful })
+
   -- a call that begins where its need is met
   pub lawful_placed : (start : Start C) → (get_or seats i d).walk ≡ None → (get_or seats i d).asking ≡ None → StartFits truths (plain_of env).notes start (get_or seats i d).held →
       IsLawfulWorld (now_with truths word row queues flags env (slice_set seats i (placed (get_or seats i d) start)) history)
   lawful_placed (OnLock walk) over unasked fits = lawful_begun walk (placed (get_or seats i d) (OnLock walk)) over unasked refl fits.0 fits.1 refl fits.2 fits.3
   lawful_placed (Ask walk) over unasked fits = lawful_asking walk over unasked fits
+  lawful_placed (OnObjects walk) over unasked fits = lawful_elsewhere walk
 
 -- a number past the seats is past their views
 pub past_views : {C : Type 0} {N : ℕ} (seats : List (Seat C N)) (i : ℕ) → length seats ≤ i → length (map view_of seats) ≤ i

@@ -1,17 +1,22 @@
 -- The clock and the notes of a world, and one step on them.
 use Rattle.std.specs.Prelude.{◌≡◌, ℕ, List, Option, get_or}
 use Rattle.ns_model.specs.Environments.{NoteStanding, no_note}
-use Rattle.ns_word.specs.declared.env_act.NoteState.{NoteState}
-use Rattle.ns_word.specs.declared.env_act.EnvFound.{EnvFound}
-use Rattle.ns_word.specs.declared.env_walk.EnvWalk.{EnvWalk}
-use Rattle.ns_word.specs.declared.env_walk.EnvNext.{EnvNext}
-use Rattle.ns_word.specs.declared.env_walk.EnvNext.TheVariants.{Go, Repeat, Over, LookOver}
-use Rattle.ns_word.specs.EnvWalks.{standing_of, state_of, env_want_of, env_got_of, env_walk_after}
-use Rattle.ns_word.specs.EnvSteps.{EnvPlain, EnvState, EnvEffect, events_of}
+use Rattle.ns_env.specs.declared.note.NoteState.{NoteState}
+use Rattle.ns_env.specs.declared.act.EnvAct.{EnvAct}
+use Rattle.ns_env.specs.declared.act.EnvAct.TheVariants.{LoadClock, LoadNote}
+use Rattle.ns_env.specs.declared.act.EnvFound.{EnvFound}
+use Rattle.ns_env.specs.declared.walk.EnvWalk.{EnvWalk}
+use Rattle.ns_env.specs.declared.walk.EnvNext.{EnvNext}
+use Rattle.ns_env.specs.declared.walk.EnvNext.TheVariants.{Go, Repeat, Over, LookOver}
+use Rattle.ns_env.specs.Notes.{standing_of, state_of}
+use Rattle.ns_env.specs.Walks.{env_want_of, env_got_of, env_walk_after}
+use Rattle.ns_env.specs.Asks.{EnvState, EnvEffect}
+use Rattle.ns_env.specs.Steps.{EnvPlain, outcome}
 use Rattle.ns_world.specs.declared.environment.Environment.{Environment}
 use Rattle.ns_world.specs.declared.seat.Seat.{Seat}
 use Rattle.ns_world.specs.declared.step.Step.{Step}
 use Rattle.ns_world.specs.declared.step.Step.TheVariants.{Went, Idle, Finished}
+use Rattle.ns_world.specs.Replies.{env_told}
 
 -- the notes of a list
 abbrev pub note_at : List NoteState → ℕ → NoteStanding
@@ -29,12 +34,18 @@ env_state plain askings = record { plain = plain; askings = askings }
 abbrev pub env_step_of : EnvNext → Step
 env_step_of (Go walk) = Went
 env_step_of (Repeat walk) = Idle
-env_step_of (Over reply) = Finished reply
+env_step_of (Over reply) = Finished (env_told reply)
 env_step_of (LookOver cause) = Went
 
 -- the step of the walk was made, and the seat is where it leads
 pub record Asked {C : Type 0} {N : ℕ} (old new : EnvPlain) (seat : Seat C N) (walk : EnvWalk) (seat' : Seat C N) (step : Step) : Type 0 where
   pub found : EnvFound
-  pub effect : EnvEffect seat.number (env_want_of walk) old found new (events_of seat.number (env_want_of walk) found)
+  pub effect : EnvEffect seat.number (env_want_of walk) old found new (outcome seat.number (env_want_of walk) old).events
   pub goes : seat' ≡ record seat { asking = env_walk_after (env_got_of walk found) }
   pub answers : step ≡ env_step_of (env_got_of walk found)
+
+-- the act is a load of the clock or of a note
+abbrev pub IsLoad : EnvAct → Type 0
+IsLoad LoadClock = Unit {0}
+IsLoad (LoadNote note) = Unit {0}
+IsLoad act = ⊥

@@ -1,9 +1,10 @@
 -- How a call begins.
 use Rattle.std.specs.Prelude.{◌≡◌, ℕ, ◌≤◌, Some, None, slice_get, slice_set, length}
+use Rattle.ns_counters.specs.declared.object.Setup.{Setup}
 use Rattle.ns_word.specs.declared.view.SeatView.{SeatView}
 use Rattle.ns_world.specs.declared.call.Call.{Call}
 use Rattle.ns_world.specs.declared.call.Start.{Start}
-use Rattle.ns_world.specs.declared.call.Start.TheVariants.{OnLock, Ask}
+use Rattle.ns_world.specs.declared.call.Start.TheVariants.{OnLock, Ask, OnObjects}
 use Rattle.ns_world.specs.declared.seat.Seat.{Seat}
 use Rattle.ns_world.specs.declared.step.Begun.{Begun}
 use Rattle.ns_world.specs.declared.step.Begun.TheVariants.{Started, Misuse, Busy}
@@ -12,10 +13,11 @@ use Rattle.ns_world.specs.declared.fault.Fault.TheVariants.{OutOfMemory, NoSuchS
 use Rattle.ns_world.specs.Calls.{start_of, CallFits, mode_of}
 use Rattle.ns_world.specs.World.{Now, IsBusy}
 
--- a seat put at the first place of a call
+-- A seat put at the first place of a call. One on counters and once cells stands elsewhere.
 abbrev pub placed : {C : Type 0} {N : ℕ} → Seat C N → Start C → Seat C N
 placed seat (OnLock walk) = record seat { walk = Some walk; tests = 0 }
 placed seat (Ask walk) = record seat { asking = Some walk; tests = 0 }
+placed seat (OnObjects walk) = record seat { tests = 0 }
 
 -- the world with the seat, whose view is this, at the first place of a call
 abbrev pub begun_at : {C : Type 0} {N : ℕ} → Now C N → ℕ → SeatView C N → Start C → Now C N
@@ -24,29 +26,30 @@ begun_at old seat view (OnLock walk) = record old {
   tests = slice_set old.tests seat 0;
 }
 begun_at old seat view (Ask walk) = record old { asking = slice_set old.asking seat (Some walk); tests = slice_set old.tests seat 0 }
+begun_at old seat view (OnObjects walk) = record old { tests = slice_set old.tests seat 0 }
 
 -- the seat has no call in progress and meets the call's need, and then stands at the first place of the call's walk
-pub record Starts {C : Type 0} {N : ℕ} (old new : Now C N) (seat : ℕ) (call : Call C) : Type 0 where
+pub record Starts {C : Type 0} {N : ℕ} (setup : Setup) (old new : Now C N) (seat : ℕ) (call : Call C) : Type 0 where
   pub view : SeatView C N
   pub at : slice_get old.state.views seat ≡ Some view
   pub idle : view.walk ≡ None
   pub unasked : slice_get old.asking seat ≡ Some None
-  pub fits : CallFits old.env.notes call (mode_of view.held)
+  pub fits : CallFits setup old.env.notes call (mode_of view.held)
   pub begins : new ≡ begun_at old seat view (start_of N (mode_of view.held) call)
 
 -- the seat has no call in progress, and doesn't meet the call's need
-pub record Misuses {C : Type 0} {N : ℕ} (old : Now C N) (seat : ℕ) (call : Call C) : Type 0 where
+pub record Misuses {C : Type 0} {N : ℕ} (setup : Setup) (old : Now C N) (seat : ℕ) (call : Call C) : Type 0 where
   pub view : SeatView C N
   pub at : slice_get old.state.views seat ≡ Some view
   pub idle : view.walk ≡ None
   pub unasked : slice_get old.asking seat ≡ Some None
-  pub unfit : CallFits old.env.notes call (mode_of view.held) → ⊥
+  pub unfit : CallFits setup old.env.notes call (mode_of view.held) → ⊥
 
--- what the answer says of the call
-abbrev pub BeginAnswers : {C : Type 0} {N : ℕ} → Now C N → Now C N → ℕ → Call C → Begun → Type 0
-BeginAnswers old new seat call Started = Starts old new seat call
-BeginAnswers old new seat call Misuse = (new ≡ old) × Misuses old seat call
-BeginAnswers old new seat call Busy = (new ≡ old) × IsBusy old seat
+-- what the answer says of the call, where there are these counters and once cells
+abbrev pub BeginAnswers : {C : Type 0} {N : ℕ} → Setup → Now C N → Now C N → ℕ → Call C → Begun → Type 0
+BeginAnswers setup old new seat call Started = Starts setup old new seat call
+BeginAnswers setup old new seat call Misuse = (new ≡ old) × Misuses setup old seat call
+BeginAnswers setup old new seat call Busy = (new ≡ old) × IsBusy old seat
 
 -- a call is refused only where the number is no seat's
 abbrev pub BeginFault : {C : Type 0} {N : ℕ} → Now C N → ℕ → Fault → Type 0

@@ -1,5 +1,7 @@
 -- Where a call begins, and the section that it needs.
-use Rattle.std.specs.Prelude.{◌≡◌, ℕ, ◌<◌, ◌^◌, true, Option, Some, None, IsSome, IfSome}
+use Rattle.std.specs.Prelude.{◌≡◌, ℕ, nat_lt, ◌<◌, ◌≤◌, ◌^◌, Bool, true, Option, Some, None, IsSome, IfSome}
+use Rattle.std.specs.List.{list_all}
+use Rattle.ns_counters.specs.declared.object.Setup.{Setup}
 use Rattle.ns_model.specs.declared.event.Mode.{Mode}
 use Rattle.ns_model.specs.declared.event.Mode.TheVariants.{Write, Read}
 use Rattle.ns_word.specs.declared.view.Held.{Held}
@@ -12,18 +14,23 @@ use Rattle.ns_word.specs.declared.acquire_walk.AcquirePlace.TheVariants.{Acquire
 use Rattle.ns_word.specs.declared.release_walk.ReleasePlace.TheVariants.{ReleaseLoad}
 use Rattle.ns_word.specs.declared.cell_walk.Judging.TheVariants.{ToRelease}
 use Rattle.ns_word.specs.declared.cell_walk.CellPlace.TheVariants.{GetLoad, SetLoad}
-use Rattle.ns_word.specs.declared.env_walk.Chain.TheVariants.{ForIsNotified, ForNoteWait}
-use Rattle.ns_word.specs.declared.env_walk.EnvWalk.TheVariants.{NextLoad, Notifying, Advancing, ClockLoad, ExpiryLoad}
+use Rattle.ns_env.specs.declared.walk.Chain.TheVariants.{ForIsNotified, ForNoteWait}
+use Rattle.ns_env.specs.declared.walk.EnvWalk.TheVariants.{NextLoad, Notifying, Advancing, ClockLoad, ExpiryLoad}
 use Rattle.ns_word.specs.declared.wait.Subject.TheVariants.{OnCondition, OnVariable}
 use Rattle.ns_word.specs.declared.act.Waking.TheVariants.{Signaling, Broadcasting}
 use Rattle.ns_word.specs.declared.signal_walk.SignalPlace.TheVariants.{SignalLoad}
 use Rattle.ns_word.specs.declared.walk.Walk.TheVariants.{InTry, InAcquire, InRelease, InCells, InSignal}
 use Rattle.ns_word.specs.Walks.{quiet_first, wait_first}
-use Rattle.ns_word.specs.EnvSteps.{IfMade}
+use Rattle.ns_env.specs.Asks.{IfMade}
+use Rattle.ns_world.specs.declared.object_walk.ObjectWalk.{ObjectWalk}
+use Rattle.ns_world.specs.declared.object_walk.ObjectWalk.TheVariants.{AddLoad, ValueLoad, WaitMark, OnceLoad, DoneLoad, InRound}
+use Rattle.ns_world.specs.declared.round.RoundPlace.TheVariants.{FirstClock}
+use Rattle.ns_world.specs.Items.{items_of}
+use Rattle.ns_world.specs.Objects.{AreThere, is_there}
 use Rattle.ns_world.specs.declared.call.Start.{Start}
-use Rattle.ns_world.specs.declared.call.Start.TheVariants.{OnLock, Ask}
+use Rattle.ns_world.specs.declared.call.Start.TheVariants.{OnLock, Ask, OnObjects}
 use Rattle.ns_world.specs.declared.call.Call.{Call}
-use Rattle.ns_world.specs.declared.call.Call.TheVariants.{Lock, RLock, TryLock, TryRLock, Unlock, RUnlock, UnlockQuiet, Get, Set, Wait, CvWait, Signal, Broadcast, NewNote, Notify, Advance, IsNotified, Expiry, NoteWait}
+use Rattle.ns_world.specs.declared.call.Call.TheVariants.{Lock, RLock, TryLock, TryRLock, Unlock, RUnlock, UnlockQuiet, Get, Set, Wait, CvWait, Signal, Broadcast, NewNote, Notify, Advance, IsNotified, Expiry, NoteWait, Add, Value, CounterWait, Once, Done, WaitAny}
 
 -- the mode of the section that a wait leaves
 abbrev pub mode_waited : Option Mode → Mode
@@ -51,6 +58,32 @@ start_of N mode (Advance moment) = Ask (Advancing moment)
 start_of N mode (IsNotified note) = Ask (ClockLoad (ForIsNotified note))
 start_of N mode (Expiry note) = Ask (ExpiryLoad note note None)
 start_of N mode (NoteWait note deadline) = Ask (ClockLoad (ForNoteWait note deadline))
+start_of N mode (Add counter delta) = OnObjects (AddLoad counter delta)
+start_of N mode (Value counter) = OnObjects (ValueLoad counter)
+start_of N mode (CounterWait counter deadline) = OnObjects (WaitMark counter deadline)
+start_of N mode (Once once) = OnObjects (OnceLoad once)
+start_of N mode (Done once) = OnObjects (DoneLoad once)
+start_of N mode (WaitAny items deadline) = OnObjects (InRound (record { items = items; deadline = deadline }) FirstClock)
+
+-- the same place, of a call on counters and once cells
+abbrev pub object_start : {C : Type 0} → Call C → Option ObjectWalk
+object_start (Add counter delta) = Some (AddLoad counter delta)
+object_start (Value counter) = Some (ValueLoad counter)
+object_start (CounterWait counter deadline) = Some (WaitMark counter deadline)
+object_start (Once once) = Some (OnceLoad once)
+object_start (Done once) = Some (DoneLoad once)
+object_start (WaitAny items deadline) = Some (InRound (record { items = items; deadline = deadline }) FirstClock)
+object_start call = None
+
+-- whether there are the objects that a call on counters and once cells names
+abbrev pub finds : {C : Type 0} → Setup → (ℕ → NoteStanding) → Call C → Bool
+finds setup notes (Add counter delta) = nat_lt counter setup.counters
+finds setup notes (Value counter) = nat_lt counter setup.counters
+finds setup notes (CounterWait counter deadline) = nat_lt counter setup.counters
+finds setup notes (Once once) = nat_lt once setup.cells
+finds setup notes (Done once) = nat_lt once setup.cells
+finds setup notes (WaitAny items deadline) = list_all (is_there setup notes) (items_of items)
+finds setup notes call = true
 
 -- A call on the lock, whose need is met by a section of this mode, or by none. One that wakes needs nothing.
 abbrev pub SectionFits : {C : Type 0} → Call C → Option Mode → Type 0
@@ -67,17 +100,23 @@ SectionFits (Signal k) mode = Unit {0}
 SectionFits (Broadcast k) mode = Unit {0}
 SectionFits call mode = ⊥
 
--- The call's need is met: on the lock by the section in hand, on the clock and the notes by notes that are made, whatever is in hand, and of a wait by both.
-abbrev pub CallFits : {C : Type 0} → (ℕ → NoteStanding) → Call C → Option Mode → Type 0
-CallFits notes (NewNote parent deadline) mode = IfMade notes parent
-CallFits notes (Notify note) mode = (notes note).made ≡ true
-CallFits notes (Advance moment) mode = Unit {0}
-CallFits notes (IsNotified note) mode = (notes note).made ≡ true
-CallFits notes (Expiry note) mode = (notes note).made ≡ true
-CallFits notes (NoteWait note deadline) mode = (notes note).made ≡ true
-CallFits notes (Wait c limits) mode = IsSome mode × IfMade notes limits.note
-CallFits notes (CvWait k limits) mode = IsSome mode × IfMade notes limits.note
-CallFits notes call mode = SectionFits call mode
+-- The call's need is met: on the lock by the section in hand, on the clock and the notes by notes that are made, whatever is in hand, of a wait by both, and on counters and once cells by those that there are.
+abbrev pub CallFits : {C : Type 0} → Setup → (ℕ → NoteStanding) → Call C → Option Mode → Type 0
+CallFits setup notes (NewNote parent deadline) mode = IfMade notes parent
+CallFits setup notes (Notify note) mode = (notes note).made ≡ true
+CallFits setup notes (Advance moment) mode = Unit {0}
+CallFits setup notes (IsNotified note) mode = (notes note).made ≡ true
+CallFits setup notes (Expiry note) mode = (notes note).made ≡ true
+CallFits setup notes (NoteWait note deadline) mode = (notes note).made ≡ true
+CallFits setup notes (Wait c limits) mode = IsSome mode × IfMade notes limits.note
+CallFits setup notes (CvWait k limits) mode = IsSome mode × IfMade notes limits.note
+CallFits setup notes (Add counter delta) mode = counter < setup.counters
+CallFits setup notes (Value counter) mode = counter < setup.counters
+CallFits setup notes (CounterWait counter deadline) mode = counter < setup.counters
+CallFits setup notes (Once once) mode = once < setup.cells
+CallFits setup notes (Done once) mode = once < setup.cells
+CallFits setup notes (WaitAny items deadline) mode = AreThere setup notes items
+CallFits setup notes call mode = SectionFits call mode
 
 -- the mode of the section in hand, if there is one
 abbrev pub mode_of : {C : Type 0} {N : ℕ} → Option (Held C N) → Option Mode
@@ -96,7 +135,7 @@ IsVariable k = k < 4
 abbrev pub IsMoment : ℕ → Type 0
 IsMoment moment = moment < 2 ^ 54
 
--- the call's cell, if it names one, is one of n, its variable one of 4, its notes are of 64, and its moments are below 2^54
+-- the call's cell, if it names one, is one of n, its variable one of 4, its notes are of 64, its moments are below 2^54, and of several objects there are at most 16
 abbrev pub CallInRange : {C : Type 0} → ℕ → Call C → Type 0
 CallInRange n Lock = Unit {0}
 CallInRange n RLock = Unit {0}
@@ -117,3 +156,9 @@ CallInRange n (Advance moment) = IsMoment moment
 CallInRange n (IsNotified note) = IsNoteNumber note
 CallInRange n (Expiry note) = IsNoteNumber note
 CallInRange n (NoteWait note deadline) = IsNoteNumber note × IfSome deadline IsMoment
+CallInRange n (Add counter delta) = Unit {0}
+CallInRange n (Value counter) = Unit {0}
+CallInRange n (CounterWait counter deadline) = IfSome deadline IsMoment
+CallInRange n (Once once) = Unit {0}
+CallInRange n (Done once) = Unit {0}
+CallInRange n (WaitAny items deadline) = (items.count ≤ 16) × IfSome deadline IsMoment

@@ -1,14 +1,15 @@
 -- One step of a seat on the clock and the notes, of a call of its own or of a look.
 use Rattle.std.specs.Prelude.{◌≡◌, ℕ, Option, None, Some, []}
-use Rattle.ns_word.specs.declared.limits.Cause.{Cause}
+use Rattle.ns_env.specs.declared.limits.Cause.{Cause}
 use Rattle.ns_word.specs.declared.walk.Walk.{Walk}
 use Rattle.ns_word.specs.declared.act.Found.TheVariants.{Looked}
-use Rattle.ns_word.specs.declared.env_act.EnvFound.{EnvFound}
-use Rattle.ns_word.specs.declared.env_walk.EnvWalk.{EnvWalk}
-use Rattle.ns_word.specs.declared.env_walk.EnvNext.{EnvNext}
-use Rattle.ns_word.specs.declared.env_walk.EnvNext.TheVariants.{Go, LookOver}
-use Rattle.ns_word.specs.EnvWalks.{env_want_of, env_got_of}
-use Rattle.ns_word.specs.EnvSteps.{EnvPlain, EnvEffect}
+use Rattle.ns_env.specs.declared.act.EnvFound.{EnvFound}
+use Rattle.ns_env.specs.declared.walk.EnvWalk.{EnvWalk}
+use Rattle.ns_env.specs.declared.walk.EnvNext.{EnvNext}
+use Rattle.ns_env.specs.declared.walk.EnvNext.TheVariants.{Go, LookOver}
+use Rattle.ns_env.specs.Walks.{env_want_of, env_got_of}
+use Rattle.ns_env.specs.Asks.{EnvEffect}
+use Rattle.ns_env.specs.Steps.{EnvPlain}
 use Rattle.ns_word.specs.Walks.{want_of, got_of, walk_after}
 use Rattle.ns_word.specs.Steps.{held_after}
 use Rattle.ns_world.specs.declared.seat.Seat.{Seat}

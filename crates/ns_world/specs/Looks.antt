@@ -1,11 +1,11 @@
 -- The looks of a wait: where a seat stands on the clock and the notes while its wait looks.
 use Rattle.std.specs.Prelude.{◌≡◌, ℕ, Bool, false, Option, None, Some, IsSome}
-use Rattle.ns_word.specs.declared.limits.Limits.{Limits}
+use Rattle.ns_env.specs.declared.limits.Limits.{Limits}
 use Rattle.ns_word.specs.declared.wait.Aim.{Aim}
 use Rattle.ns_word.specs.declared.wait.Aim.TheVariants.{ForLock, ForWait}
-use Rattle.ns_word.specs.declared.env_walk.Chain.TheVariants.{ForLook}
-use Rattle.ns_word.specs.declared.env_walk.EnvWalk.{EnvWalk}
-use Rattle.ns_word.specs.declared.env_walk.EnvWalk.TheVariants.{ClockLoad, NoteLoad}
+use Rattle.ns_env.specs.declared.walk.Chain.TheVariants.{ForLook}
+use Rattle.ns_env.specs.declared.walk.EnvWalk.{EnvWalk}
+use Rattle.ns_env.specs.declared.walk.EnvWalk.TheVariants.{ClockLoad, NoteLoad}
 use Rattle.ns_word.specs.declared.walk.Walk.{Walk}
 use Rattle.ns_word.specs.declared.walk.Walk.TheVariants.{InAcquire, InWait}
 use Rattle.ns_word.specs.declared.act.Act.{Act}

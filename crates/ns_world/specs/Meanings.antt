@@ -1,39 +1,49 @@
 -- What the answer of a call in a world means, whatever others do while it is in progress.
 use Rattle.std.specs.Prelude.{◌≡◌, ℕ, zero, suc, ◌⊎◌, List, ◌++◌, Option, None, Some, slice_get}
 use Rattle.std.proofs.Common.{inl, inr, []}
+use Rattle.ns_counters.specs.declared.object.ObjectEvent.{ObjectEvent}
+use Rattle.ns_counters.specs.declared.object.Setup.{Setup}
+use Rattle.ns_counters.specs.Objects.{objects_own}
 use Rattle.ns_model.specs.declared.environment.EnvEvent.{EnvEvent}
 use Rattle.ns_model.specs.declared.event.Mode.{Mode}
 use Rattle.ns_model.specs.declared.event.Mode.TheVariants.{Write, Read}
 use Rattle.ns_model.specs.Environments.{env_own}
 use Rattle.ns_model.specs.Histories.{own, row_after}
 use Rattle.ns_word.specs.declared.act.Waking.TheVariants.{Signaling, Broadcasting}
-use Rattle.ns_word.specs.declared.env_request.EnvRequest.{EnvRequest}
-use Rattle.ns_word.specs.declared.env_request.EnvRequest.TheVariants as TheEnvRequest
-use Rattle.ns_word.specs.declared.limits.Cause.{Cause}
-use Rattle.ns_word.specs.declared.limits.Limits.{Limits}
+use Rattle.ns_env.specs.declared.request.EnvRequest.{EnvRequest}
+use Rattle.ns_env.specs.declared.request.EnvRequest.TheVariants as TheEnvRequest
+use Rattle.ns_env.specs.declared.limits.Cause.{Cause}
+use Rattle.ns_env.specs.declared.limits.Limits.{Limits}
 use Rattle.ns_word.specs.declared.request.Request.{Request}
 use Rattle.ns_word.specs.declared.request.Request.TheVariants as TheRequest
 use Rattle.ns_word.specs.declared.view.Held.{Held}
 use Rattle.ns_word.specs.declared.view.SeatView.{SeatView}
 use Rattle.ns_word.specs.declared.wait.Subject.TheVariants.{OnCondition, OnVariable}
-use Rattle.ns_word.specs.declared.walk.Reply.{Reply}
+use Rattle.ns_word.specs.declared.walk.Reply.{Reply as WalkReply}
 use Rattle.ns_word.specs.declared.word.Releasing.TheVariants.{Writer, QuietWriter, Reader}
-use Rattle.ns_word.specs.EnvMeanings.{AtSomePoint, EnvCourse, EnvMeans, Shows}
+use Rattle.ns_env.specs.Meanings.{AtSomePoint, EnvCourse, EnvMeans, Shows}
 use Rattle.ns_word.specs.Meanings.{Course, Means}
+use Rattle.ns_env.specs.declared.reply.EnvReply.{EnvReply}
 use Rattle.ns_world.specs.declared.call.Asked.{Asked}
-use Rattle.ns_world.specs.declared.call.Asked.TheVariants.{OfLock, OfNotes}
+use Rattle.ns_world.specs.declared.call.Asked.TheVariants.{OfLock, OfNotes, OfObjects}
 use Rattle.ns_world.specs.declared.call.Call.{Call}
-use Rattle.ns_world.specs.declared.call.Call.TheVariants.{Lock, RLock, TryLock, TryRLock, Unlock, RUnlock, UnlockQuiet, Get, Set, Wait, CvWait, Signal, Broadcast, NewNote, Notify, Advance, IsNotified, Expiry, NoteWait}
+use Rattle.ns_world.specs.declared.call.Call.TheVariants.{Lock, RLock, TryLock, TryRLock, Unlock, RUnlock, UnlockQuiet, Get, Set, Wait, CvWait, Signal, Broadcast, NewNote, Notify, Advance, IsNotified, Expiry, NoteWait, Add, Value, CounterWait, Once, Done, WaitAny}
 use Rattle.ns_world.specs.declared.step.Begun.TheVariants.{Started}
 use Rattle.ns_world.specs.declared.step.Step.{Step}
 use Rattle.ns_world.specs.declared.step.Step.TheVariants.{Finished}
-use Rattle.ns_world.specs.Begins.{BeginAnswers}
 use Rattle.ns_world.specs.Calls.{mode_of, mode_waited}
-use Rattle.ns_world.specs.World.{Now, IsLawfulWorld, StepOf, step_done}
+use Rattle.ns_world.specs.declared.object_walk.ObjectWalk.{ObjectWalk}
+use Rattle.ns_world.specs.declared.object_walk.ObjectWalk.TheVariants.{AddLoad, ValueLoad, WaitMark, OnceLoad, DoneLoad, InRound}
+use Rattle.ns_world.specs.declared.reply.Reply.{Reply}
+use Rattle.ns_world.specs.declared.round.RoundPlace.TheVariants.{FirstClock}
+use Rattle.ns_world.specs.ObjectMeanings.{Past, past_and, ObjectMeans}
+use Rattle.ns_world.specs.Replies.{told, env_told}
+use Rattle.ns_world.specs.Whole.{Whole, HaveLedTo, IsLawfulWhole, WholeBegins, WholeStep, notes_by, objects_by}
+use Rattle.ns_world.specs.World.{Now, LedTo}
 
 -- ---- what was asked
 
--- what each call asks, with a section in hand of this mode or with none: of the lock, or of the clock and the notes
+-- what each call asks, with a section in hand of this mode or with none: of the lock, of the clock and the notes, or of the counters and once cells, told by its first place
 abbrev pub asks_of : {C : Type 0} → Option Mode → Call C → Asked C
 asks_of mode Lock = OfLock (TheRequest.Lock Write)
 asks_of mode RLock = OfLock (TheRequest.Lock Read)
@@ -54,6 +64,12 @@ asks_of mode (Advance moment) = OfNotes (TheEnvRequest.Advance moment)
 asks_of mode (IsNotified note) = OfNotes (TheEnvRequest.IsNotified note)
 asks_of mode (Expiry note) = OfNotes (TheEnvRequest.Expiry note)
 asks_of mode (NoteWait note deadline) = OfNotes (TheEnvRequest.NoteWait note deadline)
+asks_of mode (Add counter delta) = OfObjects (AddLoad counter delta)
+asks_of mode (Value counter) = OfObjects (ValueLoad counter)
+asks_of mode (CounterWait counter deadline) = OfObjects (WaitMark counter deadline)
+asks_of mode (Once once) = OfObjects (OnceLoad once)
+asks_of mode (Done once) = OfObjects (DoneLoad once)
+asks_of mode (WaitAny items deadline) = OfObjects (InRound (record { items = items; deadline = deadline }) FirstClock)
 
 -- what may end the wait early that was asked, if it is one
 abbrev pub limits_of : {C : Type 0} → Request C → Limits
@@ -83,27 +99,53 @@ pub record AnswersOfLock {C : Type 0} {N : ℕ} (before : Now C N) (earlier : Li
   pub added : own after.history seat ≡ own before.history seat ++ course.committed
   pub shown : WasShown earlier later (limits_of request) course.looked
   pub still : env_own later seat ≡ env_own earlier seat
-  pub means : Means after.truths seat (row_after after.history) request course reply (held_at after seat)
+  pub answer : WalkReply
+  pub tells : reply ≡ told answer
+  pub means : Means after.truths seat (row_after after.history) request course answer (held_at after seat)
 
 -- A call on the clock and the notes has this answer: it means what it says of what happened to them since the call began; what the call has done to them is just what the seat has; and the section in hand and the history of the row are as they were.
 pub record AnswersOfNotes {C : Type 0} {N : ℕ} (before : Now C N) (earlier : List EnvEvent) (seat : ℕ) (request : EnvRequest) (reply : Reply) (after : Now C N) (later : List EnvEvent) : Type 0 where
   pub course : EnvCourse
   pub began : course.before ≡ earlier
   pub added : env_own later seat ≡ env_own earlier seat ++ course.events
-  pub means : EnvMeans later seat request course reply
+  pub answer : EnvReply
+  pub tells : reply ≡ env_told answer
+  pub means : EnvMeans later seat request course answer
   pub same : held_at after seat ≡ held_at before seat
   pub silent : own after.history seat ≡ own before.history seat
 
--- the call that asks this has the answer
-abbrev pub AnswersTo : {C : Type 0} {N : ℕ} → Now C N → List EnvEvent → ℕ → Asked C → Reply → Now C N → List EnvEvent → Type 0
-AnswersTo before earlier seat (OfLock request) reply after later = AnswersOfLock before earlier seat request reply after later
-AnswersTo before earlier seat (OfNotes request) reply after later = AnswersOfNotes before earlier seat request reply after later
+-- A call on counters and once cells has this answer: it means what it says; what the call has done to them is just what the seat has; and the clock and the notes, the section in hand and the history of the row are as they were, but for what others did.
+pub record AnswersOfObjects {C : Type 0} {N : ℕ} (before : Now C N) (earlier : Past) (setup : Setup) (seat : ℕ) (asked : ObjectWalk) (reply : Reply) (after : Now C N) (later : Past) : Type 0 where
+  pub events : List ObjectEvent
+  pub added : objects_own later.objects seat ≡ objects_own earlier.objects seat ++ events
+  pub means : ObjectMeans setup earlier later seat asked events reply
+  pub still : env_own later.notes seat ≡ env_own earlier.notes seat
+  pub same : held_at after seat ≡ held_at before seat
+  pub silent : own after.history seat ≡ own before.history seat
 
--- A call that the seat began in the world `before`, where these events had led to the clock and the notes, has this answer in the world `after`.
-abbrev pub AnswersCall : {C : Type 0} {N : ℕ} → Now C N → List EnvEvent → ℕ → Call C → Reply → Now C N → List EnvEvent → Type 0
-AnswersCall before earlier seat call reply after later = AnswersTo before earlier seat (asks_of (mode_of (held_at before seat)) call) reply after later
+-- The call that asks this has the answer. One of the lock, the clock and the notes has done nothing to the counters and once cells.
+abbrev pub AnswersTo : {C : Type 0} {N : ℕ} → Whole C N → Past → ℕ → Asked C → Reply → Whole C N → Past → Type 0
+AnswersTo before earlier seat (OfLock request) reply after later = AnswersOfLock before.lock earlier.notes seat request reply after.lock later.notes × (objects_own later.objects seat ≡ objects_own earlier.objects seat)
+AnswersTo before earlier seat (OfNotes request) reply after later = AnswersOfNotes before.lock earlier.notes seat request reply after.lock later.notes × (objects_own later.objects seat ≡ objects_own earlier.objects seat)
+AnswersTo before earlier seat (OfObjects asked) reply after later = AnswersOfObjects before.lock earlier before.objects.setup seat asked reply after.lock later
+
+-- A call that the seat began in the world `before`, to which this had led, has this answer in the world `after`.
+abbrev pub AnswersCall : {C : Type 0} {N : ℕ} → Whole C N → Past → ℕ → Call C → Reply → Whole C N → Past → Type 0
+AnswersCall before earlier seat call reply after later = AnswersTo before earlier seat (asks_of (mode_of (held_at before.lock seat)) call) reply after later
 
 -- ---- while a call is in progress
+
+-- this has led to the world
+abbrev pub HasLedTo : {C : Type 0} {N : ℕ} → Past → Whole C N → Type 0
+HasLedTo past world = LedTo past.notes world.lock × HaveLedTo past.objects world
+
+-- what a seat's step is to the clock and the notes, and to the counters and once cells
+abbrev pub done_in : {C : Type 0} {N : ℕ} (old new : Whole C N) (seat : ℕ) (step : Step) → WholeStep old new seat step → Past
+done_in old new seat step p = record { notes = notes_by old new seat step p; objects = objects_by old new seat step p }
+
+-- nothing at all
+abbrev pub nothing_done : Past
+nothing_done = record { notes = []; objects = [] }
 
 -- the step finished no call
 abbrev pub IsUnfinished : Step → Type 0
@@ -111,22 +153,22 @@ IsUnfinished (Finished reply) = ⊥
 IsUnfinished step = Unit {0}
 
 -- One thing happens in a world while a call of the seat is in progress: a seat begins a call, or makes a step; and no step finishes the seat's call. Like every world, the one after it is lawful.
-pub record Happens {C : Type 0} {N : ℕ} (seat : ℕ) (old new : Now C N) : Type 0 where
-  pub lawful : IsLawfulWorld new
+pub record Happens {C : Type 0} {N : ℕ} (seat : ℕ) (old new : Whole C N) : Type 0 where
+  pub lawful : IsLawfulWhole new
   pub who : ℕ
-  pub what : ((call : Call C) × BeginAnswers old new who call Started) ⊎ ((step : Step) × StepOf old new who step × (who ≡ seat → IsUnfinished step))
+  pub what : ((call : Call C) × WholeBegins old new who call Started) ⊎ ((step : Step) × WholeStep old new who step × (who ≡ seat → IsUnfinished step))
 
--- what has happened to the clock and the notes then
-abbrev pub done_by : {C : Type 0} {N : ℕ} (seat who : ℕ) (old new : Now C N) → ((call : Call C) × BeginAnswers old new who call Started) ⊎ ((step : Step) × StepOf old new who step × (who ≡ seat → IsUnfinished step)) → List EnvEvent
-done_by seat who old new (inl begun) = []
-done_by seat who old new (inr stepped) = step_done old new who stepped.0 stepped.1
+-- what has happened then
+abbrev pub done_by : {C : Type 0} {N : ℕ} (seat who : ℕ) (old new : Whole C N) → ((call : Call C) × WholeBegins old new who call Started) ⊎ ((step : Step) × WholeStep old new who step × (who ≡ seat → IsUnfinished step)) → Past
+done_by seat who old new (inl begun) = nothing_done
+done_by seat who old new (inr stepped) = done_in old new who stepped.0 stepped.1
 
 -- so many such things happen, one after another
-abbrev pub Meanwhile : {C : Type 0} {N : ℕ} → ℕ → ℕ → Now C N → Now C N → Type 0
+abbrev pub Meanwhile : {C : Type 0} {N : ℕ} → ℕ → ℕ → Whole C N → Whole C N → Type 0
 Meanwhile seat zero old new = new ≡ old
-Meanwhile {C} {N} seat (suc n) old new = (next : Now C N) × Happens seat old next × Meanwhile seat n next new
+Meanwhile {C} {N} seat (suc n) old new = (next : Whole C N) × Happens seat old next × Meanwhile seat n next new
 
--- what they were to the clock and the notes, in that order
-abbrev pub happened : {C : Type 0} {N : ℕ} (seat n : ℕ) (old new : Now C N) → Meanwhile seat n old new → List EnvEvent
-happened seat zero old new same = []
-happened seat (suc n) old new meanwhile = done_by seat meanwhile.1.who old meanwhile.0 meanwhile.1.what ++ happened seat n meanwhile.0 new meanwhile.2
+-- what has happened by them, in that order
+abbrev pub happened : {C : Type 0} {N : ℕ} (seat n : ℕ) (old new : Whole C N) → Meanwhile seat n old new → Past
+happened seat zero old new same = nothing_done
+happened seat (suc n) old new meanwhile = past_and (done_by seat meanwhile.1.who old meanwhile.0 meanwhile.1.what) (happened seat n meanwhile.0 new meanwhile.2)

@@ -6,7 +6,7 @@ use Rattle.ns_word.specs.declared.word.Word.{Word}
 use Rattle.ns_word.specs.declared.view.Held.{Held}
 use Rattle.ns_word.specs.declared.view.SeatView.{SeatView}
 use Rattle.ns_word.specs.declared.walk.Walk.{Walk}
-use Rattle.ns_word.specs.declared.env_walk.EnvWalk.{EnvWalk}
+use Rattle.ns_env.specs.declared.walk.EnvWalk.{EnvWalk}
 use Rattle.ns_word.specs.declared.walk.Next.{Next}
 use Rattle.ns_word.specs.declared.walk.Next.TheVariants.{On, Done}
 use Rattle.ns_word.specs.declared.walk.Next.TheVariants as TheNext
@@ -20,6 +20,7 @@ use Rattle.ns_world.specs.declared.seat.Seat.{Seat}
 use Rattle.ns_world.specs.Looks.{look_of}
 use Rattle.ns_world.specs.declared.step.Step.{Step}
 use Rattle.ns_world.specs.declared.step.Step.TheVariants.{Went, Idle, Finished}
+use Rattle.ns_world.specs.Replies.{told}
 
 -- the machine's view of a seat
 abbrev pub view_of : {C : Type 0} {N : ℕ} → Seat C N → SeatView C N
@@ -55,7 +56,7 @@ tests_after found before = before
 abbrev pub step_of : {C : Type 0} → Next C → Step
 step_of (On walk) = Went
 step_of (TheNext.Idle walk) = Idle
-step_of (Done reply) = Finished reply
+step_of (Done reply) = Finished (told reply)
 
 -- a seat's part of a world
 abbrev pub seat_part : {C : Type 0} {N : ℕ} → Word → List ℕ → Lists C → List ℕ → Seat C N → Part C N

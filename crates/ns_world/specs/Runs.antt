@@ -1,34 +1,33 @@
 -- A run of a schedule, turn by turn.
 use Rattle.std.specs.Prelude.{◌≡◌, ◌≢◌, ℕ, ◌+◌, ◌<◌, ◌≤◌, ◌⊎◌, Bool, true, false, not, ◌==◌, if◌then◌else◌, List, [], ◌∷◌, ◌++◌, Option, Some, None, slice_get, slice_index, slice_set, length, replicate, unwrap_or, All}
 use Rattle.std.specs.List.{flat_map}
-use Rattle.ns_word.specs.declared.walk.Reply.{Reply}
-use Rattle.ns_word.specs.declared.walk.Reply.TheVariants as TheReply
 use Rattle.ns_world.specs.declared.call.Call.{Call}
 use Rattle.ns_world.specs.declared.fault.Fault.{Fault}
 use Rattle.ns_world.specs.declared.fault.Fault.TheVariants.{OutOfMemory, NoSuchSeat, TooManySeats, StepLimit}
+use Rattle.ns_world.specs.declared.reply.Reply.{Reply}
+use Rattle.ns_world.specs.declared.reply.Reply.TheVariants as TheReply
 use Rattle.ns_world.specs.declared.schedule.Turn.{Turn}
 use Rattle.ns_world.specs.declared.schedule.Line.{Line}
 use Rattle.ns_world.specs.declared.step.Begun.TheVariants.{Started, Misuse}
 use Rattle.ns_world.specs.declared.step.Step.{Step}
 use Rattle.ns_world.specs.declared.step.Step.TheVariants.{Went, Idle, Finished, Nothing}
-use Rattle.ns_world.specs.Begins.{BeginAnswers}
 use Rattle.ns_world.specs.Calls.{CallInRange}
-use Rattle.ns_world.specs.World.{Now, IsIdle, IsBusy, StepOf, CommitsNext, is_busy}
+use Rattle.ns_world.specs.Whole.{Whole, WholeIsIdle, WholeIsBusy, WholeStep, WholeBegins, WholeCommits, whole_busy}
 
 -- ---- one turn
 
 -- the world, how many calls of each seat are over, and their lines in the order of finishing
 pub record Progress (C : Type 0) (N : ℕ) : Type 0 where
-  pub world : Now C N
+  pub world : Whole C N
   pub over : List ℕ
   pub lines : List Line
 
 -- a progress, part by part
-abbrev pub progress : {C : Type 0} {N : ℕ} → Now C N → List ℕ → List Line → Progress C N
+abbrev pub progress : {C : Type 0} {N : ℕ} → Whole C N → List ℕ → List Line → Progress C N
 progress world over lines = record { world = world; over = over; lines = lines }
 
 -- before the first turn
-abbrev pub start : {C : Type 0} {N : ℕ} → Now C N → Progress C N
+abbrev pub start : {C : Type 0} {N : ℕ} → Whole C N → Progress C N
 start world = progress world (replicate 64 0) []
 
 -- The calls of a seat. A seat without a list has none.
@@ -45,15 +44,15 @@ tests_told TheReply.Misuse tests = 0
 tests_told reply tests = tests
 
 -- the seat's call is over, with this answer
-abbrev pub finished : {C : Type 0} {N : ℕ} → Progress C N → ℕ → Reply → Now C N → Progress C N
+abbrev pub finished : {C : Type 0} {N : ℕ} → Progress C N → ℕ → Reply → Whole C N → Progress C N
 finished p seat reply world = record {
   world = world;
   over = slice_set p.over seat (slice_index p.over seat + 1);
-  lines = p.lines ++ record { thread = seat; call = slice_index p.over seat; reply = reply; tests = tests_told reply (slice_index world.tests seat) } ∷ [];
+  lines = p.lines ++ record { thread = seat; call = slice_index p.over seat; reply = reply; tests = tests_told reply (slice_index world.lock.tests seat) } ∷ [];
 }
 
 -- what a seat's step leaves of the progress
-abbrev pub progressed : {C : Type 0} {N : ℕ} → Progress C N → ℕ → Step → Now C N → Progress C N
+abbrev pub progressed : {C : Type 0} {N : ℕ} → Progress C N → ℕ → Step → Whole C N → Progress C N
 progressed p seat Went world = record p { world = world }
 progressed p seat Idle world = record p { world = world }
 progressed p seat Nothing world = record p { world = world }
@@ -66,17 +65,17 @@ Counts over lines seat (Finished reply) tests over' lines' =
 Counts over lines seat step tests over' lines' = (over' ≡ over) × (lines' ≡ lines)
 
 -- A seat with a call in progress goes on with it; one with none begins its next, if the call's need is met.
-abbrev pub GoesOnOrBegins : {C : Type 0} {N : ℕ} → List (List (Call C)) → Progress C N → ℕ → Now C N → Type 0
+abbrev pub GoesOnOrBegins : {C : Type 0} {N : ℕ} → List (List (Call C)) → Progress C N → ℕ → Whole C N → Type 0
 GoesOnOrBegins {C} {N} lists p seat world =
-    (IsBusy p.world seat × (world ≡ p.world))
-    ⊎ ((call : Call C) × (next_call lists p seat ≡ Some call) × BeginAnswers p.world world seat call Started)
+    (WholeIsBusy p.world seat × (world ≡ p.world))
+    ⊎ ((call : Call C) × (next_call lists p seat ≡ Some call) × WholeBegins p.world world seat call Started)
 
 -- the seat makes a step of the call that it goes on with or begins
 pub record MakesTurn {C : Type 0} {N : ℕ} (lists : List (List (Call C))) (p : Progress C N) (seat : ℕ) (step : Step) (q : Progress C N) : Type 0 where
-  pub begun : Now C N
+  pub begun : Whole C N
   pub leads : GoesOnOrBegins lists p seat begun
-  pub world : Now C N
-  pub steps : StepOf begun world seat step
+  pub world : Whole C N
+  pub steps : WholeStep begun world seat step
   pub goes : step ≢ Nothing
   pub after : q ≡ progressed p seat step world
 
@@ -84,13 +83,13 @@ pub record MakesTurn {C : Type 0} {N : ℕ} (lists : List (List (Call C))) (p : 
 pub record MisusesTurn {C : Type 0} {N : ℕ} (lists : List (List (Call C))) (p : Progress C N) (seat : ℕ) (step : Step) (q : Progress C N) : Type 0 where
   pub call : Call C
   pub next : next_call lists p seat ≡ Some call
-  pub refused : BeginAnswers p.world p.world seat call Misuse
+  pub refused : WholeBegins p.world p.world seat call Misuse
   pub answer : step ≡ Finished TheReply.Misuse
   pub after : q ≡ finished p seat TheReply.Misuse p.world
 
 -- no call of the seat is in progress or left
 pub record Rests {C : Type 0} {N : ℕ} (lists : List (List (Call C))) (p : Progress C N) (seat : ℕ) (step : Step) (q : Progress C N) : Type 0 where
-  pub idle : IsIdle p.world seat
+  pub idle : WholeIsIdle p.world seat
   pub none : next_call lists p seat ≡ None
   pub answer : step ≡ Nothing
   pub after : q ≡ p
@@ -100,15 +99,15 @@ abbrev pub TurnOf : {C : Type 0} {N : ℕ} → List (List (Call C)) → Progress
 TurnOf lists p seat step q = MakesTurn lists p seat step q ⊎ (MisusesTurn lists p seat step q ⊎ Rests lists p seat step q)
 
 -- A turn takes the world old to the world new, where this is the seat's next call, whatever came before.
-abbrev pub TurnsWith : {C : Type 0} {N : ℕ} → Option (Call C) → Now C N → ℕ → Step → Now C N → Type 0
+abbrev pub TurnsWith : {C : Type 0} {N : ℕ} → Option (Call C) → Whole C N → ℕ → Step → Whole C N → Type 0
 TurnsWith {C} {N} next old seat step new =
     (lists : List (List (Call C))) (over : List ℕ) (lines : List Line) → slice_get (calls_of lists seat) (slice_index over seat) ≡ next →
     TurnOf lists (progress old over lines) seat step (progressed (progress old over lines) seat step new)
 
 -- why a turn is refused: the number is no seat's, or there was no memory for its event
-abbrev pub TurnFault : {C : Type 0} {N : ℕ} → Now C N → ℕ → Fault → Type 0
-TurnFault world seat OutOfMemory = CommitsNext world seat
-TurnFault world seat NoSuchSeat = length world.state.views ≤ seat
+abbrev pub TurnFault : {C : Type 0} {N : ℕ} → Whole C N → ℕ → Fault → Type 0
+TurnFault world seat OutOfMemory = WholeCommits world seat
+TurnFault world seat NoSuchSeat = length world.lock.state.views ≤ seat
 TurnFault world seat TooManySeats = ⊥
 TurnFault world seat StepLimit = ⊥
 
@@ -176,19 +175,19 @@ pub record EndFinished (turns : List Turned) : Type 0 where
   pub last : turns ≡ earlier ++ record { seat = seat; step = Finished reply } ∷ []
 
 -- the next item's turn commits an event
-abbrev pub CommitsFirst : {C : Type 0} {N : ℕ} → Now C N → List Item → Type 0
+abbrev pub CommitsFirst : {C : Type 0} {N : ℕ} → Whole C N → List Item → Type 0
 CommitsFirst world [] = ⊥
-CommitsFirst world (item ∷ left) = CommitsNext world item.seat
+CommitsFirst world (item ∷ left) = WholeCommits world item.seat
 
 -- Why a run stops in this world after these turns, so many, with these items left: the next item needs one turn more than the limit, or its thread is no seat, or memory was refused: for the event of the next turn, or for the line of the call that the last turn finished.
-abbrev pub StopsFor : {C : Type 0} {N : ℕ} → ℕ → Now C N → ℕ → List Turned → List Item → Fault → Type 0
+abbrev pub StopsFor : {C : Type 0} {N : ℕ} → ℕ → Whole C N → ℕ → List Turned → List Item → Fault → Type 0
 StopsFor limit world made turns left OutOfMemory = CommitsFirst world left ⊎ EndFinished turns
-StopsFor limit world made turns (item ∷ left) StepLimit = (made ≡ limit) × (item.seat < length world.state.views)
-StopsFor limit world made turns (item ∷ left) NoSuchSeat = length world.state.views ≤ item.seat
+StopsFor limit world made turns (item ∷ left) StepLimit = (made ≡ limit) × (item.seat < length world.lock.state.views)
+StopsFor limit world made turns (item ∷ left) NoSuchSeat = length world.lock.state.views ≤ item.seat
 StopsFor limit world made turns left fault = ⊥
 
 -- Turns that follow a front of the items lead from the progress p, and then the run stops in this world.
-pub record Stops {C : Type 0} {N : ℕ} (lists : List (List (Call C))) (limit : ℕ) (p : Progress C N) (before : ℕ) (items : List Item) (world : Now C N) (fault : Fault) : Type 0 where
+pub record Stops {C : Type 0} {N : ℕ} (lists : List (List (Call C))) (limit : ℕ) (p : Progress C N) (before : ℕ) (items : List Item) (world : Whole C N) (fault : Fault) : Type 0 where
   pub left : List Item
   pub end : Progress C N
   pub after : ℕ
@@ -197,7 +196,7 @@ pub record Stops {C : Type 0} {N : ℕ} (lists : List (List (Call C))) (limit : 
   pub why : StopsFor limit world after advances.turns left fault
 
 -- A whole run takes the world old to the world new, and gives these lines: turns from the start that follow the schedule to its end, no more than the limit.
-pub record Runs {C : Type 0} {N : ℕ} (lists : List (List (Call C))) (schedule : List Turn) (limit : ℕ) (old new : Now C N) (lines : List Line) : Type 0 where
+pub record Runs {C : Type 0} {N : ℕ} (lists : List (List (Call C))) (schedule : List Turn) (limit : ℕ) (old new : Whole C N) (lines : List Line) : Type 0 where
   pub end : Progress C N
   pub after : ℕ
   pub advances : Advances lists limit (start old) 0 (items_of schedule) [] end after
@@ -205,19 +204,19 @@ pub record Runs {C : Type 0} {N : ℕ} (lists : List (List (Call C))) (schedule 
   pub tells : end.lines ≡ lines
 
 -- A run that is refused leaves the world as its last turn left it.
-abbrev pub RunFault : {C : Type 0} {N : ℕ} → List (List (Call C)) → List Turn → ℕ → Now C N → Now C N → Fault → Type 0
+abbrev pub RunFault : {C : Type 0} {N : ℕ} → List (List (Call C)) → List Turn → ℕ → Whole C N → Whole C N → Fault → Type 0
 RunFault lists schedule limit old new fault = Stops lists limit (start old) 0 (items_of schedule) new fault
 
 -- ---- what a run needs
 
 -- no call is in progress
-abbrev pub AllIdle : {C : Type 0} {N : ℕ} → Now C N → Type 0
-AllIdle world = (seat : ℕ) → is_busy world.state.views world.asking seat ≡ false
+abbrev pub AllIdle : {C : Type 0} {N : ℕ} → Whole C N → Type 0
+AllIdle world = (seat : ℕ) → whole_busy world seat ≡ false
 
 -- No seat is past its last call, which keeps a call's number below 256.
-pub record IsCounted {C : Type 0} {N : ℕ} (world : Now C N) (over : List ℕ) : Type 0 where
+pub record IsCounted {C : Type 0} {N : ℕ} (world : Whole C N) (over : List ℕ) : Type 0 where
   pub many : length over ≡ 64
-  pub most : (seat : ℕ) → slice_index over seat + (if is_busy world.state.views world.asking seat then 1 else 0) ≤ 256
+  pub most : (seat : ℕ) → slice_index over seat + (if whole_busy world seat then 1 else 0) ≤ 256
 
 -- a list has at most 256 calls, and what each names is in range
 abbrev pub ListFits : {C : Type 0} → ℕ → List (Call C) → Type 0

@@ -1,5 +1,5 @@
 -- What a contract sees of a world, and a seat's step in it.
-use Rattle.std.specs.Prelude.{◌≡◌, ℕ, ◌⊎◌, Bool, false, ◌||◌, ◌<◌, ◌≤◌, ◌++◌, List, [], ◌∷◌, map, replicate, Option, Some, None, is_some, slice_get, slice_set, slice_index, length}
+use Rattle.std.specs.Prelude.{◌≡◌, ℕ, ◌⊎◌, Bool, false, ◌||◌, ◌<◌, ◌≤◌, ◌++◌, List, [], map, replicate, Option, Some, None, is_some, slice_get, slice_set, slice_index, length}
 use Rattle.std.specs.Option.{option_map_or}
 use Rattle.std.proofs.Common.{inl, inr}
 use Rattle.ns_model.specs.declared.environment.EnvEvent.{EnvEvent}
@@ -11,18 +11,20 @@ use Rattle.ns_word.specs.declared.walk.Walk.{Walk}
 use Rattle.ns_word.specs.declared.act.Found.{Found}
 use Rattle.ns_word.specs.declared.act.Found.TheVariants.{Looked}
 use Rattle.ns_model.specs.Environments.{NoteStanding, env_who}
-use Rattle.ns_word.specs.declared.env_act.EnvFound.{EnvFound}
-use Rattle.ns_word.specs.declared.env_walk.EnvWalk.{EnvWalk}
+use Rattle.ns_model.specs.Tallies.{Every}
+use Rattle.ns_env.specs.declared.act.EnvFound.{EnvFound}
+use Rattle.ns_env.specs.declared.walk.EnvWalk.{EnvWalk}
 use Rattle.ns_word.specs.Walks.{want_of, got_of, walk_after}
 use Rattle.ns_model.specs.Truths.{Truths}
 use Rattle.ns_word.specs.Steps.{LockState, Step as Steps}
 use Rattle.ns_word.specs.Lawful.{IsLawful}
 use Rattle.ns_word.specs.Views.{AreNumbered}
 use Rattle.ns_word.specs.Begins.{fresh_state}
-use Rattle.ns_word.specs.declared.env_walk.EnvNext.{EnvNext}
-use Rattle.ns_word.specs.declared.env_walk.EnvNext.TheVariants.{Go, LookOver}
-use Rattle.ns_word.specs.EnvWalks.{env_want_of, env_got_of}
-use Rattle.ns_word.specs.EnvSteps.{EnvPlain, EnvStep, EnvEffect, IfMade, IsLawfulEnv, fresh_plain}
+use Rattle.ns_env.specs.declared.walk.EnvNext.{EnvNext}
+use Rattle.ns_env.specs.declared.walk.EnvNext.TheVariants.{Go, LookOver}
+use Rattle.ns_env.specs.Walks.{env_want_of, env_got_of}
+use Rattle.ns_env.specs.Asks.{EnvStep, EnvEffect, IfMade, IsLawfulEnv}
+use Rattle.ns_env.specs.Steps.{EnvPlain, fresh_plain}
 use Rattle.ns_world.specs.declared.environment.Environment.{Environment}
 use Rattle.ns_world.specs.declared.seat.Seat.{Seat}
 use Rattle.ns_world.specs.declared.step.Step.{Step}
@@ -100,8 +102,7 @@ LedTo events world = IsLawfulEnv events (env_state world.env world.asking)
 
 -- all these events of the clock and the notes are the seat's
 abbrev pub AreEnvBy : ℕ → List EnvEvent → Type 0
-AreEnvBy seat [] = Unit {0}
-AreEnvBy seat (event ∷ events) = (env_who event ≡ seat) × AreEnvBy seat events
+AreEnvBy seat events = Every (λ event. env_who event ≡ seat) events
 
 -- A world has at most 64 seats, and it keeps the law of the lock with its history. Its clock and its notes are as some events of its seats leave them, and it keeps their law with these.
 pub record IsLawfulWorld {C : Type 0} {N : ℕ} (world : Now C N) : Type 0 where
@@ -219,13 +220,6 @@ abbrev pub env_done : {C : Type 0} {N : ℕ} {old new : Now C N} {seat : ℕ} {s
 env_done (inl acts) = []
 env_done (inr (inl asks)) = asks.events
 env_done (inr (inr looks)) = []
-
--- the same of a step that may be none
-abbrev pub step_done : {C : Type 0} {N : ℕ} (old new : Now C N) (seat : ℕ) (step : Step) → StepOf old new seat step → List EnvEvent
-step_done old new seat Nothing p = []
-step_done old new seat Went p = env_done p
-step_done old new seat Idle p = env_done p
-step_done old new seat (Finished reply) p = env_done p
 
 -- The seat's next step finds the word that it has seen, and so commits an event: a release, a call that wakes, or that a wait for a variable is left in whose list it still stands.
 abbrev pub CommitsNext : {C : Type 0} {N : ℕ} → Now C N → ℕ → Type 0

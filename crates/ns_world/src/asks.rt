@@ -1,15 +1,16 @@
 //! One atomic step on the clock and the notes, as the seat's place in its call wants it.
 
 ghost use Rattle.std.specs.Prelude.{◌≡◌};
-ghost use Rattle.ns_word.specs.EnvSteps.{EnvActFits};
-ghost use Rattle.ns_word.specs.EnvWalks.{env_want_of, env_walk_after};
+ghost use Rattle.ns_env.specs.Asks.{EnvActFits};
+ghost use Rattle.ns_env.specs.Walks.{env_want_of, env_walk_after};
 ghost use Rattle.ns_world.specs.Asks.{Asked, plain_of, env_step_of};
 
 use crate::environment::Environment;
+use crate::reply::env_told;
 use crate::room::Seated;
 use crate::seat::Seat;
 use crate::step::Step;
-use ns_word::env_walk::{EnvNext, EnvWalk};
+use ns_env::walk::{EnvNext, EnvWalk};
 
 /// Puts the seat where its walk goes, and tells what the step was. After a look the call goes on.
 fn settle<C: Seated<N>, const N: usize>(seat: &mut Seat<C, N>, next: EnvNext) -> Step
@@ -27,7 +28,7 @@ fn settle<C: Seated<N>, const N: usize>(seat: &mut Seat<C, N>, next: EnvNext) ->
         }
         EnvNext::Over(reply) => {
             seat.asking = None;
-            Step::Finished(reply)
+            Step::Finished(env_told(reply))
         }
         EnvNext::LookOver(_) => {
             seat.asking = None;

@@ -3,15 +3,23 @@
 ghost use Rattle.std.specs.Prelude.{◌≡◌, ◌≤◌, ⊤, MatchOption, Some, None, ◌&&◌, is_some, if◌then◌else◌};
 ghost use Rattle.ns_world.specs.Asks.{note_at};
 ghost use Rattle.ns_word.specs.Walks.{wait_first};
-ghost use Rattle.ns_world.specs.Calls.{mode_waited, start_of, CallFits, SectionFits};
+ghost use Rattle.ns_world.specs.Calls.{finds, mode_waited, object_start, start_of, CallFits, CallInRange, SectionFits};
+ghost use Rattle.ns_world.specs.Items.{items_of};
+ghost use Rattle.ns_world.specs.Objects.{is_there as is_there_in};
+ghost use Rattle.ns_counters.specs.declared.object.Setup.{Setup as SetupOf};
+ghost use Rattle.std.specs.List.{list_all};
 
 use crate::environment::{is_made, is_made_or_none};
+use crate::items::{Item, Items};
+use crate::object_walk::ObjectWalk;
+use crate::round::{Round, RoundPlace};
+use ns_counters::object::Setup;
+use ns_env::limits::Limits;
+use ns_env::note::NoteState;
+use ns_env::request::EnvRequest;
+use ns_env::walk::{Chain, EnvWalk};
 use ns_model::event::Mode;
 use ns_word::act::Waking;
-use ns_word::env_act::NoteState;
-use ns_word::env_request::EnvRequest;
-use ns_word::env_walk::{Chain, EnvWalk};
-use ns_word::limits::Limits;
 use ns_word::request::Request;
 use ns_word::wait::{Subject, Wait};
 use ns_word::walk::Walk;
@@ -76,6 +84,25 @@ pub enum Call<C> {
     /// Waits until a note that is made is notified, at most until the deadline, in ticks, if one is
     /// given. Answers `Is`: whether the note is notified.
     NoteWait(u8, Option<u64>),
+    /// Changes the value of a counter by a number, which may be below 0. Needs that there is one of this
+    /// number. Answers the new value as its `Number`; or `Refused`, and then the counter is as it was: with
+    /// `Under` where it would fall below 0, else with `Over` where it would rise above 4,294,967,295,
+    /// else with `AfterWait` where it would rise from 0 and a wait for 0 has begun.
+    Add(u8, i64),
+    /// Reads a counter. Needs that there is one of this number. Answers its `Number`.
+    Value(u8),
+    /// Waits until a counter is 0, at most until the deadline, in ticks, if one is given. Needs that there
+    /// is one of this number. Answers the value as its `Number`: one that isn't 0 where the deadline had come.
+    CounterWait(u8, Option<u64>),
+    /// Runs a function, if nobody has begun to run one for this once cell; else waits until that has ended.
+    /// Needs that there is a cell of this number. Answers `Ran`, or `Already`.
+    Once(u8),
+    /// Asks whether a function of a once cell has run. Needs that there is one of this number. Answers `Is`.
+    Done(u8),
+    /// Waits until one of several notes and counters is ready, at most until the deadline, in ticks, if one
+    /// is given. Needs notes that are made, and counters that there are. Answers as its `Number` the place
+    /// of the first that is ready, counted from 0, or how many there are, where the deadline had come.
+    WaitAny(Items, Option<u64>),
 }
 
 impl<C: Copy> Clone for Call<C> {
@@ -96,6 +123,8 @@ pub enum Asked<C> {
     OfLock(Request<C>),
     /// Of the clock and the notes.
     OfNotes(EnvRequest),
+    /// Of counters and once cells: what a call asks that begins at this place.
+    OfObjects(ObjectWalk),
 }
 
 /// Where a call begins.
@@ -105,6 +134,8 @@ pub enum Start<C> {
     OnLock(Walk<C>),
     /// On the clock and the notes.
     Ask(EnvWalk),
+    /// On counters and once cells.
+    OnObjects(ObjectWalk),
 }
 
 impl<C: Copy> Clone for Start<C> {
@@ -122,6 +153,40 @@ fn ask<C: Copy>(met: bool, walk: EnvWalk) -> Option<Start<C>>
     ensures { result ≡ (if met then Some (Start.Ask walk) else None) }
 {
     if met { Some(Start::Ask(walk)) } else { None }
+}
+
+/// Whether there is an object: a note that is made, or a counter.
+fn is_there(item: Item, notes: &[NoteState; 64], setup: &Setup) -> bool
+    ensures { result ≡ is_there_in setup.now (note_at notes.now) item }
+{
+    match item {
+        Item::OnNote(note) => is_made(notes, note),
+        Item::OnCounter(counter) => counter < setup.counters,
+    }
+}
+
+/// Whether there is each of several objects.
+fn are_there(items: &Items, notes: &[NoteState; 64], setup: &Setup) -> bool
+    requires { items.now.count ≤ 16 }
+    ensures { result ≡ list_all (is_there_in setup.now (note_at notes.now)) (items_of items.now) }
+{
+    for item in &items.all[..items.count as usize] {
+        if !is_there(*item, notes, setup) {
+            return false;
+        }
+    }
+    true
+}
+
+/// A call on counters and once cells begins where its need is met.
+fn operate<C: Copy>(met: bool, walk: ObjectWalk) -> Option<Start<C>>
+    ensures { result ≡ (if met then Some (Start.OnObjects walk) else None) }
+{
+    if met {
+        Some(Start::OnObjects(walk))
+    } else {
+        None
+    }
 }
 
 /// A wait begins where it may leave a section in this mode, and its note is made.
@@ -152,9 +217,62 @@ impl<C: Copy> Call<C> {
         self,
         mode: Option<Mode>,
         notes: &[NoteState; 64],
+        setup: &Setup,
     ) -> Option<Start<C>>
-        requires { N ≤ 16 }
-        ensures { MatchOption result (CallFits (note_at notes.now) self mode → ⊥) (λ start. (start ≡ start_of N mode self) × CallFits (note_at notes.now) self mode) }
+        requires row { N ≤ 16 }
+        requires range { CallInRange N self }
+        ensures { MatchOption result (CallFits setup.now (note_at notes.now) self mode → ⊥) (λ start. (start ≡ start_of N mode self) × CallFits setup.now (note_at notes.now) self mode) }
+    {
+        match self.on_objects() {
+            Some(walk) => operate(self.finds::<N>(notes, setup), walk),
+            None => self.start_others::<N>(mode, notes),
+        }
+    }
+
+    /// The first place of a call on counters and once cells, if it is one.
+    pub(crate) fn on_objects(&self) -> Option<ObjectWalk>
+        ensures { result ≡ object_start self.now }
+    {
+        match *self {
+            Call::Add(counter, delta) => Some(ObjectWalk::AddLoad(counter, delta)),
+            Call::Value(counter) => Some(ObjectWalk::ValueLoad(counter)),
+            Call::CounterWait(counter, deadline) => Some(ObjectWalk::WaitMark(counter, deadline)),
+            Call::Once(once) => Some(ObjectWalk::OnceLoad(once)),
+            Call::Done(once) => Some(ObjectWalk::DoneLoad(once)),
+            Call::WaitAny(items, deadline) => {
+                let round = Round { items, deadline };
+                Some(ObjectWalk::InRound(round, RoundPlace::FirstClock))
+            }
+            _ => None,
+        }
+    }
+
+    /// Whether there are the counters, the once cells and the notes that a call on counters and once
+    /// cells names.
+    fn finds<const N: usize>(&self, notes: &[NoteState; 64], setup: &Setup) -> bool
+        requires { CallInRange N self.now }
+        ensures { result ≡ finds setup.now (note_at notes.now) self.now }
+    {
+        match self {
+            Call::Add(counter, _) => *counter < setup.counters,
+            Call::Value(counter) => *counter < setup.counters,
+            Call::CounterWait(counter, _) => *counter < setup.counters,
+            Call::Once(once) => *once < setup.cells,
+            Call::Done(once) => *once < setup.cells,
+            Call::WaitAny(items, _) => are_there(items, notes, setup),
+            _ => true,
+        }
+    }
+
+    /// Where a call on the lock, the clock and the notes begins.
+    fn start_others<const N: usize>(
+        self,
+        mode: Option<Mode>,
+        notes: &[NoteState; 64],
+    ) -> Option<Start<C>>
+        requires row { N ≤ 16 }
+        requires others { object_start self ≡ None }
+        ensures { (setup : Setup) → MatchOption result (CallFits setup (note_at notes.now) self mode → ⊥) (λ start. (start ≡ start_of N mode self) × CallFits setup (note_at notes.now) self mode) }
     {
         match self {
             Call::NewNote(parent, deadline) => {

@@ -1,11 +1,13 @@
 //! The clock and the notes of a world.
 
-ghost use Rattle.std.specs.Prelude.{◌≡◌, ◌<◌, ℕ, true};
+ghost use Rattle.std.specs.Prelude.{◌≡◌, ◌<◌, ℕ, [], true};
 ghost use Rattle.std.specs.Option.{option_map_or};
-ghost use Rattle.ns_word.specs.EnvSteps.{EnvEffect, EnvActFits, events_of, fresh_plain};
-ghost use Rattle.ns_world.specs.Asks.{plain_of, note_at};
+ghost use Rattle.ns_env.specs.Asks.{EnvEffect, EnvActFits};
+ghost use Rattle.ns_env.specs.Steps.{fresh_plain, outcome};
+ghost use Rattle.ns_world.specs.Asks.{plain_of, note_at, IsLoad};
 
-use ns_word::env_act::{EnvAct, EnvFound, NoteState};
+use ns_env::act::{EnvAct, EnvFound};
+use ns_env::note::NoteState;
 
 /// A number without a note.
 const NO_NOTE: NoteState = NoteState {
@@ -38,7 +40,7 @@ impl Environment {
     /// Makes the act.
     pub(crate) fn make(&mut self, act: EnvAct) -> EnvFound
         requires { EnvActFits self.old.next act }
-        ensures { (seat : ℕ) → EnvEffect seat act (plain_of self.old) result (plain_of self.new) (events_of seat act result) }
+        ensures { (seat : ℕ) → EnvEffect seat act (plain_of self.old) result (plain_of self.new) (outcome seat act (plain_of self.old)).events }
     {
         match act {
             EnvAct::LoadNext => EnvFound::NextNumber(self.next),
@@ -58,10 +60,23 @@ impl Environment {
         }
     }
 
+    /// What a load of the clock or of a note finds.
+    pub(crate) fn load(&self, act: EnvAct) -> EnvFound
+        requires loads { IsLoad act }
+        requires fits { EnvActFits self.now.next act }
+        ensures { (seat : ℕ) → EnvEffect seat act (plain_of self.now) result (plain_of self.now) [] }
+    {
+        match act {
+            EnvAct::LoadClock => EnvFound::Clock(self.clock),
+            EnvAct::LoadNote(note) => EnvFound::Note(self.notes[note as usize]),
+            _ => unreachable!(),
+        }
+    }
+
     /// Stores a note.
     fn store_note(&mut self, note: u8, parent: Option<u8>, deadline: Option<u64>) -> EnvFound
         requires { note < 64 }
-        ensures { (seat : ℕ) → EnvEffect seat (EnvAct.StoreNote note parent deadline) (plain_of self.old) result (plain_of self.new) (events_of seat (EnvAct.StoreNote note parent deadline) result) }
+        ensures { (seat : ℕ) → EnvEffect seat (EnvAct.StoreNote note parent deadline) (plain_of self.old) result (plain_of self.new) (outcome seat (EnvAct.StoreNote note parent deadline) (plain_of self.old)).events }
     {
         self.notes[note as usize] = NoteState {
             made: true,
@@ -75,7 +90,7 @@ impl Environment {
     /// Notifies a note.
     fn notify(&mut self, note: u8) -> EnvFound
         requires { note < 64 }
-        ensures { (seat : ℕ) → EnvEffect seat (EnvAct.NotifyNote note) (plain_of self.old) result (plain_of self.new) (events_of seat (EnvAct.NotifyNote note) result) }
+        ensures { (seat : ℕ) → EnvEffect seat (EnvAct.NotifyNote note) (plain_of self.old) result (plain_of self.new) (outcome seat (EnvAct.NotifyNote note) (plain_of self.old)).events }
     {
         self.notes[note as usize].called = true;
         EnvFound::Stored

@@ -1,35 +1,36 @@
-//! What a step does to the history of the clock and the notes, and what the answer of a call means.
+//! What a step does to the histories of a world, and what the answer of a call means.
 
-ghost use Rattle.std.specs.Prelude.{ℕ, ◌++◌, List};
-ghost use Rattle.ns_model.specs.declared.environment.EnvEvent.{EnvEvent};
-ghost use Rattle.ns_word.specs.declared.walk.Reply.{Reply};
+ghost use Rattle.std.specs.Prelude.{ℕ, List};
 ghost use Rattle.ns_world.specs.declared.call.Call.{Call};
+ghost use Rattle.ns_world.specs.declared.reply.Reply.{Reply};
 ghost use Rattle.ns_world.specs.declared.step.Begun.TheVariants.{Started};
 ghost use Rattle.ns_world.specs.declared.step.Step.{Step};
 ghost use Rattle.ns_world.specs.declared.step.Step.TheVariants.{Finished};
-ghost use Rattle.ns_world.specs.Begins.{BeginAnswers};
-ghost use Rattle.ns_world.specs.Meanings.{AnswersCall, Meanwhile, happened};
-ghost use Rattle.ns_world.specs.World.{Now, IsLawfulWorld, LedTo, StepOf, AreEnvBy, step_done};
+ghost use Rattle.ns_world.specs.Meanings.{AnswersCall, HasLedTo, Meanwhile, done_in, happened};
+ghost use Rattle.ns_world.specs.ObjectMeanings.{Past, past_and};
+ghost use Rattle.ns_world.specs.Whole.{Whole, AreObjectsBy, IsLawfulWhole, WholeBegins, WholeStep};
+ghost use Rattle.ns_world.specs.World.{AreEnvBy};
 
 use ns_model::condition::Condition;
 
-/// The clock and the notes of a world have one history, which only grows: what has led to a world,
-/// with the events of its next step behind it, has led to the world after that step. These events
-/// are those of the seat that steps.
-pub fn steps_extend_the_history_of_notes<C: Condition<N>, const N: usize>()
-    ensures { (events : List EnvEvent) (old new : Now C N) (seat : ℕ) (step : Step) →
-        IsLawfulWorld old → LedTo events old → (made : StepOf old new seat step) →
-        AreEnvBy seat (step_done old new seat step made) × LedTo (events ++ step_done old new seat step made) new }
+/// The clock and the notes of a world have one history, and so have its counters and once cells. Both
+/// only grow: what has led to a world, with the events of its next step behind it, has led to the
+/// world after that step. These events are those of the seat that steps.
+pub fn steps_extend_the_histories<C: Condition<N>, const N: usize>()
+    ensures { (past : Past) (old new : Whole C N) (seat : ℕ) (step : Step) →
+        IsLawfulWhole old → HasLedTo past old → (made : WholeStep old new seat step) →
+        AreEnvBy seat (done_in old new seat step made).notes × AreObjectsBy seat (done_in old new seat step made).objects × HasLedTo (past_and past (done_in old new seat step made)) new }
 {}
 
 /// Whatever others do between the beginning of a call and the step that finishes it, its answer means
 /// what it says: of the section that the seat had in hand before and of the one
 /// that it has after, of what the call has committed, which is just what the seat has added to the
-/// history, and of what has happened to the clock and the notes since the call began.
+/// history, and of what has happened to the clock and the notes, and to the counters and once cells,
+/// since the call began.
 pub fn calls_mean_what_they_answer<C: Condition<N>, const N: usize>()
-    ensures { (n seat : ℕ) (before begun last after : Now C N) (earlier : List EnvEvent) (call : Call C) (reply : Reply) →
-        LedTo earlier before → BeginAnswers before begun seat call Started → IsLawfulWorld begun →
-        (meanwhile : Meanwhile seat n begun last) → (finish : StepOf last after seat (Finished reply)) →
-        let later = earlier ++ happened seat n begun last meanwhile ++ step_done last after seat (Finished reply) finish in
-        LedTo later after × AnswersCall before earlier seat call reply after later }
+    ensures { (n seat : ℕ) (before begun last after : Whole C N) (earlier : Past) (call : Call C) (reply : Reply) →
+        IsLawfulWhole before → HasLedTo earlier before → WholeBegins before begun seat call Started → IsLawfulWhole begun →
+        (meanwhile : Meanwhile seat n begun last) → (finish : WholeStep last after seat (Finished reply)) →
+        let later = past_and earlier (past_and (happened seat n begun last meanwhile) (done_in last after seat (Finished reply) finish)) in
+        HasLedTo later after × AnswersCall before earlier seat call reply after later }
 {}

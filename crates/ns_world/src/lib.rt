@@ -1,5 +1,5 @@
-//! A plain world of one lock, its condition variables, a clock and notes: the lock's word and row, up
-//! to 64 seats, and all that has happened to the row and the variables.
+//! A plain world of one lock, its condition variables, a clock, notes, counters and once cells: the
+//! lock's word and row, up to 64 seats, and all that has happened to the row and the variables.
 //!
 //! A world steps the call machine of `ns_word` on plain data, one atomic step at a time, in
 //! whatever order it is told to. It keeps the machine's law as its own invariant: see
@@ -23,14 +23,21 @@ pub mod call;
 mod environment;
 mod exchanges;
 pub mod fault;
+pub mod items;
 pub mod law;
 mod looks;
+mod object_walk;
+mod objects;
+mod operate;
 mod perform;
+pub mod reply;
 mod room;
+mod round;
 pub mod run;
 pub mod schedule;
 mod seat;
 mod seats;
 mod shows;
+pub mod state;
 pub mod step;
 pub mod world;

@@ -1,8 +1,8 @@
 //! One atomic step of a look of a wait, which loads the clock or a note.
 
 ghost use Rattle.std.specs.Prelude.{◌≡◌, Some};
-ghost use Rattle.ns_word.specs.EnvSteps.{EnvActFits};
-ghost use Rattle.ns_word.specs.EnvWalks.{env_want_of};
+ghost use Rattle.ns_env.specs.Asks.{EnvActFits};
+ghost use Rattle.ns_env.specs.Walks.{env_want_of};
 ghost use Rattle.ns_word.specs.Steps.{held_after, opening_by};
 ghost use Rattle.ns_world.specs.Asks.{plain_of};
 ghost use Rattle.ns_world.specs.Looks.{AsksFor, came_back};
@@ -14,9 +14,9 @@ use crate::perform::settle;
 use crate::room::Seated;
 use crate::seat::Seat;
 use crate::step::Step;
+use ns_env::limits::Cause;
+use ns_env::walk::{EnvNext, EnvWalk};
 use ns_word::act::{Act, Found};
-use ns_word::env_walk::{EnvNext, EnvWalk};
-use ns_word::limits::Cause;
 use ns_word::view::{Held, Opening};
 use ns_word::wait::Outcome;
 use ns_word::walk::Walk;

@@ -12,14 +12,15 @@ ghost use Rattle.ns_world.specs.Performs.{part, seat_part, step_of, tests_after,
 use crate::exchanges::{
     acquire, release, release_returning, return_queues, take_queues, wait_returning,
 };
+use crate::reply::told;
 use crate::room::Seated;
 use crate::seat::Seat;
 use crate::step::Step;
 use arrayvec::ArrayVec;
+use ns_env::walk::{Chain, EnvWalk};
 use ns_model::event::Event;
 use ns_queue::queues::Queues;
 use ns_word::act::{Act, Found};
-use ns_word::env_walk::{Chain, EnvWalk};
 use ns_word::view::Held;
 use ns_word::walk::{Next, Walk};
 use ns_word::word::Word;
@@ -177,7 +178,7 @@ pub(crate) fn settle<C: Seated<N>, const N: usize>(seat: &mut Seat<C, N>, next: 
         Next::Done(reply) => {
             seat.asking = None;
             seat.walk = None;
-            Step::Finished(reply)
+            Step::Finished(told(reply))
         }
     }
 }

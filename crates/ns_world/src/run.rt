@@ -3,16 +3,16 @@
 
 ghost use Rattle.std.specs.Prelude.{◌≡◌, ◌≤◌, ◌<◌, ◌+◌, ◌∷◌, [], Some, IfSome, IfOk, IfErr, OnOk, OnErr, All, map, slice_get, slice_index, MatchResult, ◌^◌, ◌++◌};
 ghost use Rattle.ns_world.specs.Calls.{CallInRange};
-ghost use Rattle.ns_world.specs.World.{now_of};
+ghost use Rattle.ns_world.specs.Whole.{whole_of};
 ghost use Rattle.ns_world.specs.Runs.{calls_of, Counts, progress, is_end, TurnsWith, tests_told, TurnFault, TurnOf, Advances, IsFinished, Stops, Runs, RunFault, AllIdle, IsCounted, ListFits, items_of};
 
 use crate::call::Call;
 use crate::fault::Fault;
+use crate::reply::Reply;
 use crate::room::Seated;
 use crate::schedule::{Line, Turn};
 use crate::step::{Begun, Step};
 use crate::world::World;
-use ns_word::walk::Reply;
 use std::alloc::{AllocError, Global};
 
 /// How far a run has come: how many calls of each seat are over, their lines, and the turns.
@@ -44,8 +44,8 @@ pub fn turn<C: Seated<N>, const N: usize>(
     seat: u8,
 ) -> Result<Step, Fault>
     requires { IfSome next (CallInRange N) }
-    ensures ok { IfOk result (λ step. TurnsWith next (now_of C.means world.old) seat step (now_of C.means world.new)) }
-    ensures err { IfErr result (λ fault. ((now_of C.means world.new) ≡ (now_of C.means world.old)) × TurnFault (now_of C.means world.old) seat fault) }
+    ensures ok { IfOk result (λ step. TurnsWith next (whole_of C.means world.old) seat step (whole_of C.means world.new)) }
+    ensures err { IfErr result (λ fault. ((whole_of C.means world.new) ≡ (whole_of C.means world.old)) × TurnFault (whole_of C.means world.old) seat fault) }
 {
     let Some(call) = next else {
         return world.step(seat);
@@ -113,14 +113,14 @@ fn counted_turn<C: Seated<N>, const N: usize>(
     limit: u32,
 ) -> Result<Step, Fault>
     requires lists { All (λ calls. ListFits N calls.items) lists.now }
-    requires counted { IsCounted (now_of C.means world.old) tally.old.over }
+    requires counted { IsCounted (whole_of C.means world.old) tally.old.over }
     requires turns { tally.old.turns ≤ limit }
     ensures ok { IfOk result (λ step. let calls = map (λ calls. calls.items) lists.now in
-        TurnOf calls (progress (now_of C.means world.old) tally.old.over tally.old.lines.items) seat step (progress (now_of C.means world.new) tally.new.over tally.new.lines.items)) }
-    ensures counted { OnOk result (IsCounted (now_of C.means world.new) tally.new.over) }
+        TurnOf calls (progress (whole_of C.means world.old) tally.old.over tally.old.lines.items) seat step (progress (whole_of C.means world.new) tally.new.over tally.new.lines.items)) }
+    ensures counted { OnOk result (IsCounted (whole_of C.means world.new) tally.new.over) }
     ensures turns { OnOk result ((tally.new.turns ≡ tally.old.turns + 1) × (tally.new.turns ≤ limit)) }
     ensures err { IfErr result (λ fault. let calls = map (λ calls. calls.items) lists.now in
-        (whole : _) → Stops calls limit (progress (now_of C.means world.old) tally.old.over tally.old.lines.items) tally.old.turns (record { seat = seat; whole = whole } ∷ []) (now_of C.means world.new) fault) }
+        (whole : _) → Stops calls limit (progress (whole_of C.means world.old) tally.old.over tally.old.lines.items) tally.old.turns (record { seat = seat; whole = whole } ∷ []) (whole_of C.means world.new) fault) }
 {
     if seat as usize >= world.seats() {
         return Err(Fault::NoSuchSeat);
@@ -144,13 +144,13 @@ fn item<C: Seated<N>, const N: usize>(
     limit: u32,
 ) -> Result<(), Fault>
     requires lists { All (λ calls. ListFits N calls.items) lists.now }
-    requires counted { IsCounted (now_of C.means world.old) tally.old.over }
+    requires counted { IsCounted (whole_of C.means world.old) tally.old.over }
     requires turns { tally.old.turns ≤ limit }
     ensures ok { OnOk result (let calls = map (λ calls. calls.items) lists.now in
-        Advances calls limit (progress (now_of C.means world.old) tally.old.over tally.old.lines.items) tally.old.turns (record { seat = seat; whole = whole } ∷ []) [] (progress (now_of C.means world.new) tally.new.over tally.new.lines.items) tally.new.turns) }
-    ensures counted { OnOk result (IsCounted (now_of C.means world.new) tally.new.over) }
+        Advances calls limit (progress (whole_of C.means world.old) tally.old.over tally.old.lines.items) tally.old.turns (record { seat = seat; whole = whole } ∷ []) [] (progress (whole_of C.means world.new) tally.new.over tally.new.lines.items) tally.new.turns) }
+    ensures counted { OnOk result (IsCounted (whole_of C.means world.new) tally.new.over) }
     ensures err { IfErr result (λ fault. let calls = map (λ calls. calls.items) lists.now in
-        Stops calls limit (progress (now_of C.means world.old) tally.old.over tally.old.lines.items) tally.old.turns (record { seat = seat; whole = whole } ∷ []) (now_of C.means world.new) fault) }
+        Stops calls limit (progress (whole_of C.means world.old) tally.old.over tally.old.lines.items) tally.old.turns (record { seat = seat; whole = whole } ∷ []) (whole_of C.means world.new) fault) }
 {
     loop {
         let step = counted_turn(world, lists, tally, seat, limit)?;
@@ -169,13 +169,13 @@ fn schedule_word<C: Seated<N>, const N: usize>(
     limit: u32,
 ) -> Result<(), Fault>
     requires lists { All (λ calls. ListFits N calls.items) lists.now }
-    requires counted { IsCounted (now_of C.means world.old) tally.old.over }
+    requires counted { IsCounted (whole_of C.means world.old) tally.old.over }
     requires turns { tally.old.turns ≤ limit }
     ensures ok { OnOk result (let calls = map (λ calls. calls.items) lists.now in
-        Advances calls limit (progress (now_of C.means world.old) tally.old.over tally.old.lines.items) tally.old.turns (items_of (word.now ∷ [])) [] (progress (now_of C.means world.new) tally.new.over tally.new.lines.items) tally.new.turns) }
-    ensures counted { OnOk result (IsCounted (now_of C.means world.new) tally.new.over) }
+        Advances calls limit (progress (whole_of C.means world.old) tally.old.over tally.old.lines.items) tally.old.turns (items_of (word.now ∷ [])) [] (progress (whole_of C.means world.new) tally.new.over tally.new.lines.items) tally.new.turns) }
+    ensures counted { OnOk result (IsCounted (whole_of C.means world.new) tally.new.over) }
     ensures err { IfErr result (λ fault. let calls = map (λ calls. calls.items) lists.now in
-        Stops calls limit (progress (now_of C.means world.old) tally.old.over tally.old.lines.items) tally.old.turns (items_of (word.now ∷ [])) (now_of C.means world.new) fault) }
+        Stops calls limit (progress (whole_of C.means world.old) tally.old.over tally.old.lines.items) tally.old.turns (items_of (word.now ∷ [])) (whole_of C.means world.new) fault) }
 {
     for _ in 0..word.times {
         item(world, lists, tally, word.thread, word.whole, limit)?;
@@ -201,10 +201,10 @@ impl<C: Seated<N>, const N: usize> World<C, N> {
         schedule: &[Turn],
         limit: u32,
     ) -> Result<Vec<Line>, Fault>
-        requires idle { AllIdle (now_of C.means self.old) }
+        requires idle { AllIdle (whole_of C.means self.old) }
         requires lists { All (λ calls. ListFits N calls.items) lists.now }
-        ensures { MatchResult result (λ lines. Runs (map (λ calls. calls.items) lists.now) schedule.now limit (now_of C.means self.old) (now_of C.means self.new) lines.items)
-            (RunFault (map (λ calls. calls.items) lists.now) schedule.now limit (now_of C.means self.old) (now_of C.means self.new)) }
+        ensures { MatchResult result (λ lines. Runs (map (λ calls. calls.items) lists.now) schedule.now limit (whole_of C.means self.old) (whole_of C.means self.new) lines.items)
+            (RunFault (map (λ calls. calls.items) lists.now) schedule.now limit (whole_of C.means self.old) (whole_of C.means self.new)) }
     {
         let mut tally = Tally {
             over: [0; 64],

@@ -1,6 +1,6 @@
 //! Schedules, and what a run of one prints.
 
-use ns_word::walk::Reply;
+use crate::reply::Reply;
 
 /// A word of a schedule: the thread takes this many items in a row. An item of a thread without
 /// a call in progress starts its next one, and then makes one step; a `whole` one makes steps of

@@ -1,7 +1,7 @@
 //! A seat of a world.
 
 use arrayvec::ArrayVec;
-use ns_word::env_walk::EnvWalk;
+use ns_env::walk::EnvWalk;
 use ns_word::view::Held;
 use ns_word::walk::Walk;
 

@@ -11,14 +11,15 @@ use crate::environment::Environment;
 use crate::fault::Fault;
 use crate::looks::step_env;
 use crate::perform::perform;
+use crate::reply::Reply;
 use crate::room::Seated;
 use crate::seat::Seat;
 use crate::seats::is_busy;
+use ns_counters::object::Setup;
 use ns_model::event::{Event, Mode};
 use ns_queue::queues::Queues;
 use ns_word::codec::{encode, unpacked};
 use ns_word::view::Held;
-use ns_word::walk::Reply;
 
 /// What a seat's step was.
 #[derive(Clone, Copy, Debug, PartialEq, Eq)]
@@ -63,6 +64,7 @@ fn place<C: Seated<N>, const N: usize>(seat: &mut Seat<C, N>, start: Start<C>)
     match start {
         Start::OnLock(walk) => seat.walk = Some(walk),
         Start::Ask(walk) => seat.asking = Some(walk),
+        Start::OnObjects(_) => {}
     }
 }
 
@@ -77,11 +79,12 @@ pub(crate) fn begin_at<C: Seated<N>, const N: usize>(
     history: &Vec<Event<C, N>>,
     number: u8,
     call: Call<C>,
+    setup: &Setup,
 ) -> Result<Begun, Fault>
     requires lawful { IsLawfulWorld (now_with C.means (word_of word.now) row.now queues.now flags.now env.now seats.old.items history.now.items) }
     requires range { CallInRange N call }
     ensures lawful { IsLawfulWorld (now_with C.means (word_of word.now) row.now queues.now flags.now env.now seats.new.items history.now.items) }
-    ensures ok { IfOk result (λ begun. BeginAnswers (now_with C.means (word_of word.now) row.now queues.now flags.now env.now seats.old.items history.now.items) (now_with C.means (word_of word.now) row.now queues.now flags.now env.now seats.new.items history.now.items) number call begun) }
+    ensures ok { IfOk result (λ begun. BeginAnswers setup.now (now_with C.means (word_of word.now) row.now queues.now flags.now env.now seats.old.items history.now.items) (now_with C.means (word_of word.now) row.now queues.now flags.now env.now seats.new.items history.now.items) number call begun) }
     ensures err { IfErr result (λ fault. (now_with C.means (word_of word.now) row.now queues.now flags.now env.now seats.new.items history.now.items ≡ now_with C.means (word_of word.now) row.now queues.now flags.now env.now seats.old.items history.now.items) × BeginFault (now_with C.means (word_of word.now) row.now queues.now flags.now env.now seats.old.items history.now.items) number fault) }
 {
     let at = number as usize;
@@ -92,7 +95,7 @@ pub(crate) fn begin_at<C: Seated<N>, const N: usize>(
     if is_busy(seat) {
         return Ok(Begun::Busy);
     }
-    match call.start::<N>(mode_of(&seat.held), &env.notes) {
+    match call.start::<N>(mode_of(&seat.held), &env.notes, setup) {
         None => Ok(Begun::Misuse),
         Some(start) => {
             place(&mut seats[at], start);

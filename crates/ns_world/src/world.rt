@@ -1,42 +1,46 @@
-//! The world: a lock, its row, a clock, notes, and the seats, one step at a time.
+//! The world: the lock with its row, a clock and notes, and beside it counters and once cells, one
+//! step at a time.
 
 ghost use Rattle.std.specs.Prelude.{◌≡◌, ◌≤◌, ◌<◌, ℕ, length, map, slice_index, MatchResult, IfOk, IfErr};
 ghost use Rattle.ns_model.specs.Histories.{IsLegal, IsBySeats};
 ghost use Rattle.ns_model.specs.Seats.{is_in};
 ghost use Rattle.ns_queue.specs.Waiters.{shown_of};
-ghost use Rattle.ns_world.specs.Begins.{BeginAnswers, BeginFault};
+ghost use Rattle.ns_world.specs.Begins.{BeginFault};
 ghost use Rattle.ns_world.specs.Calls.{CallInRange};
 ghost use Rattle.ns_world.specs.Shows.{lists_shown, wakes_owed};
-ghost use Rattle.ns_world.specs.World.{fresh, now_of, is_busy, IsLawfulWorld, RefusesWorld, StepOf, StepFault};
+ghost use Rattle.ns_world.specs.Whole.{fresh_whole, whole_of, whole_busy, IsLawfulWhole, WholeBegins, WholeStep, WholeFault};
+ghost use Rattle.ns_world.specs.World.{now_of, RefusesWorld};
 
 use crate::call::Call;
 use crate::environment::Environment;
 use crate::fault::Fault;
+use crate::objects::Objects;
+use crate::operate::{begin_on, operate, with_busy};
 use crate::room::Seated;
 use crate::seat::Seat;
 use crate::seats::{busy_seats, new_seats};
 use crate::shows::{owed_wakes, shown_queues};
+use crate::state::State;
 use crate::step::{Begun, Step, begin_at, step_at};
-use arrayvec::ArrayVec;
 use ns_model::condition::Condition;
 use ns_model::event::Event;
-use ns_model::seats::Seats;
 use ns_queue::queues::Queues;
-use ns_queue::waiter::{Shown, Which};
+use ns_queue::waiter::Which;
 use ns_word::codec::{encode, unpacked};
 use ns_word::word::Word;
 use std::alloc::Global;
 use std::marker::Model;
 
-/// A lock with a row of `N` cells, four condition variables, a clock, up to 64 notes, up to 64 seats,
-/// and all that has happened to the row and the variables.
+/// A lock with a row of `N` cells, four condition variables, a clock, up to 64 notes, up to 16 counters,
+/// up to 16 once cells, up to 64 seats, and all that has happened to the row and the variables.
 ///
 /// Its contracts speak of the word, the row, each seat's view, the history, the clock, the notes,
-/// and each seat's place in a call on these. Between any two calls the law of the lock holds of
-/// them, which `ns_word` states: one writer or readers, as many as the word counts, the queues in
-/// one hand, each waiter placed, nobody forgotten, and one legal history by seats of this world.
-/// The clock and the notes are as a legal history by seats of this world leaves them, and who is
-/// to store a note has taken its number.
+/// the words of the counters and once cells, and each seat's place in a call on these. Between any two
+/// calls the law of the lock holds of them, which `ns_word` states: one writer or readers, as many
+/// as the word counts, the queues in one hand, each waiter placed, nobody forgotten, and one legal
+/// history by seats of this world. The clock and the notes are as a legal history by seats of this
+/// world leaves them, and so are the counters and once cells; who is to store a note has taken its
+/// number, and who is to say that a function has run has begun to run it.
 #[derive(Drop)]
 pub struct World<C: Condition<N>, const N: usize> {
     word: u64,
@@ -46,53 +50,36 @@ pub struct World<C: Condition<N>, const N: usize> {
     env: Environment,
     seats: Vec<Seat<C, N>>,
     history: Vec<Event<C, N>>,
+    objects: Objects,
 }
 
 impl<C: Condition<N>, const N: usize> Model for World<C, N> {
     ghost use Rattle.ns_word.specs.Codec.{word_of};
-    ghost use Rattle.ns_world.specs.World.{Kept, kept, now_with, IsLawfulWorld};
+    ghost use Rattle.ns_world.specs.Whole.{WholeKept, whole_kept, whole_with, IsLawfulWhole};
 
-    ghost Value = { Kept C N };
+    ghost Value = { WholeKept C N };
 
-    ghost view = { λ w. kept (word_of w.word) w.row w.queues w.flags w.env w.seats.items w.history.items };
+    ghost view = { λ w. whole_kept (word_of w.word) w.row w.queues w.flags w.env w.seats.items w.history.items w.objects };
 
-    ghost invariant = { λ w. IsLawfulWorld (now_with C.means (word_of w.word) w.row w.queues w.flags w.env w.seats.items w.history.items) };
-}
-
-/// A world as it stands.
-#[derive(Drop)]
-pub struct State<const N: usize> {
-    /// The lock word.
-    pub word: Word,
-    /// Who stands in the lock list, front first: as the caller that has the queues in its hand has
-    /// it, else as it stands at home.
-    pub lock: ArrayVec<Shown, 64>,
-    /// Who waits for each condition variable, front first: likewise.
-    pub cvs: [ArrayVec<Shown, 64>; 4],
-    /// The wakes that are owed: who owes one, and whom; by the seats that owe them, then in the
-    /// order in which each pays.
-    pub owed: ArrayVec<(u8, u8), 64>,
-    /// The row's cells.
-    pub row: [u64; N],
-    /// The seats with a call in progress.
-    pub busy: Seats,
+    ghost invariant = { λ w. IsLawfulWhole (whole_with C.means (word_of w.word) w.row w.queues w.flags w.env w.seats.items w.history.items w.objects) };
 }
 
 impl<C: Seated<N>, const N: usize> World<C, N> {
-    /// A free lock over a row of zeros, with so many seats, a clock at 0 and no note, before any
-    /// event.
+    /// A free lock over a row of zeros, with so many seats, a clock at 0 and no note, a counter for
+    /// each of the values, by number, and so many once cells, before any event.
     ///
-    /// Needs at most 16 counters and at most 16 once cells; no call of a world reads them yet.
-    /// Refuses more than 64 seats (`TooManySeats`), before it asks for memory (`OutOfMemory`).
+    /// Needs at most 16 counters and at most 16 once cells. Refuses more than 64 seats
+    /// (`TooManySeats`), before it asks for memory (`OutOfMemory`).
     pub fn new(alloc: Global, seats: usize, counters: &[u32], onces: usize) -> Result<Self, Fault>
         requires counters { length counters.now ≤ 16 }
         requires onces { onces ≤ 16 }
-        ensures made { MatchResult result (λ world. (now_of C.means world ≡ fresh C.means seats) × (seats ≤ 64)) (RefusesWorld seats) }
-        ensures lawful { IfOk result (λ world. IsLawfulWorld (now_of C.means world)) }
+        ensures made { MatchResult result (λ world. (whole_of C.means world ≡ fresh_whole C.means seats counters.now onces) × (seats ≤ 64)) (RefusesWorld seats) }
+        ensures lawful { IfOk result (λ world. IsLawfulWhole (whole_of C.means world)) }
     {
         if seats > 64 {
             return Err(Fault::TooManySeats);
         }
+        let objects = Objects::new(seats as u8, counters, onces as u8);
         let seats = new_seats(alloc, seats as u8)?;
         Ok(World {
             word: encode(Word::FREE),
@@ -102,21 +89,25 @@ impl<C: Seated<N>, const N: usize> World<C, N> {
             env: Environment::new(),
             seats,
             history: Vec::new(alloc),
+            objects,
         })
     }
 
     /// Begins a call of the seat, which makes no step yet. `Misuse` and `Busy` change nothing.
     ///
     /// Needs a call whose cell is below `N`, whose condition variable is below 4, whose notes are below
-    /// 64, and whose moments are below 2^54. Refuses a number that is no seat's (`NoSuchSeat`), and then
-    /// nothing has changed.
+    /// 64, whose moments are below 2^54, and whose objects are at most 16. Refuses a number that is no
+    /// seat's (`NoSuchSeat`), and then nothing has changed.
     pub fn begin(&mut self, seat: u8, call: Call<C>) -> Result<Begun, Fault>
         requires { CallInRange N call }
-        ensures lawful { IsLawfulWorld (now_of C.means self.new) }
-        ensures ok { IfOk result (λ begun. BeginAnswers (now_of C.means self.old) (now_of C.means self.new) seat call begun) }
-        ensures err { IfErr result (λ fault. (now_of C.means self.new ≡ now_of C.means self.old) × BeginFault (now_of C.means self.old) seat fault) }
+        ensures lawful { IsLawfulWhole (whole_of C.means self.new) }
+        ensures ok { IfOk result (λ begun. WholeBegins (whole_of C.means self.old) (whole_of C.means self.new) seat call begun) }
+        ensures err { IfErr result (λ fault. (whole_of C.means self.new ≡ whole_of C.means self.old) × BeginFault (now_of C.means self.old.lock) seat fault) }
     {
-        begin_at(
+        if self.objects.walk(seat).is_some() {
+            return Ok(Begun::Busy);
+        }
+        let begun = begin_at(
             &self.word,
             &self.row,
             &self.queues,
@@ -126,19 +117,31 @@ impl<C: Seated<N>, const N: usize> World<C, N> {
             &self.history,
             seat,
             call,
-        )
+            &self.objects.setup,
+        )?;
+        match begun {
+            Begun::Started => {
+                begin_on(&mut self.objects, seat, call.on_objects());
+                Ok(Begun::Started)
+            }
+            Begun::Misuse => Ok(Begun::Misuse),
+            Begun::Busy => Ok(Begun::Busy),
+        }
     }
 
     /// Makes one atomic step of the seat's call, if one is in progress.
     ///
     /// Refuses a number that is no seat's (`NoSuchSeat`), and want of memory (`OutOfMemory`),
-    /// which can only come where a step commits an event, which is to be kept; then nothing has
-    /// changed. A step on the clock or the notes takes no memory.
+    /// which can only come where a step commits an event of the row or of a variable, which is to be kept;
+    /// then nothing has changed. A step on the clock, the notes, counters and once cells takes no memory.
     pub fn step(&mut self, seat: u8) -> Result<Step, Fault>
-        ensures lawful { IsLawfulWorld (now_of C.means self.new) }
-        ensures ok { IfOk result (λ step. StepOf (now_of C.means self.old) (now_of C.means self.new) seat step) }
-        ensures err { IfErr result (λ fault. (now_of C.means self.new ≡ now_of C.means self.old) × StepFault (now_of C.means self.old) seat fault) }
+        ensures lawful { IsLawfulWhole (whole_of C.means self.new) }
+        ensures ok { IfOk result (λ step. WholeStep (whole_of C.means self.old) (whole_of C.means self.new) seat step) }
+        ensures err { IfErr result (λ fault. (whole_of C.means self.new ≡ whole_of C.means self.old) × WholeFault (whole_of C.means self.old) seat fault) }
     {
+        if let Some(walk) = self.objects.walk(seat) {
+            return Ok(operate(&self.env, &mut self.objects, seat, walk));
+        }
         step_at(
             &mut self.word,
             &mut self.row,
@@ -151,25 +154,26 @@ impl<C: Seated<N>, const N: usize> World<C, N> {
         )
     }
 
-    /// All that has happened, which is a legal history by seats of this world.
+    /// All that has happened to the row and the variables, which is a legal history by seats of this
+    /// world.
     pub fn history(&self) -> &[Event<C, N>]
-        ensures all { result.now ≡ self.now.history }
+        ensures all { result.now ≡ self.now.lock.history }
         ensures legal { IsLegal C.means.holds result.now }
-        ensures by_seats { IsBySeats (length self.now.views) result.now }
+        ensures by_seats { IsBySeats (length self.now.lock.views) result.now }
     {
         self.history.as_slice()
     }
 
-    /// The world as it stands, of which the law of the lock holds, and that of the clock and the
-    /// notes.
+    /// The world as it stands, of which the law of the lock holds, and those of the clock and the
+    /// notes, and of the counters and once cells.
     pub fn state(&self) -> State<N>
-        ensures word { result.word ≡ self.now.word }
-        ensures lock { result.lock.items ≡ map shown_of (lists_shown (now_of C.means self.now)).lock }
-        ensures variables { map (λ list. list.items) result.cvs ≡ map (map shown_of) (lists_shown (now_of C.means self.now)).cvs }
-        ensures owed { result.owed.items ≡ wakes_owed self.now.views }
-        ensures row { result.row ≡ self.now.row }
-        ensures busy { (seat : ℕ) → is_in result.busy seat ≡ is_busy self.now.views self.now.asking seat }
-        ensures lawful { IsLawfulWorld (now_of C.means self.now) }
+        ensures word { result.word ≡ self.now.lock.word }
+        ensures lock { result.lock.items ≡ map shown_of (lists_shown (now_of C.means self.now.lock)).lock }
+        ensures variables { map (λ list. list.items) result.cvs ≡ map (map shown_of) (lists_shown (now_of C.means self.now.lock)).cvs }
+        ensures owed { result.owed.items ≡ wakes_owed self.now.lock.views }
+        ensures row { result.row ≡ self.now.lock.row }
+        ensures busy { (seat : ℕ) → is_in result.busy seat ≡ whole_busy (whole_of C.means self.now) seat }
+        ensures lawful { IsLawfulWhole (whole_of C.means self.now) }
     {
         let queues = shown_queues(&self.queues, &self.seats, &self.row);
         State {
@@ -183,13 +187,13 @@ impl<C: Seated<N>, const N: usize> World<C, N> {
             ],
             owed: owed_wakes(&self.seats),
             row: self.row,
-            busy: busy_seats(&self.seats),
+            busy: with_busy(&self.objects, busy_seats(&self.seats)),
         }
     }
 
     /// How many seats there are.
     pub(crate) fn seats(&self) -> usize
-        ensures count { result ≡ length self.now.views }
+        ensures count { result ≡ length self.now.lock.views }
         ensures few { result ≤ 64 }
     {
         self.seats.len()
@@ -198,8 +202,8 @@ impl<C: Seated<N>, const N: usize> World<C, N> {
     /// How many conditions the scan of the seat's call tested, of its last one where none is in
     /// progress.
     pub(crate) fn tests(&self, seat: u8) -> u32
-        requires { seat < length self.now.views }
-        ensures { result ≡ slice_index self.now.tests seat }
+        requires { seat < length self.now.lock.views }
+        ensures { result ≡ slice_index self.now.lock.tests seat }
     {
         self.seats[seat as usize].tests
     }

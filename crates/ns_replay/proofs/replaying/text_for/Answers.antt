@@ -1,6 +1,6 @@
 use Rattle.ns_replay.specs.Script.{plan_of}
 use Rattle.ns_replay.proofs.Runs.{few_threads}
-use Rattle.ns_world.specs.World.{now_of}
+use Rattle.ns_world.specs.Whole.{whole_of}
 use Rattle.ns_replay.specs.Condition.{script_truths}
 use Rattle.ns_replay.proofs.replaying.text_for.Goals as goal
 
@@ -10,7 +10,7 @@ run_text-requires c = few_threads c.in_ok-script.script c.in_ok-script.ensures.o
 pub returns-clause-ok : goal.returns-clause-ok
 returns-clause-ok c = record {
   plan = plan_of c.in_ok-script.script;
-  world = now_of script_truths c.in_ok-script.run'.world;
+  world = whole_of script_truths c.in_ok-script.run'.world;
   lines = c.in_ok-script.run'.lines.items;
   has_run = c.in_ok-script.ensures.ok;
   is = c.in_ok-run_text.ensures;

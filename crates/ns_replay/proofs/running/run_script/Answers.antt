@@ -1,17 +1,23 @@
 use Rattle.std.proofs.Common.{◌≡◌, length, rules}
 use Rattle.std.proofs.lemmas.Result.{err_from_is_err_and}
-use Rattle.ns_world.specs.World.{now_of}
+use Rattle.ns_world.specs.Whole.{whole_of}
 use Rattle.ns_replay.specs.Condition.{script_truths}
-use Rattle.ns_replay.proofs.Runs.{idle_world, lists_fit, world_is, script_fails}
+use Rattle.ns_replay.proofs.Runs.{idle_world, lists_fit, world_is, script_runs, script_fails}
 use Rattle.ns_replay.proofs.running.run_script.Goals as goal
 
 pub run-requires : goal.run-requires
 run-requires c =
-    (search rules, ((λ seat. idle_world _ seat _ c.in_ok-world.ensures.made.0), rw c.deref.ensures.value (lists_fit c.args.script.now.threads.items c.requires.short)))
+    (search rules, ((λ seat. idle_world _ seat _ _ _ c.in_ok-world.ensures.made.0), rw c.deref-2.ensures.value (lists_fit c.args.script.now.threads.items c.requires.short)))
+
+pub returns-clause-ok : goal.returns-clause-ok
+returns-clause-ok c =
+    let count : c.len.result ≡ length c.args.script.now.threads.items = search rules in
+    let first = world_is c.args.script.now c.len.result (whole_of script_truths c.in_ok-world.world) count (rw c.deref.ensures.value at c.in_ok-world.ensures.made.0) in
+    script_runs c.args.limit c.args.script.now (whole_of script_truths c.in_ok-world.world) (whole_of script_truths c.run.new.self) c.in_ok-lines.lines.items first (rw (c.deref-2.ensures.value, c.deref-3.ensures.value) at c.in_ok-lines.ensures)
 
 pub returns-in_err-lines-clause-err : goal.returns-in_err-lines-clause-err
 returns-in_err-lines-clause-err c =
     let p = err_from_is_err_and c.from_residual-in_err-lines.result c.from_residual-in_err-lines.ensures.1 in
     let count : c.len.result ≡ length c.args.script.now.threads.items = search rules in
-    let first = world_is c.args.script.now c.len.result (now_of script_truths c.in_ok-world.world) count c.in_ok-world.ensures.made.0 in
-    rw (p.1, p.2) (script_fails c.args.limit c.args.script.now (now_of script_truths c.in_ok-world.world) (now_of script_truths c.run.new.self) c.in_err-lines.field-0.0 c.requires first (rw (c.deref.ensures.value, c.deref-2.ensures.value) at c.in_err-lines.ensures))
+    let first = world_is c.args.script.now c.len.result (whole_of script_truths c.in_ok-world.world) count (rw c.deref.ensures.value at c.in_ok-world.ensures.made.0) in
+    rw (p.1, p.2) (script_fails c.args.limit c.args.script.now (whole_of script_truths c.in_ok-world.world) (whole_of script_truths c.run.new.self) c.in_err-lines.field-0.0 c.requires first (rw (c.deref-2.ensures.value, c.deref-3.ensures.value) at c.in_err-lines.ensures))

@@ -1,9 +1,8 @@
 use Rattle.std.proofs.Common.{length, map, string_bytes}
 use Rattle.std.proofs.lemmas.List.{length-map}
 use Rattle.ns_model.specs.Seats.{is_in}
-use Rattle.ns_world.specs.World.{is_busy}
 use Rattle.ns_queue.specs.Waiters.{shown_of}
-use Rattle.ns_world.specs.World.{now_of}
+use Rattle.ns_world.specs.Whole.{whole_of, whole_busy}
 use Rattle.ns_world.specs.Shows.{lists_shown, wakes_owed}
 use Rattle.ns_replay.specs.Condition.{script_truths}
 use Rattle.ns_replay.specs.Script.{plan_of}
@@ -14,14 +13,14 @@ use Rattle.ns_replay.proofs.running.run_text.Goals as goal
 pub returns : goal.returns
 unfolding text_of
 returns c =
-    let world = now_of script_truths c.args.run.now.world in
+    let world = whole_of script_truths c.args.run.now.world in
     let lines = c.args.run.now.lines.items in
     let threads = (plan_of c.args.script.now).threads in
     let options = c.args.options in
     five_parts (string_bytes c.push_lines.new.out) (string_bytes c.push_lefts.new.out) (string_bytes c.push_row.new.out) (string_bytes c.push_history.new.out) (string_bytes c.push_state.new.out)
-    (lines_text options.tests threads lines) (lefts_text (is_busy world.state.views world.asking) lines (length threads)) (row_text world.state.row) (history_text options.history world.history) (state_text options.state c.args.script.now.cvs world.state.word (map shown_of (lists_shown world).lock) (map (map shown_of) (lists_shown world).cvs) (wakes_owed world.state.views))
+    (lines_text options.tests threads lines) (lefts_text (whole_busy world) lines (length threads)) (row_text world.lock.state.row) (history_text options.history world.lock.history) (state_text options.state c.args.script.now.cvs world.lock.state.word (map shown_of (lists_shown world.lock).lock) (map (map shown_of) (lists_shown world.lock).cvs) (wakes_owed world.lock.state.views))
     (rw (c.as_slice-threads.ensures.value, c.deref.ensures.value, c.new-out.ensures.bytes) at c.in_ok-push_lines.ensures)
-    (rw (c.deref-2.ensures.value, lefts_text-same (is_in c.state-state.result.busy) (is_busy world.state.views world.asking) lines (length c.as_slice-threads.result.now) c.state-state.ensures.busy, c.as_slice-threads.ensures.value, ← length-map c.args.script.now.threads.items (λ calls. calls.items)) at c.in_ok-push_lefts.ensures)
+    (rw (c.deref-2.ensures.value, lefts_text-same (is_in c.state-state.result.busy) (whole_busy world) lines (length c.as_slice-threads.result.now) c.state-state.ensures.busy, c.as_slice-threads.ensures.value, ← length-map c.args.script.now.threads.items (λ calls. calls.items)) at c.in_ok-push_lefts.ensures)
     (rw c.state-state.ensures.row at c.in_ok-push_row.ensures)
     (rw c.history.ensures.all at c.in_ok-push_history.ensures)
     (rw (c.state-state.ensures.word, c.state-state.ensures.lock, c.state-state.ensures.variables, c.state-state.ensures.owed) at c.in_ok-push_state.ensures)

@@ -6,4 +6,4 @@ use Rattle.ns_replay.proofs.Loop.{with_front}
 use Rattle.ns_replay.proofs.script.each_thread.Given as goal
 
 abbrev pub invariant-loop-thread : goal.invariant-loop-thread
-invariant-loop-thread l = with_front (map (λ w. w.items) l.threads.items) (each_from (calls_at l.cvs) l.thread (map view (drop l.thread l.values))) ≡ each_from (calls_at l.cvs) 0 (map view l.values)
+invariant-loop-thread l = with_front (map (λ w. w.items) l.threads.items) (each_from (calls_at l.declared) l.thread (map view (drop l.thread l.values))) ≡ each_from (calls_at l.declared) 0 (map view l.values)

@@ -1,6 +1,6 @@
 use Rattle.std.proofs.Common.{Some, refl, sym, ◌∙◌, subst}
-use Rattle.ns_word.specs.EnvSteps.{events_of}
-use Rattle.ns_word.specs.EnvWalks.{env_want_of}
+use Rattle.ns_env.specs.Steps.{outcome}
+use Rattle.ns_env.specs.Walks.{env_want_of}
 use Rattle.ns_world.specs.Asks.{plain_of}
 use Rattle.ns_world.specs.declared.step.Step.TheVariants.{Went}
 use Rattle.ns_world.specs.Looked.{SeatLooks}
@@ -11,14 +11,14 @@ pub unreachable-requires : goal.unreachable-requires
 unreachable-requires g c =
     let fits = c.requires.looks in
     let effect = rw c.want.ensures at (c.make-found.ensures 0) in
-    let leads = look_leads fits.0 c.args.place fits.2 0 (plain_of c.args.env.now) (plain_of c.make-found.new.self) c.make-found.result (events_of 0 (env_want_of c.args.place) c.make-found.result) effect in
+    let leads = look_leads fits.0 c.args.place fits.2 0 (plain_of c.args.env.now) (plain_of c.make-found.new.self) c.make-found.result (outcome 0 (env_want_of c.args.place) (plain_of c.args.env.now)).events effect in
     subst (λ next. LookLeads fits.0 next) (sym c.got.ensures ∙ c.in-Repeat.is) leads
 
 pub unreachable-requires-in-Over : goal.unreachable-requires-in-Over
 unreachable-requires-in-Over g c =
     let fits = c.requires.looks in
     let effect = rw c.want.ensures at (c.make-found.ensures 0) in
-    let leads = look_leads fits.0 c.args.place fits.2 0 (plain_of c.args.env.now) (plain_of c.make-found.new.self) c.make-found.result (events_of 0 (env_want_of c.args.place) c.make-found.result) effect in
+    let leads = look_leads fits.0 c.args.place fits.2 0 (plain_of c.args.env.now) (plain_of c.make-found.new.self) c.make-found.result (outcome 0 (env_want_of c.args.place) (plain_of c.args.env.now)).events effect in
     subst (λ next. LookLeads fits.0 next) (sym c.got.ensures ∙ c.in-Over.is) leads
 
 pub returns-in-Go : goal.returns-in-Go

@@ -20,7 +20,7 @@ pub returns-in-Idle-clause-seat : goal.returns-in-Idle-clause-seat
 returns-in-Idle-clause-seat g c = rw c.in-Idle.is c.go_to-in-Idle.ensures
 
 pub returns-in-Done-clause-step : goal.returns-in-Done-clause-step
-returns-in-Done-clause-step g c = rw c.in-Done.is refl
+returns-in-Done-clause-step g c = rw (c.in-Done.is, c.told.ensures) refl
 
 pub returns-in-Done-clause-seat : goal.returns-in-Done-clause-seat
 returns-in-Done-clause-seat g c = rw c.in-Done.is refl

@@ -1,14 +1,14 @@
 use Rattle.std.proofs.Common.{◌∷◌, [], map, ◌-◌}
-use Rattle.ns_world.specs.World.{now_of}
+use Rattle.ns_world.specs.Whole.{whole_of}
 use Rattle.ns_world.specs.Runs.{progress, Advances, IsCounted}
 use Rattle.ns_world.proofs.run.item.Given as goal
 
 -- the item goes on
 abbrev pub invariant-loop-step : goal.invariant-loop-step
 invariant-loop-step g l = record {
-  advances : Advances (map (λ calls. calls.items) l.lists) l.limit (progress (now_of g.C.Condition.means l.fn.world) l.fn.tally.over l.fn.tally.lines.items) l.fn.tally.turns (record { seat = l.seat; whole = l.whole } ∷ [])
-      (record { seat = l.seat; whole = l.whole } ∷ []) (progress (now_of g.C.Condition.means l.world) l.tally.over l.tally.lines.items) l.tally.turns;
-  counted : IsCounted (now_of g.C.Condition.means l.world) l.tally.over;
+  advances : Advances (map (λ calls. calls.items) l.lists) l.limit (progress (whole_of g.C.Condition.means l.fn.world) l.fn.tally.over l.fn.tally.lines.items) l.fn.tally.turns (record { seat = l.seat; whole = l.whole } ∷ [])
+      (record { seat = l.seat; whole = l.whole } ∷ []) (progress (whole_of g.C.Condition.means l.world) l.tally.over l.tally.lines.items) l.tally.turns;
+  counted : IsCounted (whole_of g.C.Condition.means l.world) l.tally.over;
 }
 
 abbrev pub decreases-loop-step : goal.decreases-loop-step

@@ -1,7 +1,7 @@
 use Rattle.std.proofs.Common.{rules, arith, [], map, Vec, Global, ◌≡◌}
 use Rattle.std.proofs.lemmas.List.{append-nil}
 use Rattle.std.proofs.lemmas.Result.{err_from_is_err_and}
-use Rattle.ns_world.specs.World.{now_of}
+use Rattle.ns_world.specs.Whole.{whole_of}
 use Rattle.ns_world.specs.declared.call.Call.{Call}
 use Rattle.ns_world.specs.Runs.{progress}
 use Rattle.ns_world.proofs.Schedules.{advance_none, advance_again, stops_again}
@@ -10,7 +10,7 @@ use Rattle.ns_world.proofs.run.schedule_word.Goals as goal
 pub loop-init : goal.loop-init
 loop-init g c =
     let calls = map (λ (calls : Vec (Call _) Global). calls.items) c.args.lists.now in
-    let first = progress (now_of g.C.Condition.means c.args.world.now) c.args.tally.now.over c.args.tally.now.lines.items in
+    let first = progress (whole_of g.C.Condition.means c.args.world.now) c.args.tally.now.over c.args.tally.now.lines.items in
     record {
       advances = advance_none calls c.args.limit first c.args.tally.now.turns [] c.requires.turns;
       counted = c.requires.counted;
@@ -23,17 +23,17 @@ pub returns-in_err-item-clause-err : goal.returns-in_err-item-clause-err
 returns-in_err-item-clause-err g c =
     let p = err_from_is_err_and c.from_residual.result c.from_residual.ensures.1 in
     let calls = map (λ (calls : Vec (Call _) Global). calls.items) c.args.lists.now in
-    let first = progress (now_of g.C.Condition.means c.args.world.now) c.args.tally.now.over c.args.tally.now.lines.items in
-    let now = progress (now_of g.C.Condition.means c.loop.world) c.loop.tally.over c.loop.tally.lines.items in
-    rw (p.1, p.2) (stops_again calls c.args.limit first now c.args.tally.now.turns c.loop.tally.turns c.loop.counter c.args.word.now.times (record { seat = c.args.word.now.thread; whole = c.args.word.now.whole }) (now_of g.C.Condition.means c.item.new.world) c.in_err-item.field-0.0
+    let first = progress (whole_of g.C.Condition.means c.args.world.now) c.args.tally.now.over c.args.tally.now.lines.items in
+    let now = progress (whole_of g.C.Condition.means c.loop.world) c.loop.tally.over c.loop.tally.lines.items in
+    rw (p.1, p.2) (stops_again calls c.args.limit first now c.args.tally.now.turns c.loop.tally.turns c.loop.counter c.args.word.now.times (record { seat = c.args.word.now.thread; whole = c.args.word.now.whole }) (whole_of g.C.Condition.means c.item.new.world) c.in_err-item.field-0.0
     c.loop-test.true c.loop.invariant.advances c.in_err-item.ensures.err)
 
 pub loop-preserved : goal.loop-preserved
 loop-preserved g c =
     let calls = map (λ (calls : Vec (Call _) Global). calls.items) c.args.lists.now in
-    let first = progress (now_of g.C.Condition.means c.args.world.now) c.args.tally.now.over c.args.tally.now.lines.items in
-    let now = progress (now_of g.C.Condition.means c.loop.world) c.loop.tally.over c.loop.tally.lines.items in
-    let next = progress (now_of g.C.Condition.means c.item.new.world) c.item.new.tally.over c.item.new.tally.lines.items in
+    let first = progress (whole_of g.C.Condition.means c.args.world.now) c.args.tally.now.over c.args.tally.now.lines.items in
+    let now = progress (whole_of g.C.Condition.means c.loop.world) c.loop.tally.over c.loop.tally.lines.items in
+    let next = progress (whole_of g.C.Condition.means c.item.new.world) c.item.new.tally.over c.item.new.tally.lines.items in
     record {
       advances = advance_again calls c.args.limit first now next c.args.tally.now.turns c.loop.tally.turns c.item.new.tally.turns c.loop.counter (record { seat = c.args.word.now.thread; whole = c.args.word.now.whole })
           c.loop.invariant.advances c.in_ok-item.ensures.ok;

@@ -1,26 +1,26 @@
 use Rattle.std.proofs.lemmas.Result.{err_from_is_err_and}
 use Rattle.std.proofs.Common.{rules}
-use Rattle.ns_world.specs.World.{now_of}
+use Rattle.ns_world.specs.Whole.{whole_of}
 use Rattle.ns_world.proofs.Turns.{map_ok, map_err, turns_without, turns_started, turns_busy, started_steps}
 use Rattle.ns_world.proofs.run.turn.Goals as goal
 
 pub returns-in_default-clause-ok : goal.returns-in_default-clause-ok
-returns-in_default-clause-ok g c = rw c.in_default.is (map_ok c.step.result (λ step p. turns_without (now_of g.C.Condition.means c.args.world.now) (now_of g.C.Condition.means c.step.new.self) c.args.seat step p) c.step.ensures.ok)
+returns-in_default-clause-ok g c = rw c.in_default.is (map_ok c.step.result (λ step p. turns_without (whole_of g.C.Condition.means c.args.world.now) (whole_of g.C.Condition.means c.step.new.self) c.args.seat step p) c.step.ensures.ok)
 
 pub returns-in-Started-clause-ok : goal.returns-in-Started-clause-ok
 returns-in-Started-clause-ok g c =
     let starts = rw c.in-Started.is at c.in_ok-begin.ensures.ok in
-    rw c.in-Some.is (map_ok c.step-in-Started.result (λ step p. turns_started (now_of g.C.Condition.means c.args.world.now) (now_of g.C.Condition.means c.begin.new.self) (now_of g.C.Condition.means c.step-in-Started.new.self) c.args.seat c.in-Some.call step starts p) c.step-in-Started.ensures.ok)
+    rw c.in-Some.is (map_ok c.step-in-Started.result (λ step p. turns_started (whole_of g.C.Condition.means c.args.world.now) (whole_of g.C.Condition.means c.begin.new.self) (whole_of g.C.Condition.means c.step-in-Started.new.self) c.args.seat c.in-Some.call step starts p) c.step-in-Started.ensures.ok)
 
 pub returns-in-Started-clause-err : goal.returns-in-Started-clause-err
 returns-in-Started-clause-err g c =
     let starts = rw c.in-Started.is at c.in_ok-begin.ensures.ok in
-    map_err c.step-in-Started.result (λ fault p. absurd (started_steps (now_of g.C.Condition.means c.args.world.now) (now_of g.C.Condition.means c.begin.new.self) c.args.seat c.in-Some.call fault starts p.1)) c.step-in-Started.ensures.err
+    map_err c.step-in-Started.result (λ fault p. absurd (started_steps (whole_of g.C.Condition.means c.args.world.now) (whole_of g.C.Condition.means c.begin.new.self) c.args.seat c.in-Some.call fault starts p.1)) c.step-in-Started.ensures.err
 
 pub returns-in-Busy-clause-ok : goal.returns-in-Busy-clause-ok
 returns-in-Busy-clause-ok g c =
     let busy = rw c.in-Busy.is at c.in_ok-begin.ensures.ok in
-    rw c.in-Some.is (map_ok c.step-in-Busy.result (λ step p. turns_busy (now_of g.C.Condition.means c.args.world.now) (now_of g.C.Condition.means c.begin.new.self) (now_of g.C.Condition.means c.step-in-Busy.new.self) c.args.seat c.in-Some.call step busy p) c.step-in-Busy.ensures.ok)
+    rw c.in-Some.is (map_ok c.step-in-Busy.result (λ step p. turns_busy (whole_of g.C.Condition.means c.args.world.now) (whole_of g.C.Condition.means c.begin.new.self) (whole_of g.C.Condition.means c.step-in-Busy.new.self) c.args.seat c.in-Some.call step busy p) c.step-in-Busy.ensures.ok)
 
 pub begin-requires : goal.begin-requires
 begin-requires g c = (search rules, rw c.in-Some.is at c.requires)

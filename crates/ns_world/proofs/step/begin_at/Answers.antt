@@ -29,7 +29,7 @@ returns-in-None-clause-ok g c =
         at = rw c.index-seat.ensures (got-map view_of c.args.seats.now.items c.args.number seat within);
         idle = idle_walk seat.walk seat.asking (sym c.is_busy.ensures ∙ c.if-is_busy.false);
         unasked = asks_unasked c.args.seats.now.items c.args.number seat within c.index-seat.ensures (idle_ask seat.walk seat.asking (sym c.is_busy.ensures ∙ c.if-is_busy.false));
-        unfit = subst (λ m. CallFits (note_at c.args.env.now.notes) c.args.call m → ⊥) c.mode_of.ensures c.in-None.ensures;
+        unfit = subst (λ m. CallFits c.args.setup.now (note_at c.args.env.now.notes) c.args.call m → ⊥) c.mode_of.ensures c.in-None.ensures;
       },
     )
 
@@ -42,9 +42,9 @@ returns-in-Some-clause-lawful g c =
     let idle = sym c.is_busy.ensures ∙ c.if-is_busy.false in
     let walk = idle_walk c.index-seat.result.now.walk c.index-seat.result.now.asking idle in
     let ask = idle_ask c.index-seat.result.now.walk c.index-seat.result.now.asking idle in
-    let fits = subst (λ m. CallFits (note_at c.args.env.now.notes) c.args.call m) c.mode_of.ensures c.in-Some.ensures.1 in
+    let fits = subst (λ m. CallFits c.args.setup.now (note_at c.args.env.now.notes) c.args.call m) c.mode_of.ensures c.in-Some.ensures.1 in
     let settled = subst (λ (s : Seat _ _). IsSettled g.C.Condition.means s.held) (sym (same ∙ is)) (settled_here g.C.Condition.means g.met.C.Condition.has_cells.0 g.met.C.Condition.quiet_keeps (word_of c.args.word.now) c.args.row.now c.args.queues.now c.args.flags.now c.args.env.now c.args.seats.now.items c.args.history.now.items c.requires.lawful c.args.number seat within (rw (same, is) at walk)) in
-    let place = start_fits g.C.Condition.means (note_at c.args.env.now.notes) c.args.call c.index-seat.result.now.held g.met.C.Condition.has_cells.0 c.requires.range fits settled in
+    let place = start_fits g.C.Condition.means (note_at c.args.env.now.notes) c.args.setup.now c.args.call c.index-seat.result.now.held g.met.C.Condition.has_cells.0 c.requires.range fits settled in
     let begins = subst (λ s. StartFits g.C.Condition.means (note_at c.args.env.now.notes) s c.index-seat.result.now.held) (sym (rw c.mode_of.ensures at c.in-Some.ensures.0)) place in
     rw (c.place.ensures, is) (lawful_placed g.C.Condition.means g.met.C.Condition.has_cells.0 g.met.C.Condition.quiet_keeps (word_of c.args.word.now) c.args.row.now c.args.queues.now c.args.flags.now c.args.env.now c.args.seats.now.items c.args.history.now.items c.requires.lawful c.args.number seat within
     c.in-Some.start (rw (same, is) at walk) (rw (same, is) at ask) (rw (same, is) at begins))
@@ -58,8 +58,8 @@ returns-in-Some-clause-ok g c =
     let idle = sym c.is_busy.ensures ∙ c.if-is_busy.false in
     let walk = idle_walk c.index-seat.result.now.walk c.index-seat.result.now.asking idle in
     let ask = idle_ask c.index-seat.result.now.walk c.index-seat.result.now.asking idle in
-    let fits = subst (λ m. CallFits (note_at c.args.env.now.notes) c.args.call m) c.mode_of.ensures c.in-Some.ensures.1 in
-    rw (c.place.ensures, is) (starts_here g.C.Condition.means (word_of c.args.word.now) c.args.row.now c.args.queues.now c.args.flags.now c.args.env.now c.args.seats.now.items c.args.history.now.items c.args.number seat within c.args.call c.in-Some.start (rw (c.mode_of.ensures, same, is) at c.in-Some.ensures.0)
+    let fits = subst (λ m. CallFits c.args.setup.now (note_at c.args.env.now.notes) c.args.call m) c.mode_of.ensures c.in-Some.ensures.1 in
+    rw (c.place.ensures, is) (starts_here g.C.Condition.means (word_of c.args.word.now) c.args.row.now c.args.queues.now c.args.flags.now c.args.env.now c.args.seats.now.items c.args.history.now.items c.args.number seat within c.args.setup.now c.args.call c.in-Some.start (rw (c.mode_of.ensures, same, is) at c.in-Some.ensures.0)
     (rw (same, is) at walk) (rw (same, is) at ask) (rw (same, is) at fits))
 
 pub is_busy-requires : goal.is_busy-requires

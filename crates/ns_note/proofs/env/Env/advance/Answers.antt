@@ -1,5 +1,6 @@
 use Rattle.std.proofs.Common.{rules, ◌∙◌}
-use Rattle.ns_note.proofs.Rests.{rests, grew}
+use Rattle.ns_env.specs.declared.act.EnvAct.TheVariants.{MoveClock}
+use Rattle.ns_note.proofs.Rests.{rests, grew, adds_by}
 use Rattle.ns_note.proofs.Allowed.{moves}
 use Rattle.ns_note.proofs.env.Env.advance.Goals as goal
 
@@ -7,7 +8,7 @@ pub fetch_max-requires : goal.fetch_max-requires
 fetch_max-requires c = (search rules, search rules, moves _ _ _ _ _ _ c.seat.invariant.one c.seat.invariant.idle c.requires.moment)
 
 pub invariant_of-seat : goal.invariant_of-seat
-invariant_of-seat c = let t = c.fetch_max.ensures.2 in rests _ _ c.seat.inside.seat.me _ c.seat.invariant.empty t.0 t.1 (t.2.1 ∙ c.seat.invariant.idle) t.2.0
+invariant_of-seat c = let t = c.fetch_max.ensures.2 in rests _ _ c.seat.inside.seat.me _ c.seat.invariant.empty t.0 t.1 (t.2.acted.making ∙ c.seat.invariant.idle) (adds_by (MoveClock c.args.to) _ _ _ t.2)
 
 pub returns-clause-grows : goal.returns-clause-grows
-returns-clause-grows c = grew _ _ _ _ _ _ c.seat.view_is c.fetch_max.ensures.0 c.fetch_max.ensures.2.2.0
+returns-clause-grows c = grew _ _ _ _ _ _ c.seat.view_is c.fetch_max.ensures.0 (adds_by (MoveClock c.args.to) _ _ _ c.fetch_max.ensures.2.2)

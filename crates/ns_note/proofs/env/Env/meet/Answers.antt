@@ -1,7 +1,7 @@
 use Rattle.std.proofs.Common.{ℕ, List, rules, ap, sym, subst, ◌∙◌}
 use Rattle.atomic_table.specs.Table.{Me}
 use Rattle.atomic_table.specs.Seated.{TableId}
-use Rattle.ns_note.specs.declared.view.EnvView.{EnvView}
+use Rattle.ns_env.specs.declared.view.EnvView.{EnvView}
 use Rattle.ns_note.specs.Known.{EnvKnown, known_of, the, Grows, AreOfOneHistory}
 use Rattle.ns_note.proofs.Rests.{grew}
 use Rattle.ns_note.specs.Law.{fresh_seat}

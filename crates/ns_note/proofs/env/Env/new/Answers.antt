@@ -1,7 +1,7 @@
 use Rattle.std.proofs.Common.{rules, arith, ap, sym, subst, refl, ◌∙◌, ◌≡◌, ◌+◌, ◌<◌, ℕ, List, [], ◌∷◌, length, length-append}
 use Rattle.atomic_table.specs.Seated.{TableId}
 use Rattle.atomic_table.specs.Table.{Me}
-use Rattle.ns_note.specs.declared.view.EnvView.{EnvView}
+use Rattle.ns_env.specs.declared.view.EnvView.{EnvView}
 use Rattle.ns_note.specs.Law.{fresh_seat}
 use Rattle.ns_seats.specs.Views.{first_of, rest_of}
 use Rattle.ns_note.specs.Known.{EnvKnown, the, IsAtRest, AreNew, known, known_of}

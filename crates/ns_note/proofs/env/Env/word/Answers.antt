@@ -1,13 +1,14 @@
-use Rattle.std.proofs.Common.{rules, ◌∙◌, arith}
-use Rattle.ns_note.proofs.Rests.{rests, grew}
+use Rattle.std.proofs.Common.{rules, ◌∙◌, ◌+◌, ◌-◌, refl, arith}
+use Rattle.ns_env.specs.declared.act.EnvAct.TheVariants.{LoadNote}
+use Rattle.ns_note.proofs.Rests.{rests, grew, quiet_adds}
 use Rattle.ns_note.proofs.Allowed.{loads_note}
 use Rattle.ns_note.proofs.env.Env.word.Goals as goal
 
 pub load-word-requires : goal.load-word-requires
-load-word-requires c = (search rules, search rules, loads_note _ _ _ _ c.from.result c.seat.inside.seat.me c.seat.invariant.one (omega arith))
+load-word-requires c = (search rules, search rules, loads_note _ _ _ _ _ c.from.result c.seat.invariant.one (omega arith))
 
 pub invariant_of-seat : goal.invariant_of-seat
-invariant_of-seat c = let t = c.load-word.ensures.2 in rests _ _ c.seat.inside.seat.me _ c.seat.invariant.empty t.0 t.1 (t.2.1 ∙ c.seat.invariant.idle) t.2.0
+invariant_of-seat c = let t = c.load-word.ensures.2 in rests _ _ c.seat.inside.seat.me _ c.seat.invariant.empty t.0 t.1 (t.2.acted.making ∙ c.seat.invariant.idle) (quiet_adds (LoadNote ((c.from.result + 2) - 2)) _ _ _ t.2 refl)
 
 pub returns-clause-grows : goal.returns-clause-grows
-returns-clause-grows c = grew _ _ _ _ _ _ c.seat.view_is c.load-word.ensures.0 c.load-word.ensures.2.2.0
+returns-clause-grows c = grew _ _ _ _ _ _ c.seat.view_is c.load-word.ensures.0 (quiet_adds (LoadNote ((c.from.result + 2) - 2)) _ _ _ c.load-word.ensures.2.2 refl)

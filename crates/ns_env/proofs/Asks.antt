@@ -1,0 +1,280 @@
+-- A step of one seat keeps the law of a clock and notes that stand as plain data, with the places of seats in their calls.
+use Rattle.std.proofs.Common.{◌≡◌, ◌≢◌, ℕ, zero, suc, ◌+◌, ◌<◌, ◌≤◌, nat_lt, Bool, true, false, cond, List, [], ◌∷◌, ◌++◌, length, Option, None, Some, slice_get, slice_set, refl, inl, inr, sym, ap, ◌∙◌, subst, arith}
+use Rattle.std.proofs.lemmas.Bool.{cases_eq}
+use Rattle.std.proofs.lemmas.List.{length-set}
+use Rattle.std.proofs.lemmas.Option.{slice_get_within}
+use Rattle.ns_model.specs.declared.environment.EnvEvent.{EnvEvent}
+use Rattle.ns_model.specs.Beginnings.{BeginsWith}
+use Rattle.ns_model.specs.Environments.{NoteStanding, made_note, notified_note, ParentFits, IsLegalEnv, env_after, is_due, is_over, earlier, expiry_of, IsMade}
+use Rattle.ns_model.proofs.Beginnings.{begins_itself}
+use Rattle.ns_model.proofs.Environments.{but_cases, sound_after, grown_begins, made_begins, expiry_begins}
+use Rattle.ns_model.proofs.Lines.{IsExpiryAt, expiry_goes_on}
+use Rattle.ns_env.specs.declared.limits.Cause.TheVariants.{Expired}
+use Rattle.ns_env.specs.declared.act.EnvAct.{EnvAct}
+use Rattle.ns_env.specs.declared.act.EnvAct.TheVariants.{LoadNext, TakeNext, StoreNote, NotifyNote, MoveClock, LoadClock, LoadNote}
+use Rattle.ns_env.specs.declared.act.EnvFound.{EnvFound}
+use Rattle.ns_env.specs.declared.view.Making.{Making}
+use Rattle.ns_env.specs.declared.view.Making.TheVariants.{Nothing}
+use Rattle.ns_env.specs.declared.walk.Chain.{Chain}
+use Rattle.ns_env.specs.declared.walk.Chain.TheVariants.{ForLook, ForIsNotified, ForNoteWait}
+use Rattle.ns_env.specs.declared.walk.EnvWalk.{EnvWalk}
+use Rattle.ns_env.specs.declared.walk.EnvWalk.TheVariants.{NextLoad, TakeNumber, MakeNote, Notifying, Advancing, ClockLoad, NoteLoad, ExpiryLoad}
+use Rattle.ns_env.specs.declared.walk.EnvNext.{EnvNext}
+use Rattle.ns_env.specs.declared.walk.EnvNext.TheVariants.{Go, Repeat, Over, LookOver}
+use Rattle.ns_env.specs.declared.reply.EnvReply.TheVariants.{NotesFull, Is}
+use Rattle.ns_env.specs.Asks.{EnvState, EnvEffect, EnvStep, making_of, making_at, adders, IfMade, AskFits, IsLawfulEnv}
+use Rattle.ns_env.specs.Lawful.{Meets, adds, MakingFits, IsLawful}
+use Rattle.ns_env.specs.Steps.{EnvPlain, outcome, making_after, CanAct}
+use Rattle.ns_env.specs.Walks.{env_want_of, env_got_of, env_walk_after, chain_note, stopped, passed, up_to, lowered_to}
+use Rattle.ns_env.proofs.Keeps.{StepKeeps, outcome_by, step_keeps, others_make, adds_most}
+
+-- ---- a list of places, one of them set
+
+pub set_here : {X : Type 0} (xs : List X) (i : ℕ) (x : X) → i < length xs → slice_get (slice_set xs i x) i ≡ Some x
+set_here [] i x within = absurd (omega (arith, within))
+set_here (y ∷ xs) zero x within = refl
+set_here (y ∷ xs) (suc i) x within = set_here xs i x (omega arith)
+
+pub set_there : {X : Type 0} (xs : List X) (i j : ℕ) (x : X) → j ≢ i → slice_get (slice_set xs i x) j ≡ slice_get xs j
+set_there [] i j x ne = refl
+set_there (y ∷ xs) zero zero x ne = absurd (ne refl)
+set_there (y ∷ xs) zero (suc j) x ne = refl
+set_there (y ∷ xs) (suc i) zero x ne = refl
+set_there (y ∷ xs) (suc i) (suc j) x ne = set_there xs i j x (λ e. ne (ap suc e))
+
+-- ---- an act
+
+-- a note that is made stays made
+made_after : (seat : ℕ) (act : EnvAct) (old : EnvPlain) (n : ℕ) → (old.notes n).made ≡ true → ((outcome seat act old).plain.notes n).made ≡ true
+made_after seat LoadNext old n p = p
+made_after seat TakeNext old n p = p
+made_after seat (StoreNote note parent deadline) old n p = but_cases (λ (s : NoteStanding). s.made ≡ true) note n (made_note parent deadline) old.notes (λ _. refl) (λ _. p)
+made_after seat (NotifyNote note) old n p = but_cases (λ (s : NoteStanding). s.made ≡ true) note n (notified_note (old.notes note)) old.notes (λ here. ap (λ (k : ℕ). (old.notes k).made) (sym here) ∙ p) (λ _. p)
+made_after seat (MoveClock moment) old n p = p
+made_after seat LoadClock old n p = p
+made_after seat (LoadNote note) old n p = p
+
+pub if_made_stays : (seat : ℕ) (act : EnvAct) (old new : EnvPlain) (found : EnvFound) (events : List EnvEvent) → EnvEffect seat act old found new events → (given : Option ℕ) → IfMade old.notes given → IfMade new.notes given
+if_made_stays seat act old new found events e None p = tt
+if_made_stays seat act old new found events e (Some n) p = subst (λ (plain : EnvPlain). (plain.notes n).made ≡ true) (sym e.leaves) (made_after seat act old n p)
+
+-- ---- how many of the other seats go to take a number
+
+pub adders_set : (walks : List (Option EnvWalk)) (i : ℕ) (old new : Option EnvWalk) → slice_get walks i ≡ Some old → adders (slice_set walks i new) + adds (making_at old) ≡ adders walks + adds (making_at new)
+adders_set [] i old new e = absurd (cc)
+adders_set (w ∷ walks) zero old new e = let is : w ≡ old = cc in let same : adds (making_at w) ≡ adds (making_at old) = ap (λ (x : Option EnvWalk). adds (making_at x)) is in omega (arith, same)
+adders_set (w ∷ walks) (suc i) old new e = let rest = adders_set walks i old new e in omega (arith, rest)
+
+adders_most : (walks : List (Option EnvWalk)) → adders walks ≤ length walks
+adders_most [] = omega arith
+adders_most (w ∷ walks) = let rest = adders_most walks in let one = adds_most (making_at w) in omega (arith, rest, one)
+
+-- those beside the seat of this number
+abbrev pub others_of : List (Option EnvWalk) → ℕ → ℕ
+others_of walks i = adders (slice_set walks i None)
+
+module _ (walks : List (Option EnvWalk)) (i : ℕ) (old : Option EnvWalk) (at : slice_get walks i ≡ Some old) where
+  pub adders_are : adders walks ≡ others_of walks i + adds (making_at old)
+  adders_are = let set = adders_set walks i old None at in omega (arith, set)
+
+  pub adders_after : (new : Option EnvWalk) → adders (slice_set walks i new) ≡ others_of walks i + adds (making_at new)
+  adders_after new = let none = adders_set walks i old None at in let set = adders_set walks i old new at in omega (arith, none, set)
+
+  pub others_few : others_of walks i < length walks
+  others_few =
+      let none = adders_set walks i old None at in
+      let set = adders_set walks i old (Some (TakeNumber None None)) at in
+      let most = adders_most (slice_set walks i (Some (TakeNumber None None))) in
+      let long = length-set walks i (Some (TakeNumber None None)) in
+      omega (arith, none, set, most, long)
+
+-- ---- a place stands for how far its seat has come in making a note
+
+-- what its walk wants next, the seat may do
+can_ask : (h : List EnvEvent) (walk : EnvWalk) → AskFits h walk → CanAct (env_after h) (making_of walk) (env_want_of walk)
+can_ask h (NextLoad parent deadline) fits = refl
+can_ask h (TakeNumber parent deadline) fits = refl
+can_ask h (MakeNote note parent deadline) fits = (refl, fits)
+can_ask h (Notifying note) fits = (refl, fits)
+can_ask h (Advancing moment) fits = refl
+can_ask h (ClockLoad chain) fits = tt
+can_ask h (NoteLoad chain clock note) fits = tt
+can_ask h (ExpiryLoad asked note least) fits = tt
+
+-- how far it has come where a walk goes
+abbrev making_next : EnvNext → Making
+making_next next = making_at (env_walk_after next)
+
+by_two : (b : Bool) (x y : EnvNext) → making_next (cond b x y) ≡ cond b (making_next x) (making_next y)
+by_two true x y = refl
+by_two false x y = refl
+
+makes_none : (b : Bool) (x y : EnvNext) → making_next x ≡ Nothing → making_next y ≡ Nothing → making_next (cond b x y) ≡ Nothing
+makes_none true x y p q = p
+makes_none false x y p q = q
+
+stopped_makes : (chain : Chain) → making_next (stopped chain) ≡ Nothing
+stopped_makes (ForLook limits) = refl
+stopped_makes (ForIsNotified note) = refl
+stopped_makes (ForNoteWait note deadline) = refl
+
+passed_makes : (chain : Chain) (clock : ℕ) → making_next (passed chain clock) ≡ Nothing
+passed_makes (ForLook limits) clock = makes_none (is_due clock limits.deadline) (LookOver (Some Expired)) (LookOver None) refl refl
+passed_makes (ForIsNotified note) clock = refl
+passed_makes (ForNoteWait note deadline) clock = makes_none (is_due clock deadline) (Over (Is false)) (Repeat (ClockLoad (ForNoteWait note deadline))) refl refl
+
+up_makes : (chain : Chain) (clock : ℕ) (note : Option ℕ) → making_next (up_to chain clock note) ≡ Nothing
+up_makes chain clock None = passed_makes chain clock
+up_makes chain clock (Some note) = refl
+
+lowered_makes : (asked : ℕ) (note least : Option ℕ) → making_next (lowered_to asked note least) ≡ Nothing
+lowered_makes asked None least = refl
+lowered_makes asked (Some note) least = refl
+
+-- a step takes its walk to where its seat has come as far as the step brings it
+goes_making : (seat : ℕ) (plain : EnvPlain) (walk : EnvWalk) → making_next (env_got_of walk (outcome seat (env_want_of walk) plain).found) ≡ making_after (env_want_of walk) plain (making_of walk)
+goes_making seat plain (NextLoad parent deadline) = by_two (nat_lt plain.next 64) (Go (TakeNumber parent deadline)) (Over NotesFull)
+goes_making seat plain (TakeNumber parent deadline) = by_two (nat_lt plain.next 64) (Go (MakeNote plain.next parent deadline)) (Over NotesFull)
+goes_making seat plain (MakeNote note parent deadline) = refl
+goes_making seat plain (Notifying note) = refl
+goes_making seat plain (Advancing moment) = refl
+goes_making seat plain (ClockLoad chain) = up_makes chain plain.clock (chain_note chain)
+goes_making seat plain (NoteLoad chain clock at) = makes_none (is_over clock (plain.notes at)) (stopped chain) (up_to chain clock (plain.notes at).parent) (stopped_makes chain) (up_makes chain clock (plain.notes at).parent)
+goes_making seat plain (ExpiryLoad asked at least) = lowered_makes asked (plain.notes at).parent (earlier least (plain.notes at).deadline)
+
+-- ---- what places tell beside that
+
+module _ (h k : List EnvEvent) (legal : IsLegalEnv k) (begins : BeginsWith k h) where
+  given_later : (given : Option ℕ) → IfMade (env_after h).notes given → IfMade (env_after k).notes given
+  given_later None p = tt
+  given_later (Some note) p = made_begins k h note legal begins p
+
+  parent_later : (note : ℕ) (given : Option ℕ) → ParentFits (env_after h) note given → ParentFits (env_after k) note given
+  parent_later note None p = tt
+  parent_later note (Some parent) p = (p.0, made_begins k h parent legal begins p.1)
+
+  expiry_later : (asked note : ℕ) (least : Option ℕ) → IsMade h asked → IsMade h note → expiry_of h asked ≡ earlier least (expiry_of h note) → expiry_of k asked ≡ earlier least (expiry_of k note)
+  expiry_later asked note least one other is = expiry_begins k h asked legal begins one ∙ is ∙ ap (earlier least) (sym (expiry_begins k h note legal begins other))
+
+  -- it is so later, too
+  pub asks_later : (walk : EnvWalk) → AskFits h walk → AskFits k walk
+  asks_later (NextLoad parent deadline) p = given_later parent p
+  asks_later (TakeNumber parent deadline) p = given_later parent p
+  asks_later (MakeNote note parent deadline) p = parent_later note parent p
+  asks_later (Notifying note) p = made_begins k h note legal begins p
+  asks_later (Advancing moment) p = tt
+  asks_later (ClockLoad chain) p = given_later (chain_note chain) p
+  asks_later (NoteLoad chain clock note) p = (let on = (grown_begins k h legal begins).clock in let was = p.0 in omega (arith, on, was), made_begins k h note legal begins p.1, given_later (chain_note chain) p.2)
+  asks_later (ExpiryLoad asked note least) p = (made_begins k h asked legal begins p.0, made_begins k h note legal begins p.1, expiry_later asked note least p.0 p.1 p.2)
+
+  -- what the place tells where a walk goes
+  abbrev NextFits : EnvNext → Type 0
+  NextFits (Go walk) = AskFits k walk
+  NextFits (Repeat walk) = AskFits k walk
+  NextFits (Over reply) = Unit {0}
+  NextFits (LookOver cause) = Unit {0}
+
+  either_fits : (b : Bool) (x y : EnvNext) → NextFits x → NextFits y → NextFits (cond b x y)
+  either_fits true x y p q = p
+  either_fits false x y p q = q
+
+  stopped_fits : (chain : Chain) → NextFits (stopped chain)
+  stopped_fits (ForLook limits) = tt
+  stopped_fits (ForIsNotified note) = tt
+  stopped_fits (ForNoteWait note deadline) = tt
+
+  passed_fits : (chain : Chain) (clock : ℕ) → IfMade (env_after k).notes (chain_note chain) → NextFits (passed chain clock)
+  passed_fits (ForLook limits) clock p = either_fits (is_due clock limits.deadline) (LookOver (Some Expired)) (LookOver None) tt tt
+  passed_fits (ForIsNotified note) clock p = tt
+  passed_fits (ForNoteWait note deadline) clock p = either_fits (is_due clock deadline) (Over (Is false)) (Repeat (ClockLoad (ForNoteWait note deadline))) tt p
+
+  up_fits : (chain : Chain) (clock : ℕ) (note : Option ℕ) → clock ≤ (env_after k).clock → IfMade (env_after k).notes (chain_note chain) → IfMade (env_after k).notes note → NextFits (up_to chain clock note)
+  up_fits chain clock None past p q = passed_fits chain clock p
+  up_fits chain clock (Some note) past p q = (past, q, p)
+
+  module _ (plain : EnvPlain) (meets : Meets h plain) where
+    -- a parent that is made has a smaller number than one that is taken then
+    parent_below : (parent : Option ℕ) → IfMade (env_after h).notes parent → ParentFits (env_after k) plain.next parent
+    parent_below None p = tt
+    parent_below (Some parent) p = let low = (sound_after h meets.legal).made parent p in let takes = meets.takes in (omega (arith, low, takes), made_begins k h parent legal begins p)
+
+    -- the parent of a note that stands is made
+    parent_made : (at : ℕ) (parent : Option ℕ) → (plain.notes at).parent ≡ parent → IfMade (env_after k).notes parent
+    parent_made at None e = tt
+    parent_made at (Some parent) e = made_begins k h parent legal begins ((sound_after h meets.legal).above at parent (ap (λ (notes : ℕ → NoteStanding). (notes at).parent) (sym meets.notes) ∙ e)).1
+
+    -- one deadline more
+    lowered_fits : (asked at : ℕ) (least : Option ℕ) → IsMade h asked → IsMade h at → expiry_of h asked ≡ earlier least (expiry_of h at) → NextFits (lowered_to asked (plain.notes at).parent (earlier least (plain.notes at).deadline))
+    lowered_fits asked at least one other so = up (plain.notes at).parent (subst (λ (notes : ℕ → NoteStanding). IsExpiryAt h asked (earlier least (notes at).deadline) (notes at).parent) (sym meets.notes) (expiry_goes_on h h asked at least meets.legal (begins_itself h) (other, so))) where
+      up : (parent : Option ℕ) → IsExpiryAt h asked (earlier least (plain.notes at).deadline) parent → NextFits (lowered_to asked parent (earlier least (plain.notes at).deadline))
+      up None p = tt
+      up (Some parent) p = (made_begins k h asked legal begins one, made_begins k h parent legal begins p.0, expiry_later asked parent (earlier least (plain.notes at).deadline) one p.0 p.1)
+
+    clock_past : plain.clock ≤ (env_after k).clock
+    clock_past = let on = (grown_begins k h legal begins).clock in let is = meets.clock in omega (arith, on, is)
+
+    -- it tells that of where the seat's own walk leads
+    pub own_fits : (seat : ℕ) (walk : EnvWalk) → AskFits h walk → NextFits (env_got_of walk (outcome seat (env_want_of walk) plain).found)
+    own_fits seat (NextLoad parent deadline) p = either_fits (nat_lt plain.next 64) (Go (TakeNumber parent deadline)) (Over NotesFull) (given_later parent p) tt
+    own_fits seat (TakeNumber parent deadline) p = either_fits (nat_lt plain.next 64) (Go (MakeNote plain.next parent deadline)) (Over NotesFull) (parent_below parent p) tt
+    own_fits seat (MakeNote note parent deadline) p = tt
+    own_fits seat (Notifying note) p = tt
+    own_fits seat (Advancing moment) p = tt
+    own_fits seat (ClockLoad chain) p = up_fits chain plain.clock (chain_note chain) clock_past (given_later (chain_note chain) p) (given_later (chain_note chain) p)
+    own_fits seat (NoteLoad chain clock at) p = either_fits (is_over clock (plain.notes at)) (stopped chain) (up_to chain clock (plain.notes at).parent) (stopped_fits chain)
+        (up_fits chain clock (plain.notes at).parent (let on = (grown_begins k h legal begins).clock in let was = p.0 in omega (arith, on, was)) (given_later (chain_note chain) p.2) (parent_made at (plain.notes at).parent refl))
+    own_fits seat (ExpiryLoad asked at least) p = lowered_fits asked at least p.0 p.1 p.2
+
+  next_fits : (next : EnvNext) (walk : EnvWalk) → env_walk_after next ≡ Some walk → NextFits next → AskFits k walk
+  next_fits (Go one) walk e p = let is : one ≡ walk = cc in subst (AskFits k) is p
+  next_fits (Repeat one) walk e p = let is : one ≡ walk = cc in subst (AskFits k) is p
+  next_fits (Over reply) walk e p = absurd (cc)
+  next_fits (LookOver cause) walk e p = absurd (cc)
+
+-- ---- the step
+
+module _ (h : List EnvEvent) (plain : EnvPlain) (askings : List (Option EnvWalk)) (seat : ℕ) (walk : EnvWalk) (walks : slice_get askings seat ≡ Some (Some walk)) (lawful : IsLawfulEnv h (record { plain = plain; askings = askings })) where
+  abbrev left_by : List EnvEvent
+  left_by = (outcome seat (env_want_of walk) plain).events
+
+  abbrev goes_to : EnvNext
+  goes_to = env_got_of walk (outcome seat (env_want_of walk) plain).found
+
+  abbrev state_after : EnvState
+  state_after = record { plain = (outcome seat (env_want_of walk) plain).plain; askings = slice_set askings seat (env_walk_after goes_to) }
+
+  within : seat < length askings
+  within = slice_get_within askings seat (Some walk) walks
+
+  keeps : StepKeeps (length askings) (others_of askings seat) seat h (outcome seat (env_want_of walk) plain) (making_after (env_want_of walk) plain (making_of walk))
+  keeps = step_keeps (length askings) (others_of askings seat) seat plain (making_of walk) h (others_few askings seat (Some walk) walks) within
+      (subst (λ (n : ℕ). IsLawful (length askings) plain n h) (adders_are askings seat (Some walk) walks) lawful.lawful) (lawful.making seat walk walks) (env_want_of walk) (can_ask h walk (lawful.each seat walk walks))
+
+  -- who stands at a place of the list after the step is the seat, where its walk goes, or another, where it stood
+  here : (next : EnvWalk) → slice_get (slice_set askings seat (env_walk_after goes_to)) seat ≡ Some (Some next) → env_walk_after goes_to ≡ Some next
+  here next at = let same : Some (env_walk_after goes_to) ≡ Some (Some next) = sym (set_here askings seat (env_walk_after goes_to) within) ∙ at in cc
+
+  there : (other : ℕ) (next : EnvWalk) → other ≢ seat → slice_get (slice_set askings seat (env_walk_after goes_to)) other ≡ Some (Some next) → slice_get askings other ≡ Some (Some next)
+  there other next apart at = sym (set_there askings seat other (env_walk_after goes_to) apart) ∙ at
+
+  keeps_here : IsLawfulEnv (h ++ left_by) state_after
+  keeps_here = record {
+    lawful = subst (λ (z : ℕ × ℕ). IsLawful z.0 state_after.plain z.1 (h ++ left_by))
+        (λ i. (sym (length-set askings seat (env_walk_after goes_to)) i, (ap (λ (m : Making). others_of askings seat + adds m) (sym (goes_making seat plain walk)) ∙ sym (adders_after askings seat (Some walk) walks (env_walk_after goes_to))) i)) keeps.lawful;
+    making = λ other next at. elim (cases_eq other seat) [
+      | inl e ↦ subst (λ (z : ℕ × Making). MakingFits (env_after (h ++ left_by)) z.0 z.1)
+          (λ i. (sym e i, (sym (goes_making seat plain walk) ∙ ap making_at (here next (ap (slice_get state_after.askings) (sym e) ∙ at))) i)) keeps.fits
+      | inr ne ↦ others_make h left_by seat other (making_of next) lawful.lawful.meets.legal keeps.more (λ is. ne (sym is)) (outcome_by seat (env_want_of walk) plain) (lawful.making other next (there other next ne at))
+    ];
+    each = λ other next at. elim (cases_eq other seat) [
+      | inl e ↦ next_fits h (h ++ left_by) keeps.lawful.meets.legal (left_by, refl) goes_to next (here next (ap (slice_get state_after.askings) (sym e) ∙ at))
+          (own_fits h (h ++ left_by) keeps.lawful.meets.legal (left_by, refl) plain lawful.lawful.meets seat walk (lawful.each seat walk walks))
+      | inr ne ↦ asks_later h (h ++ left_by) keeps.lawful.meets.legal (left_by, refl) next (lawful.each other next (there other next ne at))
+    ];
+  }
+
+pub keeps_env : (h events : List EnvEvent) (old new : EnvState) (seat : ℕ) (found : EnvFound) → EnvStep old seat found new events → IsLawfulEnv h old → IsLawfulEnv (h ++ events) new
+keeps_env h events old new seat found step lawful =
+    let e = step.effect in
+    let becomes = step.becomes ∙ ap (λ (f : EnvFound). slice_set old.askings seat (env_walk_after (env_got_of step.walk f))) e.found_is in
+    subst (λ (z : List EnvEvent × EnvState). IsLawfulEnv z.0 z.1) (λ i. (h ++ sym e.events_are i, record { plain = sym e.leaves i; askings = sym becomes i })) (keeps_here h old.plain old.askings seat step.walk step.walks lawful)

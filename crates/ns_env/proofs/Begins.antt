@@ -1,0 +1,81 @@
+-- How a clock and notes begin that stand as plain data, and how a call on them begins.
+use Rattle.std.proofs.Common.{length, ◌≡◌, ℕ, zero, suc, List, [], replicate, Option, None, Some, slice_get, slice_set, refl, inl, inr, sym, ap, ◌∙◌, subst, arith}
+use Rattle.std.proofs.lemmas.Bool.{cases_eq}
+use Rattle.std.proofs.lemmas.List.{length-set}
+use Rattle.std.proofs.lemmas.Option.{slice_get_within}
+use Rattle.ns_model.specs.declared.environment.EnvEvent.{EnvEvent}
+use Rattle.ns_model.specs.Environments.{NoteStanding, env_after, IsEnvBySeats}
+use Rattle.ns_env.specs.declared.view.Making.TheVariants.{Nothing}
+use Rattle.ns_env.specs.declared.walk.EnvWalk.{EnvWalk}
+use Rattle.ns_env.specs.declared.walk.EnvWalk.TheVariants.{NextLoad, TakeNumber, MakeNote, Notifying, Advancing, ClockLoad, NoteLoad, ExpiryLoad}
+use Rattle.ns_env.specs.Asks.{EnvState, EnvBegins, making_of, AskFits, IsFirstAsk, adders, IsLawfulEnv, fresh_asks}
+use Rattle.ns_env.specs.Lawful.{adds, MakingFits, IsLawful}
+use Rattle.ns_env.specs.Steps.{fresh_plain}
+use Rattle.ns_env.proofs.Asks.{set_here, set_there, adders_set}
+
+-- ---- a new environment
+
+nobody : (seats seat : ℕ) (walk : EnvWalk) → slice_get (replicate {A = Option EnvWalk} seats None) seat ≡ Some (Some walk) → ⊥
+nobody zero seat walk e = absurd (cc)
+nobody (suc seats) zero walk e = absurd (cc)
+nobody (suc seats) (suc seat) walk e = nobody seats seat walk e
+
+none_adds : (seats : ℕ) → ◌≡◌ {A = ℕ} (adders (replicate {A = Option EnvWalk} seats None)) 0
+none_adds zero = refl
+none_adds (suc seats) = let rest = none_adds seats in omega (arith, rest)
+
+pub new_lawful : (seats adders : ℕ) → ◌≡◌ {A = ℕ} adders 0 → IsLawful seats fresh_plain adders []
+new_lawful seats adders none = record { meets = record { legal = tt; clock = refl; takes = refl; notes = refl }; by_seats = tt; room = omega (arith, none) }
+
+pub fresh_lawful : (seats : ℕ) → IsLawfulEnv [] (fresh_asks seats)
+fresh_lawful seats = record {
+  lawful = new_lawful (length (fresh_asks seats).askings) (adders (fresh_asks seats).askings) (none_adds seats);
+  making = λ seat walk e. absurd (nobody seats seat walk e);
+  each = λ seat walk e. absurd (nobody seats seat walk e);
+}
+
+-- ---- a call begins
+
+-- it begins to make no note yet
+first_makes : (notes : ℕ → NoteStanding) (walk : EnvWalk) → IsFirstAsk notes walk → making_of walk ≡ Nothing
+first_makes notes (NextLoad parent deadline) p = refl
+first_makes notes (TakeNumber parent deadline) p = absurd p
+first_makes notes (MakeNote note parent deadline) p = absurd p
+first_makes notes (Notifying note) p = refl
+first_makes notes (Advancing moment) p = refl
+first_makes notes (ClockLoad chain) p = refl
+first_makes notes (NoteLoad chain clock note) p = refl
+first_makes notes (ExpiryLoad asked note least) p = refl
+
+first_fits : (h : List EnvEvent) (walk : EnvWalk) → IsFirstAsk (env_after h).notes walk → AskFits h walk
+first_fits h (NextLoad parent deadline) p = p
+first_fits h (TakeNumber parent deadline) p = absurd p
+first_fits h (MakeNote note parent deadline) p = absurd p
+first_fits h (Notifying note) p = p
+first_fits h (Advancing moment) p = tt
+first_fits h (ClockLoad chain) p = p
+first_fits h (NoteLoad chain clock note) p = absurd p
+first_fits h (ExpiryLoad asked note least) p = subst (λ (z : ℕ × Option ℕ). AskFits h (ExpiryLoad asked z.0 z.1)) (λ i. (sym p.0 i, sym p.1 i)) (p.2, p.2, refl)
+
+pub begins_env : (h : List EnvEvent) (old new : EnvState) (seat : ℕ) (walk : EnvWalk) → EnvBegins old seat walk new → IsLawfulEnv h old → IsLawfulEnv h new
+begins_env h old new seat walk p lawful =
+    let after = slice_set old.askings seat (Some walk) in
+    let long = length-set old.askings seat (Some walk) in
+    let none : making_of walk ≡ Nothing = first_makes old.plain.notes walk p.first in
+    let is : (ask : EnvWalk) → (other : ℕ) → other ≡ seat → slice_get after other ≡ Some (Some ask) → walk ≡ ask = (λ ask other e at.
+    let here : Some (Some walk) ≡ Some (Some ask) = sym (set_here old.askings seat (Some walk) (slice_get_within old.askings seat None p.over)) ∙ ap (slice_get after) (sym e) ∙ at in cc) in
+    subst (IsLawfulEnv h) (sym p.becomes) (record {
+      lawful = record {
+        meets = lawful.lawful.meets;
+        by_seats = subst (λ (n : ℕ). IsEnvBySeats n h) (sym long) lawful.lawful.by_seats;
+        room = let set = adders_set old.askings seat None (Some walk) p.over in let zero : ◌≡◌ {A = ℕ} (adds (making_of walk)) 0 = ap adds none in let room = lawful.lawful.room in omega (arith, set, zero, long, room);
+      };
+      making = λ other ask at. elim (cases_eq other seat) [
+        | inl e ↦ subst (MakingFits (env_after h) other) (sym none ∙ ap making_of (is ask other e at)) tt
+        | inr ne ↦ lawful.making other ask (sym (set_there old.askings seat other (Some walk) ne) ∙ at)
+      ];
+      each = λ other ask at. elim (cases_eq other seat) [
+        | inl e ↦ subst (AskFits h) (is ask other e at) (first_fits h walk (subst (λ (notes : ℕ → NoteStanding). IsFirstAsk notes walk) lawful.lawful.meets.notes p.first))
+        | inr ne ↦ lawful.each other ask (sym (set_there old.askings seat other (Some walk) ne) ∙ at)
+      ];
+    })

@@ -1,0 +1,223 @@
+-- A call on the clock and the notes stays what it was asked, a step takes it on, and what others do leaves it where it is.
+use Rattle.std.proofs.Common.{◌≡◌, ℕ, ◌≤◌, min, nat_lt, Bool, true, false, cond, List, [], ◌∷◌, ◌++◌, Option, None, Some, slice_get, refl, sym, ap, ◌∙◌, subst, arith, append-nil}
+use Rattle.std.proofs.lemmas.Bool.Decides.{nat_tests}
+use Rattle.ns_model.specs.declared.environment.EnvEvent.{EnvEvent}
+use Rattle.ns_model.specs.declared.environment.EnvEvent.TheVariants.{Take, New, Notify, Advance}
+use Rattle.ns_model.specs.Beginnings.{BeginsWith, IsBetween}
+use Rattle.ns_model.specs.Environments.{NoteStanding, takes_in, is_due, is_over, expiry_of, earlier}
+use Rattle.ns_model.proofs.Beginnings.{begins_itself, begins_through}
+use Rattle.ns_env.specs.declared.limits.Cause.TheVariants.{Expired}
+use Rattle.ns_env.specs.declared.act.EnvFound.{EnvFound}
+use Rattle.ns_env.specs.declared.act.EnvFound.TheVariants.{NextNumber, Taken, Stored, Clock, Note}
+use Rattle.ns_env.specs.declared.walk.Chain.{Chain}
+use Rattle.ns_env.specs.declared.walk.Chain.TheVariants.{ForLook, ForIsNotified, ForNoteWait}
+use Rattle.ns_env.specs.declared.walk.EnvWalk.{EnvWalk}
+use Rattle.ns_env.specs.declared.walk.EnvWalk.TheVariants.{NextLoad, TakeNumber, MakeNote, Notifying, Advancing, ClockLoad, NoteLoad, ExpiryLoad}
+use Rattle.ns_env.specs.declared.walk.EnvNext.{EnvNext}
+use Rattle.ns_env.specs.declared.walk.EnvNext.TheVariants.{Go, Repeat, Over, LookOver}
+use Rattle.ns_env.specs.declared.request.EnvRequest.{EnvRequest}
+use Rattle.ns_env.specs.declared.request.EnvRequest.TheVariants as TheRequest
+use Rattle.ns_env.specs.declared.reply.EnvReply.TheVariants.{NotesFull, Is, Expiry}
+use Rattle.ns_env.specs.Notes.{standing_of, state_of}
+use Rattle.ns_env.specs.Walks.{env_want_of, env_got_of, env_walk_after, chain_note, stopped, passed, up_to, lowered_to}
+use Rattle.ns_env.specs.Asks.{EnvState, EnvStep, IsFirstAsk, IsLawfulEnv}
+use Rattle.ns_env.specs.Steps.{EnvPlain, outcome}
+use Rattle.ns_env.specs.Chains.{ChainFits}
+use Rattle.ns_env.specs.Meanings.{asked_by, env_asked_of, EnvCourse, env_course_at, env_course_after, EnvHasDone, EnvSoFar, EnvGoes}
+use Rattle.ns_env.proofs.Chains.{chain_begins, chain_answers}
+use Rattle.ns_env.proofs.Looks.{expiry_is}
+
+-- ---- what a call was asked to do stays
+
+-- it goes on as it was asked, if it goes on
+abbrev GoesAsAsked : EnvRequest → EnvNext → Type 0
+GoesAsAsked request (Go walk) = env_asked_of walk ≡ request
+GoesAsAsked request (Repeat walk) = env_asked_of walk ≡ request
+GoesAsAsked request (Over reply) = Unit {0}
+GoesAsAsked request (LookOver cause) = Unit {0}
+
+-- what is so of each of two ways to go is so of the one that a test picks
+either_way : (P : EnvNext → Type 0) (b : Bool) (one other : EnvNext) → P one → P other → P (cond b one other)
+either_way P true one other p q = p
+either_way P false one other p q = q
+
+-- a chain that stops is over
+stopped_asks : (chain : Chain) → GoesAsAsked (asked_by chain) (stopped chain)
+stopped_asks (ForLook limits) = tt
+stopped_asks (ForIsNotified note) = tt
+stopped_asks (ForNoteWait note deadline) = tt
+
+-- past the root a chain is over, or waits on for its note
+passed_asks : (chain : Chain) (clock : ℕ) → GoesAsAsked (asked_by chain) (passed chain clock)
+passed_asks (ForLook limits) clock = either_way (GoesAsAsked (TheRequest.Look limits)) (is_due clock limits.deadline) (LookOver (Some Expired)) (LookOver None) tt tt
+passed_asks (ForIsNotified note) clock = tt
+passed_asks (ForNoteWait note deadline) clock = either_way (GoesAsAsked (TheRequest.NoteWait note deadline)) (is_due clock deadline) (Over (Is false)) (Repeat (ClockLoad (ForNoteWait note deadline))) tt refl
+
+-- a chain goes on to the next note as the same chain
+up_asks : (chain : Chain) (clock : ℕ) (note : Option ℕ) → GoesAsAsked (asked_by chain) (up_to chain clock note)
+up_asks chain clock None = passed_asks chain clock
+up_asks chain clock (Some note) = refl
+
+-- an expiry goes on to the next note as the expiry of the note that was asked
+lowered_asks : (asked : ℕ) (note least : Option ℕ) → GoesAsAsked (TheRequest.Expiry asked) (lowered_to asked note least)
+lowered_asks asked None least = tt
+lowered_asks asked (Some note) least = refl
+
+-- whatever its step found, a call goes on as it was asked
+asks_on : (walk : EnvWalk) (found : EnvFound) → GoesAsAsked (env_asked_of walk) (env_got_of walk found)
+asks_on (NextLoad parent deadline) (NextNumber next) = either_way (GoesAsAsked (TheRequest.NewNote parent deadline)) (nat_lt next 64) (Go (TakeNumber parent deadline)) (Over NotesFull) refl tt
+asks_on (TakeNumber parent deadline) (Taken number) = either_way (GoesAsAsked (TheRequest.NewNote parent deadline)) (nat_lt number 64) (Go (MakeNote number parent deadline)) (Over NotesFull) refl tt
+asks_on (MakeNote note parent deadline) Stored = tt
+asks_on (Notifying note) Stored = tt
+asks_on (Advancing moment) Stored = tt
+asks_on (ClockLoad chain) (Clock clock) = up_asks chain clock (chain_note chain)
+asks_on (NoteLoad chain clock at) (Note note) = either_way (GoesAsAsked (asked_by chain)) (is_over clock (standing_of note)) (stopped chain) (up_to chain clock note.parent) (stopped_asks chain) (up_asks chain clock note.parent)
+asks_on (ExpiryLoad asked at least) (Note note) = lowered_asks asked note.parent (earlier least note.deadline)
+asks_on walk found = refl
+
+-- the place after is one of the call that was asked, if there is one
+asked_after : (request : EnvRequest) (next : EnvNext) (walk : EnvWalk) → env_walk_after next ≡ Some walk → GoesAsAsked request next → env_asked_of walk ≡ request
+asked_after request (Go one) walk e p = let same : one ≡ walk = cc in sym (ap env_asked_of same) ∙ p
+asked_after request (Repeat one) walk e p = let same : one ≡ walk = cc in sym (ap env_asked_of same) ∙ p
+asked_after request (Over reply) walk e p = absurd (cc)
+asked_after request (LookOver cause) walk e p = absurd (cc)
+
+-- No step of a call changes what it was asked to do.
+pub env_asked_stays : (walk next : EnvWalk) (found : EnvFound) → env_walk_after (env_got_of walk found) ≡ Some next → env_asked_of next ≡ env_asked_of walk
+env_asked_stays walk next found e = asked_after (env_asked_of walk) (env_got_of walk found) next e (asks_on walk found)
+
+-- ---- a call begins, and others go on
+
+-- A call has done nothing as it begins.
+pub begins_course : (events : List EnvEvent) (notes : ℕ → NoteStanding) (seat : ℕ) (walk : EnvWalk) → IsFirstAsk notes walk → EnvSoFar events seat (env_course_at events) walk
+begins_course events notes seat walk first = record { since = begins_itself events; done = nothing walk first } where
+  nothing : (walk : EnvWalk) → IsFirstAsk notes walk → EnvHasDone events seat (env_course_at events) walk
+  nothing (NextLoad parent deadline) p = refl
+  nothing (TakeNumber parent deadline) p = refl
+  nothing (MakeNote note parent deadline) p = absurd p
+  nothing (Notifying note) p = refl
+  nothing (Advancing moment) p = refl
+  nothing (ClockLoad chain) p = refl
+  nothing (NoteLoad chain clock note) p = absurd p
+  nothing (ExpiryLoad asked note least) p = refl
+
+-- what a history begins with, it begins with when it has grown
+begins_on : (events more front : List EnvEvent) → BeginsWith events front → BeginsWith (events ++ more) front
+begins_on events more front begins = begins_through (events ++ more) events front (more, refl) begins
+
+-- where a chain stands at a note doesn't depend on what happens later
+stands_on : (point now later : List EnvEvent) (chain : Chain) (clock note : ℕ) → ChainFits point now chain (Go (NoteLoad chain clock note)) → ChainFits point later chain (Go (NoteLoad chain clock note))
+stands_on point now later (ForLook limits) clock note fits = fits
+stands_on point now later (ForIsNotified asked) clock note fits = fits
+stands_on point now later (ForNoteWait asked deadline) clock note fits = fits
+
+-- what a call has done at its place doesn't depend on what happens later
+done_on : (events more : List EnvEvent) (seat : ℕ) (course : EnvCourse) (walk : EnvWalk) → EnvHasDone events seat course walk → EnvHasDone (events ++ more) seat course walk
+done_on events more seat course (NextLoad parent deadline) done = done
+done_on events more seat course (TakeNumber parent deadline) done = done
+done_on events more seat course (MakeNote note parent deadline) done = done
+done_on events more seat course (Notifying note) done = done
+done_on events more seat course (Advancing moment) done = done
+done_on events more seat course (ClockLoad chain) done = done
+done_on events more seat course (NoteLoad chain clock note) done =
+    let so = done.1 in
+    (done.0, (so.0, (so.1.0, begins_on events more so.0 so.1.1), stands_on so.0 events (events ++ more) chain clock note so.2))
+done_on events more seat course (ExpiryLoad asked note least) done = done
+
+-- What others do leaves a call where it is.
+pub others_leave_course : (events more : List EnvEvent) (seat : ℕ) (course : EnvCourse) (walk : EnvWalk) → EnvSoFar events seat course walk → EnvSoFar (events ++ more) seat course walk
+others_leave_course events more seat course walk so_far = record { since = begins_on events more course.before so_far.since; done = done_on events more seat course walk so_far.done }
+
+-- ---- where a load leads a call that has done nothing yet
+
+module _ (now : List EnvEvent) (seat : ℕ) (course : EnvCourse) (since : BeginsWith now course.before) (none : course.events ≡ []) where
+  -- a call goes on to a place that is one of what it was asked, and that tells what it has done
+  goes_to : (request : EnvRequest) (walk : EnvWalk) → env_asked_of walk ≡ request → EnvHasDone now seat course walk → EnvGoes now seat request course (Go walk)
+  goes_to request walk asked done = record { asked = asked; so_far = record { since = since; done = done } }
+
+  -- with a number left it goes on to take one; else all 64 are taken
+  left_goes : (next : ℕ) (parent deadline : Option ℕ) (b : Bool) → nat_lt next 64 ≡ b → takes_in now ≡ min next 64 →
+      EnvGoes now seat (TheRequest.NewNote parent deadline) course (cond b (Go (TakeNumber parent deadline)) (Over NotesFull))
+  left_goes next parent deadline true low takes = goes_to (TheRequest.NewNote parent deadline) (TakeNumber parent deadline) refl none
+  left_goes next parent deadline false high takes = (none, (let most : 64 ≤ next = grind (arith, nat_tests) in omega (arith, most, takes)))
+
+  module _ (point : List EnvEvent) (between : IsBetween course.before point now) where
+    -- a chain that stops answers of all until now
+    stopped_goes : (chain : Chain) → ChainFits point now chain (stopped chain) → EnvGoes now seat (asked_by chain) course (stopped chain)
+    stopped_goes (ForLook limits) fits = (none, (now, (since, begins_itself now), fits))
+    stopped_goes (ForIsNotified note) fits = (none, (now, (since, begins_itself now), fits))
+    stopped_goes (ForNoteWait note deadline) fits = (none, (now, (since, begins_itself now), fits))
+
+    -- past the root a chain answers of the point at which it loaded the clock, or waits on for its note
+    passed_goes : (chain : Chain) (clock : ℕ) → ChainFits point now chain (passed chain clock) → EnvGoes now seat (asked_by chain) course (passed chain clock)
+    passed_goes (ForLook limits) clock fits =
+        either_way (λ next. ChainFits point now (ForLook limits) next → EnvGoes now seat (TheRequest.Look limits) course next) (is_due clock limits.deadline) (LookOver (Some Expired)) (LookOver None)
+        (λ due. (none, (point, between, due))) (λ early. (none, (point, between, early))) fits
+    passed_goes (ForIsNotified note) clock fits = (none, (point, between, fits))
+    passed_goes (ForNoteWait note deadline) clock fits =
+        either_way (λ next. ChainFits point now (ForNoteWait note deadline) next → EnvGoes now seat (TheRequest.NoteWait note deadline) course next) (is_due clock deadline) (Over (Is false)) (Repeat (ClockLoad (ForNoteWait note deadline)))
+        (λ due. (none, (point, between, due))) (λ early. goes_to (TheRequest.NoteWait note deadline) (ClockLoad (ForNoteWait note deadline)) refl none) fits
+
+    -- a chain goes on to what is above, or passes the root
+    up_goes : (chain : Chain) (clock : ℕ) (above : Option ℕ) → ChainFits point now chain (up_to chain clock above) → EnvGoes now seat (asked_by chain) course (up_to chain clock above)
+    up_goes chain clock None fits = passed_goes chain clock fits
+    up_goes chain clock (Some at) fits = goes_to (asked_by chain) (NoteLoad chain clock at) refl (none, (point, between, fits))
+
+    -- a chain stops at a note, or goes on
+    note_goes : (chain : Chain) (clock : ℕ) (b : Bool) (above : Option ℕ) → ChainFits point now chain (cond b (stopped chain) (up_to chain clock above)) →
+        EnvGoes now seat (asked_by chain) course (cond b (stopped chain) (up_to chain clock above))
+    note_goes chain clock b above = either_way (λ next. ChainFits point now chain next → EnvGoes now seat (asked_by chain) course next) b (stopped chain) (up_to chain clock above) (stopped_goes chain) (up_goes chain clock above)
+
+  -- an expiry goes on to what is above, or answers what is the expiry
+  lowered_goes : (asked : ℕ) (above least : Option ℕ) → ((answer : Option ℕ) → lowered_to asked above least ≡ Over (Expiry answer) → answer ≡ expiry_of now asked) →
+      EnvGoes now seat (TheRequest.Expiry asked) course (lowered_to asked above least)
+  lowered_goes asked None least answers = (none, answers least refl)
+  lowered_goes asked (Some note) least answers = goes_to (TheRequest.Expiry asked) (ExpiryLoad asked note least) refl none
+
+-- ---- the step
+
+-- a step by which nothing happens leaves the history and the course as they are
+goes_quiet : (events : List EnvEvent) (seat : ℕ) (request : EnvRequest) (course : EnvCourse) (next : EnvNext) → EnvGoes events seat request course next → EnvGoes (events ++ []) seat request (env_course_after [] course) next
+goes_quiet events seat request course next goes =
+    subst (λ (z : List EnvEvent × List EnvEvent). EnvGoes z.0 seat request (record { before = course.before; events = z.1 }) next) (λ i. (sym (append-nil events) i, sym (append-nil course.events) i)) goes
+
+module _ (events : List EnvEvent) (plain : EnvPlain) (askings : List (Option EnvWalk)) (seat : ℕ) (course : EnvCourse) (lawful : IsLawfulEnv events (record { plain = plain; askings = askings })) where
+  -- a number that was taken is to get its note; past the last there is none
+  taken_goes : (parent deadline : Option ℕ) (b : Bool) → nat_lt plain.next 64 ≡ b → EnvSoFar events seat course (TakeNumber parent deadline) →
+      EnvGoes (events ++ cond b (Take seat plain.next ∷ []) []) seat (TheRequest.NewNote parent deadline) (env_course_after (cond b (Take seat plain.next ∷ []) []) course) (cond b (Go (MakeNote plain.next parent deadline)) (Over NotesFull))
+  taken_goes parent deadline true low so_far = record {
+    asked = refl;
+    so_far = record { since = begins_on events (Take seat plain.next ∷ []) course.before so_far.since; done = ap (λ es. es ++ Take seat plain.next ∷ []) so_far.done };
+  }
+  taken_goes parent deadline false high so_far =
+      goes_quiet events seat (TheRequest.NewNote parent deadline) course (Over NotesFull) (left_goes events seat course so_far.since so_far.done plain.next parent deadline false high lawful.lawful.meets.takes)
+
+  -- each place, with what its step finds
+  takes_on : (walk : EnvWalk) → slice_get askings seat ≡ Some (Some walk) → EnvSoFar events seat course walk →
+      EnvGoes (events ++ (outcome seat (env_want_of walk) plain).events) seat (env_asked_of walk) (env_course_after (outcome seat (env_want_of walk) plain).events course) (env_got_of walk (outcome seat (env_want_of walk) plain).found)
+  takes_on (NextLoad parent deadline) walks so_far =
+      goes_quiet events seat (TheRequest.NewNote parent deadline) course _ (left_goes events seat course so_far.since so_far.done plain.next parent deadline (nat_lt plain.next 64) refl lawful.lawful.meets.takes)
+  takes_on (TakeNumber parent deadline) walks so_far = taken_goes parent deadline (nat_lt plain.next 64) refl so_far
+  takes_on (MakeNote note parent deadline) walks so_far = ap (λ es. es ++ New seat note parent deadline ∷ []) so_far.done
+  takes_on (Notifying note) walks so_far = ap (λ es. es ++ Notify seat note ∷ []) so_far.done
+  takes_on (Advancing moment) walks so_far = ap (λ es. es ++ Advance seat moment ∷ []) so_far.done
+  takes_on (ClockLoad chain) walks so_far =
+      goes_quiet events seat (asked_by chain) course _
+      (up_goes events seat course so_far.since so_far.done events (so_far.since, begins_itself events) chain plain.clock (chain_note chain) (chain_begins events (record { plain = plain; askings = askings }) seat chain lawful walks))
+  takes_on (NoteLoad chain clock at) walks so_far =
+      let so = so_far.done.1 in
+      goes_quiet events seat (asked_by chain) course _
+      (note_goes events seat course so_far.since so_far.done.0 so.0 so.1 chain clock (is_over clock (plain.notes at)) (plain.notes at).parent
+      (chain_answers so.0 events (record { plain = plain; askings = askings }) chain clock at (state_of (plain.notes at)) lawful so.1.1 so.2 refl))
+  takes_on (ExpiryLoad asked at least) walks so_far =
+      goes_quiet events seat (TheRequest.Expiry asked) course _
+      (lowered_goes events seat course so_far.since so_far.done asked (plain.notes at).parent (earlier least (plain.notes at).deadline)
+      (λ answer over. expiry_is events (record { plain = plain; askings = askings }) seat asked at least answer (state_of (plain.notes at)) lawful walks refl over))
+
+-- A step takes its call on, or its answer means what it says.
+pub step_takes_on : (events more : List EnvEvent) (old new : EnvState) (seat : ℕ) (found : EnvFound) (course : EnvCourse) (step : EnvStep old seat found new more) → IsLawfulEnv events old → EnvSoFar events seat course step.walk →
+    EnvGoes (events ++ more) seat (env_asked_of step.walk) (env_course_after more course) (env_got_of step.walk found)
+step_takes_on events more old new seat found course step lawful so_far =
+    let e = step.effect in
+    subst (λ (z : List EnvEvent × EnvFound). EnvGoes (events ++ z.0) seat (env_asked_of step.walk) (env_course_after z.0 course) (env_got_of step.walk z.1)) (λ i. (sym e.events_are i, sym e.found_is i))
+    (takes_on events old.plain old.askings seat course lawful step.walk step.walks so_far)

@@ -1,0 +1,114 @@
+-- What a chain of notes finds, and where it goes.
+use Rattle.std.proofs.Common.{◌≡◌, ℕ, zero, suc, ◌<◌, Bool, true, false, ◌||◌, cond, List, Option, None, Some, slice_get, refl, sym, ap, ◌∙◌, subst, arith}
+use Rattle.ns_model.specs.declared.environment.EnvEvent.{EnvEvent}
+use Rattle.ns_model.specs.Environments.{NoteStanding, env_after, is_over, is_due, notified_in, is_notified, expiry_of, earlier, IsMade}
+use Rattle.ns_model.proofs.Beginnings.{begins_itself}
+use Rattle.ns_model.proofs.Lines.{IsExpiryAt, expiry_goes_on}
+use Rattle.ns_model.proofs.Environments.{sound_after, notified_in-up, notified_in-root}
+use Rattle.ns_env.specs.declared.limits.Cause.TheVariants.{Expired}
+use Rattle.ns_env.specs.declared.note.NoteState.{NoteState}
+use Rattle.ns_env.specs.declared.act.EnvFound.TheVariants.{Note}
+use Rattle.ns_env.specs.declared.walk.Chain.{Chain}
+use Rattle.ns_env.specs.declared.walk.Chain.TheVariants.{ForLook, ForIsNotified, ForNoteWait}
+use Rattle.ns_env.specs.declared.walk.EnvWalk.TheVariants.{ClockLoad, NoteLoad, ExpiryLoad}
+use Rattle.ns_env.specs.declared.walk.EnvNext.{EnvNext}
+use Rattle.ns_env.specs.declared.walk.EnvNext.TheVariants.{Go, Repeat, Over, LookOver}
+use Rattle.ns_env.specs.declared.reply.EnvReply.TheVariants.{Is, Expiry}
+use Rattle.ns_env.specs.Asks.{EnvState, IsLawfulEnv, up_by, looked}
+use Rattle.ns_env.specs.Lawful.{Meets}
+use Rattle.ns_env.specs.Notes.{standing_of}
+use Rattle.ns_env.specs.Steps.{EnvPlain}
+use Rattle.ns_env.specs.Walks.{env_got_of, stopped, passed, up_to, lowered_to}
+
+-- ---- in one go
+
+by_stopped : (follow : ℕ → EnvNext) (chain : Chain) → up_by follow (stopped chain) ≡ stopped chain
+by_stopped follow (ForLook limits) = refl
+by_stopped follow (ForIsNotified note) = refl
+by_stopped follow (ForNoteWait note deadline) = refl
+
+by_cond : (follow : ℕ → EnvNext) (b : Bool) (one other : EnvNext) → up_by follow one ≡ one → up_by follow other ≡ other → up_by follow (cond b one other) ≡ cond b one other
+by_cond follow true one other p q = p
+by_cond follow false one other p q = q
+
+by_passed : (follow : ℕ → EnvNext) (chain : Chain) (clock : ℕ) → up_by follow (passed chain clock) ≡ passed chain clock
+by_passed follow (ForLook limits) clock = by_cond follow (is_due clock limits.deadline) (LookOver (Some Expired)) (LookOver None) refl refl
+by_passed follow (ForIsNotified note) clock = refl
+by_passed follow (ForNoteWait note deadline) clock = by_cond follow (is_due clock deadline) (Over (Is false)) (Repeat (ClockLoad (ForNoteWait note deadline))) refl refl
+
+-- one note of a chain: it stops here, or it is as the rest of it finds
+one_note : (follow : ℕ → EnvNext) (chain : Chain) (clock : ℕ) (b up all : Bool) (parent : Option ℕ) → all ≡ (b || up) →
+    up_by follow (up_to chain clock parent) ≡ cond up (stopped chain) (passed chain clock) → up_by follow (cond b (stopped chain) (up_to chain clock parent)) ≡ cond all (stopped chain) (passed chain clock)
+one_note follow chain clock true up all parent is rest = rw is (by_stopped follow chain)
+one_note follow chain clock false up all parent is rest = rw is rest
+
+module _ (h : List EnvEvent) (plain : EnvPlain) (m : Meets h plain) where
+  -- the notes and the clock are those of the history
+  pub note_is : (note : ℕ) → plain.notes note ≡ (env_after h).notes note
+  note_is note = ap (λ (notes : ℕ → NoteStanding). notes note) m.notes
+
+  over_is : (note : ℕ) → is_over plain.clock (plain.notes note) ≡ is_over (env_after h).clock ((env_after h).notes note)
+  over_is note = ap (λ (clock : ℕ). is_over clock (plain.notes note)) m.clock ∙ ap (is_over (env_after h).clock) (note_is note)
+
+  go_from : (most : ℕ) (chain : Chain) (note : ℕ) (parent : Option ℕ) → ((p : ℕ) → parent ≡ Some p → looked most plain chain p ≡ cond (notified_in (env_after h) p) (stopped chain) (passed chain plain.clock)) → (plain.notes note).parent ≡ parent →
+      up_by (looked most plain chain) (cond (is_over plain.clock (plain.notes note)) (stopped chain) (up_to chain plain.clock parent)) ≡ cond (notified_in (env_after h) note) (stopped chain) (passed chain plain.clock)
+  go_from most chain note None rest up =
+      one_note (looked most plain chain) chain plain.clock (is_over plain.clock (plain.notes note)) false (notified_in (env_after h) note) None
+      (notified_in-root (env_after h) note (ap (λ (s : NoteStanding). s.parent) (sym (note_is note)) ∙ up) ∙ ap (λ b. b || false) (sym (over_is note)))
+      (by_passed (looked most plain chain) chain plain.clock)
+  go_from most chain note (Some p) rest up =
+      one_note (looked most plain chain) chain plain.clock (is_over plain.clock (plain.notes note)) (notified_in (env_after h) p) (notified_in (env_after h) note) (Some p)
+      (notified_in-up (env_after h) note p (sound_after h m.legal) (ap (λ (s : NoteStanding). s.parent) (sym (note_is note)) ∙ up) ∙ ap (λ b. b || notified_in (env_after h) p) (sym (over_is note)))
+      (rest p refl)
+
+  in_one_go : (most : ℕ) (chain : Chain) (note : ℕ) → note < most → looked most plain chain note ≡ cond (notified_in (env_after h) note) (stopped chain) (passed chain plain.clock)
+  in_one_go zero chain note low = absurd (omega (arith, low))
+  in_one_go (suc most) chain note low =
+      go_from most chain note (plain.notes note).parent
+      (λ p e. let s = sound_after h m.legal in let below = (s.above note p (ap (λ (x : NoteStanding). x.parent) (sym (note_is note)) ∙ e)).0 in in_one_go most chain p (omega (arith, low, below))) refl
+
+  pub finds_notified : (most : ℕ) (chain : Chain) (note : ℕ) → note < most → looked most plain chain note ≡ cond (is_notified h note) (stopped chain) (passed chain plain.clock)
+  unfolding is_notified
+  finds_notified most chain note low = in_one_go most chain note low
+
+-- ---- the next note of a chain
+
+stopped_not : (chain chain' : Chain) (clock next : ℕ) → stopped chain ≡ Go (NoteLoad chain' clock next) → ⊥
+stopped_not (ForLook limits) chain' clock next e = absurd (cc)
+stopped_not (ForIsNotified note) chain' clock next e = absurd (cc)
+stopped_not (ForNoteWait note deadline) chain' clock next e = absurd (cc)
+
+either_not : (b : Bool) (one other next : EnvNext) → (one ≡ next → ⊥) → (other ≡ next → ⊥) → cond b one other ≡ next → ⊥
+either_not true one other next p q e = p e
+either_not false one other next p q e = q e
+
+passed_not : (chain chain' : Chain) (at clock next : ℕ) → passed chain at ≡ Go (NoteLoad chain' clock next) → ⊥
+passed_not (ForLook limits) chain' at clock next e = either_not (is_due at limits.deadline) (LookOver (Some Expired)) (LookOver None) (Go (NoteLoad chain' clock next)) (λ e. absurd (cc)) (λ e. absurd (cc)) e
+passed_not (ForIsNotified note) chain' at clock next e = absurd (cc)
+passed_not (ForNoteWait note deadline) chain' at clock next e = either_not (is_due at deadline) (Over (Is false)) (Repeat (ClockLoad (ForNoteWait note deadline))) (Go (NoteLoad chain' clock next)) (λ e. absurd (cc)) (λ e. absurd (cc)) e
+
+goes_up : (chain chain' : Chain) (clock clock' next : ℕ) (b : Bool) (parent : Option ℕ) → cond b (stopped chain) (up_to chain clock parent) ≡ Go (NoteLoad chain' clock' next) → parent ≡ Some next
+goes_up chain chain' clock clock' next true parent e = absurd (stopped_not chain chain' clock' next e)
+goes_up chain chain' clock clock' next false None e = absurd (passed_not chain chain' clock clock' next e)
+goes_up chain chain' clock clock' next false (Some p) e = cc
+
+pub chain_up : (h : List EnvEvent) (plain : EnvPlain) (chain chain' : Chain) (clock clock' at next : ℕ) (note : NoteState) → Meets h plain → standing_of note ≡ plain.notes at →
+    env_got_of (NoteLoad chain clock at) (Note note) ≡ Go (NoteLoad chain' clock' next) → (next < at) × IsMade h next
+chain_up h plain chain chain' clock clock' at next note m is e =
+    (sound_after h m.legal).above at next (ap (λ (s : NoteStanding). s.parent) (sym (is ∙ note_is h plain m at)) ∙ goes_up chain chain' clock clock' next (is_over clock (standing_of note)) note.parent e)
+
+-- ---- an expiry
+
+lowered_is : (asked : ℕ) (parent least answer : Option ℕ) → lowered_to asked parent least ≡ Over (Expiry answer) → (parent ≡ None) × (least ≡ answer)
+lowered_is asked None least answer e = (refl, cc)
+lowered_is asked (Some p) least answer e = absurd (cc)
+
+pub expiry_is : (h : List EnvEvent) (state : EnvState) (seat asked at : ℕ) (least answer : Option ℕ) (note : NoteState) → IsLawfulEnv h state → slice_get state.askings seat ≡ Some (Some (ExpiryLoad asked at least)) →
+    standing_of note ≡ state.plain.notes at → env_got_of (ExpiryLoad asked at least) (Note note) ≡ Over (Expiry answer) → answer ≡ expiry_of h asked
+expiry_is h state seat asked at least answer note lawful walks is e =
+    let p = lowered_is asked note.parent (earlier least note.deadline) answer e in
+    let meets = lawful.lawful.meets in
+    let same : standing_of note ≡ (env_after h).notes at = is ∙ note_is h state.plain meets at in
+    let fits = lawful.each seat (ExpiryLoad asked at least) walks in
+    let goes = subst (λ (s : NoteStanding). IsExpiryAt h asked (earlier least s.deadline) s.parent) (sym same) (expiry_goes_on h h asked at least meets.legal (begins_itself h) (fits.1, fits.2)) in
+    sym (subst (IsExpiryAt h asked (earlier least note.deadline)) p.0 goes ∙ p.1)

@@ -1,0 +1,69 @@
+-- The words of a table, one of them changed with what it is the word of.
+use Rattle.std.proofs.Common.{◌≡◌, ◌≢◌, ℕ, ◌+◌, ◌<◌, List, length, get_or, set, replicate, zero, suc, inl, inr, refl, sym, ◌∙◌, subst, arith, length-set, get_or-set_same, get_or-set_other}
+use Rattle.std.proofs.lemmas.Bool.{cases_eq}
+use Rattle.std.proofs.lemmas.List.{length-replicate}
+use Rattle.ns_model.specs.Environments.{NoteStanding, but_at, notified_note, made_note}
+use Rattle.ns_model.proofs.Environments.{but-there}
+use Rattle.ns_env.specs.declared.act.EnvAct.{EnvAct}
+use Rattle.ns_env.specs.declared.act.EnvAct.TheVariants.{LoadNext, TakeNext, StoreNote, NotifyNote, MoveClock, LoadClock, LoadNote}
+use Rattle.ns_env.specs.Notes.{state_of}
+use Rattle.ns_env.specs.Steps.{EnvPlain, fresh_plain, outcome}
+use Rattle.ns_note.specs.Law.{IsClockWord, IsNoteWord, AreWordsOf, word_at, IsWordAt}
+
+module _ (plain : EnvPlain) (words : List ℕ) (are : AreWordsOf plain words) where
+  clock_set : (clock word : ℕ) → IsClockWord word clock → AreWordsOf (record plain { clock = clock }) (set words 0 word)
+  clock_set clock word is = let width = are.width in record {
+    width = length-set words 0 word ∙ are.width;
+    clock = let within : 0 < length words = omega (arith, width) in rw get_or-set_same is;
+    next = let apart : 1 ≢ 0 = (λ same. omega (arith, same)) in get_or-set_other words 0 1 word 0 apart ∙ are.next;
+    notes = λ n below. let apart : n + 2 ≢ 0 = (λ same. omega (arith, same)) in rw get_or-set_other (are.notes n below);
+  }
+
+  next_set : (next word : ℕ) → word ≡ next → AreWordsOf (record plain { next = next }) (set words 1 word)
+  next_set next word is = let width = are.width in record {
+    width = length-set words 1 word ∙ are.width;
+    clock = let apart : 0 ≢ 1 = (λ same. omega (arith, same)) in subst (λ n. IsClockWord n plain.clock) (sym (get_or-set_other words 1 0 word 0 apart)) are.clock;
+    next = let within : 1 < length words = omega (arith, width) in rw get_or-set_same is;
+    notes = λ n below. let apart : n + 2 ≢ 1 = (λ same. omega (arith, same)) in rw get_or-set_other (are.notes n below);
+  }
+
+  note_set : (note word : ℕ) (notes : ℕ → NoteStanding) → note < 64 → ((n : ℕ) → n ≢ note → notes n ≡ plain.notes n) → IsNoteWord word (state_of (notes note)) → AreWordsOf (record plain { notes = notes }) (set words (note + 2) word)
+  note_set note word notes low others is = let width = are.width in record {
+    width = length-set words (note + 2) word ∙ are.width;
+    clock = let apart : 0 ≢ note + 2 = (λ same. omega (arith, same)) in rw get_or-set_other are.clock;
+    next = let apart : 1 ≢ note + 2 = (λ same. omega (arith, same)) in rw get_or-set_other are.next;
+    notes = λ n below. elim (cases_eq n note) [
+      | inl here ↦ let within : note + 2 < length words = omega (arith, width, low) in subst (λ (k : ℕ). IsNoteWord (get_or (set words (note + 2) word) (k + 2) 0) (state_of (notes k))) (sym here) (rw get_or-set_same is)
+      | inr ne ↦ let apart : n + 2 ≢ note + 2 = (λ same. ne (omega (arith, same))) in rw get_or-set_other (subst (λ (s : NoteStanding). IsNoteWord (get_or words (n + 2) 0) (state_of s)) (sym (others n ne)) (are.notes n below))
+    ];
+  }
+
+  -- a step is on the word of what it is on,
+  pub word_found : (act : EnvAct) → word_at act < 66 → IsWordAt act plain (get_or words (word_at act) 0)
+  word_found LoadNext low = are.next
+  word_found TakeNext low = are.next
+  word_found (StoreNote note parent deadline) low = are.notes note (omega (arith, low))
+  word_found (NotifyNote note) low = are.notes note (omega (arith, low))
+  word_found (MoveClock moment) low = are.clock
+  word_found LoadClock low = are.clock
+  word_found (LoadNote note) low = are.notes note (omega (arith, low))
+
+  -- and changes no other
+  pub word_set : (seat : ℕ) (act : EnvAct) (word : ℕ) → word_at act < 66 → IsWordAt act (outcome seat act plain).plain word → AreWordsOf (outcome seat act plain).plain (set words (word_at act) word)
+  word_set seat LoadNext word low is = next_set plain.next word is
+  word_set seat TakeNext word low is = next_set (plain.next + 1) word is
+  word_set seat (StoreNote note parent deadline) word low is = note_set note word (but_at note (made_note parent deadline) plain.notes) (omega (arith, low)) (λ n ne. but-there note n (made_note parent deadline) plain.notes ne) is
+  word_set seat (NotifyNote note) word low is = note_set note word (but_at note (notified_note (plain.notes note)) plain.notes) (omega (arith, low)) (λ n ne. but-there note n (notified_note (plain.notes note)) plain.notes ne) is
+  word_set seat (MoveClock moment) word low is = clock_set (outcome seat (MoveClock moment) plain).plain.clock word is
+  word_set seat LoadClock word low is = clock_set plain.clock word is
+  word_set seat (LoadNote note) word low is = note_set note word plain.notes (omega (arith, low)) (λ n ne. refl) is
+
+-- ---- the words of a new table
+
+get_zero : (k n : ℕ) → ◌≡◌ {A = ℕ} (get_or (replicate k 0) n 0) 0
+get_zero zero n = refl
+get_zero (suc k) zero = refl
+get_zero (suc k) (suc n) = get_zero k n
+
+pub zeros_are : (k : ℕ) → k ≡ 66 → AreWordsOf fresh_plain (replicate k 0)
+zeros_are k is = record { width = length-replicate k 0 ∙ is; clock = (get_zero k 0, omega arith); next = get_zero k 1; notes = λ n below. (get_zero k (n + 2), (tt, tt)) }

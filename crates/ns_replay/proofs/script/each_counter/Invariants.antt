@@ -1,0 +1,9 @@
+use Rattle.std.proofs.Common.{◌≡◌, map, drop}
+use Rattle.serde_json.specs.View.{view}
+use Rattle.ns_replay.specs.Faults.{each_from}
+use Rattle.ns_replay.specs.Script.{counter_at}
+use Rattle.ns_replay.proofs.Loop.{with_front}
+use Rattle.ns_replay.proofs.script.each_counter.Given as goal
+
+abbrev pub invariant-loop-number : goal.invariant-loop-number
+invariant-loop-number l = with_front (l.starts.items) (each_from counter_at l.number (map view (drop l.number l.values))) ≡ each_from counter_at 0 (map view l.values)

@@ -1,5 +1,0 @@
-use Rattle.ns_word.proofs.EnvLooks.{finds_notified}
-use Rattle.ns_word.proofs.env_law.a_chain_finds_the_notified.Goals as goal
-
-pub returns : goal.returns
-returns c = λ events plain chain most note meets made low. finds_notified events plain meets most chain note low

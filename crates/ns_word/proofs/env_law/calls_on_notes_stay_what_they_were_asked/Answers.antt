@@ -1,5 +1,0 @@
-use Rattle.ns_word.proofs.EnvCourses.{env_asked_stays}
-use Rattle.ns_word.proofs.env_law.calls_on_notes_stay_what_they_were_asked.Goals as goal
-
-pub returns : goal.returns
-returns c = λ walk next found e. env_asked_stays walk next found e

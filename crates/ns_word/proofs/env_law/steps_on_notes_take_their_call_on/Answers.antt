@@ -1,5 +1,0 @@
-use Rattle.ns_word.proofs.EnvCourses.{step_takes_on}
-use Rattle.ns_word.proofs.env_law.steps_on_notes_take_their_call_on.Goals as goal
-
-pub returns : goal.returns
-returns c = λ events more old new seat found course step lawful so_far. step_takes_on events more old new seat found course step lawful so_far

@@ -1,0 +1,481 @@
+-- A step of a call on counters and once cells keeps their law, and leaves each seat where it may stand.
+use Rattle.std.specs.Prelude.{nat_lt}
+use Rattle.std.specs.List.{list_all}
+use Rattle.std.proofs.Common.{◌≡◌, ◌≢◌, ℕ, zero, suc, ◌<◌, ◌≤◌, ◌%◌, ◌^◌, ℤ, Bool, true, false, cond, ◌&&◌, eqb, List, [], ◌∷◌, ◌++◌, Option, None, Some, take, slice_get, slice_set, slice_index, Result, Ok, Err, refl, ap, sym, ◌∙◌, subst, arith, inl, inr, append-nil}
+use Rattle.std.proofs.lemmas.Bool.{cases_eq, ltb-true}
+use Rattle.ns_model.specs.Environments.{NoteStanding, env_after}
+use Rattle.ns_model.specs.declared.environment.EnvEvent.{EnvEvent}
+use Rattle.ns_model.specs.Tallies.{Every}
+use Rattle.ns_counters.specs.declared.act.ObjectAct.{ObjectAct}
+use Rattle.ns_counters.specs.declared.act.ObjectAct.TheVariants.{LookCounter, LoadToAdd, ExchangeToAdd, MarkWait, LookOnce, BeginOnce, EndOnce}
+use Rattle.ns_counters.specs.declared.counter.CounterFault.{CounterFault}
+use Rattle.ns_counters.specs.declared.counter.CounterState.{CounterState}
+use Rattle.ns_counters.specs.declared.counter.CounterEvent.TheVariants.{Add}
+use Rattle.ns_counters.specs.declared.once.OnceEvent.TheVariants.{Began}
+use Rattle.ns_counters.specs.declared.object.ObjectEvent.{ObjectEvent}
+use Rattle.ns_counters.specs.declared.object.ObjectEvent.TheVariants as TheEvent
+use Rattle.ns_counters.specs.declared.object.ObjectView.{ObjectView}
+use Rattle.ns_counters.specs.declared.object.Place.{Place}
+use Rattle.ns_counters.specs.declared.object.Place.TheVariants.{Free, Running}
+use Rattle.ns_counters.specs.declared.object.Setup.{Setup}
+use Rattle.ns_counters.specs.declared.once.OnceState.TheVariants as TheOnce
+use Rattle.ns_counters.specs.declared.word.Stage.{Stage}
+use Rattle.ns_counters.specs.declared.word.Stage.TheVariants as TheStage
+use Rattle.ns_counters.specs.Counters.{most, judged}
+use Rattle.ns_counters.specs.Lawful.{IsLawful, ViewFits, PlaceFits}
+use Rattle.ns_counters.specs.Objects.{ObjectStanding, objects_after, object_who, objects_own}
+use Rattle.ns_counters.specs.Steps.{CanAct, Outcome, outcome, tried, word_at}
+use Rattle.ns_counters.specs.Words.{counter_word, counter_of, stage_of}
+use Rattle.ns_counters.proofs.Acts.{acted_lawful, acted_fits, others_fit}
+use Rattle.ns_counters.proofs.Keeps.{StepKeeps, step_keeps}
+use Rattle.ns_model.proofs.Beginnings.{begins_itself}
+use Rattle.ns_env.specs.declared.act.EnvAct.TheVariants.{LoadClock, LoadNote}
+use Rattle.ns_env.specs.declared.act.EnvFound.{EnvFound}
+use Rattle.ns_env.specs.declared.act.EnvFound.TheVariants.{NextNumber, Taken, Stored, Clock, Note}
+use Rattle.ns_env.specs.declared.note.NoteState.{NoteState}
+use Rattle.ns_env.specs.declared.walk.Chain.TheVariants.{ForIsNotified}
+use Rattle.ns_env.specs.declared.walk.EnvNext.{EnvNext}
+use Rattle.ns_env.specs.declared.walk.EnvNext.TheVariants as TheEnv
+use Rattle.ns_env.specs.declared.walk.EnvWalk.{EnvWalk}
+use Rattle.ns_env.specs.declared.walk.EnvWalk.TheVariants.{NextLoad, TakeNumber, MakeNote, Notifying, Advancing, ClockLoad, NoteLoad, ExpiryLoad}
+use Rattle.ns_env.specs.declared.reply.EnvReply.TheVariants.{Is}
+use Rattle.ns_world.specs.declared.reply.Reply.TheVariants.{Number}
+use Rattle.ns_env.specs.Steps.{EnvPlain}
+use Rattle.ns_env.specs.Asks.{EnvEffect, EnvActFits}
+use Rattle.ns_env.specs.Lawful.{Meets}
+use Rattle.ns_env.specs.Notes.{standing_of, state_of}
+use Rattle.ns_env.specs.Walks.{env_got_of}
+use Rattle.ns_env.proofs.Looks.{chain_up}
+use Rattle.ns_world.specs.declared.items.Item.{Item}
+use Rattle.ns_world.specs.declared.items.Item.TheVariants.{OnNote, OnCounter}
+use Rattle.ns_world.specs.declared.items.Items.{Items}
+use Rattle.ns_world.specs.declared.object_walk.ObjectNext.{ObjectNext}
+use Rattle.ns_world.specs.declared.object_walk.ObjectNext.TheVariants.{Go, Repeat, Over}
+use Rattle.ns_world.specs.declared.object_walk.ObjectWalk.{ObjectWalk}
+use Rattle.ns_world.specs.declared.object_walk.ObjectWalk.TheVariants.{AddLoad, AddExchange, ValueLoad, WaitMark, WaitLoad, WaitClock, OnceLoad, OnceBegin, OnceEnd, DoneLoad, InRound}
+use Rattle.ns_world.specs.declared.objects.Objects.{Objects}
+use Rattle.ns_world.specs.declared.round.ObjectFound.{ObjectFound}
+use Rattle.ns_world.specs.declared.round.ObjectFound.TheVariants.{Word, Env}
+use Rattle.ns_world.specs.declared.round.ObjectWant.{ObjectWant}
+use Rattle.ns_world.specs.declared.round.ObjectWant.TheVariants.{OnWord, OnEnv}
+use Rattle.ns_world.specs.declared.round.Round.{Round}
+use Rattle.ns_world.specs.declared.round.RoundNext.{RoundNext}
+use Rattle.ns_world.specs.declared.round.RoundNext.TheVariants.{RoundGo, RoundOver}
+use Rattle.ns_world.specs.declared.round.RoundPlace.{RoundPlace}
+use Rattle.ns_world.specs.declared.round.RoundPlace.TheVariants.{FirstClock, AtNote, AtCounter}
+use Rattle.ns_world.specs.Items.{items_of, item_at}
+use Rattle.ns_world.specs.Objects.{AreLedTo, AreThere, ObjectEffect, RoundFits, WalkFits, is_there, walk_in, word_left}
+use Rattle.ns_world.specs.ObjectWalks.{by_answer, by_begun, by_deadline, by_judging, by_round, by_stage, object_after, object_got, object_place, object_want, waited_next}
+use Rattle.ns_world.specs.Rounds.{by_chain, chain_from, from_place, round_got, to_item}
+use Rattle.ns_world.proofs.Walks.{put_here, put_there, stands_within}
+
+-- ---- objects of a list
+
+-- each object of a list that passes a test passes it
+pub first_of_all : (b c : Bool) → (b && c) ≡ true → b ≡ true
+first_of_all true c e = refl
+first_of_all false c e = absurd (cc)
+
+pub rest_of_all : (b c : Bool) → (b && c) ≡ true → c ≡ true
+rest_of_all true c e = e
+rest_of_all false c e = absurd (cc)
+
+passes : {A : Type 0} (p : A → Bool) (n at : ℕ) (xs : List A) (x : A) → list_all p (take n xs) ≡ true → at < n → slice_get xs at ≡ Some x → p x ≡ true
+passes p zero at xs x all low is = absurd (omega (arith, low))
+passes p (suc n) at [] x all low is = absurd (cc)
+passes p (suc n) zero (y ∷ xs) x all low is = let same : y ≡ x = cc in subst (λ z. p z ≡ true) same (first_of_all (p y) (list_all p (take n xs)) all)
+passes p (suc n) (suc at) (y ∷ xs) x all low is = passes p n at xs x (rest_of_all (p y) (list_all p (take n xs)) all) (omega (arith, low)) is
+
+-- an object of a list is one of those before its end
+at_place : {A : Type 0} (b : Bool) (at n : ℕ) (got : Option A) (x : A) → nat_lt at n ≡ b → cond b got None ≡ Some x → (at < n) × (got ≡ Some x)
+at_place true at n got x low is = (ltb-true at n low, is)
+at_place false at n got x low is = absurd (cc)
+
+passes_at : {A : Type 0} (p : A → Bool) (n at : ℕ) (xs : List A) (x : A) → list_all p (take n xs) ≡ true → cond (nat_lt at n) (slice_get xs at) None ≡ Some x → p x ≡ true
+passes_at p n at xs x all is = let there = at_place (nat_lt at n) at n (slice_get xs at) x refl is in passes p n at xs x all there.0 there.1
+
+-- an object is one of the 16 places
+pub in_list : (items : Items) (at : ℕ) (item : Item) → items.count ≤ 16 → item_at items at ≡ Some item → at < 16
+in_list items at item few is = let low = (at_place (nat_lt at items.count) at items.count (slice_get items.all at) item refl is).0 in omega (arith, few, low)
+
+module _ (setup : Setup) (notes : ℕ → NoteStanding) where
+  -- there is each object of a list of which there is each
+  pub note_there : (items : Items) (at note : ℕ) → AreThere setup notes items → item_at items at ≡ Some (OnNote note) → (notes note).made ≡ true
+  note_there items at note there is = passes_at (is_there setup notes) items.count at items.all (OnNote note) there.1 is
+
+  pub counter_there : (items : Items) (at counter : ℕ) → AreThere setup notes items → item_at items at ≡ Some (OnCounter counter) → counter < setup.counters
+  counter_there items at counter there is = ltb-true counter setup.counters (passes_at (is_there setup notes) items.count at items.all (OnCounter counter) there.1 is)
+
+  -- ---- where a round stands
+
+  abbrev RoundStands : Round → RoundNext → Type 0
+  RoundStands round (RoundGo place) = RoundFits notes round place
+  RoundStands round (RoundOver shown) = Unit {0}
+
+  from_stands : (round : Round) (clock at : ℕ) → AreThere setup notes round.items → RoundStands round (from_place round clock at)
+  from_stands round clock at there = by (item_at round.items at) refl where
+    ends : (b : Bool) → RoundStands round (cond b (RoundOver (Some round.items.count)) (RoundOver None))
+    ends true = tt
+    ends false = tt
+
+    by : (item : Option Item) → item_at round.items at ≡ item → RoundStands round (to_item round clock at item)
+    by (Some (OnNote note)) is = (is, note_there round.items at note there is)
+    by (Some (OnCounter counter)) is = is
+    by None is = ends _
+
+-- ---- where a step leads
+
+-- where a seat may stand after a step, if it goes on
+abbrev pub NextFits : Setup → ObjectStanding → (ℕ → NoteStanding) → ℕ → ObjectNext → Type 0
+NextFits setup now notes seat (Go walk) = WalkFits setup now notes seat walk
+NextFits setup now notes seat (Repeat walk) = WalkFits setup now notes seat walk
+NextFits setup now notes seat (Over reply) = Unit {0}
+
+module _ (setup : Setup) (now : ObjectStanding) (notes : ℕ → NoteStanding) (seat : ℕ) where
+  -- a change that was judged by a word, whose counter has room in it
+  judged_stands : (counter : ℕ) (delta : ℤ) (word : ℕ) → counter < setup.counters → (counter_of word).value ≤ most → NextFits setup now notes seat (by_judging counter delta word)
+  judged_stands counter delta word there few = by (judged (counter_of word) delta) refl where
+    by : (r : Result ℕ CounterFault) → judged (counter_of word) delta ≡ r → NextFits setup now notes seat (by_answer counter delta (counter_of word) r)
+    by (Ok value) is = (there, is, few)
+    by (Err fault) is = tt
+
+  waited_stands : (counter : ℕ) (deadline : Option ℕ) (value : ℕ) → counter < setup.counters → NextFits setup now notes seat (waited_next counter deadline value)
+  waited_stands counter deadline value there = by (eqb value 0) where
+    late : (deadline : Option ℕ) → NextFits setup now notes seat (by_deadline counter deadline value)
+    late None = there
+    late (Some moment) = there
+
+    by : (b : Bool) → NextFits setup now notes seat (cond b (Over (Number 0)) (by_deadline counter deadline value))
+    by true = tt
+    by false = late deadline
+
+  stage_stands : (once : ℕ) (stage : Stage) → once < setup.cells → NextFits setup now notes seat (by_stage once stage)
+  stage_stands once TheStage.Unused there = there
+  stage_stands once TheStage.Running there = there
+  stage_stands once TheStage.Done there = tt
+
+  begun_stands : (once : ℕ) (stage : Stage) → once < setup.cells → (stage ≡ TheStage.Unused → now.onces once ≡ TheOnce.Running seat) → NextFits setup now notes seat (by_begun once stage)
+  begun_stands once TheStage.Unused there runs = (there, runs refl)
+  begun_stands once TheStage.Running there runs = there
+  begun_stands once TheStage.Done there runs = tt
+
+  round_stands : (round : Round) (next : RoundNext) → AreThere setup notes round.items → RoundStands setup notes round next → NextFits setup now notes seat (by_round round next)
+  round_stands round (RoundGo place) there fits = (there, fits)
+  round_stands round (RoundOver None) there fits = (there, tt)
+  round_stands round (RoundOver (Some at)) there fits = tt
+
+-- a word is read as one of a counter that has room
+value_few : (word : ℕ) → (counter_of word).value ≤ most
+value_few word = let low : word % 2 ^ 32 < 2 ^ 32 = omega arith in omega (arith, low)
+
+-- where a step on a word leads, in what it leaves
+module _ (setup : Setup) (now : ObjectStanding) (notes : ℕ → NoteStanding) (seat word : ℕ) where
+  pub word_leads : (walk : ObjectWalk) (was : ObjectStanding) → WalkFits setup was notes seat walk → PlaceFits setup now seat (object_place (object_after (object_got walk (Word word)))) → NextFits setup now notes seat (object_got walk (Word word))
+  word_leads (AddLoad counter delta) was fits placed = judged_stands setup now notes seat counter delta word fits (value_few word)
+  word_leads (AddExchange counter delta seen value) was fits placed = by (eqb word (counter_word seen)) where
+    by : (b : Bool) → NextFits setup now notes seat (cond b (Over (Number value)) (by_judging counter delta word))
+    by true = tt
+    by false = judged_stands setup now notes seat counter delta word fits.0 (value_few word)
+  word_leads (ValueLoad counter) was fits placed = tt
+  word_leads (WaitMark counter deadline) was fits placed = waited_stands setup now notes seat counter deadline (counter_of word).value fits
+  word_leads (WaitLoad counter deadline) was fits placed = waited_stands setup now notes seat counter deadline (counter_of word).value fits
+  word_leads (WaitClock counter moment value) was fits placed = fits
+  word_leads (OnceLoad once) was fits placed = stage_stands setup now notes seat once (stage_of word) fits
+  word_leads (OnceBegin once) was fits placed = by (stage_of word) placed where
+    by : (stage : Stage) → PlaceFits setup now seat (object_place (object_after (by_begun once stage))) → NextFits setup now notes seat (by_begun once stage)
+    by TheStage.Unused p = p
+    by TheStage.Running p = fits
+    by TheStage.Done p = tt
+  word_leads (OnceEnd once) was fits placed = tt
+  word_leads (DoneLoad once) was fits placed = tt
+  word_leads (InRound round FirstClock) was fits placed = (fits.0, tt)
+  word_leads (InRound round (AtNote at clock asked note)) was fits placed = (fits.0, fits.1)
+  word_leads (InRound round (AtCounter at clock counter)) was fits placed = round_stands setup now notes seat round (cond (eqb (counter_of word).value 0) (RoundOver (Some at)) (from_place round clock (suc at))) fits.0 (by (eqb (counter_of word).value 0)) where
+    by : (b : Bool) → RoundStands setup notes round (cond b (RoundOver (Some at)) (from_place round clock (suc at)))
+    by true = tt
+    by false = from_stands setup notes round clock (suc at) fits.0
+
+-- what a load finds
+pub note_found : (state : NoteState) (note : NoteStanding) → Note state ≡ Note (state_of note) → standing_of state ≡ note
+note_found state note is = let same : state ≡ state_of note = cc in ap standing_of same
+
+pub clock_found : (clock now : ℕ) → Clock clock ≡ Clock now → clock ≡ now
+clock_found clock now is = cc
+
+-- where a load of the clock or of a note leads
+module _ (setup : Setup) (now : ObjectStanding) (env : EnvPlain) (happened : List EnvEvent) (meets : Meets happened env) (seat : ℕ) where
+  note_leads : (round : Round) (at clock asked note : ℕ) (next : EnvNext) (state : NoteState) → AreThere setup env.notes round.items → standing_of state ≡ env.notes note → env_got_of (chain_from asked clock note) (Note state) ≡ next → (item_at round.items at ≡ Some (OnNote asked)) → RoundStands setup env.notes round (by_chain round at clock asked next)
+  note_leads round at clock asked note (TheEnv.Go (NoteLoad chain moment above)) state there same is here =
+      let up = chain_up happened env (ForIsNotified asked) chain clock moment note above state meets same is in
+      (here, ap (λ (notes : ℕ → NoteStanding). (notes above).made) meets.notes ∙ up.1)
+  note_leads round at clock asked note (TheEnv.Over (Is true)) state there same is here = tt
+  note_leads round at clock asked note next state there same is here = from_stands setup env.notes round clock (suc at) there
+
+  pub env_leads : (walk : ObjectWalk) (found : EnvFound) (words' : List ℕ) (events : List ObjectEvent) (words : List ℕ) → WalkFits setup now env.notes seat walk → ObjectEffect seat (object_place (Some walk)) (object_want walk) words env (Env found) words' events → NextFits setup now env.notes seat (object_got walk (Env found))
+  env_leads (AddLoad counter delta) found words' events words fits effect = absurd effect
+  env_leads (AddExchange counter delta seen value) found words' events words fits effect = absurd effect
+  env_leads (ValueLoad counter) found words' events words fits effect = absurd effect
+  env_leads (WaitMark counter deadline) found words' events words fits effect = absurd effect
+  env_leads (WaitLoad counter deadline) found words' events words fits effect = absurd effect
+  env_leads (WaitClock counter moment value) (Clock clock) words' events words fits effect = by (nat_lt clock moment) where
+    by : (b : Bool) → NextFits setup now env.notes seat (cond b (Repeat (WaitLoad counter (Some moment))) (Over (Number value)))
+    by true = fits
+    by false = tt
+  env_leads (WaitClock counter moment value) found words' events words fits effect = let no = effect.0.found_is in absurd (cc)
+  env_leads (OnceLoad once) found words' events words fits effect = absurd effect
+  env_leads (OnceBegin once) found words' events words fits effect = absurd effect
+  env_leads (OnceEnd once) found words' events words fits effect = absurd effect
+  env_leads (DoneLoad once) found words' events words fits effect = absurd effect
+  env_leads (InRound round FirstClock) (Clock clock) words' events words fits effect = round_stands setup now env.notes seat round (from_place round clock 0) fits.0 (from_stands setup env.notes round clock 0 fits.0)
+  env_leads (InRound round FirstClock) found words' events words fits effect = let no = effect.0.found_is in absurd (cc)
+  env_leads (InRound round (AtNote at clock asked note)) (Note state) words' events words fits effect =
+      round_stands setup now env.notes seat round (by_chain round at clock asked (env_got_of (chain_from asked clock note) (Note state))) fits.0 (note_leads round at clock asked note (env_got_of (chain_from asked clock note) (Note state)) state fits.0 (note_found state (env.notes note) effect.0.found_is) refl fits.1.0)
+  env_leads (InRound round (AtNote at clock asked note)) found words' events words fits effect = let no = effect.0.found_is in absurd (cc)
+  env_leads (InRound round (AtCounter at clock counter)) found words' events words fits effect = absurd effect
+
+-- ---- the step
+
+-- what a seat at this place of a call knows of what has happened
+abbrev pub view_at : Setup → List ObjectEvent → ℕ → Option ObjectWalk → ObjectView
+view_at setup history seat walk = record { setup = setup; seat = seat; place = object_place walk; seen = history; mine = objects_own history seat }
+
+placed_by : (setup : Setup) (now : ObjectStanding) (notes : ℕ → NoteStanding) (seat : ℕ) (walk : ObjectWalk) → WalkFits setup now notes seat walk → PlaceFits setup now seat (object_place (Some walk))
+placed_by setup now notes seat (AddExchange counter delta seen value) fits = fits.0
+placed_by setup now notes seat (OnceEnd once) fits = fits
+placed_by setup now notes seat (AddLoad counter delta) fits = tt
+placed_by setup now notes seat (ValueLoad counter) fits = tt
+placed_by setup now notes seat (WaitMark counter deadline) fits = tt
+placed_by setup now notes seat (WaitLoad counter deadline) fits = tt
+placed_by setup now notes seat (WaitClock counter moment value) fits = tt
+placed_by setup now notes seat (OnceLoad once) fits = tt
+placed_by setup now notes seat (OnceBegin once) fits = tt
+placed_by setup now notes seat (DoneLoad once) fits = tt
+placed_by setup now notes seat (InRound round place) fits = tt
+
+-- who stood somewhere stands there where what binds it still holds
+pub stays_put : (setup : Setup) (now later : ObjectStanding) (notes : ℕ → NoteStanding) (seat : ℕ) (walk : ObjectWalk) → WalkFits setup now notes seat walk → PlaceFits setup later seat (object_place (Some walk)) → WalkFits setup later notes seat walk
+stays_put setup now later notes seat (OnceEnd once) fits placed = placed
+stays_put setup now later notes seat (AddExchange counter delta seen value) fits placed = fits
+stays_put setup now later notes seat (AddLoad counter delta) fits placed = fits
+stays_put setup now later notes seat (ValueLoad counter) fits placed = fits
+stays_put setup now later notes seat (WaitMark counter deadline) fits placed = fits
+stays_put setup now later notes seat (WaitLoad counter deadline) fits placed = fits
+stays_put setup now later notes seat (WaitClock counter moment value) fits placed = fits
+stays_put setup now later notes seat (OnceLoad once) fits placed = fits
+stays_put setup now later notes seat (OnceBegin once) fits placed = fits
+stays_put setup now later notes seat (DoneLoad once) fits placed = fits
+stays_put setup now later notes seat (InRound round place) fits placed = fits
+
+-- the step that a place wants is one that it allows
+abbrev Allows : Setup → Place → ObjectWant → Type 0
+Allows setup place (OnWord act) = CanAct setup place act
+Allows setup place (OnEnv act) = Unit {0}
+
+allows : (setup : Setup) (now : ObjectStanding) (notes : ℕ → NoteStanding) (seat : ℕ) (walk : ObjectWalk) → WalkFits setup now notes seat walk → Allows setup (object_place (Some walk)) (object_want walk)
+allows setup now notes seat (AddLoad counter delta) fits = (fits, refl)
+allows setup now notes seat (AddExchange counter delta seen value) fits = (fits.0, refl, fits.1, fits.2)
+allows setup now notes seat (ValueLoad counter) fits = fits
+allows setup now notes seat (WaitMark counter deadline) fits = (fits, refl)
+allows setup now notes seat (WaitLoad counter deadline) fits = fits
+allows setup now notes seat (WaitClock counter moment value) fits = tt
+allows setup now notes seat (OnceLoad once) fits = fits
+allows setup now notes seat (OnceBegin once) fits = (fits, refl)
+allows setup now notes seat (OnceEnd once) fits = refl
+allows setup now notes seat (DoneLoad once) fits = fits
+allows setup now notes seat (InRound round FirstClock) fits = tt
+allows setup now notes seat (InRound round (AtNote at clock asked note)) fits = tt
+allows setup now notes seat (InRound round (AtCounter at clock counter)) fits = counter_there setup notes round.items at counter fits.0 fits.1
+
+abbrev Below : ObjectWant → Type 0
+Below (OnWord act) = word_at act < 32
+Below (OnEnv act) = Unit {0}
+
+-- the word that it is on is one of 32
+pub want_below : (setup : Setup) (now : ObjectStanding) (notes : ℕ → NoteStanding) (seat : ℕ) (walk : ObjectWalk) (act : ObjectAct) → setup.counters ≤ 16 → setup.cells ≤ 16 → WalkFits setup now notes seat walk → object_want walk ≡ OnWord act → word_at act < 32
+want_below setup now notes seat walk act counters cells fits is = subst Below is (below walk fits) where
+  below : (walk : ObjectWalk) → WalkFits setup now notes seat walk → Below (object_want walk)
+  below (AddLoad counter delta) fits = omega (arith, counters, fits)
+  below (AddExchange counter delta seen value) fits = let low = fits.0 in omega (arith, counters, low)
+  below (ValueLoad counter) fits = omega (arith, counters, fits)
+  below (WaitMark counter deadline) fits = omega (arith, counters, fits)
+  below (WaitLoad counter deadline) fits = omega (arith, counters, fits)
+  below (WaitClock counter moment value) fits = tt
+  below (OnceLoad once) fits = omega (arith, cells, fits)
+  below (OnceBegin once) fits = omega (arith, cells, fits)
+  below (OnceEnd once) fits = let low = fits.0 in omega (arith, cells, low)
+  below (DoneLoad once) fits = omega (arith, cells, fits)
+  below (InRound round FirstClock) fits = tt
+  below (InRound round (AtNote at clock asked note)) fits = tt
+  below (InRound round (AtCounter at clock counter)) fits = let low = counter_there setup notes round.items at counter fits.0 fits.1 in omega (arith, counters, low)
+
+-- where the step leads binds its seat just to what is left of its call
+abbrev Leads : ℕ → ObjectWalk → ℕ → ObjectWant → Type 0
+Leads seat walk word (OnWord act) = object_place (object_after (object_got walk (Word word))) ≡ (outcome seat act (object_place (Some walk)) word).place
+Leads seat walk word (OnEnv act) = Unit {0}
+
+judged_leads : (seat counter : ℕ) (delta : ℤ) (word : ℕ) (seen : CounterState) (r : Result ℕ CounterFault) → object_place (object_after (by_answer counter delta seen r)) ≡ (tried seat counter delta word r).place
+judged_leads seat counter delta word seen (Ok value) = refl
+judged_leads seat counter delta word seen (Err fault) = refl
+
+tried_left : (seat counter : ℕ) (delta : ℤ) (word : ℕ) (r : Result ℕ CounterFault) → (tried seat counter delta word r).word ≡ word
+tried_left seat counter delta word (Ok value) = refl
+tried_left seat counter delta word (Err fault) = refl
+
+waited_leads : (counter : ℕ) (deadline : Option ℕ) (value : ℕ) → object_place (object_after (waited_next counter deadline value)) ≡ Free
+waited_leads counter deadline value = by (eqb value 0) deadline where
+  by : (b : Bool) (deadline : Option ℕ) → object_place (object_after (cond b (Over (Number 0)) (by_deadline counter deadline value))) ≡ Free
+  by true deadline = refl
+  by false None = refl
+  by false (Some moment) = refl
+
+stage_leads : (once : ℕ) (stage : Stage) → object_place (object_after (by_stage once stage)) ≡ Free
+stage_leads once TheStage.Unused = refl
+stage_leads once TheStage.Running = refl
+stage_leads once TheStage.Done = refl
+
+round_leads : (round : Round) (next : RoundNext) → object_place (object_after (by_round round next)) ≡ Free
+round_leads round (RoundGo place) = refl
+round_leads round (RoundOver None) = refl
+round_leads round (RoundOver (Some at)) = refl
+
+leads : (seat : ℕ) (walk : ObjectWalk) (word : ℕ) → Leads seat walk word (object_want walk)
+leads seat (AddLoad counter delta) word = judged_leads seat counter delta word (counter_of word) (judged (counter_of word) delta)
+leads seat (AddExchange counter delta seen value) word = by (eqb word (counter_word seen)) where
+  by : (b : Bool) → object_place (object_after (cond b (Over (Number value)) (by_judging counter delta word))) ≡ (cond {A = Outcome} b (record { word = counter_word (record { value = value; waited = seen.waited }); events = TheEvent.OnCounter counter (Add seat delta (Ok value)) ∷ []; place = Free }) (tried seat counter delta word (judged (counter_of word) delta))).place
+  by true = refl
+  by false = judged_leads seat counter delta word (counter_of word) (judged (counter_of word) delta)
+leads seat (ValueLoad counter) word = refl
+leads seat (WaitMark counter deadline) word = waited_leads counter deadline (counter_of word).value
+leads seat (WaitLoad counter deadline) word = waited_leads counter deadline (counter_of word).value
+leads seat (WaitClock counter moment value) word = tt
+leads seat (OnceLoad once) word = stage_leads once (stage_of word)
+leads seat (OnceBegin once) word = by (eqb word 0) (eqb word 1) where
+  by : (b c : Bool) → object_place (object_after (by_begun once (cond b TheStage.Unused (cond c TheStage.Running TheStage.Done)))) ≡ (cond {A = Outcome} b (record { word = 1; events = TheEvent.OnOnce once (Began seat) ∷ []; place = Running once }) (record { word = word; events = []; place = Free })).place
+  by true c = refl
+  by false true = refl
+  by false false = refl
+leads seat (OnceEnd once) word = refl
+leads seat (DoneLoad once) word = refl
+leads seat (InRound round FirstClock) word = tt
+leads seat (InRound round (AtNote at clock asked note)) word = tt
+leads seat (InRound round (AtCounter at clock counter)) word = round_leads round (round_got round (AtCounter at clock counter) (Word word))
+
+-- what a step leaves of its word, whoever makes it
+pub left_is : (seat : ℕ) (act : ObjectAct) (place : Place) (word : ℕ) → (outcome seat act place word).word ≡ word_left act word
+left_is seat (LookCounter counter) place word = refl
+left_is seat (LoadToAdd counter delta) place word = tried_left seat counter delta word (judged (counter_of word) delta)
+left_is seat (ExchangeToAdd counter delta seen value) place word = by (eqb word (counter_word seen)) where
+  by : (b : Bool) → (cond {A = Outcome} b (record { word = counter_word (record { value = value; waited = seen.waited }); events = TheEvent.OnCounter counter (Add seat delta (Ok value)) ∷ []; place = Free }) (tried seat counter delta word (judged (counter_of word) delta))).word ≡ cond b (counter_word (record { value = value; waited = seen.waited })) word
+  by true = refl
+  by false = tried_left seat counter delta word (judged (counter_of word) delta)
+left_is seat (MarkWait counter) place word = refl
+left_is seat (LookOnce once) place word = refl
+left_is seat (BeginOnce once) place word = by (eqb word 0) where
+  by : (b : Bool) → (cond {A = Outcome} b (record { word = 1; events = TheEvent.OnOnce once (Began seat) ∷ []; place = Running once }) (record { word = word; events = []; place = place })).word ≡ cond b 1 word
+  by true = refl
+  by false = refl
+left_is seat (EndOnce once) place word = refl
+
+-- where a seat stands that goes on
+goes_on : (setup : Setup) (now : ObjectStanding) (notes : ℕ → NoteStanding) (seat : ℕ) (next : ObjectNext) (walk : ObjectWalk) → NextFits setup now notes seat next → object_after next ≡ Some walk → WalkFits setup now notes seat walk
+goes_on setup now notes seat (Go place) walk fits is = let same : place ≡ walk = cc in subst (λ w. WalkFits setup now notes seat w) same fits
+goes_on setup now notes seat (Repeat place) walk fits is = let same : place ≡ walk = cc in subst (λ w. WalkFits setup now notes seat w) same fits
+goes_on setup now notes seat (Over reply) walk fits is = absurd (cc)
+
+module _ (objects : Objects) (env : EnvPlain) (happened : List EnvEvent) (meets : Meets happened env) (history : List ObjectEvent) (led : AreLedTo history objects env.notes) (seat : ℕ) (walk : ObjectWalk) (walks : walk_in objects.walks seat ≡ Some walk) where
+  abbrev setup : Setup
+  setup = objects.setup
+
+  abbrev standing : ObjectStanding
+  standing = objects_after setup history
+
+  fits : WalkFits setup standing env.notes seat walk
+  fits = led.each seat walk walks
+
+  abbrev view : ObjectView
+  view = view_at setup history seat (Some walk)
+
+  view_fits : ViewFits setup history view
+  view_fits = record { made = refl; below = led.within seat walk walks; seen = begins_itself history; mine = refl; mine_seen = refl; place = placed_by setup standing env.notes seat walk fits }
+
+  -- the objects after the step
+  abbrev after : List ℕ → ObjectNext → Objects
+  after words next = record { setup = setup; words = words; walks = slice_set objects.walks seat (object_after next) }
+
+  -- each seat stands where it may, after a step that leads its seat there and leaves others where they were
+  each_after : (later : ObjectStanding) (words : List ℕ) (next : ObjectNext) → NextFits setup later env.notes seat next →
+      ((other : ℕ) (w : ObjectWalk) → other ≢ seat → walk_in objects.walks other ≡ Some w → WalkFits setup later env.notes other w) →
+      (other : ℕ) (w : ObjectWalk) → walk_in (after words next).walks other ≡ Some w → WalkFits setup later env.notes other w
+  each_after later words next here there other w at = elim (cases_eq other seat) [
+    | inl e ↦
+        let is : object_after next ≡ Some w = sym (put_here objects.walks seat (object_after next) (stands_within objects.walks seat walk walks)) ∙ ap (λ n. walk_in (after words next).walks n) (sym e) ∙ at in
+        subst (λ n. WalkFits setup later env.notes n w) (sym e) (goes_on setup later env.notes seat next w here is)
+    | inr ne ↦ there other w ne (sym (put_there objects.walks seat (object_after next) other ne) ∙ at)
+  ]
+
+  within_after : (words : List ℕ) (next : ObjectNext) (other : ℕ) (w : ObjectWalk) → walk_in (after words next).walks other ≡ Some w → other < setup.seats
+  within_after words next other w at = elim (cases_eq other seat) [
+    | inl e ↦ subst (λ n. n < setup.seats) (sym e) (led.within seat walk walks)
+    | inr ne ↦ led.within other w (sym (put_there objects.walks seat (object_after next) other ne) ∙ at)
+  ]
+
+  -- a step on a word
+  module _ (act : ObjectAct) (wants : object_want walk ≡ OnWord act) where
+    abbrev word : ℕ
+    word = slice_index objects.words (word_at act)
+
+    can : CanAct setup view.place act
+    can = subst (Allows setup view.place) wants (allows setup standing env.notes seat walk fits)
+
+    abbrev made_by : List ObjectEvent
+    made_by = (outcome seat act view.place word).events
+
+    abbrev next : ObjectNext
+    next = object_got walk (Word word)
+
+    abbrev later : ObjectStanding
+    later = objects_after setup (history ++ made_by)
+
+    placed : PlaceFits setup later seat (object_place (object_after next))
+    placed = subst (PlaceFits setup later seat) (sym (subst (Leads seat walk word) wants (leads seat walk word))) (acted_fits setup objects.words history led.lawful view view_fits act can).place
+
+    others : (other : ℕ) (w : ObjectWalk) → other ≢ seat → walk_in objects.walks other ≡ Some w → WalkFits setup later env.notes other w
+    others other w ne at =
+        let theirs = led.each other w at in
+        let knew : ViewFits setup history (view_at setup history other (Some w)) = record { made = refl; below = led.within other w at; seen = begins_itself history; mine = refl; mine_seen = refl; place = placed_by setup standing env.notes other w theirs } in
+        stays_put setup standing later env.notes other w theirs (others_fit setup objects.words history led.lawful view view_fits act can (view_at setup history other (Some w)) ne knew).place
+
+    word_keeps : AreLedTo (history ++ made_by) (after (slice_set objects.words (word_at act) (outcome seat act view.place word).word) next) env.notes
+    word_keeps = record {
+      lawful = acted_lawful setup objects.words history led.lawful view view_fits act can;
+      within = within_after (slice_set objects.words (word_at act) (outcome seat act view.place word).word) next;
+      each = each_after later (slice_set objects.words (word_at act) (outcome seat act view.place word).word) next (word_leads setup later env.notes seat word walk standing fits placed) others;
+    }
+
+    by_seat : Every (λ event. object_who event ≡ seat) made_by
+    by_seat = (step_keeps setup standing objects.words seat led.lawful.room led.lawful.words_are act view.place view_fits.place can).by
+
+  -- a load of the clock or of a note
+  env_keeps : (found : EnvFound) → NextFits setup standing env.notes seat (object_got walk (Env found)) → AreLedTo (history ++ []) (after objects.words (object_got walk (Env found))) env.notes
+  env_keeps found here = subst (λ h. AreLedTo h (after objects.words (object_got walk (Env found))) env.notes) (sym (append-nil history)) (record {
+    lawful = led.lawful;
+    within = within_after objects.words (object_got walk (Env found));
+    each = each_after standing objects.words (object_got walk (Env found)) here (λ other w ne at. led.each other w at);
+  })
+
+  abbrev Kept : ObjectFound → List ℕ → List ObjectEvent → Type 0
+  Kept found words events = AreLedTo (history ++ events) (after words (object_got walk found)) env.notes × Every (λ event. object_who event ≡ seat) events
+
+  kept_by : (want : ObjectWant) → object_want walk ≡ want → (found : ObjectFound) (words : List ℕ) (events : List ObjectEvent) → ObjectEffect seat view.place want objects.words env found words events → ObjectEffect seat view.place (object_want walk) objects.words env found words events → Kept found words events
+  kept_by (OnWord act) wants (Word w) words events effect same =
+      subst (λ (z : ℕ × (List ℕ × List ObjectEvent)). Kept (Word z.0) z.1.0 z.1.1) (λ i. (sym effect.0 i, (sym (effect.1 ∙ ap (λ n. slice_set objects.words (word_at act) (outcome seat act view.place n).word) effect.0) i, sym (effect.2 ∙ ap (λ n. (outcome seat act view.place n).events) effect.0) i)))
+      (word_keeps act wants, by_seat act wants)
+  kept_by (OnWord act) wants (Env found) words events effect same = absurd effect
+  kept_by (OnEnv act) wants (Env found) words events effect same =
+      subst (λ (z : List ℕ × List ObjectEvent). Kept (Env found) z.0 z.1) (λ i. (sym effect.1 i, sym effect.2 i))
+      (env_keeps found (env_leads setup standing env happened meets seat walk found words events objects.words fits same), tt)
+  kept_by (OnEnv act) wants (Word w) words events effect same = absurd effect
+
+  -- A step keeps the law, and its events are its seat's.
+  pub operates_keeps : (found : ObjectFound) (words : List ℕ) (events : List ObjectEvent) → ObjectEffect seat view.place (object_want walk) objects.words env found words events → Kept found words events
+  operates_keeps found words events effect = kept_by (object_want walk) refl found words events effect effect

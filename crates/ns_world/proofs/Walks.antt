@@ -1,0 +1,78 @@
+-- Where the seats of a world stand in calls on counters and once cells, after one of them is put elsewhere.
+use Rattle.std.proofs.Common.{◌≡◌, ◌≢◌, ℕ, zero, suc, ◌+◌, ◌<◌, Bool, true, false, ◌&&◌, ◌||◌, eqb, List, [], ◌∷◌, Option, Some, None, is_some, length, take, get_or, slice_set, slice_get, replicate, refl, ap, sym, ◌∙◌, arith, inl, inr, eq-eqb}
+use Rattle.std.proofs.lemmas.Bool.{cases_eq, ne_eqb}
+use Rattle.std.specs.Prelude.{unwrap_or}
+use Rattle.ns_world.specs.declared.object_walk.ObjectWalk.{ObjectWalk}
+use Rattle.ns_world.specs.Objects.{walk_in}
+
+pub put_here : (walks : List (Option ObjectWalk)) (seat : ℕ) (walk : Option ObjectWalk) → seat < length walks → walk_in (slice_set walks seat walk) seat ≡ walk
+put_here [] seat walk within = absurd (omega (arith, within))
+put_here (w ∷ walks) zero walk within = refl
+put_here (w ∷ walks) (suc seat) walk within = put_here walks seat walk (omega arith)
+
+pub put_there : (walks : List (Option ObjectWalk)) (seat : ℕ) (walk : Option ObjectWalk) (other : ℕ) → other ≢ seat → walk_in (slice_set walks seat walk) other ≡ walk_in walks other
+put_there [] seat walk other ne = refl
+put_there (w ∷ walks) zero walk zero ne = absurd (ne refl)
+put_there (w ∷ walks) zero walk (suc other) ne = refl
+put_there (w ∷ walks) (suc seat) walk zero ne = refl
+put_there (w ∷ walks) (suc seat) walk (suc other) ne = put_there walks seat walk other (λ e. ne (ap suc e))
+
+-- a seat that is put nowhere stands nowhere
+pub put_none : (walks : List (Option ObjectWalk)) (seat : ℕ) → walk_in (slice_set walks seat None) seat ≡ None
+put_none [] seat = refl
+put_none (w ∷ walks) zero = refl
+put_none (w ∷ walks) (suc seat) = put_none walks seat
+
+-- a seat that stands somewhere is one of those that there are
+pub stands_within : (walks : List (Option ObjectWalk)) (seat : ℕ) (walk : ObjectWalk) → walk_in walks seat ≡ Some walk → seat < length walks
+stands_within [] seat walk e = absurd (cc)
+stands_within (w ∷ walks) zero walk e = omega arith
+stands_within (w ∷ walks) (suc seat) walk e = let below = stands_within walks seat walk e in omega (arith, below)
+
+-- none stands anywhere where all stand nowhere
+pub none_stand : (n seat : ℕ) → walk_in (replicate n None) seat ≡ None
+none_stand zero seat = refl
+none_stand (suc n) zero = refl
+none_stand (suc n) (suc seat) = none_stand n seat
+
+-- ---- who stands somewhere
+
+and_true : (b : Bool) → (b && true) ≡ b
+and_true true = refl
+and_true false = refl
+
+and_false : (b : Bool) → (b && false) ≡ false
+and_false true = refl
+and_false false = refl
+
+or_false : (b : Bool) → (b || false) ≡ b
+or_false true = refl
+or_false false = refl
+
+eqb_suc : (a b : ℕ) → eqb (suc a) (suc b) ≡ eqb a b
+eqb_suc a b = elim (cases_eq a b) [ inl e ↦ eq-eqb (suc a) (suc b) (ap suc e) ∙ sym (eq-eqb a b e) | inr ne ↦ ne_eqb (suc a) (suc b) (λ e. ne (omega (arith, e))) ∙ sym (ne_eqb a b ne) ]
+
+-- the first seats and the next
+stand_more : (walks : List (Option ObjectWalk)) (i n : ℕ) → i < length walks → is_some (walk_in (take (suc i) walks) n) ≡ (is_some (walk_in (take i walks) n) || (is_some (get_or walks i None) && eqb n i))
+stand_more [] i n within = absurd (omega (arith, within))
+stand_more (w ∷ walks) zero zero within = sym (and_true (is_some w))
+stand_more (w ∷ walks) zero (suc n) within = rw (ne_eqb (suc n) 0 (λ e. absurd (omega (arith, e)))) (sym (and_false (is_some w)))
+stand_more (w ∷ walks) (suc i) zero within = rw (ne_eqb 0 (suc i) (λ e. absurd (omega (arith, e))), and_false (is_some (get_or walks i None)), or_false (is_some w)) refl
+stand_more (w ∷ walks) (suc i) (suc n) within = rw (eqb_suc n i) (stand_more walks i n (omega arith))
+
+or_assoc : (a b c : Bool) → ((a || b) || c) ≡ (a || (b || c))
+or_assoc true b c = refl
+or_assoc false b c = refl
+
+module _ (walks : List (Option ObjectWalk)) (i n : ℕ) (within : i < length walks) (before rest : Bool) (so_far : before ≡ (rest || is_some (walk_in (take i walks) n))) where
+  abbrev walk : Option ObjectWalk
+  walk = get_or walks i None
+
+  more : is_some (walk_in (take (i + 1) walks) n) ≡ (is_some (walk_in (take i walks) n) || (is_some walk && eqb n i))
+  more = let up : i + 1 ≡ suc i = omega arith in ap (λ k. is_some (walk_in (take k walks) n)) up ∙ stand_more walks i n within
+
+  pub stands_with : is_some walk ≡ true → (before || eqb n i) ≡ (rest || is_some (walk_in (take (i + 1) walks) n))
+  stands_with some = ap (λ b. b || eqb n i) so_far ∙ or_assoc rest (is_some (walk_in (take i walks) n)) (eqb n i) ∙ ap (λ b. rest || (is_some (walk_in (take i walks) n) || (b && eqb n i))) (sym some) ∙ ap (λ b. rest || b) (sym more)
+
+  pub stands_without : is_some walk ≡ false → before ≡ (rest || is_some (walk_in (take (i + 1) walks) n))
+  stands_without none = so_far ∙ ap (λ b. rest || b) (sym (or_false (is_some (walk_in (take i walks) n))) ∙ ap (λ b. is_some (walk_in (take i walks) n) || (b && eqb n i)) (sym none) ∙ sym more)

@@ -1,0 +1,436 @@
+-- The law of a whole world: how it begins, and that calls that begin and steps keep it.
+use Rattle.std.specs.List.{list_all}
+use Rattle.std.proofs.Common.{◌≡◌, ◌≢◌, ℕ, ◌<◌, ◌≤◌, Bool, true, false, cond, List, [], ◌∷◌, ◌++◌, Option, None, Some, is_some, length, replicate, take, slice_get, slice_set, slice_index, refl, ap, sym, ◌∙◌, subst, arith, inl, inr, Result, Ok, Err}
+use Rattle.std.specs.Prelude.{IfOk, IfErr}
+use Rattle.std.proofs.lemmas.Bool.{cases_eq}
+use Rattle.std.proofs.lemmas.List.{length-replicate, length-set}
+use Rattle.std.proofs.lemmas.Option.{slice_get_within}
+use Rattle.ns_model.specs.Environments.{NoteStanding, env_after}
+use Rattle.ns_model.specs.Truths.{Truths}
+use Rattle.ns_model.specs.declared.environment.EnvEvent.{EnvEvent}
+use Rattle.ns_model.specs.declared.event.Mode.{Mode}
+use Rattle.ns_model.proofs.Environments.{made_below}
+use Rattle.ns_counters.specs.declared.act.ObjectAct.{ObjectAct}
+use Rattle.ns_counters.specs.declared.object.ObjectEvent.{ObjectEvent}
+use Rattle.ns_counters.specs.declared.object.Setup.{Setup}
+use Rattle.ns_counters.specs.Counters.{most}
+use Rattle.ns_counters.specs.Objects.{ObjectStanding, objects_after}
+use Rattle.ns_counters.proofs.NewObjects.{new_lawful}
+use Rattle.ns_word.specs.declared.view.SeatView.{SeatView}
+use Rattle.ns_env.specs.declared.walk.EnvNext.{EnvNext}
+use Rattle.ns_env.specs.declared.walk.EnvNext.TheVariants as TheEnv
+use Rattle.ns_env.specs.declared.act.EnvFound.{EnvFound}
+use Rattle.ns_env.specs.Steps.{EnvPlain}
+use Rattle.ns_env.specs.Lawful.{Meets}
+use Rattle.ns_env.specs.Walks.{env_got_of, env_want_of}
+use Rattle.ns_env.proofs.Asks.{if_made_stays, set_here, set_there}
+use Rattle.ns_world.specs.declared.call.Call.{Call}
+use Rattle.ns_world.specs.declared.call.Call.TheVariants.{Lock, RLock, TryLock, TryRLock, Unlock, RUnlock, UnlockQuiet, Get, Set, Wait, CvWait, Signal, Broadcast, NewNote, Notify, Advance, IsNotified, Expiry, NoteWait, Add, Value, CounterWait, Once, Done, WaitAny}
+use Rattle.ns_world.specs.declared.call.Start.{Start}
+use Rattle.ns_world.specs.declared.call.Start.TheVariants.{OnLock, Ask, OnObjects}
+use Rattle.ns_world.specs.declared.items.Item.{Item}
+use Rattle.ns_world.specs.declared.items.Item.TheVariants.{OnNote, OnCounter}
+use Rattle.ns_world.specs.declared.items.Items.{Items}
+use Rattle.ns_world.specs.declared.object_walk.ObjectNext.{ObjectNext}
+use Rattle.ns_world.specs.declared.object_walk.ObjectNext.TheVariants.{Go, Repeat, Over}
+use Rattle.ns_world.specs.declared.object_walk.ObjectWalk.{ObjectWalk}
+use Rattle.ns_world.specs.declared.object_walk.ObjectWalk.TheVariants.{AddLoad, AddExchange, ValueLoad, WaitMark, WaitLoad, WaitClock, OnceLoad, OnceBegin, OnceEnd, DoneLoad, InRound}
+use Rattle.ns_world.specs.declared.objects.Objects.{Objects}
+use Rattle.ns_world.specs.declared.round.ObjectWant.{ObjectWant}
+use Rattle.ns_world.specs.declared.round.ObjectWant.TheVariants.{OnWord, OnEnv}
+use Rattle.ns_world.specs.declared.round.Round.{Round}
+use Rattle.ns_world.specs.declared.round.RoundPlace.{RoundPlace}
+use Rattle.ns_world.specs.declared.round.RoundPlace.TheVariants.{FirstClock, AtNote, AtCounter}
+use Rattle.ns_world.specs.declared.fault.Fault.{Fault}
+use Rattle.ns_world.specs.declared.fault.Fault.TheVariants.{OutOfMemory, NoSuchSeat, TooManySeats, StepLimit}
+use Rattle.ns_world.specs.declared.step.Begun.{Begun}
+use Rattle.ns_world.specs.declared.step.Begun.TheVariants.{Started, Misuse, Busy}
+use Rattle.ns_world.specs.declared.step.Step.{Step}
+use Rattle.ns_world.specs.declared.step.Step.TheVariants.{Went, Idle, Finished, Nothing}
+use Rattle.ns_world.specs.Begins.{BeginAnswers, Starts, begun_at}
+use Rattle.ns_world.specs.Calls.{CallFits, start_of, object_start, mode_of}
+use Rattle.ns_world.specs.Items.{items_of}
+use Rattle.ns_world.specs.Objects.{AreLedTo, AreThere, HasOperated, RoundFits, StepFits, WalkFits, WantFits, fresh_objects, is_there, object_step_of, objects_begun, walk_in}
+use Rattle.ns_world.specs.ObjectWalks.{object_after, object_got, object_want, IsInBounds}
+use Rattle.ns_world.specs.Whole.{Whole, whole, AreApart, HaveLedTo, IsLawfulWhole, LockSteps, Operates, WholeBegins, WholeFault, WholeIsBusy, WholeMoves, WholeStarts, WholeStep, fresh_whole}
+use Rattle.ns_world.specs.World.{Now, Goes, LookGoes, Moves, StepOf, StepFault, IsIdle, IsLawfulWorld, LedTo, fresh}
+use Rattle.ns_world.proofs.Fresh.{lawful_new, length_views}
+use Rattle.ns_world.proofs.ObjectLaw.{first_of_all, rest_of_all, in_list, operates_keeps, stays_put, want_below}
+use Rattle.ns_world.proofs.Turns.{moves_stay, begun_stays, Pairs, pairs}
+use Rattle.ns_world.proofs.Walks.{put_here, put_there, none_stand, stands_within}
+
+-- ---- a new world
+
+pub whole_new : (C : Type 0) (N : ℕ) (truths : Truths C) (seats : ℕ) (counters : List ℕ) (onces : ℕ) → seats ≤ 64 → length counters ≤ 16 → onces ≤ 16 → ((k : ℕ) → slice_index counters k ≤ most) → IsLawfulWhole (fresh_whole {C = C} {N = N} truths seats counters onces)
+whole_new C N truths seats counters onces few short cells values = record {
+  lock = lawful_new C N truths seats few;
+  seats = sym (length_views C N 0 seats);
+  places = length-replicate {A = Option ObjectWalk} 64 None;
+  apart = λ seat walk at. absurd (none seat walk at);
+  events = [];
+  objects_lawful = record {
+    lawful = new_lawful seats counters onces few short cells values;
+    within = λ seat walk at. absurd (none seat walk at);
+    each = λ seat walk at. absurd (none seat walk at);
+  };
+} where
+  none : (seat : ℕ) (walk : ObjectWalk) → walk_in (replicate 64 None) seat ≡ Some walk → ⊥
+  none seat walk at = let is = sym (none_stand 64 seat) ∙ at in absurd (cc)
+
+-- ---- notes that are made stay made
+
+all_more : {A : Type 0} (p q : A → Bool) (xs : List A) → ((x : A) → p x ≡ true → q x ≡ true) → list_all p xs ≡ true → list_all q xs ≡ true
+all_more p q [] more all = refl
+all_more p q (x ∷ xs) more all = rw (more x (first_of_all (p x) (list_all p xs) all)) (all_more p q xs more (rest_of_all (p x) (list_all p xs) all))
+
+-- a seat stands where it stood when more notes are made
+module _ (setup : Setup) (notes later : ℕ → NoteStanding) (more : (n : ℕ) → (notes n).made ≡ true → (later n).made ≡ true) where
+  there_more : (items : Items) → AreThere setup notes items → AreThere setup later items
+  there_more items there = (there.0, all_more (is_there setup notes) (is_there setup later) (items_of items) each there.1) where
+    each : (item : Item) → is_there setup notes item ≡ true → is_there setup later item ≡ true
+    each (OnNote note) is = more note is
+    each (OnCounter counter) is = is
+
+  round_more : (round : Round) (place : RoundPlace) → RoundFits notes round place → RoundFits later round place
+  round_more round FirstClock fits = tt
+  round_more round (AtNote at clock asked note) fits = (fits.0, more note fits.1)
+  round_more round (AtCounter at clock counter) fits = fits
+
+  walk_more : (now : ObjectStanding) (seat : ℕ) (walk : ObjectWalk) → WalkFits setup now notes seat walk → WalkFits setup now later seat walk
+  walk_more now seat (InRound round place) fits = (there_more round.items fits.0, round_more round place fits.1)
+  walk_more now seat (AddLoad counter delta) fits = fits
+  walk_more now seat (AddExchange counter delta seen value) fits = fits
+  walk_more now seat (ValueLoad counter) fits = fits
+  walk_more now seat (WaitMark counter deadline) fits = fits
+  walk_more now seat (WaitLoad counter deadline) fits = fits
+  walk_more now seat (WaitClock counter moment value) fits = fits
+  walk_more now seat (OnceLoad once) fits = fits
+  walk_more now seat (OnceBegin once) fits = fits
+  walk_more now seat (OnceEnd once) fits = fits
+  walk_more now seat (DoneLoad once) fits = fits
+
+pub led_more : (history : List ObjectEvent) (objects : Objects) (notes later : ℕ → NoteStanding) → ((n : ℕ) → (notes n).made ≡ true → (later n).made ≡ true) → AreLedTo history objects notes → AreLedTo history objects later
+led_more history objects notes later more led = record {
+  lawful = led.lawful;
+  within = led.within;
+  each = λ seat walk at. walk_more objects.setup notes later more (objects_after objects.setup history) seat walk (led.each seat walk at);
+}
+
+abbrev Fit : Setup → ObjectStanding → (ℕ → NoteStanding) → ℕ → Option ObjectWalk → Type 0
+Fit setup now notes seat None = Unit {0}
+Fit setup now notes seat (Some walk) = WalkFits setup now notes seat walk
+
+first_fits : {C : Type 0} (setup : Setup) (now : ObjectStanding) (notes : ℕ → NoteStanding) (mode : Option Mode) (seat : ℕ) (call : Call C) → CallFits setup notes call mode → Fit setup now notes seat (object_start call)
+first_fits setup now notes mode seat (Add counter delta) fits = fits
+first_fits setup now notes mode seat (Value counter) fits = fits
+first_fits setup now notes mode seat (CounterWait counter deadline) fits = fits
+first_fits setup now notes mode seat (Once once) fits = fits
+first_fits setup now notes mode seat (Done once) fits = fits
+first_fits setup now notes mode seat (WaitAny items deadline) fits = (fits, tt)
+first_fits setup now notes mode seat Lock fits = tt
+first_fits setup now notes mode seat RLock fits = tt
+first_fits setup now notes mode seat TryLock fits = tt
+first_fits setup now notes mode seat TryRLock fits = tt
+first_fits setup now notes mode seat Unlock fits = tt
+first_fits setup now notes mode seat RUnlock fits = tt
+first_fits setup now notes mode seat UnlockQuiet fits = tt
+first_fits setup now notes mode seat (Get i) fits = tt
+first_fits setup now notes mode seat (Set i v) fits = tt
+first_fits setup now notes mode seat (Wait c limits) fits = tt
+first_fits setup now notes mode seat (CvWait k limits) fits = tt
+first_fits setup now notes mode seat (Signal k) fits = tt
+first_fits setup now notes mode seat (Broadcast k) fits = tt
+first_fits setup now notes mode seat (NewNote parent deadline) fits = tt
+first_fits setup now notes mode seat (Notify note) fits = tt
+first_fits setup now notes mode seat (Advance moment) fits = tt
+first_fits setup now notes mode seat (IsNotified note) fits = tt
+first_fits setup now notes mode seat (Expiry note) fits = tt
+first_fits setup now notes mode seat (NoteWait note deadline) fits = tt
+
+module _ {C : Type 0} {N : ℕ} where
+  look_makes : (old new : Now C N) (seat : ℕ) (step : Step) (next : EnvNext) → LookGoes next old new seat step → (n : ℕ) → (old.env.notes n).made ≡ true → (new.env.notes n).made ≡ true
+  look_makes old new seat step (TheEnv.Go walk) p n made = subst (λ (world : Now C N). (world.env.notes n).made ≡ true) (sym p.0) made
+  look_makes old new seat step (TheEnv.LookOver cause) p n made = subst (λ (env : EnvPlain). (env.notes n).made ≡ true) (sym p.0.env) made
+  look_makes old new seat step (TheEnv.Repeat walk) p n made = absurd p
+  look_makes old new seat step (TheEnv.Over reply) p n made = absurd p
+
+  pub moves_make : (old new : Now C N) (seat : ℕ) (step : Step) → Moves old new seat step → (n : ℕ) → (old.env.notes n).made ≡ true → (new.env.notes n).made ≡ true
+  moves_make old new seat step (inl p) n made = subst (λ (env : EnvPlain). (env.notes n).made ≡ true) (sym p.goes.env) made
+  moves_make old new seat step (inr (inl p)) n made = if_made_stays seat (env_want_of p.makes.walk) old.env new.env p.found p.events p.makes.effect (Some n) made
+  moves_make old new seat step (inr (inr p)) n made = look_makes old new seat step (env_got_of p.place p.found) p.goes n made
+
+  -- ---- who is idle stays idle while others move
+
+  record Rests (old new : Now C N) (other : ℕ) : Type 0 where
+    views : slice_get new.state.views other ≡ slice_get old.state.views other
+    asking : slice_get new.asking other ≡ slice_get old.asking other
+
+  idle_on : (old new : Now C N) (other : ℕ) → Rests old new other → IsIdle old other → IsIdle new other
+  idle_on old new other same idle = record { view = idle.view; at = same.views ∙ idle.at; idle = idle.idle; unasked = same.asking ∙ idle.unasked }
+
+  goes_rests : (old new : Now C N) (seat : ℕ) (step : Step) (other : ℕ) → other ≢ seat → Goes old new seat step → Rests old new other
+  goes_rests old new seat step other ne p = record {
+    views = ap (λ vs. slice_get vs other) p.others ∙ set_there old.state.views seat other _ ne;
+    asking = ap (λ xs. slice_get xs other) p.asking ∙ set_there old.asking seat other _ ne;
+  }
+
+  look_rests : (old new : Now C N) (seat : ℕ) (step : Step) (next : EnvNext) (other : ℕ) → other ≢ seat → LookGoes next old new seat step → Rests old new other
+  look_rests old new seat step (TheEnv.Go walk) other ne p = record {
+    views = ap (λ (world : Now C N). slice_get world.state.views other) p.0;
+    asking = ap (λ (world : Now C N). slice_get world.asking other) p.0 ∙ set_there old.asking seat other (Some walk) ne;
+  }
+  look_rests old new seat step (TheEnv.LookOver cause) other ne p = goes_rests old new seat step other ne p.0
+  look_rests old new seat step (TheEnv.Repeat walk) other ne p = absurd p
+  look_rests old new seat step (TheEnv.Over reply) other ne p = absurd p
+
+  moves_rests : (old new : Now C N) (seat : ℕ) (step : Step) (other : ℕ) → other ≢ seat → Moves old new seat step → Rests old new other
+  moves_rests old new seat step other ne (inl p) = goes_rests old new seat step other ne p.goes
+  moves_rests old new seat step other ne (inr (inl p)) = record {
+    views = ap (λ (world : Now C N). slice_get world.state.views other) p.others;
+    asking = ap (λ xs. slice_get xs other) p.makes.becomes ∙ set_there old.asking seat other _ ne;
+  }
+  moves_rests old new seat step other ne (inr (inr p)) = look_rests old new seat step (env_got_of p.place p.found) other ne p.goes
+
+  begun_rests : (old : Now C N) (seat : ℕ) (view : SeatView C N) (start : Start C) (other : ℕ) → other ≢ seat → Rests old (begun_at old seat view start) other
+  begun_rests old seat view (OnLock walk) other ne = record { views = set_there old.state.views seat other _ ne; asking = refl }
+  begun_rests old seat view (Ask walk) other ne = record { views = refl; asking = set_there old.asking seat other _ ne }
+  begun_rests old seat view (OnObjects walk) other ne = record { views = refl; asking = refl }
+
+  -- ---- a call begins
+
+  -- what a call that begins changes of the lock leaves the notes, and how many seats there are
+  begun_notes : (old : Now C N) (seat : ℕ) (view : SeatView C N) (start : Start C) → (begun_at old seat view start).env ≡ old.env
+  begun_notes old seat view (OnLock walk) = refl
+  begun_notes old seat view (Ask walk) = refl
+  begun_notes old seat view (OnObjects walk) = refl
+
+  -- a seat that begins a call on counters and once cells is in no other
+  begun_idle : (old : Now C N) (seat : ℕ) (view : SeatView C N) (start : Start C) (place : ObjectWalk) → Pairs start (Some place) → slice_get old.state.views seat ≡ Some view → view.walk ≡ None → slice_get old.asking seat ≡ Some None → IsIdle (begun_at old seat view start) seat
+  begun_idle old seat view (OnLock walk) place pair at idle asks = absurd pair
+  begun_idle old seat view (Ask walk) place pair at idle asks = absurd pair
+  begun_idle old seat view (OnObjects walk) place pair at idle asks = record { view = view; at = at; idle = idle; unasked = asks }
+
+  module _ (old : Whole C N) (lawful : IsLawfulWhole old) (new : Now C N) (seat : ℕ) (call : Call C) (starts : Starts old.objects.setup old.lock new seat call) (now_lawful : IsLawfulWorld new) (elsewhere : walk_in old.objects.walks seat ≡ None) where
+    abbrev mode : Option Mode
+    mode = mode_of starts.view.held
+
+    seats_same : length new.state.views ≡ length old.lock.state.views
+    seats_same = ap (λ (world : Now C N). length world.state.views) starts.begins ∙ begun_stays old.lock seat starts.view (start_of N mode call)
+
+    within : seat < old.objects.setup.seats
+    within = let low = slice_get_within old.lock.state.views seat starts.view starts.at in let is = lawful.seats in omega (arith, low, is)
+
+    pub low : seat < 64
+    low = let few = lawful.lock.few in let below = slice_get_within old.lock.state.views seat starts.view starts.at in omega (arith, few, below)
+
+    notes_same : new.env ≡ old.lock.env
+    notes_same = ap (λ (world : Now C N). world.env) starts.begins ∙ begun_notes old.lock seat starts.view (start_of N mode call)
+
+    rests : (other : ℕ) → other ≢ seat → Rests old.lock new other
+    rests other ne = subst (λ (world : Now C N). Rests old.lock world other) (sym starts.begins) (begun_rests old.lock seat starts.view (start_of N mode call) other ne)
+
+    -- what has led to the world has led to it when the call has begun
+    pub begun_led : (history : List ObjectEvent) → AreLedTo history old.objects old.lock.env.notes → (place : Option ObjectWalk) → object_start call ≡ place → AreLedTo history (objects_begun old.objects seat place) new.env.notes
+    begun_led history led None is = subst (λ (env : EnvPlain). AreLedTo history old.objects env.notes) (sym notes_same) led
+    begun_led history led (Some place) is =
+        let inside : seat < length old.objects.walks = let all = lawful.places in omega (arith, all, low) in
+        let here : walk_in (slice_set old.objects.walks seat (Some place)) seat ≡ Some place = put_here old.objects.walks seat (Some place) inside in
+        let now = objects_after old.objects.setup history in
+        let still = subst (λ (env : EnvPlain). AreLedTo history old.objects env.notes) (sym notes_same) led in
+        let first = subst (Fit old.objects.setup now new.env.notes seat) is (first_fits old.objects.setup now new.env.notes mode seat call (subst (λ (env : EnvPlain). CallFits old.objects.setup env.notes call mode) (sym notes_same) starts.fits)) in
+        record {
+          lawful = still.lawful;
+          within = λ other walk at. elim (cases_eq other seat) [
+            | inl e ↦ subst (λ n. n < old.objects.setup.seats) (sym e) within
+            | inr ne ↦ still.within other walk (sym (put_there old.objects.walks seat (Some place) other ne) ∙ at)
+          ];
+          each = λ other walk at. elim (cases_eq other seat) [
+            | inl e ↦
+                let same : Some place ≡ Some walk = sym here ∙ ap (walk_in (slice_set old.objects.walks seat (Some place))) (sym e) ∙ at in
+                let is_place : place ≡ walk = cc in
+                subst (λ n. WalkFits old.objects.setup now new.env.notes n walk) (sym e) (subst (λ w. WalkFits old.objects.setup now new.env.notes seat w) is_place first)
+            | inr ne ↦ still.each other walk (sym (put_there old.objects.walks seat (Some place) other ne) ∙ at)
+          ];
+        }
+
+    begun_by : (place : Option ObjectWalk) → object_start call ≡ place → IsLawfulWhole (whole new (objects_begun old.objects seat place)) × (walk_in (objects_begun old.objects seat place).walks seat ≡ place)
+    begun_by None is = (
+      record {
+        lock = now_lawful;
+        seats = lawful.seats ∙ sym seats_same;
+        places = lawful.places;
+        apart = λ other walk at. elim (cases_eq other seat) [
+          | inl e ↦ let none = sym elsewhere ∙ ap (walk_in old.objects.walks) (sym e) ∙ at in absurd (cc)
+          | inr ne ↦ idle_on old.lock new other (rests other ne) (lawful.apart other walk at)
+        ];
+        events = lawful.events;
+        objects_lawful = begun_led lawful.events lawful.objects_lawful None is;
+      },
+      elsewhere,
+    )
+    begun_by (Some place) is =
+        let inside : seat < length old.objects.walks = let all = lawful.places in omega (arith, all, low) in (
+          record {
+            lock = now_lawful;
+            seats = lawful.seats ∙ sym seats_same;
+            places = length-set old.objects.walks seat (Some place) ∙ lawful.places;
+            apart = λ other walk at. elim (cases_eq other seat) [
+              | inl e ↦ subst (IsIdle new) (sym e) (subst (λ (world : Now C N). IsIdle world seat) (sym starts.begins) (begun_idle old.lock seat starts.view (start_of N mode call) place (subst (Pairs (start_of N mode call)) is (pairs N mode call)) starts.at starts.idle starts.unasked))
+              | inr ne ↦ idle_on old.lock new other (rests other ne) (lawful.apart other walk (sym (put_there old.objects.walks seat (Some place) other ne) ∙ at))
+            ];
+            events = lawful.events;
+            objects_lawful = begun_led lawful.events lawful.objects_lawful (Some place) is;
+          },
+          put_here old.objects.walks seat (Some place) inside,
+        )
+
+    -- A call that begins keeps the law, and its seat stands at its first place.
+    pub whole_begun : IsLawfulWhole (whole new (objects_begun old.objects seat (object_start call)))
+    whole_begun = (begun_by (object_start call) refl).0
+
+    pub whole_starts : WholeStarts old (whole new (objects_begun old.objects seat (object_start call))) seat call
+    whole_starts = record { starts = starts; elsewhere = elsewhere; becomes = refl; stands = (begun_by (object_start call) refl).1 }
+
+  -- ---- a step
+
+  -- by the lock
+  pub whole_moved : (old : Whole C N) (new : Now C N) (seat : ℕ) (step : Step) → IsLawfulWhole old → Moves old.lock new seat step → IsLawfulWorld new → walk_in old.objects.walks seat ≡ None → IsLawfulWhole (whole new old.objects)
+  whole_moved old new seat step lawful moves now_lawful elsewhere = record {
+    lock = now_lawful;
+    seats = lawful.seats ∙ sym (moves_stay old.lock new seat step moves);
+    places = lawful.places;
+    apart = λ other walk at. elim (cases_eq other seat) [
+      | inl e ↦ let none = sym elsewhere ∙ ap (walk_in old.objects.walks) (sym e) ∙ at in absurd (cc)
+      | inr ne ↦ idle_on old.lock new other (moves_rests old.lock new seat step other ne moves) (lawful.apart other walk at)
+    ];
+    events = lawful.events;
+    objects_lawful = led_more lawful.events old.objects old.lock.env.notes new.env.notes (moves_make old.lock new seat step moves) lawful.objects_lawful;
+  }
+
+  -- on counters and once cells
+  module _ (old : Whole C N) (lawful : IsLawfulWhole old) (seat : ℕ) (walk : ObjectWalk) (walks : walk_in old.objects.walks seat ≡ Some walk) where
+    -- what it may be made on
+    abbrev notes_meet : Meets lawful.lock.events old.lock.env
+    notes_meet = lawful.lock.env_lawful.lawful.meets
+
+    note_low : (note : ℕ) → (old.lock.env.notes note).made ≡ true → note < 64
+    note_low note made = made_below lawful.lock.events note notes_meet.legal (sym (ap (λ (notes : ℕ → NoteStanding). (notes note).made) notes_meet.notes) ∙ made)
+
+    abbrev Fits : ObjectWalk → Type 0
+    Fits walk = WalkFits old.objects.setup (objects_after old.objects.setup lawful.events) old.lock.env.notes seat walk
+
+    word_fits : (walk : ObjectWalk) (act : ObjectAct) → Fits walk → object_want walk ≡ OnWord act → WantFits old.lock.env.next (OnWord act)
+    word_fits walk act fits is = want_below old.objects.setup (objects_after old.objects.setup lawful.events) old.lock.env.notes seat walk act lawful.objects_lawful.lawful.room.0 lawful.objects_lawful.lawful.room.1 fits is
+
+    want_fits : (walk : ObjectWalk) → Fits walk → WantFits old.lock.env.next (object_want walk)
+    want_fits (AddLoad counter delta) fits = word_fits (AddLoad counter delta) _ fits refl
+    want_fits (AddExchange counter delta seen value) fits = word_fits (AddExchange counter delta seen value) _ fits refl
+    want_fits (ValueLoad counter) fits = word_fits (ValueLoad counter) _ fits refl
+    want_fits (WaitMark counter deadline) fits = word_fits (WaitMark counter deadline) _ fits refl
+    want_fits (WaitLoad counter deadline) fits = word_fits (WaitLoad counter deadline) _ fits refl
+    want_fits (WaitClock counter moment value) fits = (tt, tt)
+    want_fits (OnceLoad once) fits = word_fits (OnceLoad once) _ fits refl
+    want_fits (OnceBegin once) fits = word_fits (OnceBegin once) _ fits refl
+    want_fits (OnceEnd once) fits = word_fits (OnceEnd once) _ fits refl
+    want_fits (DoneLoad once) fits = word_fits (DoneLoad once) _ fits refl
+    want_fits (InRound round FirstClock) fits = (tt, tt)
+    want_fits (InRound round (AtNote at clock asked note)) fits = (tt, note_low note fits.1.1)
+    want_fits (InRound round (AtCounter at clock counter)) fits = word_fits (InRound round (AtCounter at clock counter)) _ fits refl
+
+    bounds : (walk : ObjectWalk) → WalkFits old.objects.setup (objects_after old.objects.setup lawful.events) old.lock.env.notes seat walk → IsInBounds walk
+    bounds (InRound round FirstClock) fits = tt
+    bounds (InRound round (AtNote at clock asked note)) fits = in_list round.items at (OnNote asked) fits.0.0 fits.1.0
+    bounds (InRound round (AtCounter at clock counter)) fits = in_list round.items at (OnCounter counter) fits.0.0 fits.1
+    bounds (AddLoad counter delta) fits = tt
+    bounds (AddExchange counter delta seen value) fits = tt
+    bounds (ValueLoad counter) fits = tt
+    bounds (WaitMark counter deadline) fits = tt
+    bounds (WaitLoad counter deadline) fits = tt
+    bounds (WaitClock counter moment value) fits = tt
+    bounds (OnceLoad once) fits = tt
+    bounds (OnceBegin once) fits = tt
+    bounds (OnceEnd once) fits = tt
+    bounds (DoneLoad once) fits = tt
+
+    fits_here : Fits walk
+    fits_here = lawful.objects_lawful.each seat walk walks
+
+    pub may_operate : StepFits old.lock.env.next walk
+    may_operate = (want_fits walk fits_here, bounds walk fits_here)
+
+    pub stands_low : seat < 64
+    stands_low = let all = lawful.places in let low = stands_within old.objects.walks seat walk walks in omega (arith, all, low)
+
+    -- what it is, and that it keeps the law
+    pub operates : (new : Objects) (step : Step) → HasOperated old.lock.env seat walk old.objects new step → Operates old (whole old.lock new) seat step
+    operates new step p = record { idle = lawful.apart seat walk walks; walk = walk; walks = walks; operated = p; same = refl }
+
+    pub whole_operated : (new : Objects) (step : Step) → HasOperated old.lock.env seat walk old.objects new step → IsLawfulWhole (whole old.lock new)
+    whole_operated new step p =
+        let kept = (operates_keeps old.objects old.lock.env lawful.lock.events notes_meet lawful.events lawful.objects_lawful seat walk walks p.found p.words p.events p.effect).0 in
+        subst (λ (o : Objects). IsLawfulWhole (whole old.lock o)) (sym p.becomes) (record {
+          lock = lawful.lock;
+          seats = lawful.seats;
+          places = length-set old.objects.walks seat _ ∙ lawful.places;
+          apart = λ other w at. elim (cases_eq other seat) [
+            | inl e ↦ subst (IsIdle old.lock) (sym e) (lawful.apart seat walk walks)
+            | inr ne ↦ lawful.apart other w (sym (put_there old.objects.walks seat (object_after (object_got walk p.found)) other ne) ∙ at)
+          ];
+          events = lawful.events ++ p.events;
+          objects_lawful = kept;
+        })
+
+  -- a step of a call on counters and once cells is none of nothing
+  pub operated_step : (old new : Whole C N) (seat : ℕ) (step : Step) → Operates old new seat step → WholeStep old new seat step
+  operated_step old new seat Nothing p = absurd (nothing (object_got p.walk p.operated.found) p.operated.answers) where
+    nothing : (next : ObjectNext) → Nothing ≡ object_step_of next → ⊥
+    nothing (Go walk) e = absurd (cc)
+    nothing (Repeat walk) e = absurd (cc)
+    nothing (Over reply) e = absurd (cc)
+  operated_step old new seat Went p = inr p
+  operated_step old new seat Idle p = inr p
+  operated_step old new seat (Finished reply) p = inr p
+
+  -- a step by the lock, of a seat that is in no call on counters and once cells
+  pub lock_step : (old : Whole C N) (new : Now C N) (seat : ℕ) (step : Step) → walk_in old.objects.walks seat ≡ None → StepOf old.lock new seat step → WholeStep old (whole new old.objects) seat step
+  lock_step old new seat Nothing elsewhere p = (ap (λ (world : Now C N). whole world old.objects) p.0, (p.1, elsewhere))
+  lock_step old new seat Went elsewhere p = inl (record { moves = p; same = refl; elsewhere = elsewhere })
+  lock_step old new seat Idle elsewhere p = inl (record { moves = p; same = refl; elsewhere = elsewhere })
+  lock_step old new seat (Finished reply) elsewhere p = inl (record { moves = p; same = refl; elsewhere = elsewhere })
+
+  -- and it keeps the law
+  pub lock_step_keeps : (old : Whole C N) (new : Now C N) (seat : ℕ) (step : Step) → IsLawfulWhole old → walk_in old.objects.walks seat ≡ None → IsLawfulWorld new → StepOf old.lock new seat step → IsLawfulWhole (whole new old.objects)
+  lock_step_keeps old new seat Nothing lawful elsewhere now_lawful p = subst (λ (world : Now C N). IsLawfulWhole (whole world old.objects)) (sym p.0) lawful
+  lock_step_keeps old new seat Went lawful elsewhere now_lawful p = whole_moved old new seat Went lawful p now_lawful elsewhere
+  lock_step_keeps old new seat Idle lawful elsewhere now_lawful p = whole_moved old new seat Idle lawful p now_lawful elsewhere
+  lock_step_keeps old new seat (Finished reply) lawful elsewhere now_lawful p = whole_moved old new seat (Finished reply) lawful p now_lawful elsewhere
+
+  -- a refused step leaves the world as it was
+  pub same_keeps : (old : Whole C N) (new : Now C N) → IsLawfulWhole old → new ≡ old.lock → IsLawfulWhole (whole new old.objects)
+  same_keeps old new lawful same = subst (λ (world : Now C N). IsLawfulWhole (whole world old.objects)) (sym same) lawful
+
+  -- so a step keeps the law, whether it was refused or not
+  pub lock_result_keeps : (old : Whole C N) (new : Now C N) (seat : ℕ) (result : Result Step Fault) → IsLawfulWhole old → walk_in old.objects.walks seat ≡ None → IsLawfulWorld new → IfOk result (λ step. StepOf old.lock new seat step) → IfErr result (λ fault. (new ≡ old.lock) × StepFault old.lock seat fault) → IsLawfulWhole (whole new old.objects)
+  lock_result_keeps old new seat (Ok step) lawful elsewhere now_lawful ok err = lock_step_keeps old new seat step lawful elsewhere now_lawful ok
+  lock_result_keeps old new seat (Err fault) lawful elsewhere now_lawful ok err = same_keeps old new lawful err.0
+
+  pub lock_fault : (old : Whole C N) (new : Now C N) (seat : ℕ) (fault : Fault) → (new ≡ old.lock) × StepFault old.lock seat fault → (whole new old.objects ≡ old) × WholeFault old seat fault
+  lock_fault old new seat OutOfMemory p = (ap (λ (world : Now C N). whole world old.objects) p.0, p.1)
+  lock_fault old new seat NoSuchSeat p = (ap (λ (world : Now C N). whole world old.objects) p.0, p.1)
+  lock_fault old new seat TooManySeats p = absurd p.1
+  lock_fault old new seat StepLimit p = absurd p.1
+
+  -- ---- a call that doesn't begin
+
+  -- a seat in a call on counters and once cells is busy
+  pub busy_elsewhere : (old : Whole C N) (seat : ℕ) → is_some (walk_in old.objects.walks seat) ≡ true → WholeIsBusy old seat
+  busy_elsewhere old seat some = by (walk_in old.objects.walks seat) refl some where
+    by : (walk : Option ObjectWalk) → walk_in old.objects.walks seat ≡ walk → is_some walk ≡ true → WholeIsBusy old seat
+    by (Some walk) is e = inr (walk, is)
+    by None is e = absurd (cc)
+
+  -- where a call didn't begin nothing has changed
+  pub unbegun : (old : Whole C N) (new : Now C N) (seat : ℕ) (call : Call C) (begun : Begun) → walk_in old.objects.walks seat ≡ None → begun ≢ Started → BeginAnswers old.objects.setup old.lock new seat call begun → WholeBegins old (whole new old.objects) seat call begun × (new ≡ old.lock)
+  unbegun old new seat call Started elsewhere ne p = absurd (ne refl)
+  unbegun old new seat call Misuse elsewhere ne p = ((ap (λ (world : Now C N). whole world old.objects) p.0, p.1, elsewhere), p.0)
+  unbegun old new seat call Busy elsewhere ne p = ((ap (λ (world : Now C N). whole world old.objects) p.0, inl p.1), p.0)

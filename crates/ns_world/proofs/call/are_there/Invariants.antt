@@ -1,0 +1,10 @@
+use Rattle.std.proofs.Common.{◌≡◌, true, take}
+use Rattle.std.specs.List.{list_all}
+use Rattle.ns_world.specs.Asks.{note_at}
+use Rattle.ns_world.specs.Items.{items_of}
+use Rattle.ns_world.specs.Objects.{is_there}
+use Rattle.ns_world.proofs.call.are_there.Given as goal
+
+-- there is each of those so far
+abbrev pub invariant-loop-item : goal.invariant-loop-item
+invariant-loop-item l = list_all (is_there l.setup (note_at l.notes)) (take l.item-index (items_of l.items)) ≡ true

@@ -1,0 +1,124 @@
+-- What the answer of a call on counters and once cells means, whatever others do while it is in progress, and how far such a call has come at each of its places.
+use Rattle.std.specs.Prelude.{◌≡◌, ◌≢◌, ◌⊎◌, ℕ, ◌<◌, ◌≤◌, Bool, true, false, List, [], ◌∷◌, ◌++◌, Option, None, Some, IsSomeAnd, Ok, Err}
+use Rattle.ns_model.specs.declared.environment.EnvEvent.{EnvEvent}
+use Rattle.ns_model.specs.Beginnings.{IsBetween}
+use Rattle.ns_model.specs.Environments.{env_after, is_notified, clock_of}
+use Rattle.ns_model.specs.Lines.{IsLeftAt}
+use Rattle.ns_counters.specs.declared.counter.CounterEvent.TheVariants as TheCounter
+use Rattle.ns_counters.specs.declared.object.ObjectEvent.{ObjectEvent}
+use Rattle.ns_counters.specs.declared.object.ObjectEvent.TheVariants.{OnCounter, OnOnce}
+use Rattle.ns_counters.specs.declared.object.Setup.{Setup}
+use Rattle.ns_counters.specs.declared.once.OnceEvent.TheVariants as TheOnce
+use Rattle.ns_counters.specs.Counters.{is_ready}
+use Rattle.ns_counters.specs.Objects.{ObjectStanding, objects_after, objects_own}
+use Rattle.ns_counters.specs.Onces.{is_done}
+use Rattle.ns_env.specs.Meanings.{AtSomePoint}
+use Rattle.ns_world.specs.declared.items.Item.{Item}
+use Rattle.ns_world.specs.declared.items.Item.TheVariants as TheItem
+use Rattle.ns_world.specs.declared.object_walk.ObjectNext.{ObjectNext}
+use Rattle.ns_world.specs.declared.object_walk.ObjectNext.TheVariants.{Go, Repeat, Over}
+use Rattle.ns_world.specs.declared.object_walk.ObjectWalk.{ObjectWalk}
+use Rattle.ns_world.specs.declared.object_walk.ObjectWalk.TheVariants.{AddLoad, AddExchange, ValueLoad, WaitMark, WaitLoad, WaitClock, OnceLoad, OnceBegin, OnceEnd, DoneLoad, InRound}
+use Rattle.ns_world.specs.declared.reply.Reply.{Reply}
+use Rattle.ns_world.specs.declared.reply.Reply.TheVariants.{Number, Is, Refused, Ran, Already}
+use Rattle.ns_world.specs.declared.round.Round.{Round}
+use Rattle.ns_world.specs.declared.round.RoundPlace.{RoundPlace}
+use Rattle.ns_world.specs.declared.round.RoundPlace.TheVariants.{FirstClock, AtNote, AtCounter}
+use Rattle.ns_world.specs.declared.items.Items.{Items}
+use Rattle.ns_world.specs.Items.{item_at}
+use Rattle.ns_world.specs.Objects.{AreThere}
+
+-- what has happened to the clock and the notes, and to the counters and once cells
+pub record Past : Type 0 where
+  pub notes : List EnvEvent
+  pub objects : List ObjectEvent
+
+-- both, with more behind
+abbrev pub past_and : Past → Past → Past
+past_and past more = record { notes = past.notes ++ more.notes; objects = past.objects ++ more.objects }
+
+-- ---- what was asked
+
+-- what a call at this place was asked to do, told by its first place
+abbrev pub object_asked : ObjectWalk → ObjectWalk
+object_asked (AddLoad counter delta) = AddLoad counter delta
+object_asked (AddExchange counter delta seen value) = AddLoad counter delta
+object_asked (ValueLoad counter) = ValueLoad counter
+object_asked (WaitMark counter deadline) = WaitMark counter deadline
+object_asked (WaitLoad counter deadline) = WaitMark counter deadline
+object_asked (WaitClock counter moment value) = WaitMark counter (Some moment)
+object_asked (OnceLoad once) = OnceLoad once
+object_asked (OnceBegin once) = OnceLoad once
+object_asked (OnceEnd once) = OnceLoad once
+object_asked (DoneLoad once) = DoneLoad once
+object_asked (InRound round place) = InRound round FirstClock
+
+-- ---- what an answer means
+
+-- at some point between these the counters and once cells stood so
+abbrev pub AtSomeMoment : Setup → List ObjectEvent → List ObjectEvent → (ObjectStanding → Type 0) → Type 0
+AtSomeMoment setup earlier now P = (point : List ObjectEvent) × IsBetween earlier point now × P (objects_after setup point)
+
+-- At some point between these an object was ready, or wasn't: a note that is notified, and a counter whose value is 0.
+abbrev pub WasReady : Setup → Bool → Past → Past → Item → Type 0
+WasReady setup so earlier now (TheItem.OnNote note) = AtSomePoint earlier.notes now.notes (λ point. is_notified point note ≡ so)
+WasReady setup so earlier now (TheItem.OnCounter counter) = AtSomeMoment setup earlier.objects now.objects (λ standing. is_ready (standing.counters counter) ≡ so)
+
+-- at some point between these the clock had come to the deadline
+abbrev pub WasDue : Option ℕ → Past → Past → Type 0
+WasDue deadline earlier now = IsSomeAnd deadline (λ d. AtSomePoint earlier.notes now.notes (λ point. d ≤ clock_of point))
+
+-- each object before this place of the list was unready at some point between these
+abbrev pub WereUnready : Setup → Past → Past → Items → ℕ → Type 0
+WereUnready setup earlier now items place = (i : ℕ) (item : Item) → i < place → item_at items i ≡ Some item → WasReady setup false earlier now item
+
+-- What a wait for any of these answers: the place of the first that was ready, and each before it was not; or how many there are, where none was and the deadline had come.
+abbrev pub AnyAnswers : Setup → Past → Past → Items → Option ℕ → ℕ → Type 0
+AnyAnswers setup earlier now items deadline place = WereUnready setup earlier now items place
+    × (((item : Item) × (item_at items place ≡ Some item) × WasReady setup true earlier now item) ⊎ ((place ≡ items.count) × WasDue deadline earlier now))
+
+-- the wait for 0 that this seat began has begun at a point between these, and from there on the counter had this value at some
+abbrev pub HadValue : Setup → Past → Past → ℕ → ℕ → ℕ → Type 0
+HadValue setup earlier now seat counter value = (point : List ObjectEvent) × IsBetween earlier.objects point now.objects
+    × (objects_own point seat ≡ objects_own earlier.objects seat ++ OnCounter counter (TheCounter.Begun seat) ∷ []) × (((objects_after setup point).counters counter).value ≡ value)
+
+-- What an answer means, of what has happened since the call began. A change has just the event of its answer, of which the history of its counter tells what it means. A wait for 0 has begun, and answers the value at a point since; one that isn't 0 where the clock had come to the deadline. A function has begun and ended by this call, or had ended by another's. All else was so at some point of the call.
+abbrev pub ObjectMeans : Setup → Past → Past → ℕ → ObjectWalk → List ObjectEvent → Reply → Type 0
+ObjectMeans setup earlier now seat (AddLoad counter delta) events (Number value) = events ≡ OnCounter counter (TheCounter.Add seat delta (Ok value)) ∷ []
+ObjectMeans setup earlier now seat (AddLoad counter delta) events (Refused fault) = events ≡ OnCounter counter (TheCounter.Add seat delta (Err fault)) ∷ []
+ObjectMeans setup earlier now seat (ValueLoad counter) events (Number value) = (events ≡ []) × AtSomeMoment setup earlier.objects now.objects (λ standing. (standing.counters counter).value ≡ value)
+ObjectMeans setup earlier now seat (WaitMark counter deadline) events (Number value) =
+    (events ≡ OnCounter counter (TheCounter.Begun seat) ∷ []) × HadValue setup earlier now seat counter value × (value ≢ 0 → WasDue deadline earlier now)
+ObjectMeans setup earlier now seat (OnceLoad once) events Ran = events ≡ OnOnce once (TheOnce.Began seat) ∷ OnOnce once (TheOnce.Ran seat) ∷ []
+ObjectMeans setup earlier now seat (OnceLoad once) events Already = (events ≡ []) × AtSomeMoment setup earlier.objects now.objects (λ standing. is_done (standing.onces once) ≡ true)
+ObjectMeans setup earlier now seat (DoneLoad once) events (Is so) = (events ≡ []) × AtSomeMoment setup earlier.objects now.objects (λ standing. is_done (standing.onces once) ≡ so)
+ObjectMeans setup earlier now seat (InRound round place) events (Number answer) = (events ≡ []) × AnyAnswers setup earlier now round.items round.deadline answer
+ObjectMeans setup earlier now seat asked events reply = ⊥
+
+-- ---- how far a call has come
+
+-- A round has found unready each object before the one at which it stands, and has loaded the clock; a walk up from a note that is under way has found nobody notified so far, of what had happened as the clock was loaded.
+abbrev pub RoundSoFar : Setup → Past → Past → Round → RoundPlace → Type 0
+RoundSoFar setup earlier now round FirstClock = Unit {0}
+RoundSoFar setup earlier now round (AtNote at clock asked note) = WereUnready setup earlier now round.items at
+    × AtSomePoint earlier.notes now.notes (λ point. (clock ≡ clock_of point) × IsLeftAt point asked (Some note))
+RoundSoFar setup earlier now round (AtCounter at clock counter) = WereUnready setup earlier now round.items at
+    × AtSomePoint earlier.notes now.notes (λ point. clock ≡ clock_of point)
+
+-- there was each of these objects as the call began
+abbrev pub WereThere : Setup → Past → Items → Type 0
+WereThere setup earlier items = AreThere setup (env_after earlier.notes).notes items
+
+-- what a call has done at this place, and what it has found
+abbrev pub ObjectSoFar : Setup → Past → Past → ℕ → List ObjectEvent → ObjectWalk → Type 0
+ObjectSoFar setup earlier now seat events (WaitLoad counter deadline) = events ≡ OnCounter counter (TheCounter.Begun seat) ∷ []
+ObjectSoFar setup earlier now seat events (WaitClock counter moment value) = (events ≡ OnCounter counter (TheCounter.Begun seat) ∷ []) × HadValue setup earlier now seat counter value
+ObjectSoFar setup earlier now seat events (OnceEnd once) = events ≡ OnOnce once (TheOnce.Began seat) ∷ []
+ObjectSoFar setup earlier now seat events (InRound round place) = (events ≡ []) × WereThere setup earlier round.items × RoundSoFar setup earlier now round place
+ObjectSoFar setup earlier now seat events walk = events ≡ []
+
+-- where a step leads a call that was asked to do this: it goes on, and is still the one that was asked; or its answer means what it says
+abbrev pub ObjectGoes : Setup → Past → Past → ℕ → ObjectWalk → List ObjectEvent → ObjectNext → Type 0
+ObjectGoes setup earlier now seat asked events (Go walk) = (object_asked walk ≡ asked) × ObjectSoFar setup earlier now seat events walk
+ObjectGoes setup earlier now seat asked events (Repeat walk) = (object_asked walk ≡ asked) × ObjectSoFar setup earlier now seat events walk
+ObjectGoes setup earlier now seat asked events (Over reply) = ObjectMeans setup earlier now seat asked events reply

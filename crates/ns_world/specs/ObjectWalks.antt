@@ -1,0 +1,114 @@
+-- The walks of the calls on counters and once cells: what each place wants, and where each answer leads.
+use Rattle.std.specs.Prelude.{ℕ, nat_lt, ◌==◌, ℤ, Bool, true, false, if◌then◌else◌, Option, None, Some, Result, Ok, Err}
+use Rattle.ns_counters.specs.declared.act.ObjectAct.TheVariants.{LookCounter, LoadToAdd, ExchangeToAdd, MarkWait, LookOnce, BeginOnce, EndOnce}
+use Rattle.ns_counters.specs.declared.counter.CounterFault.{CounterFault}
+use Rattle.ns_counters.specs.declared.counter.CounterState.{CounterState}
+use Rattle.ns_counters.specs.declared.object.Place.{Place}
+use Rattle.ns_counters.specs.declared.object.Place.TheVariants.{Free, Adding, Running}
+use Rattle.ns_counters.specs.declared.word.Stage.{Stage}
+use Rattle.ns_counters.specs.declared.word.Stage.TheVariants as TheStage
+use Rattle.ns_counters.specs.Counters.{judged}
+use Rattle.ns_counters.specs.Words.{counter_word, counter_of, stage_of}
+use Rattle.ns_env.specs.declared.act.EnvAct.TheVariants.{LoadClock}
+use Rattle.ns_env.specs.declared.act.EnvFound.TheVariants.{Clock}
+use Rattle.ns_world.specs.declared.object_walk.ObjectNext.{ObjectNext}
+use Rattle.ns_world.specs.declared.object_walk.ObjectNext.TheVariants.{Go, Repeat, Over}
+use Rattle.ns_world.specs.declared.object_walk.ObjectWalk.{ObjectWalk}
+use Rattle.ns_world.specs.declared.object_walk.ObjectWalk.TheVariants.{AddLoad, AddExchange, ValueLoad, WaitMark, WaitLoad, WaitClock, OnceLoad, OnceBegin, OnceEnd, DoneLoad, InRound}
+use Rattle.ns_world.specs.declared.reply.Reply.TheVariants.{Number, Is, Refused, Ran, Already}
+use Rattle.ns_world.specs.declared.round.ObjectFound.{ObjectFound}
+use Rattle.ns_world.specs.declared.round.ObjectFound.TheVariants.{Word, Env}
+use Rattle.ns_world.specs.declared.round.ObjectWant.{ObjectWant}
+use Rattle.ns_world.specs.declared.round.ObjectWant.TheVariants.{OnWord, OnEnv}
+use Rattle.ns_world.specs.declared.round.Round.{Round}
+use Rattle.ns_world.specs.declared.round.RoundNext.{RoundNext}
+use Rattle.ns_world.specs.declared.round.RoundNext.TheVariants.{RoundGo, RoundOver}
+use Rattle.ns_world.specs.declared.round.RoundPlace.TheVariants.{FirstClock}
+use Rattle.ns_world.specs.Rounds.{round_want, round_got, IsInList}
+
+-- the step that each place wants
+abbrev pub object_want : ObjectWalk → ObjectWant
+object_want (AddLoad counter delta) = OnWord (LoadToAdd counter delta)
+object_want (AddExchange counter delta seen value) = OnWord (ExchangeToAdd counter delta seen value)
+object_want (ValueLoad counter) = OnWord (LookCounter counter)
+object_want (WaitMark counter deadline) = OnWord (MarkWait counter)
+object_want (WaitLoad counter deadline) = OnWord (LookCounter counter)
+object_want (WaitClock counter moment value) = OnEnv LoadClock
+object_want (OnceLoad once) = OnWord (LookOnce once)
+object_want (OnceBegin once) = OnWord (BeginOnce once)
+object_want (OnceEnd once) = OnWord (EndOnce once)
+object_want (DoneLoad once) = OnWord (LookOnce once)
+object_want (InRound round place) = round_want place
+
+-- A change that was judged by the counter seen goes on to make it, or is refused.
+abbrev pub by_answer : ℕ → ℤ → CounterState → Result ℕ CounterFault → ObjectNext
+by_answer counter delta seen (Ok value) = Go (AddExchange counter delta seen value)
+by_answer counter delta seen (Err fault) = Over (Refused fault)
+
+-- where a change goes by the word found
+abbrev pub by_judging : ℕ → ℤ → ℕ → ObjectNext
+by_judging counter delta word = by_answer counter delta (counter_of word) (judged (counter_of word) delta)
+
+-- A wait for 0 compares the clock with its deadline, if it has one, and else waits.
+abbrev pub by_deadline : ℕ → Option ℕ → ℕ → ObjectNext
+by_deadline counter None value = Repeat (WaitLoad counter None)
+by_deadline counter (Some moment) value = Go (WaitClock counter moment value)
+
+-- where a wait for 0 goes by the value
+abbrev pub waited_next : ℕ → Option ℕ → ℕ → ObjectNext
+waited_next counter deadline value = if value == 0 then Over (Number 0) else by_deadline counter deadline value
+
+-- Where nobody has begun to run a function, the call is to begin; where somebody runs one, it waits; where one has run, it is over.
+abbrev pub by_stage : ℕ → Stage → ObjectNext
+by_stage once TheStage.Unused = Go (OnceBegin once)
+by_stage once TheStage.Running = Repeat (OnceLoad once)
+by_stage once TheStage.Done = Over Already
+
+-- the same, where the call has tried to begin: if nobody had, it has
+abbrev pub by_begun : ℕ → Stage → ObjectNext
+by_begun once TheStage.Unused = Go (OnceEnd once)
+by_begun once stage = by_stage once stage
+
+-- whether the function has run
+abbrev pub has_run : Stage → Bool
+has_run TheStage.Unused = false
+has_run TheStage.Running = false
+has_run TheStage.Done = true
+
+-- A wait for any answers what its round shows; if that is nothing, it waits for a new round.
+abbrev pub by_round : Round → RoundNext → ObjectNext
+by_round round (RoundGo place) = Go (InRound round place)
+by_round round (RoundOver None) = Repeat (InRound round FirstClock)
+by_round round (RoundOver (Some at)) = Over (Number at)
+
+-- where the walk goes with what its step found; what no step of the place finds leaves it there
+abbrev pub object_got : ObjectWalk → ObjectFound → ObjectNext
+object_got (AddLoad counter delta) (Word word) = by_judging counter delta word
+object_got (AddExchange counter delta seen value) (Word word) = if word == counter_word seen then Over (Number value) else by_judging counter delta word
+object_got (ValueLoad counter) (Word word) = Over (Number (counter_of word).value)
+object_got (WaitMark counter deadline) (Word word) = waited_next counter deadline (counter_of word).value
+object_got (WaitLoad counter deadline) (Word word) = waited_next counter deadline (counter_of word).value
+object_got (WaitClock counter moment value) (Env (Clock clock)) = if nat_lt clock moment then Repeat (WaitLoad counter (Some moment)) else Over (Number value)
+object_got (OnceLoad once) (Word word) = by_stage once (stage_of word)
+object_got (OnceBegin once) (Word word) = by_begun once (stage_of word)
+object_got (OnceEnd once) (Word word) = Over Ran
+object_got (DoneLoad once) (Word word) = Over (Is (has_run (stage_of word)))
+object_got (InRound round place) found = by_round round (round_got round place found)
+object_got walk found = Go walk
+
+-- the place after, if the walk goes on
+abbrev pub object_after : ObjectNext → Option ObjectWalk
+object_after (Go walk) = Some walk
+object_after (Repeat walk) = Some walk
+object_after (Over reply) = None
+
+-- what binds a seat at this place of its walk to its next step
+abbrev pub object_place : Option ObjectWalk → Place
+object_place (Some (AddExchange counter delta seen value)) = Adding counter delta
+object_place (Some (OnceEnd once)) = Running once
+object_place walk = Free
+
+-- a round's place in its list is one of 16
+abbrev pub IsInBounds : ObjectWalk → Type 0
+IsInBounds (InRound round place) = IsInList place
+IsInBounds walk = Unit {0}

@@ -1,0 +1,24 @@
+-- What a call of a world answers, by what its walk does.
+use Rattle.ns_env.specs.declared.reply.EnvReply.{EnvReply}
+use Rattle.ns_env.specs.declared.reply.EnvReply.TheVariants as TheEnv
+use Rattle.ns_word.specs.declared.walk.Reply.{Reply as WalkReply}
+use Rattle.ns_word.specs.declared.walk.Reply.TheVariants as TheWalk
+use Rattle.ns_world.specs.declared.reply.Reply.{Reply}
+use Rattle.ns_world.specs.declared.reply.Reply.TheVariants.{Succeeded, Busy, Noisy, Number, NotesFull, Is, Expiry, Answered}
+
+-- what a walk on the lock answers, as the answer of its call
+abbrev pub told : WalkReply → Reply
+told TheWalk.Succeeded = Succeeded
+told TheWalk.Busy = Busy
+told TheWalk.Noisy = Noisy
+told (TheWalk.Number number) = Number number
+told (TheWalk.Is so) = Is so
+told (TheWalk.Answered answer) = Answered answer
+
+-- what one on the clock and the notes answers, likewise
+abbrev pub env_told : EnvReply → Reply
+env_told TheEnv.Succeeded = Succeeded
+env_told (TheEnv.Number note) = Number note
+env_told TheEnv.NotesFull = NotesFull
+env_told (TheEnv.Is answer) = Is answer
+env_told (TheEnv.Expiry moment) = Expiry moment

@@ -1,0 +1,65 @@
+-- One round of a wait for any of several objects.
+use Rattle.std.specs.Prelude.{ℕ, suc, ◌<◌, ◌==◌, true, if◌then◌else◌, Option, None, Some}
+use Rattle.ns_model.specs.Environments.{is_due}
+use Rattle.ns_counters.specs.declared.act.ObjectAct.TheVariants.{LookCounter}
+use Rattle.ns_counters.specs.Words.{counter_of}
+use Rattle.ns_env.specs.declared.act.EnvAct.TheVariants.{LoadClock, LoadNote}
+use Rattle.ns_env.specs.declared.act.EnvFound.TheVariants.{Clock}
+use Rattle.ns_env.specs.declared.walk.Chain.TheVariants.{ForIsNotified}
+use Rattle.ns_env.specs.declared.walk.EnvWalk.{EnvWalk}
+use Rattle.ns_env.specs.declared.walk.EnvWalk.TheVariants.{NoteLoad}
+use Rattle.ns_env.specs.declared.walk.EnvNext.{EnvNext}
+use Rattle.ns_env.specs.declared.walk.EnvNext.TheVariants.{Go, Over}
+use Rattle.ns_env.specs.declared.reply.EnvReply.TheVariants.{Is}
+use Rattle.ns_env.specs.Walks.{env_got_of}
+use Rattle.ns_world.specs.declared.items.Item.{Item}
+use Rattle.ns_world.specs.declared.items.Item.TheVariants.{OnNote, OnCounter}
+use Rattle.ns_world.specs.declared.round.Round.{Round}
+use Rattle.ns_world.specs.declared.round.RoundPlace.{RoundPlace}
+use Rattle.ns_world.specs.declared.round.RoundPlace.TheVariants.{FirstClock, AtNote, AtCounter}
+use Rattle.ns_world.specs.declared.round.RoundNext.{RoundNext}
+use Rattle.ns_world.specs.declared.round.RoundNext.TheVariants.{RoundGo, RoundOver}
+use Rattle.ns_world.specs.declared.round.ObjectWant.{ObjectWant}
+use Rattle.ns_world.specs.declared.round.ObjectWant.TheVariants.{OnWord, OnEnv}
+use Rattle.ns_world.specs.declared.round.ObjectFound.{ObjectFound}
+use Rattle.ns_world.specs.declared.round.ObjectFound.TheVariants.{Word, Env}
+use Rattle.ns_world.specs.Items.{item_at}
+
+-- the step that a round wants at each of its places
+abbrev pub round_want : RoundPlace → ObjectWant
+round_want FirstClock = OnEnv LoadClock
+round_want (AtNote at clock asked note) = OnEnv (LoadNote note)
+round_want (AtCounter at clock counter) = OnWord (LookCounter counter)
+
+-- where it goes to look at this object; behind the last it shows the number of objects, if the clock had come to the deadline
+abbrev pub to_item : Round → ℕ → ℕ → Option Item → RoundNext
+to_item round clock at (Some (OnNote note)) = RoundGo (AtNote at clock note note)
+to_item round clock at (Some (OnCounter counter)) = RoundGo (AtCounter at clock counter)
+to_item round clock at None = if is_due clock round.deadline then RoundOver (Some round.items.count) else RoundOver None
+
+-- where it goes to look at the object at this place
+abbrev pub from_place : Round → ℕ → ℕ → RoundNext
+from_place round clock at = to_item round clock at (item_at round.items at)
+
+-- the chain of notes that is loaded for the object at this place
+abbrev pub chain_from : ℕ → ℕ → ℕ → EnvWalk
+chain_from asked clock note = NoteLoad (ForIsNotified asked) clock note
+
+-- where it goes by where that chain goes
+abbrev pub by_chain : Round → ℕ → ℕ → ℕ → EnvNext → RoundNext
+by_chain round at clock asked (Go (NoteLoad chain moment above)) = RoundGo (AtNote at clock asked above)
+by_chain round at clock asked (Over (Is true)) = RoundOver (Some at)
+by_chain round at clock asked next = from_place round clock (suc at)
+
+-- where it goes with what its step found; what no step of the place finds leaves it there
+abbrev pub round_got : Round → RoundPlace → ObjectFound → RoundNext
+round_got round FirstClock (Env (Clock clock)) = from_place round clock 0
+round_got round (AtNote at clock asked note) (Env found) = by_chain round at clock asked (env_got_of (chain_from asked clock note) found)
+round_got round (AtCounter at clock counter) (Word word) = if (counter_of word).value == 0 then RoundOver (Some at) else from_place round clock (suc at)
+round_got round place found = RoundGo place
+
+-- the place in the list is one of 16
+abbrev pub IsInList : RoundPlace → Type 0
+IsInList FirstClock = Unit {0}
+IsInList (AtNote at clock asked note) = at < 16
+IsInList (AtCounter at clock counter) = at < 16

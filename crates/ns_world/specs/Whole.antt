@@ -1,0 +1,167 @@
+-- A world as a contract sees it: the lock with its row, the clock and the notes, and beside them counters and once cells; and a seat's step in it.
+use Rattle.std.specs.Prelude.{◌≡◌, ℕ, ◌⊎◌, Bool, ◌||◌, ◌≤◌, List, [], Some, None, is_some, length}
+use Rattle.std.proofs.Common.{inl, inr}
+use Rattle.ns_counters.specs.declared.object.ObjectEvent.{ObjectEvent}
+use Rattle.ns_counters.specs.Objects.{object_who}
+use Rattle.ns_model.specs.Tallies.{Every}
+use Rattle.ns_model.specs.Truths.{Truths}
+use Rattle.ns_model.specs.declared.environment.EnvEvent.{EnvEvent}
+use Rattle.ns_model.specs.declared.event.Event.{Event}
+use Rattle.ns_queue.specs.Queues.{Lists}
+use Rattle.ns_word.specs.declared.word.Word.{Word}
+use Rattle.ns_world.specs.declared.call.Call.{Call}
+use Rattle.ns_world.specs.declared.environment.Environment.{Environment}
+use Rattle.ns_world.specs.declared.fault.Fault.{Fault}
+use Rattle.ns_world.specs.declared.fault.Fault.TheVariants.{OutOfMemory, NoSuchSeat, TooManySeats, StepLimit}
+use Rattle.ns_world.specs.declared.object_walk.ObjectWalk.{ObjectWalk}
+use Rattle.ns_world.specs.declared.objects.Objects.{Objects}
+use Rattle.ns_world.specs.declared.seat.Seat.{Seat}
+use Rattle.ns_world.specs.declared.step.Begun.{Begun}
+use Rattle.ns_world.specs.declared.step.Begun.TheVariants.{Started, Misuse, Busy}
+use Rattle.ns_world.specs.declared.step.Step.{Step}
+use Rattle.ns_world.specs.declared.step.Step.TheVariants.{Went, Idle, Finished, Nothing}
+use Rattle.ns_world.specs.Begins.{Starts, Misuses}
+use Rattle.ns_world.specs.Calls.{object_start}
+use Rattle.ns_world.specs.Objects.{AreLedTo, HasOperated, fresh_objects, objects_begun, walk_in}
+use Rattle.ns_world.specs.World.{Now, Kept, kept, now_of, fresh, IsLawfulWorld, IsIdle, IsBusy, Moves, CommitsNext, env_done, is_busy}
+
+-- a world: the lock with the clock and the notes, and the counters and once cells
+pub record Whole (C : Type 0) (N : ℕ) : Type 0 where
+  pub lock : Now C N
+  pub objects : Objects
+
+-- what a world keeps: the same, but what the conditions mean
+pub record WholeKept (C : Type 0) (N : ℕ) : Type 0 where
+  pub lock : Kept C N
+  pub objects : Objects
+
+-- a world, of its two parts
+abbrev pub whole : {C : Type 0} {N : ℕ} → Now C N → Objects → Whole C N
+whole lock objects = record { lock = lock; objects = objects }
+
+-- a world as the machine sees it
+abbrev pub whole_of : {C : Type 0} {N : ℕ} → Truths C → WholeKept C N → Whole C N
+whole_of truths world = whole (now_of truths world.lock) world.objects
+
+-- what a world keeps, of its parts
+abbrev pub whole_kept : {C : Type 0} {N : ℕ} → Word → List ℕ → Lists C → List ℕ → Environment → List (Seat C N) → List (Event C N) → Objects → WholeKept C N
+whole_kept word row queues flags env seats history objects = record { lock = kept word row queues flags env seats history; objects = objects }
+
+-- a world as the machine sees it, of its parts
+abbrev pub whole_with : {C : Type 0} {N : ℕ} → Truths C → Word → List ℕ → Lists C → List ℕ → Environment → List (Seat C N) → List (Event C N) → Objects → Whole C N
+whole_with truths word row queues flags env seats history objects = whole_of truths (whole_kept word row queues flags env seats history objects)
+
+-- ---- what holds of every world
+
+-- No more than one call of a seat is in progress: who is in one on counters and once cells is in no other.
+abbrev pub AreApart : {C : Type 0} {N : ℕ} → Whole C N → Type 0
+AreApart world = (seat : ℕ) (walk : ObjectWalk) → walk_in world.objects.walks seat ≡ Some walk → IsIdle world.lock seat
+
+-- these events are all that has happened to the counters and once cells of the world
+abbrev pub HaveLedTo : {C : Type 0} {N : ℕ} → List ObjectEvent → Whole C N → Type 0
+HaveLedTo events world = AreLedTo events world.objects world.lock.env.notes
+
+-- The lock, the clock and the notes keep their law. The counters and once cells are as some events of this world's seats leave them, and they keep theirs.
+pub record IsLawfulWhole {C : Type 0} {N : ℕ} (world : Whole C N) : Type 0 where
+  pub lock : IsLawfulWorld world.lock
+  pub seats : world.objects.setup.seats ≡ length world.lock.state.views
+  pub places : length world.objects.walks ≡ 64
+  pub apart : AreApart world
+  pub events : List ObjectEvent
+  pub objects_lawful : HaveLedTo events world
+
+-- a new world: a free lock over a row of zeros, a clock at 0 and no note, these counters and so many once cells, before any event
+abbrev pub fresh_whole : {C : Type 0} {N : ℕ} → Truths C → ℕ → List ℕ → ℕ → Whole C N
+fresh_whole truths seats counters onces = whole (fresh truths seats) (fresh_objects seats counters onces)
+
+-- ---- how a call begins
+
+-- a call of the seat is in progress
+abbrev pub WholeIsBusy : {C : Type 0} {N : ℕ} → Whole C N → ℕ → Type 0
+WholeIsBusy world seat = IsBusy world.lock seat ⊎ ((walk : ObjectWalk) × (walk_in world.objects.walks seat ≡ Some walk))
+
+-- no call of the seat is in progress
+abbrev pub WholeIsIdle : {C : Type 0} {N : ℕ} → Whole C N → ℕ → Type 0
+WholeIsIdle world seat = IsIdle world.lock seat × (walk_in world.objects.walks seat ≡ None)
+
+-- the seat has no call in progress and meets the call's need, and then stands at the first place of the call's walk
+pub record WholeStarts {C : Type 0} {N : ℕ} (old new : Whole C N) (seat : ℕ) (call : Call C) : Type 0 where
+  pub starts : Starts old.objects.setup old.lock new.lock seat call
+  pub elsewhere : walk_in old.objects.walks seat ≡ None
+  pub becomes : new.objects ≡ objects_begun old.objects seat (object_start call)
+  pub stands : walk_in new.objects.walks seat ≡ object_start call
+
+-- what the answer says of the call
+abbrev pub WholeBegins : {C : Type 0} {N : ℕ} → Whole C N → Whole C N → ℕ → Call C → Begun → Type 0
+WholeBegins old new seat call Started = WholeStarts old new seat call
+WholeBegins old new seat call Misuse = (new ≡ old) × Misuses old.objects.setup old.lock seat call × (walk_in old.objects.walks seat ≡ None)
+WholeBegins old new seat call Busy = (new ≡ old) × WholeIsBusy old seat
+
+-- ---- a step
+
+-- The seat makes one step by the lock, or on the clock and the notes, and it was this: it is in no call on counters and once cells, and they stay.
+pub record LockSteps {C : Type 0} {N : ℕ} (old new : Whole C N) (seat : ℕ) (step : Step) : Type 0 where
+  pub moves : Moves old.lock new.lock seat step
+  pub same : new.objects ≡ old.objects
+  pub elsewhere : walk_in old.objects.walks seat ≡ None
+
+-- The seat makes one step of a call on counters and once cells, and it was this: it is in no other call, it replies where its walk is over, and nothing else changes.
+pub record Operates {C : Type 0} {N : ℕ} (old new : Whole C N) (seat : ℕ) (step : Step) : Type 0 where
+  pub idle : IsIdle old.lock seat
+  pub walk : ObjectWalk
+  pub walks : walk_in old.objects.walks seat ≡ Some walk
+  pub operated : HasOperated old.lock.env seat walk old.objects new.objects step
+  pub same : new.lock ≡ old.lock
+
+-- the seat makes one step of its call
+abbrev pub WholeMoves : {C : Type 0} {N : ℕ} → Whole C N → Whole C N → ℕ → Step → Type 0
+WholeMoves old new seat step = LockSteps old new seat step ⊎ Operates old new seat step
+
+-- what the answer says of a seat's step
+abbrev pub WholeStep : {C : Type 0} {N : ℕ} → Whole C N → Whole C N → ℕ → Step → Type 0
+WholeStep old new seat Nothing = (new ≡ old) × WholeIsIdle old seat
+WholeStep old new seat Went = WholeMoves old new seat Went
+WholeStep old new seat Idle = WholeMoves old new seat Idle
+WholeStep old new seat (Finished reply) = WholeMoves old new seat (Finished reply)
+
+-- the events that a seat's step is on the clock and the notes
+abbrev pub notes_done : {C : Type 0} {N : ℕ} {old new : Whole C N} {seat : ℕ} {step : Step} → WholeMoves old new seat step → List EnvEvent
+notes_done (inl p) = env_done p.moves
+notes_done (inr p) = []
+
+-- the events that it is on the counters and once cells
+abbrev pub objects_done : {C : Type 0} {N : ℕ} {old new : Whole C N} {seat : ℕ} {step : Step} → WholeMoves old new seat step → List ObjectEvent
+objects_done (inl p) = []
+objects_done (inr p) = p.operated.events
+
+-- both, of a step that may be none
+abbrev pub notes_by : {C : Type 0} {N : ℕ} (old new : Whole C N) (seat : ℕ) (step : Step) → WholeStep old new seat step → List EnvEvent
+notes_by old new seat Nothing p = []
+notes_by old new seat Went p = notes_done p
+notes_by old new seat Idle p = notes_done p
+notes_by old new seat (Finished reply) p = notes_done p
+
+abbrev pub objects_by : {C : Type 0} {N : ℕ} (old new : Whole C N) (seat : ℕ) (step : Step) → WholeStep old new seat step → List ObjectEvent
+objects_by old new seat Nothing p = []
+objects_by old new seat Went p = objects_done p
+objects_by old new seat Idle p = objects_done p
+objects_by old new seat (Finished reply) p = objects_done p
+
+-- all these events of the counters and once cells are the seat's
+abbrev pub AreObjectsBy : ℕ → List ObjectEvent → Type 0
+AreObjectsBy seat events = Every (λ event. object_who event ≡ seat) events
+
+-- the seat's next step commits an event of the row: it is in a call on the lock, which does
+abbrev pub WholeCommits : {C : Type 0} {N : ℕ} → Whole C N → ℕ → Type 0
+WholeCommits world seat = CommitsNext world.lock seat
+
+-- why a step is refused: the number is no seat's, or there was no memory for the event that it commits
+abbrev pub WholeFault : {C : Type 0} {N : ℕ} → Whole C N → ℕ → Fault → Type 0
+WholeFault old seat NoSuchSeat = length old.lock.state.views ≤ seat
+WholeFault old seat OutOfMemory = WholeCommits old seat
+WholeFault old seat TooManySeats = ⊥
+WholeFault old seat StepLimit = ⊥
+
+-- whether a call of the seat is in progress
+abbrev pub whole_busy : {C : Type 0} {N : ℕ} → Whole C N → ℕ → Bool
+whole_busy world seat = is_busy world.lock.state.views world.lock.asking seat || is_some (walk_in world.objects.walks seat)

@@ -1,0 +1,127 @@
+//! The counters and once cells of a world, and where its seats stand in calls on them.
+
+ghost use Rattle.std.specs.Prelude.{◌≡◌, ◌<◌, ◌≤◌, length, slice_index, slice_set};
+ghost use Rattle.ns_counters.specs.Steps.{word_at};
+ghost use Rattle.ns_world.specs.Objects.{fresh_objects, object_step_of, put_at, walk_in, word_left};
+ghost use Rattle.ns_world.specs.ObjectWalks.{object_after};
+
+use crate::items::{Item, Items};
+use crate::object_walk::{ObjectNext, ObjectWalk};
+use crate::reply::Reply;
+use crate::step::Step;
+use ns_counters::act::ObjectAct;
+use ns_counters::counter::CounterState;
+use ns_counters::made::MOST;
+use ns_counters::object::Setup;
+use ns_counters::word::{WAITED, encode_counter};
+
+/// The words of up to 16 counters and up to 16 once cells, and each seat's place in its call on them, if one
+/// is in progress.
+#[derive(Drop)]
+pub(crate) struct Objects {
+    /// How many there are of each, and how they began.
+    pub(crate) setup: Setup,
+    /// Their words.
+    pub(crate) words: [u64; 32],
+    /// Each seat's place.
+    pub(crate) walks: [Option<ObjectWalk>; 64],
+}
+
+/// The word that a step is on.
+fn word_at(act: ObjectAct) -> usize
+    ensures { result ≡ word_at act }
+{
+    match act {
+        ObjectAct::LookCounter { counter } => counter as usize,
+        ObjectAct::LoadToAdd { counter, .. } => counter as usize,
+        ObjectAct::ExchangeToAdd { counter, .. } => counter as usize,
+        ObjectAct::MarkWait { counter } => counter as usize,
+        ObjectAct::LookOnce { once } => MOST + once as usize,
+        ObjectAct::BeginOnce { once } => MOST + once as usize,
+        ObjectAct::EndOnce { once } => MOST + once as usize,
+    }
+}
+
+/// What a step leaves of the word that it finds.
+fn word_left(act: ObjectAct, found: u64) -> u64
+    ensures { result ≡ word_left act found }
+{
+    match act {
+        ObjectAct::ExchangeToAdd { seen, value, .. } if found == encode_counter(seen) => {
+            encode_counter(CounterState { value, ..seen })
+        }
+        ObjectAct::MarkWait { .. } => found | WAITED,
+        ObjectAct::BeginOnce { .. } if found == 0 => 1,
+        ObjectAct::EndOnce { .. } => 2,
+        _ => found,
+    }
+}
+
+/// What a step was, by where it leads.
+pub(crate) fn step_of(next: ObjectNext) -> Step
+    ensures { result ≡ object_step_of next }
+{
+    match next {
+        ObjectNext::Go(_) => Step::Went,
+        ObjectNext::Repeat(_) => Step::Idle,
+        ObjectNext::Over(reply) => Step::Finished(reply),
+    }
+}
+
+/// The place after a step, if the call goes on.
+pub(crate) fn walk_after(next: ObjectNext) -> Option<ObjectWalk>
+    ensures { result ≡ object_after next }
+{
+    match next {
+        ObjectNext::Go(walk) => Some(walk),
+        ObjectNext::Repeat(walk) => Some(walk),
+        ObjectNext::Over(_) => None,
+    }
+}
+
+impl Objects {
+    /// A counter for each of the values, by number, and so many once cells, for so many seats, none of
+    /// which is in a call.
+    pub(crate) fn new(seats: u8, counters: &[u32], cells: u8) -> Objects
+        requires { length counters.now ≤ 16 }
+        ensures { result ≡ fresh_objects seats counters.now cells }
+    {
+        let setup = Setup::new(seats, counters, cells);
+        let words = setup.words();
+        Objects {
+            setup,
+            words,
+            walks: [None; 64],
+        }
+    }
+
+    /// The seat's place in its call, if one is in progress.
+    pub(crate) fn walk(&self, seat: u8) -> Option<ObjectWalk>
+        ensures { result ≡ walk_in self.now.walks seat }
+    {
+        match self.walks.get(seat as usize) {
+            None => None,
+            Some(walk) => *walk,
+        }
+    }
+
+    /// Puts the seat at a place.
+    pub(crate) fn put(&mut self, seat: u8, walk: Option<ObjectWalk>)
+        requires { seat < 64 }
+        ensures { self.new ≡ put_at self.old seat walk }
+    {
+        self.walks[seat as usize] = walk;
+    }
+
+    /// Makes the step on a word; answers the word found.
+    pub(crate) fn make(&mut self, act: ObjectAct) -> u64
+        requires { word_at act < 32 }
+        ensures found { result ≡ slice_index self.old.words (word_at act) }
+        ensures left { self.new ≡ record self.old { words = slice_set self.old.words (word_at act) (word_left act result) } }
+    {
+        let at = word_at(act);
+        let found = self.words[at];
+        self.words[at] = word_left(act, found);
+        found
+    }
+}

@@ -1,0 +1,63 @@
+//! How a call on counters and once cells begins, and a step of one, over the parts of a world.
+
+ghost use Rattle.std.specs.Prelude.{◌≡◌, ◌||◌, ◌<◌, ℕ, List, is_some, length};
+ghost use Rattle.ns_model.specs.Seats.{is_in};
+ghost use Rattle.ns_world.specs.Asks.{plain_of};
+ghost use Rattle.ns_world.specs.Objects.{HasOperated, ObjectEffect, StepFits, WantFits, objects_begun, walk_in};
+ghost use Rattle.ns_counters.specs.declared.object.ObjectEvent.{ObjectEvent};
+ghost use Rattle.ns_counters.specs.declared.object.Place.{Place};
+
+use crate::environment::Environment;
+use crate::object_walk::ObjectWalk;
+use crate::objects::{Objects, step_of, walk_after};
+use crate::round::{ObjectFound, ObjectWant};
+use crate::step::Step;
+use ns_model::seats::Seats;
+
+/// Puts the seat at the first place of its call, if it is one on counters and once cells.
+pub(crate) fn begin_on(objects: &mut Objects, seat: u8, first: Option<ObjectWalk>)
+    requires { seat < 64 }
+    ensures { objects.new ≡ objects_begun objects.old seat first }
+{
+    if first.is_some() {
+        objects.put(seat, first);
+    }
+}
+
+/// Makes the step that a place wants, and tells what it found.
+fn perform(env: &Environment, objects: &mut Objects, want: ObjectWant) -> ObjectFound
+    requires { WantFits env.now.next want }
+    ensures effect { (seat : ℕ) (place : Place) → (events : List ObjectEvent) × ObjectEffect seat place want objects.old.words (plain_of env.now) result objects.new.words events }
+    ensures kept { objects.new ≡ record { setup = objects.old.setup; words = objects.new.words; walks = objects.old.walks } }
+{
+    match want {
+        ObjectWant::OnWord(act) => ObjectFound::Word(objects.make(act)),
+        ObjectWant::OnEnv(act) => ObjectFound::Env(env.load(act)),
+    }
+}
+
+/// Makes the step of a call on counters and once cells that the seat's walk wants.
+pub(crate) fn operate(env: &Environment, objects: &mut Objects, seat: u8, walk: ObjectWalk) -> Step
+    requires seat { seat < 64 }
+    requires fits { StepFits env.now.next walk }
+    ensures { HasOperated (plain_of env.now) seat walk objects.old objects.new result }
+{
+    let found = perform(env, objects, walk.want());
+    let next = walk.got(found);
+    objects.put(seat, walk_after(next));
+    step_of(next)
+}
+
+/// The seats, and those with a call in progress on counters and once cells.
+pub(crate) fn with_busy(objects: &Objects, seats: Seats) -> Seats
+    requires { length objects.now.walks ≡ 64 }
+    ensures { (seat : ℕ) → is_in result seat ≡ (is_in seats seat || is_some (walk_in objects.now.walks seat)) }
+{
+    let mut busy = seats;
+    for (at, walk) in objects.walks.iter().enumerate() {
+        if walk.is_some() {
+            busy = busy.with(at as u8);
+        }
+    }
+    busy
+}
