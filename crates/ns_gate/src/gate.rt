@@ -6,12 +6,12 @@ ghost use Rattle.ns_gate.specs.Prelude.{word_of, IsPackable, before_in, exchange
 use crate::closed::{Closed, cells};
 use crate::fault::Fault;
 use crate::plays::{FirstOut, Go, Law, Learn, Load, Look, Together};
-use crate::saying::load_saying;
 use crate::view::View;
 use atomic_table::{Refused, Table};
 use ns_env::limits::{Cause, Limits};
 use ns_model::condition::Condition;
 use ns_queue::queues::Queues;
+use ns_seats::saying::load_saying;
 use ns_word::act::{Act, Found};
 use ns_word::codec::{encode, unpacked};
 use ns_word::wait::Aim;

@@ -14,7 +14,6 @@ pub mod gate;
 pub mod perform;
 pub mod plays;
 pub mod queues;
-pub mod saying;
 pub mod showing;
 pub mod view;
 pub mod waking;

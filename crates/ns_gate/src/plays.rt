@@ -3,12 +3,12 @@
 ghost use Rattle.std.specs.Prelude.{◌++◌, [], None};
 ghost use Rattle.ns_gate.specs.Prelude.{Holds, first_of, fresh, rest_of, HaveLearned, HasLooked, PerformedWith, act_by, first_said, the};
 
-use crate::saying::Telling;
 use crate::view::View;
 use atomic_table::{Join, Play, Split, TableRule};
 use ns_env::limits::Cause;
 use ns_model::condition::Condition;
 use ns_queue::queues::Queues;
+use ns_seats::saying::Telling;
 use ns_word::walk::Walk;
 use std::marker::PhantomData;
 

@@ -9,13 +9,13 @@ ghost use Rattle.ns_seats.specs.Views.{IsOne};
 
 use crate::objects::Objects;
 use crate::plays::{Change, Law, LoadToChange};
-use crate::saying::load_saying;
 use crate::seat::{ObjSeat, TableSeat};
 use crate::view::View;
 use ns_counters::act::ObjectAct;
 use ns_counters::counter::{CounterEvent, CounterFault, CounterState};
 use ns_counters::object::{ObjectEvent, Place, Setup};
 use ns_counters::word::{decode_counter, encode_counter};
+use ns_seats::saying::load_saying;
 use std::sync::Wait;
 
 impl Objects {

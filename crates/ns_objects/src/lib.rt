@@ -37,7 +37,6 @@ pub mod any;
 pub mod objects;
 mod plays;
 pub mod running;
-mod saying;
 pub mod seat;
 #[cfg(test)]
 mod tests;

@@ -7,10 +7,10 @@ ghost use Rattle.ns_objects.specs.Known.{the};
 ghost use Rattle.ns_objects.specs.Told.{Learned, OneActs, OneEnds, change_said, change_in_hand, once_at, value_of, word_seen};
 ghost use Rattle.ns_seats.specs.Views.{first_of, rest_of};
 
-use crate::saying::Telling;
 use crate::view::View;
 use atomic_table::{Join, Play, Split, TableRule};
 use ns_counters::object::Setup;
+use ns_seats::saying::Telling;
 
 /// The words are as one legal history leaves them, which each seat has seen a beginning of.
 pub struct Law;

@@ -5,8 +5,7 @@
 
 ghost use Rattle.std.specs.Prelude.{◌≡◌, ◌<◌, ℕ, List, [], ◌∷◌};
 ghost use mathlib.Core.Option.{none};
-ghost use Rattle.ns_gate.specs.Prelude.{Me, Allows, step};
-ghost use Rattle.atomic_table.specs.Table.{Step};
+ghost use Rattle.atomic_table.specs.Table.{Me, Allows, Step, step};
 
 use atomic_table::{Play, Seat, Shared, TableRule};
 use std::marker::{Brand, PhantomData};
@@ -53,7 +52,7 @@ fn load_said<S, V, K, P: TableRule<S, V, K>, A, M: Telling<S, V, A>, J: Says<A>>
 
 /// A load that is told this.
 #[inline(always)]
-pub(crate) fn load_saying<S, V, K, P: TableRule<S, V, K>, A, M: Telling<S, V, A>>(
+pub fn load_saying<S, V, K, P: TableRule<S, V, K>, A, M: Telling<S, V, A>>(
     shared: &Shared<S, V, K, P>,
     seat: &mut Seat<S, V>,
     word: usize,
