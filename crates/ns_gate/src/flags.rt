@@ -7,6 +7,7 @@ use crate::gate::{Gate, GateSeat};
 use ns_model::condition::Condition;
 use ns_word::act::{Act, Found};
 use std::sync::Wait;
+use std::time::Duration;
 
 /// The number of a flag that is set.
 const SET: u32 = 1;
@@ -76,5 +77,23 @@ impl<C: Condition<N>, const N: usize> Gate<C, N> {
         requires number { (number ≡ (the seat.now.me.0).at.seat) × (number < 64) }
     {
         self.table.shared.park(rt, Self::flag_at(seat, number), SET);
+    }
+
+    /// Sleeps while the seat's own flag is set, for at most this long, or for less. Whoever clears it
+    /// wakes the sleeper.
+    ///
+    /// Needs a seat of this gate, and its number, below 64.
+    pub fn park_timeout<R: Wait>(
+        &self,
+        rt: &R,
+        seat: &GateSeat<C, N>,
+        number: u8,
+        longest: Duration,
+    )
+        requires of { seat.now.table_id ≡ self.now }
+        requires number { (number ≡ (the seat.now.me.0).at.seat) × (number < 64) }
+    {
+        let flag = Self::flag_at(seat, number);
+        self.table.shared.park_timeout(rt, flag, SET, longest);
     }
 }
