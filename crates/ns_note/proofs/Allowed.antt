@@ -3,6 +3,7 @@ use Rattle.std.proofs.Common.{◌≡◌, ◌≢◌, ℕ, ◌+◌, ◌-◌, ◌%�
 use mathlib.Core.Option.{some}
 use lib.ListN.{get_elem?}
 use Rattle.atomic_table.specs.Table.{Me, keeps, Allows}
+use Rattle.atomic_table.proofs.Lists.{set_again}
 use Rattle.ns_model.specs.declared.environment.EnvEvent.{EnvEvent}
 use Rattle.ns_model.specs.Environments.{NoteStanding, ParentFits, made_note, notified_note, env_after, IsMade}
 use Rattle.ns_model.specs.Tallies.{total, Every, one_if}
@@ -23,7 +24,7 @@ use Rattle.ns_note.specs.Law.{Views, is_adding, is_seat, IsNoteWord, word_at, Is
 use Rattle.ns_note.specs.Told.{FoundWord, OneActs, OneMakes, note_stored}
 use Rattle.ns_note.specs.Words.{WordFits, word_of, note_of}
 use Rattle.ns_note.proofs.Codec.{note_of-word_of, marked}
-use Rattle.ns_note.proofs.Words.{word_found, word_set}
+use Rattle.ns_note.proofs.Words.{bell_set, word_found, word_set}
 use Rattle.ns_seats.specs.Views.{IsOne, tally}
 
 seat_one : (seat : ℕ) (v : EnvView) → v.seat ≡ seat → is_seat seat v ≡ 1
@@ -87,6 +88,18 @@ module _ (seat_count : ℕ) (words : List ℕ) (views : Views) (h : List EnvEven
   tells : FoundWord act (slice_index words (word_at act)) v told
   tells = record { plain = rule.plain; word_is = word_found rule.plain words rule.words_are act low; acted = has_acted seat_count others_adding rule.plain h v few law its_fit act can }
 
+-- the rule after a bell is rung or set back
+bell_ruled : (seat_count : ℕ) (words : List ℕ) (views : Views) (h : List EnvEvent) (seat bell : ℕ) → IsRuled seat_count words views h → seat < 64 → bell ≤ 1 → IsRuled seat_count (set words (seat + 66) bell) views h
+bell_ruled seat_count words views h seat bell rule low most = record {
+  plain = rule.plain;
+  words_are = bell_set rule.plain words rule.words_are seat bell low most;
+  lawful = rule.lawful;
+  few = rule.few;
+  seats = rule.seats;
+  once = rule.once;
+  each = rule.each;
+}
+
 -- the words of the notes come after two others
 pub back : (n : ℕ) → (n + 2) - 2 ≡ n
 back n = omega arith
@@ -140,3 +153,13 @@ module _ (S : Type 0) (seat_count slots id : ℕ) (me : Me S (List EnvView)) whe
       subst (λ (act : EnvAct). Allows (Holds seat_count) slots id me (n + 2) (λ _. word) (λ _ now. OneMakes act me now)) (λ i. StoreNote (sym (back n) i) (sym tells i).parent (sym tells i).deadline)
       (tells_less (n + 2) (λ _. word) (λ found now. OneActs (StoreNote n parent deadline) found me now) (λ _ now. OneMakes (StoreNote n parent deadline) me now) (λ found now acts. (found, acts))
       (allows (StoreNote n parent deadline) (λ _. word) (omega (arith, low)) one (taken, above) (λ plain old few was. subst (λ (s : NoteStanding). IsNoteWord word (state_of s)) (sym (but-here n (made_note parent deadline) plain.notes)) (is, fits))))
+
+  -- Through any seat, whatever it stands for, any bell may be rung or set back, and the seat is as it was.
+  pub rings : (seat bell : ℕ) → seat < 64 → bell ≤ 1 → Allows (Holds seat_count) slots id me (seat + 66) (λ _. bell) (λ _ now. now ≡ me)
+  rings seat bell low most s holds _ at _ = (
+    me.0,
+    keeps,
+    tt,
+    (holds.0, subst (λ (views : Views). IsRuled seat_count (set s.words (seat + 66) bell) views holds.0) (sym (set_again s.views id me.0 at)) (bell_ruled seat_count s.words s.views holds.0 seat bell holds.1 low most)),
+    refl,
+  )

@@ -89,7 +89,7 @@ fresh_fits : (seat_count from k : ℕ) → from + k ≤ seat_count → Every (Vi
 fresh_fits seat_count from zero h = tt
 fresh_fits seat_count from (suc k) h = (record { limited = refl; below = omega arith; seen = ([], refl); mine = refl; mine_seen = refl; making = tt }, fresh_fits seat_count (suc from) k (omega arith))
 
-begins : (seat_count k : ℕ) → seat_count ≤ 64 → k ≡ 66 → (h : List EnvEvent) × IsRuled seat_count (replicate k 0) (fresh seat_count 0 seat_count ∷ []) h
+begins : (seat_count k : ℕ) → seat_count ≤ 64 → k ≡ 130 → (h : List EnvEvent) × IsRuled seat_count (replicate k 0) (fresh seat_count 0 seat_count ∷ []) h
 begins seat_count k few is = (
   [],
   record {
@@ -103,5 +103,5 @@ begins seat_count k few is = (
   },
 )
 
-pub begins_with : (seat_count : ℕ) (words : List ℕ) → seat_count ≤ 64 → words ≡ replicate 66 0 → (h : List EnvEvent) × IsRuled seat_count words (fresh seat_count 0 seat_count ∷ []) h
-begins_with seat_count words few is = subst (λ (l : List ℕ). (h : List EnvEvent) × IsRuled seat_count l (fresh seat_count 0 seat_count ∷ []) h) (sym is) (begins seat_count 66 few refl)
+pub begins_with : (seat_count : ℕ) (words : List ℕ) → seat_count ≤ 64 → words ≡ replicate 130 0 → (h : List EnvEvent) × IsRuled seat_count words (fresh seat_count 0 seat_count ∷ []) h
+begins_with seat_count words few is = subst (λ (l : List ℕ). (h : List EnvEvent) × IsRuled seat_count l (fresh seat_count 0 seat_count ∷ []) h) (sym is) (begins seat_count 130 few refl)

@@ -1,5 +1,5 @@
 -- The words of a table, one of them changed with what it is the word of.
-use Rattle.std.proofs.Common.{◌≡◌, ◌≢◌, ℕ, ◌+◌, ◌<◌, List, length, get_or, set, replicate, zero, suc, inl, inr, refl, sym, ◌∙◌, subst, arith, length-set, get_or-set_same, get_or-set_other}
+use Rattle.std.proofs.Common.{◌≡◌, ◌≢◌, ℕ, ◌+◌, ◌<◌, ◌≤◌, List, length, get_or, set, replicate, zero, suc, inl, inr, refl, sym, ◌∙◌, subst, arith, length-set, get_or-set_same, get_or-set_other}
 use Rattle.std.proofs.lemmas.Bool.{cases_eq}
 use Rattle.std.proofs.lemmas.List.{length-replicate}
 use Rattle.ns_model.specs.Environments.{NoteStanding, but_at, notified_note, made_note}
@@ -17,6 +17,7 @@ module _ (plain : EnvPlain) (words : List ℕ) (are : AreWordsOf plain words) wh
     clock = let within : 0 < length words = omega (arith, width) in rw get_or-set_same is;
     next = let apart : 1 ≢ 0 = (λ same. omega (arith, same)) in get_or-set_other words 0 1 word 0 apart ∙ are.next;
     notes = λ n below. let apart : n + 2 ≢ 0 = (λ same. omega (arith, same)) in rw get_or-set_other (are.notes n below);
+    bells = λ n below. let apart : n + 66 ≢ 0 = (λ same. omega (arith, same)) in rw get_or-set_other (are.bells n below);
   }
 
   next_set : (next word : ℕ) → word ≡ next → AreWordsOf (record plain { next = next }) (set words 1 word)
@@ -25,6 +26,7 @@ module _ (plain : EnvPlain) (words : List ℕ) (are : AreWordsOf plain words) wh
     clock = let apart : 0 ≢ 1 = (λ same. omega (arith, same)) in subst (λ n. IsClockWord n plain.clock) (sym (get_or-set_other words 1 0 word 0 apart)) are.clock;
     next = let within : 1 < length words = omega (arith, width) in rw get_or-set_same is;
     notes = λ n below. let apart : n + 2 ≢ 1 = (λ same. omega (arith, same)) in rw get_or-set_other (are.notes n below);
+    bells = λ n below. let apart : n + 66 ≢ 1 = (λ same. omega (arith, same)) in rw get_or-set_other (are.bells n below);
   }
 
   note_set : (note word : ℕ) (notes : ℕ → NoteStanding) → note < 64 → ((n : ℕ) → n ≢ note → notes n ≡ plain.notes n) → IsNoteWord word (state_of (notes note)) → AreWordsOf (record plain { notes = notes }) (set words (note + 2) word)
@@ -35,6 +37,20 @@ module _ (plain : EnvPlain) (words : List ℕ) (are : AreWordsOf plain words) wh
     notes = λ n below. elim (cases_eq n note) [
       | inl here ↦ let within : note + 2 < length words = omega (arith, width, low) in subst (λ (k : ℕ). IsNoteWord (get_or (set words (note + 2) word) (k + 2) 0) (state_of (notes k))) (sym here) (rw get_or-set_same is)
       | inr ne ↦ let apart : n + 2 ≢ note + 2 = (λ same. ne (omega (arith, same))) in rw get_or-set_other (subst (λ (s : NoteStanding). IsNoteWord (get_or words (n + 2) 0) (state_of s)) (sym (others n ne)) (are.notes n below))
+    ];
+    bells = λ n below. let apart : n + 66 ≢ note + 2 = (λ same. omega (arith, same, low)) in rw get_or-set_other (are.bells n below);
+  }
+
+  -- a bell is rung, or set back
+  pub bell_set : (seat word : ℕ) → seat < 64 → word ≤ 1 → AreWordsOf plain (set words (seat + 66) word)
+  bell_set seat word low most = let width = are.width in record {
+    width = length-set words (seat + 66) word ∙ are.width;
+    clock = let apart : 0 ≢ seat + 66 = (λ same. omega (arith, same)) in subst (λ n. IsClockWord n plain.clock) (sym (get_or-set_other words (seat + 66) 0 word 0 apart)) are.clock;
+    next = let apart : 1 ≢ seat + 66 = (λ same. omega (arith, same)) in get_or-set_other words (seat + 66) 1 word 0 apart ∙ are.next;
+    notes = λ n below. let apart : n + 2 ≢ seat + 66 = (λ same. omega (arith, same, below)) in rw get_or-set_other (are.notes n below);
+    bells = λ n below. elim (cases_eq n seat) [
+      | inl here ↦ let within : seat + 66 < length words = omega (arith, width, low) in subst (λ (k : ℕ). get_or (set words (seat + 66) word) (k + 66) 0 ≤ 1) (sym here) (rw get_or-set_same most)
+      | inr ne ↦ let apart : n + 66 ≢ seat + 66 = (λ same. ne (omega (arith, same))) in rw get_or-set_other (are.bells n below)
     ];
   }
 
@@ -65,5 +81,5 @@ get_zero zero n = refl
 get_zero (suc k) zero = refl
 get_zero (suc k) (suc n) = get_zero k n
 
-pub zeros_are : (k : ℕ) → k ≡ 66 → AreWordsOf fresh_plain (replicate k 0)
-zeros_are k is = record { width = length-replicate k 0 ∙ is; clock = (get_zero k 0, omega arith); next = get_zero k 1; notes = λ n below. (get_zero k (n + 2), (tt, tt)) }
+pub zeros_are : (k : ℕ) → k ≡ 130 → AreWordsOf fresh_plain (replicate k 0)
+zeros_are k is = record { width = length-replicate k 0 ∙ is; clock = (get_zero k 0, omega arith); next = get_zero k 1; notes = λ n below. (get_zero k (n + 2), (tt, tt)); bells = λ n below. let zero_there = get_zero k (n + 66) in omega (arith, zero_there) }

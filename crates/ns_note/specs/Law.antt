@@ -1,4 +1,4 @@
--- The rule of an environment's table, whose words stand as `table_words.rt` names them: the clock at CLOCK, the next note's number at NEXT, and the notes from NOTES on.
+-- The rule of an environment's table, whose words stand as `table_words.rt` names them: the clock at CLOCK, the next note's number at NEXT, the notes from NOTES on, and the seats' bells from BELLS on.
 use Rattle.std.specs.Prelude.{◌≡◌, ℕ, ◌+◌, ◌^◌, ◌<◌, ◌≤◌, List, [], length, slice_index}
 use Rattle.atomic_table.specs.Table.{State as TableState}
 use Rattle.ns_model.specs.declared.environment.EnvEvent.{EnvEvent}
@@ -25,12 +25,13 @@ IsClockWord word clock = (word ≡ clock) × (clock < 2 ^ 54)
 abbrev pub IsNoteWord : ℕ → NoteState → Type 0
 IsNoteWord word note = (word ≡ word_of note) × WordFits note
 
--- The words are those of the clock, of the next note's number and of the notes.
+-- The words are those of the clock, of the next note's number and of the notes. Each bell is rung or set back, and nothing more is said of it.
 pub record AreWordsOf (plain : EnvPlain) (words : List ℕ) : Type 0 where
-  pub width : length words ≡ 66
+  pub width : length words ≡ 130
   pub clock : IsClockWord (slice_index words 0) plain.clock
   pub next : slice_index words 1 ≡ plain.next
   pub notes : (note : ℕ) → note < 64 → IsNoteWord (slice_index words (note + 2)) (state_of (plain.notes note))
+  pub bells : (seat : ℕ) → seat < 64 → slice_index words (seat + 66) ≤ 1
 
 -- the word that a step is on
 abbrev pub word_at : EnvAct → ℕ

@@ -1,6 +1,6 @@
 //! The rule of the table, and what each step on it tells.
 
-ghost use Rattle.std.specs.Prelude.{◌-◌, ◌++◌, []};
+ghost use Rattle.std.specs.Prelude.{◌≡◌, ◌-◌, ◌++◌, []};
 ghost use Rattle.ns_note.specs.declared.table_words.TheConstants.{NOTES};
 ghost use Rattle.ns_note.specs.Law.{Holds, fresh};
 ghost use Rattle.ns_seats.specs.Views.{first_of, rest_of};
@@ -66,6 +66,13 @@ pub struct MoveClock;
 
 impl Play<(), View> for MoveClock {
     ghost then = { λ st me found now. OneActs (TheAct.MoveClock st.first) found me now };
+}
+
+/// A swap of a bell: nothing has happened by it, and the seat is as it was.
+pub struct Ring;
+
+impl Play<(), View> for Ring {
+    ghost then = { λ st me found now. now ≡ me };
 }
 
 /// A load by two seats that are joined: both see the history so far.

@@ -9,5 +9,8 @@ pub const NEXT: usize = 1;
 /// The word of note 0; the words of the other notes follow, by number.
 pub const NOTES: usize = 2;
 
-/// How many words there are: those of 64 notes are the last.
-pub const WORDS: usize = 66;
+/// The word of the bell of seat 0; the words of the other seats' bells follow, by number.
+pub const BELLS: usize = 66;
+
+/// How many words there are: those of 64 bells are the last.
+pub const WORDS: usize = 130;
