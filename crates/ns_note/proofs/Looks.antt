@@ -1,14 +1,15 @@
 -- What calls that look may answer.
 use Rattle.std.proofs.Common.{◌≡◌, ℕ, ◌<◌, ◌≤◌, Bool, true, false, List, Option, None, Some, IfSome, IsSomeAnd, option_map, refl, sym, subst}
 use Rattle.ns_model.specs.declared.environment.EnvEvent.{EnvEvent}
-use Rattle.ns_model.specs.declared.event.Answer.TheVariants.{TimedOut}
+use Rattle.ns_model.specs.declared.event.Answer.{Answer}
+use Rattle.ns_model.specs.declared.event.Answer.TheVariants.{Met, TimedOut, Canceled}
 use Rattle.ns_model.specs.Beginnings.{BeginsWith, IsBetween}
 use Rattle.ns_model.specs.Environments.{is_due, is_notified, IsNotified, clock_of}
 use Rattle.ns_model.proofs.Beginnings.{begins_itself, begins_through}
 use Rattle.ns_env.specs.Chains.{IsUnnotified}
 use Rattle.ns_env.proofs.Chains.{due_is, not_due_is}
 use Rattle.ns_note.specs.declared.note.Note.{Note}
-use Rattle.ns_note.specs.Answers.{LookAnswers, WaitAnswers}
+use Rattle.ns_note.specs.Answers.{LookAnswers}
 
 -- a true answer is of the last point, a false one of the point at which the clock was loaded
 pub notified_at : (answer : Bool) (old middle new : List EnvEvent) (note : ℕ) → BeginsWith middle old → BeginsWith new middle → (answer ≡ true → IsNotified new note) → (answer ≡ false → is_notified middle note ≡ false)
@@ -25,8 +26,11 @@ module _ (given : Option Note) (deadline : Option ℕ) (old middle new : List En
   pub shows_nothing : (clock : ℕ) → clock ≡ clock_of middle → is_due clock deadline ≡ false → IsUnnotified middle (option_map (λ n. n.index) given) → LookAnswers given deadline old new None
   shows_nothing clock is early waited = (middle, between, (waited, subst (λ (c : ℕ). IfSome deadline (λ d. c < d)) is (not_due_is clock deadline early)))
 
--- ---- a wait, by its last look
+-- ---- a look, for one that began to look before
 
-module _ (note : Note) (deadline : Option ℕ) (old middle new : List EnvEvent) (begins : BeginsWith middle old) where
-  pub wait_times_out : LookAnswers (Some note) deadline middle new (Some TimedOut) → WaitAnswers note deadline old new false
-  wait_times_out looked = (looked.0, (begins_through looked.0 middle old looked.1.0 begins, looked.1.1), looked.2)
+module _ (given : Option Note) (deadline : Option ℕ) (old middle new : List EnvEvent) (begins : BeginsWith middle old) where
+  pub look_since : (answer : Option Answer) → LookAnswers given deadline middle new answer → LookAnswers given deadline old new answer
+  look_since (Some Met) looked = absurd looked
+  look_since (Some Canceled) looked = (looked.0, (begins_through looked.0 middle old looked.1.0 begins, looked.1.1), looked.2)
+  look_since (Some TimedOut) looked = (looked.0, (begins_through looked.0 middle old looked.1.0 begins, looked.1.1), looked.2)
+  look_since None looked = (looked.0, (begins_through looked.0 middle old looked.1.0 begins, looked.1.1), looked.2)

@@ -5,7 +5,6 @@ use Rattle.atomic_table.specs.Seated.{TableId}
 use Rattle.atomic_table.specs.Table.{Me}
 use Rattle.ns_model.specs.declared.environment.EnvEvent.{EnvEvent}
 use Rattle.ns_model.specs.declared.environment.EnvEvent.TheVariants.{Take, New}
-use Rattle.ns_model.specs.Beginnings.{BeginsWith}
 use Rattle.ns_model.proofs.Beginnings.{begins_through}
 use Rattle.ns_model.specs.Environments.{NoteStanding, EnvStanding, ParentFits, made_note, IsLegalEnv, IsEnvBySeats, env_after, clock_of, takes_in, IsMade}
 use Rattle.ns_model.proofs.Environments.{sound_after, grown_begins, made_begins, but-here}
@@ -18,7 +17,7 @@ use Rattle.ns_env.specs.Acted.{events_of}
 use Rattle.ns_env.specs.Notes.{state_of}
 use Rattle.ns_env.proofs.Keeps.{after_one}
 use Rattle.ns_note.specs.declared.note.Note.{Note}
-use Rattle.ns_note.specs.Known.{EnvKnown, known_of, the, IsAtRest, Grows}
+use Rattle.ns_note.specs.Known.{EnvKnown, known_of, the, IsAtRest, IsNumberOf, Grows}
 use Rattle.ns_note.specs.Law.{IsClockWord, IsNoteWord}
 use Rattle.ns_note.specs.Told.{FoundWord, Adds, HasTakenNumber, FoundFull}
 use Rattle.ns_note.specs.Words.{note_of}
@@ -87,13 +86,13 @@ module _ (word : ℕ) (v w : EnvView) where
 
 -- ---- one after another
 
--- the seat is at rest again
-pub rests : {S : Type 0} (env : TableId) (es : List EnvEvent) (me now : Me S (List EnvView)) → me.1 ≡ [] → IsOne now.0 → now.1 ≡ me.1 → (the now.0).making ≡ Nothing → Adds es (the me.0) (the now.0) → IsAtRest env now
-rests env es me now empty one same idle a = record { one = one; empty = same ∙ empty; idle = idle; true_to = (a.grows env).true_to }
-
 -- no table in particular: what a step tells is the same for any
-nowhere : TableId
+pub nowhere : TableId
 nowhere = record { words = 0; slots = 0; views_name = 0; atom = 0; block = 0; offset = 0; slot_names = [] }
+
+-- the seat is at rest again, and has its number still
+pub rests : {S : Type 0} (env : TableId) (number : ℕ) (es : List EnvEvent) (me now : Me S (List EnvView)) → me.1 ≡ [] → IsNumberOf number me → IsOne now.0 → now.1 ≡ me.1 → (the now.0).making ≡ Nothing → Adds es (the me.0) (the now.0) → IsAtRest env now × IsNumberOf number now
+rests env number es me now empty its one same idle a = (record { one = one; empty = same ∙ empty; idle = idle; true_to = (a.grows env).true_to }, (its.0 ∙ sym (a.grows nowhere).seat, its.1))
 
 -- what its caller knows has grown
 pub grew : (k : EnvKnown) (env env' : TableId) (es : List EnvEvent) (v w : EnvView) → known_of env v ≡ k → env' ≡ env → Adds es v w → Grows k (known_of env' w)
@@ -115,17 +114,6 @@ adds_through es fs u v w a b = record {
   grows = λ env. grows_through (known_of env u) (known_of env v) (known_of env w) (a.grows env) (b.grows env);
   mine = b.mine ∙ (ap (λ (l : List EnvEvent). l ++ fs) a.mine ∙ append_assoc u.mine es fs);
 }
-
--- the same seat, maybe later
-pub record IsSince (old new : EnvKnown) : Type 0 where
-  pub env : new.env ≡ old.env
-  pub seat_count : new.seat_count ≡ old.seat_count
-  pub seat : new.seat ≡ old.seat
-  pub begins : BeginsWith new.seen old.seen
-  pub mine : new.mine ≡ old.mine
-
-pub since_grows : (a b c : EnvKnown) → IsSince a b → Grows b c → c.mine ≡ b.mine → IsSince a c
-since_grows a b c s g m = record { env = g.env ∙ s.env; seat_count = g.seat_count ∙ s.seat_count; seat = g.seat ∙ s.seat; begins = begins_through c.seen b.seen a.seen g.begins s.begins; mine = m ∙ s.mine }
 
 -- the next number was loaded, and then one was taken
 pub has_taken : (loaded number : ℕ) (v u w : EnvView) → FoundWord LoadNext loaded v u → number < 64 → FoundWord TakeNext number u w → HasTakenNumber number v w

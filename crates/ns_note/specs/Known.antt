@@ -1,5 +1,5 @@
 -- What a seat knows, and how it grows.
-use Rattle.std.specs.Prelude.{◌≡◌, ℕ, List, []}
+use Rattle.std.specs.Prelude.{◌≡◌, ◌<◌, ℕ, List, []}
 use Rattle.atomic_table.specs.Seated.{TableId}
 use Rattle.atomic_table.specs.Table.{Me}
 use Rattle.ns_model.specs.declared.environment.EnvEvent.{EnvEvent}
@@ -47,6 +47,10 @@ pub record IsAtRest {S : Type 0} (env : TableId) (me : Me S (List EnvView)) : Ty
   pub empty : me.1 ≡ []
   pub idle : (the me.0).making ≡ Nothing
   pub true_to : IsTrueToHistory (known_of env (the me.0))
+
+-- this is the number of the seat, one of at most 64
+abbrev pub IsNumberOf : {S : Type 0} → ℕ → Me S (List EnvView) → Type 0
+IsNumberOf number me = (number ≡ (the me.0).seat) × (number < 64)
 
 -- The same seat later: it has seen a history that begins with what it had seen, and that is one of those above.
 pub record Grows (old new : EnvKnown) : Type 0 where

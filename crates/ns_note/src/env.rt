@@ -4,7 +4,7 @@ ghost use Rattle.std.specs.Prelude.{◌≡◌, ◌<◌, ◌^◌, ◌++◌, ◌�
 ghost use Rattle.ns_model.specs.Beginnings.{IsBetween};
 ghost use Rattle.ns_model.specs.Environments.{IsMade, IsNotified, clock_of, env_after, expiry_of, is_made, is_notified, takes_in};
 ghost use Rattle.ns_note.specs.Answers.{LookAnswers, WaitAnswers};
-ghost use Rattle.ns_note.specs.Known.{AreNew, AreOfOneHistory, Grows, IsAtRest, IsTrueToHistory, known_of, the};
+ghost use Rattle.ns_note.specs.Known.{AreNew, AreOfOneHistory, Grows, IsAtRest, IsNumberOf, IsTrueToHistory, known_of, the};
 ghost use Rattle.ns_seats.specs.Views.{IsOne};
 ghost use Rattle.ns_note.specs.Told.{FoundFull, HasTakenNumber};
 ghost use Rattle.ns_env.specs.declared.view.Making.TheVariants.{Nothing};
@@ -14,19 +14,20 @@ ghost use Rattle.ns_note.specs.Words.{WordFits};
 use crate::fault::{Fault, NotesFull};
 use crate::note::{Note, decode_note, encode_note, index_of};
 use crate::plays::{
-    FirstOut, Law, Learn, LoadClock, LoadNext, LoadNote, Make, Mark, MoveClock, Take, Together,
+    FirstOut, Law, Learn, LoadClock, LoadNext, LoadNote, Make, Mark, MoveClock, Ring, Take,
+    Together,
 };
 use crate::seat::{EnvSeat, TableSeat};
-use crate::table_words::{CLOCK, NEXT, NOTES, WORDS};
+use crate::table_words::{BELLS, CLOCK, NEXT, NOTES, WORDS};
 use crate::view::View;
 use atomic_table::Table;
-use crossbeam_utils::Backoff;
 use ns_env::note::{NoteState, earlier, is_due};
 use ns_model::environment::EnvEvent;
 use ns_model::event::Answer;
 use std::alloc::{AllocError, Global};
 use std::marker::Model;
 use std::sync::Wait;
+use std::time::Duration;
 
 /// A clock and up to 64 notes, shared by up to 64 callers. Each call takes its caller's seat, which
 /// has to be of this environment.
@@ -36,10 +37,12 @@ use std::sync::Wait;
 #[derive(Drop)]
 pub struct Env {
     table: Table<(), View, u8, Law, Global>,
+    /// How many seats there are, whose bells are rung.
+    seats: u8,
 }
 
 impl Model for Env {
-    ghost use Rattle.std.specs.Prelude.{◌≡◌};
+    ghost use Rattle.std.specs.Prelude.{◌≡◌, ◌≤◌};
     ghost use Rattle.atomic_table.specs.Seated.{TableId};
     ghost use Rattle.ns_note.specs.declared.table_words.TheConstants.{WORDS};
 
@@ -47,15 +50,15 @@ impl Model for Env {
 
     ghost view = { λ e. e.table.shared.table_id };
 
-    ghost invariant = { λ e. (e.table.shared.table_id.words ≡ WORDS) × (e.table.shared.table_id.slots ≡ 0) };
+    ghost invariant = { λ e. (e.table.shared.table_id.words ≡ WORDS) × (e.table.shared.table_id.slots ≡ 0) × (e.seats ≡ e.table.shared.key) × (e.seats ≤ 64) };
 }
 
-/// One new seat.
-fn seated(seat: TableSeat) -> EnvSeat
-    requires { IsAtRest seat.table_id seat.me }
+/// A seat, with its number.
+fn seated(seat: TableSeat, number: u8) -> EnvSeat
+    requires { IsAtRest seat.table_id seat.me × IsNumberOf number seat.me }
     ensures { result ≡ known_of seat.table_id (the seat.me.0) }
 {
-    EnvSeat { seat }
+    EnvSeat { seat, number }
 }
 
 /// Puts a seat behind the others.
@@ -82,11 +85,12 @@ impl Env {
         }
         let (table, mut rest) = Table::of_words(alloc, &[0; WORDS], &(seats as u8))?;
         let mut given = Vec::new(alloc);
-        for _number in 0..seats {
+        for number in 0..seats {
             let seat = table.shared.split_seat::<FirstOut>(&mut rest);
-            add(&mut given, seated(seat))?;
+            add(&mut given, seated(seat, number as u8))?;
         }
-        Ok((Env { table }, given))
+        let seats = seats as u8;
+        Ok((Env { table, seats }, given))
     }
 
     /// Two callers compare what they have seen: of what one had seen and what the other had, one
@@ -99,13 +103,19 @@ impl Env {
         ensures before { AreOfOneHistory first second }
         ensures after { result.1.seen ≡ result.0.seen }
     {
-        let EnvSeat { seat: mut both } = first;
-        let EnvSeat { seat: second } = second;
+        let EnvSeat {
+            seat: mut both,
+            number: first_number,
+        } = first;
+        let EnvSeat {
+            seat: second,
+            number: second_number,
+        } = second;
         let shared = &self.table.shared;
         shared.join_seat::<Together>(&mut both, second);
         shared.load::<Learn>(&mut both, CLOCK);
         let first = shared.split_seat::<FirstOut>(&mut both);
-        (seated(first), seated(both))
+        (seated(first, first_number), seated(both, second_number))
     }
 
     /// Takes the next number, if there still is one.
@@ -172,7 +182,53 @@ impl Env {
         self.table.shared.load::<LoadClock>(&mut seat.seat, CLOCK)
     }
 
-    /// Moves the clock to a moment, in ticks; a clock that stands later stays where it is.
+    /// Rings a bell or sets it back: swaps 1 or 0 into it, and gives what it was.
+    ///
+    /// Needs the number of one of 64 bells.
+    fn swap_bell(&self, seat: &mut EnvSeat, number: u8, rung: bool) -> bool
+        requires env { seat.old.env ≡ self.now }
+        requires number { number < 64 }
+        ensures { seat.new ≡ seat.old }
+    {
+        let was = self.table.shared.swap::<Ring>(
+            &mut seat.seat,
+            usize::from(number) + BELLS,
+            u64::from(rung),
+        );
+        was == 1
+    }
+
+    /// Rings the bell of every seat, and wakes who sleeps at it, after a step that whoever waits
+    /// has to see. It takes no lock and no memory, and never waits.
+    fn ring(&self, seat: &mut EnvSeat)
+        requires { seat.old.env ≡ self.now }
+        ensures { seat.new ≡ seat.old }
+    {
+        for number in 0..self.seats {
+            // Where the bell shows that it is rung, nothing is to be done: nobody has set it back
+            // since it was last rung, and whoever rang it wakes its sleeper. All steps are in one
+            // order, so who sets it back from now on, and looks after that, sees the step that
+            // came before this call. The same is so where the swap finds it rung meanwhile: only
+            // the one that found it set back wakes, since there is but one sleeper to a bell.
+            let bell = usize::from(number) + BELLS;
+            if self.table.shared.peek(bell) == 0 && !self.swap_bell(seat, number, true) {
+                self.table.shared.wake_one(bell);
+            }
+        }
+    }
+
+    /// Sets the seat's own bell back, so that it is heard when it is next rung, and answers whether
+    /// it was rung.
+    fn set_bell_back(&self, seat: &mut EnvSeat) -> bool
+        requires { seat.old.env ≡ self.now }
+        ensures { seat.new ≡ seat.old }
+    {
+        let number = seat.number;
+        self.swap_bell(seat, number, false)
+    }
+
+    /// Moves the clock to a moment, in ticks; a clock that stands later stays where it is. Wakes
+    /// all that sleep in this environment, so that they look again.
     ///
     /// Needs a moment below 2^54.
     pub fn advance(&self, seat: &mut EnvSeat, to: u64)
@@ -184,9 +240,11 @@ impl Env {
         self.table
             .shared
             .fetch_max::<MoveClock>(&mut seat.seat, CLOCK, to);
+        self.ring(seat);
     }
 
-    /// Notifies a note, for good, and with it every note below it. nsync's `nsync_note_notify`.
+    /// Notifies a note, for good, and with it every note below it. Wakes all that sleep in this
+    /// environment, so that they look again. nsync's `nsync_note_notify`.
     ///
     /// Needs a note that the seat has seen made.
     pub fn notify(&self, seat: &mut EnvSeat, note: Note)
@@ -198,6 +256,7 @@ impl Env {
         self.table
             .shared
             .fetch_or::<Mark>(&mut seat.seat, usize::from(note.index) + NOTES, 1);
+        self.ring(seat);
     }
 
     /// What the word of a number tells now.
@@ -316,8 +375,38 @@ impl Env {
         }
     }
 
+    /// Looks, and sleeps until the seat's bell is rung where the look shows nothing. It may also
+    /// wake for no reason.
+    fn look_or_sleep<R: Wait>(
+        &self,
+        rt: &R,
+        seat: &mut EnvSeat,
+        note: Note,
+        deadline: Option<u64>,
+    ) -> Option<Answer>
+        requires env { seat.old.env ≡ self.now }
+        requires made { IsMade seat.old.seen note.index }
+        ensures grows { Grows seat.old seat.new }
+        ensures mine { seat.new.mine ≡ seat.old.mine }
+        ensures answers { LookAnswers (Some note) deadline seat.old.seen seat.new.seen result }
+    {
+        // The bell is set back before the look: what rang it before this line, the look sees, and
+        // what rings it after this line, the sleep finds rung or ends by. With the look first, a
+        // ring between the two would be lost for good, and the sleeper would miss its note. No
+        // clause refuses that, since to sleep is no step; two threads that hand notes to and fro
+        // stand still by it at once.
+        self.set_bell_back(seat);
+        let found = self.look(seat, Some(note), deadline);
+        if found.is_none() {
+            let bell = usize::from(seat.number) + BELLS;
+            self.table.shared.park(rt, bell, 0);
+        }
+        found
+    }
+
     /// Waits until the note is notified, or until the clock has reached the deadline, in ticks,
     /// and answers whether the note is notified. With no deadline it waits for the note alone.
+    /// Meanwhile it sleeps, and looks again after each [`Env::notify`] and [`Env::advance`].
     /// nsync's `nsync_note_wait`.
     ///
     /// Needs a note that the seat has seen made.
@@ -334,14 +423,35 @@ impl Env {
         ensures mine { seat.new.mine ≡ seat.old.mine }
         ensures answers { WaitAnswers note deadline seat.old.seen seat.new.seen result }
     {
-        let backoff = Backoff::new();
+        let mut found = self.look(seat, Some(note), deadline);
         for _ in rt.forever() {
-            match self.look(seat, Some(note), deadline) {
+            match found {
                 Some(Answer::Canceled) => return true,
                 Some(Answer::TimedOut) => return false,
-                _ => backoff.snooze(),
+                _ => found = self.look_or_sleep(rt, seat, note, deadline),
             }
         }
         unreachable!()
+    }
+
+    /// Sleeps until the next [`Env::notify`] or [`Env::advance`], for at most `longest`: for a
+    /// caller that waits for something of this environment and for something else too, and that
+    /// looks at both again afterwards.
+    ///
+    /// It comes back at once where one of these came since the seat last slept, and may come back
+    /// early for no reason. So a caller that looks each time after it, and rests again only where
+    /// that look showed nothing, sleeps through nothing of this environment. What else it waits for
+    /// may come between its look and this call, and be slept through: `longest` bounds how late
+    /// that is seen. Nothing is claimed of progress.
+    pub fn rest<R: Wait>(&self, rt: &R, seat: &mut EnvSeat, longest: Duration)
+        requires { seat.old.env ≡ self.now }
+        ensures { seat.new ≡ seat.old }
+    {
+        // Where the bell was rung since it was last set back, the caller may not have seen what
+        // rang it. Where it wasn't, nobody has rung since the caller's last look.
+        if !self.set_bell_back(seat) {
+            let bell = usize::from(seat.number) + BELLS;
+            self.table.shared.park_timeout(rt, bell, 0, longest);
+        }
     }
 }

@@ -23,11 +23,16 @@
 //!
 //! The clock begins at 0 and only callers move it, forward, in ticks below 2^54.
 //!
-//! An [`env::Env`] is a table of 66 atomic words: the clock, the next note's number and 64
-//! words of notes. To make a note, a call takes a number by an addition and then stores the
-//! note's word, so others may see a number taken whose note isn't made yet. To ask whether a note
-//! is notified, a call loads the clock first and then the words from the note up to its root.
-//! Only [`env::Env::note_wait`] ever waits.
+//! An [`env::Env`] is a table of 130 atomic words: the clock, the next note's number, 64 words
+//! of notes and 64 bells, one for each seat. To make a note, a call takes a number by an addition
+//! and then stores the note's word, so others may see a number taken whose note isn't made yet. To
+//! ask whether a note is notified, a call loads the clock first and then the words from the note
+//! up to its root.
+//!
+//! Only [`env::Env::note_wait`] and [`env::Env::rest`] ever wait. Each sleeps at the bell of its
+//! own seat, which it has set back, a 0, and [`env::Env::notify`] and [`env::Env::advance`] ring
+//! the bell of every seat, a 1, after their own step. Bells are in no event and in nothing that a
+//! seat knows: a call answers by its looks alone.
 //!
 //! What is promised: there is one history of the environment, legal by the definitions of
 //! `ns_model`, that begins with what each [`seat::EnvSeat`] has seen, and in which each seat's own

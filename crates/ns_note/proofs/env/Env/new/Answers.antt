@@ -4,7 +4,7 @@ use Rattle.atomic_table.specs.Table.{Me}
 use Rattle.ns_env.specs.declared.view.EnvView.{EnvView}
 use Rattle.ns_note.specs.Law.{fresh_seat}
 use Rattle.ns_seats.specs.Views.{first_of, rest_of}
-use Rattle.ns_note.specs.Known.{EnvKnown, the, IsAtRest, AreNew, known, known_of}
+use Rattle.ns_note.specs.Known.{EnvKnown, the, IsAtRest, IsNumberOf, AreNew, known, known_of}
 use Rattle.ns_note.proofs.Seats.{begins_with, by_sums}
 use Rattle.ns_seats.proofs.Meetings.{cuts}
 use Rattle.ns_seats.proofs.Numbered.{all_new, numbered_first, numbered_rest, new_more}
@@ -20,12 +20,13 @@ pub split_seat-seat-requires : goal.split_seat-seat-requires
 split_seat-seat-requires c = (search rules, search rules, cuts (by_sums _ _) _ _)
 
 pub seated-requires : goal.seated-requires
-seated-requires c = let n = c.args.seats in let i = c.loop-number._number in let lt : i < n = omega arith in
+seated-requires c = let n = c.args.seats in let i = c.loop-number.number in let lt : i < n = omega arith in
     let is = c.split_seat-seat.ensures.4 ∙ ap (λ (vs : List EnvView). (vs, [])) (ap first_of c.loop-number.invariant.1 ∙ numbered_first (fresh_seat n) n i lt) in
-    subst (λ (m : Seated). IsAtRest c.split_seat-seat.result.table_id m) (sym is) (record { one = tt; empty = refl; idle = refl; true_to = record { legal = tt; by_seats = tt; own = refl } })
+    let low : i < 64 = omega arith in
+    subst (λ (m : Seated). IsAtRest c.split_seat-seat.result.table_id m × IsNumberOf i m) (sym is) (record { one = tt; empty = refl; idle = refl; true_to = record { legal = tt; by_seats = tt; own = refl } }, (refl, low))
 
 pub loop-number-preserved : goal.loop-number-preserved
-loop-number-preserved c = let v = c.loop-number.invariant in let n = c.args.seats in let i = c.loop-number._number in let lt : i < n = omega arith in let s = c.split_seat-seat.ensures in let p = c.in_ok-add.ensures in let t = c.in_ok-table.rest.table_id in
+loop-number-preserved c = let v = c.loop-number.invariant in let n = c.args.seats in let i = c.loop-number.number in let lt : i < n = omega arith in let s = c.split_seat-seat.ensures in let p = c.in_ok-add.ensures in let t = c.in_ok-table.rest.table_id in
     let is = ap (λ (m : Seated). the m.0) (s.4 ∙ ap (λ (vs : List EnvView). (vs, [])) (ap first_of v.1 ∙ numbered_first (fresh_seat n) n i lt)) in
     let k : c.seated.result ≡ known t n i [] [] = c.seated.ensures ∙ (λ j. known_of ((s.3 ∙ v.0) j) (is j)) in
     let e : i ≡ 0 + length c.loop-number.given.items = omega arith in (

@@ -4,4 +4,4 @@ use Rattle.ns_note.specs.Law.{fresh}
 use Rattle.ns_note.proofs.env.Env.new.Given as goal
 
 abbrev pub invariant-loop-number : goal.invariant-loop-number
-invariant-loop-number l = (l.rest.table_id ≡ l.initial.rest.table_id) × (l.rest.me.0 ≡ fresh l.seats l._number (l.seats - l._number)) × (length l.given.items ≡ l._number) × AreNew l.initial.rest.table_id l.seats 0 l.given.items
+invariant-loop-number l = (l.rest.table_id ≡ l.initial.rest.table_id) × (l.rest.me.0 ≡ fresh l.seats l.number (l.seats - l.number)) × (length l.given.items ≡ l.number) × AreNew l.initial.rest.table_id l.seats 0 l.given.items

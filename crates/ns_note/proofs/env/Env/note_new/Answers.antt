@@ -14,7 +14,7 @@ use Rattle.ns_note.proofs.Allowed.{makes, back}
 use Rattle.ns_note.proofs.env.Env.note_new.Goals as goal
 
 pub invariant_of-seat : goal.invariant_of-seat
-invariant_of-seat c = let e = c.in_err-index.ensures in rests _ _ c.seat.inside.seat.me _ c.seat.invariant.empty e.seat.1 e.seat.2 e.full.1 e.full.0
+invariant_of-seat c = let e = c.in_err-index.ensures in rests _ _ _ c.seat.inside.seat.me _ c.seat.invariant.0.empty c.seat.invariant.1 e.seat.1 e.seat.2 e.full.1 e.full.0
 
 pub returns-in_err-index-clause-grows : goal.returns-in_err-index-clause-grows
 returns-in_err-index-clause-grows c = let e = c.in_err-index.ensures in grew _ _ _ _ _ _ c.seat.view_is e.seat.0 e.full.0
@@ -26,7 +26,7 @@ note_fits parent deadline above is below = (subst (λ (o : Option ℕ). IfSome o
 pub store-requires : goal.store-requires
 store-requires c = let e = c.in_ok-index.ensures in let is = c.index_of.ensures in let low = e.taken.0 in let same = c.from.ensures in
     let given = subst (λ (k : EnvKnown). IfSome c.args.parent (λ p. IsMade k.seen p.index)) (sym c.seat.view_is) c.requires.parent in
-    let above = subst (λ (z : Option ℕ × ℕ). ParentFits (env_after (the c.take_number.new.seat.me.0).seen) z.1 z.0) (λ i. (sym is i, sym c.from.ensures i)) (parent_above c.args.parent c.in_ok-index.index _ _ e.taken c.seat.invariant.true_to.legal given) in
+    let above = subst (λ (z : Option ℕ × ℕ). ParentFits (env_after (the c.take_number.new.seat.me.0).seen) z.1 z.0) (λ i. (sym is i, sym c.from.ensures i)) (parent_above c.args.parent c.in_ok-index.index _ _ e.taken c.seat.invariant.0.true_to.legal given) in
     (search rules, search rules, makes _ _ _ _ c.take_number.new.seat.me c.from.result c.encode_note-word.result c.index_of.result c.args.deadline e.seat.1 (omega (arith, low, same)) (e.taken.2 ∙ ap Taken (sym c.from.ensures)) c.encode_note-word.ensures (note_fits c.args.parent c.args.deadline c.index_of.result is c.requires.deadline) above)
 
 -- the two events of a call that made a note
@@ -38,7 +38,7 @@ both_added parent deadline above number index word old v u w is below coded same
 
 pub invariant_of-seat-2 : goal.invariant_of-seat-2
 invariant_of-seat-2 c = let e = c.in_ok-index.ensures in let t = c.store.ensures.2.1 in
-    rests _ _ c.seat.inside.seat.me _ c.seat.invariant.empty t.0 (t.1 ∙ e.seat.2) t.2.acted.making (both_added c.args.parent c.args.deadline c.index_of.result c.from.result c.in_ok-index.index c.encode_note-word.result _ _ _ _ c.index_of.ensures c.requires.deadline c.encode_note-word.ensures c.from.ensures e.taken.1 t.2)
+    rests _ _ _ c.seat.inside.seat.me _ c.seat.invariant.0.empty c.seat.invariant.1 t.0 (t.1 ∙ e.seat.2) t.2.acted.making (both_added c.args.parent c.args.deadline c.index_of.result c.from.result c.in_ok-index.index c.encode_note-word.result _ _ _ _ c.index_of.ensures c.requires.deadline c.encode_note-word.ensures c.from.ensures e.taken.1 t.2)
 
 pub returns-clause-grows : goal.returns-clause-grows
 returns-clause-grows c = let e = c.in_ok-index.ensures in let t = c.store.ensures.2.1 in
