@@ -154,12 +154,20 @@ module _ (S : Type 0) (seat_count slots id : ℕ) (me : Me S (List EnvView)) whe
       (tells_less (n + 2) (λ _. word) (λ found now. OneActs (StoreNote n parent deadline) found me now) (λ _ now. OneMakes (StoreNote n parent deadline) me now) (λ found now acts. (found, acts))
       (allows (StoreNote n parent deadline) (λ _. word) (omega (arith, low)) one (taken, above) (λ plain old few was. subst (λ (s : NoteStanding). IsNoteWord word (state_of s)) (sym (but-here n (made_note parent deadline) plain.notes)) (is, fits))))
 
-  -- Through any seat, whatever it stands for, any bell may be rung or set back, and the seat is as it was.
-  pub rings : (seat bell : ℕ) → seat < 64 → bell ≤ 1 → Allows (Holds seat_count) slots id me (seat + 66) (λ _. bell) (λ _ now. now ≡ me)
-  rings seat bell low most s holds _ at _ = (
+  -- Through any seat, whatever it stands for, any bell may be rung or set back, and the seat is as it was; what is so of the step besides, is so.
+  swaps_bell : (seat bell : ℕ) (Besides : Type 0) → seat < 64 → bell ≤ 1 → Besides → Allows (Holds seat_count) slots id me (seat + 66) (λ _. bell) (λ _ now. (now ≡ me) × Besides)
+  swaps_bell seat bell Besides low most so s holds _ at _ = (
     me.0,
     keeps,
     tt,
     (holds.0, subst (λ (views : Views). IsRuled seat_count (set s.words (seat + 66) bell) views holds.0) (sym (set_again s.views id me.0 at)) (bell_ruled seat_count s.words s.views holds.0 seat bell holds.1 low most)),
-    refl,
+    (refl, so),
   )
+
+  -- any bell may be rung,
+  pub rings : (seat : ℕ) → seat < 64 → Allows (Holds seat_count) slots id me (seat + 66) (λ _. 1) (λ _ now. (now ≡ me) × (◌≡◌ {A = ℕ} 1 1))
+  rings seat low = swaps_bell seat 1 (◌≡◌ {A = ℕ} 1 1) low (omega arith) refl
+
+  -- and its own be set back
+  pub sets_back : (own : ℕ) → own ≡ (the me.0).seat → own < 64 → Allows (Holds seat_count) slots id me (own + 66) (λ _. 0) (λ _ now. (now ≡ me) × ((◌≡◌ {A = ℕ} 0 0) × (own + 66 ≡ (the me.0).seat + 66)))
+  sets_back own its low = swaps_bell own 0 ((◌≡◌ {A = ℕ} 0 0) × (own + 66 ≡ (the me.0).seat + 66)) low (omega arith) (refl, ap (λ n. n + 66) its)

@@ -14,8 +14,8 @@ ghost use Rattle.ns_note.specs.Words.{WordFits};
 use crate::fault::{Fault, NotesFull};
 use crate::note::{Note, decode_note, encode_note, index_of};
 use crate::plays::{
-    FirstOut, Law, Learn, LoadClock, LoadNext, LoadNote, Make, Mark, MoveClock, Ring, Take,
-    Together,
+    FirstOut, Law, Learn, LoadClock, LoadNext, LoadNote, Make, Mark, MoveClock, Ring, SetBack,
+    Take, Together,
 };
 use crate::seat::{EnvSeat, TableSeat};
 use crate::table_words::{BELLS, CLOCK, NEXT, NOTES, WORDS};
@@ -182,20 +182,16 @@ impl Env {
         self.table.shared.load::<LoadClock>(&mut seat.seat, CLOCK)
     }
 
-    /// Rings a bell or sets it back: swaps 1 or 0 into it, and gives what it was.
+    /// Rings a bell, and answers whether it was rung before.
     ///
     /// Needs the number of one of 64 bells.
-    fn swap_bell(&self, seat: &mut EnvSeat, number: u8, rung: bool) -> bool
+    fn ring_one(&self, seat: &mut EnvSeat, number: u8) -> bool
         requires env { seat.old.env ≡ self.now }
         requires number { number < 64 }
         ensures { seat.new ≡ seat.old }
     {
-        let was = self.table.shared.swap::<Ring>(
-            &mut seat.seat,
-            usize::from(number) + BELLS,
-            u64::from(rung),
-        );
-        was == 1
+        let bell = usize::from(number) + BELLS;
+        self.table.shared.swap::<Ring>(&mut seat.seat, bell, 1) == 1
     }
 
     /// Rings the bell of every seat, and wakes who sleeps at it, after a step that whoever waits
@@ -211,7 +207,7 @@ impl Env {
             // came before this call. The same is so where the swap finds it rung meanwhile: only
             // the one that found it set back wakes, since there is but one sleeper to a bell.
             let bell = usize::from(number) + BELLS;
-            if self.table.shared.peek(bell) == 0 && !self.swap_bell(seat, number, true) {
+            if self.table.shared.peek(bell) == 0 && !self.ring_one(seat, number) {
                 self.table.shared.wake_one(bell);
             }
         }
@@ -223,8 +219,8 @@ impl Env {
         requires { seat.old.env ≡ self.now }
         ensures { seat.new ≡ seat.old }
     {
-        let number = seat.number;
-        self.swap_bell(seat, number, false)
+        let own = usize::from(seat.number) + BELLS;
+        self.table.shared.swap::<SetBack>(&mut seat.seat, own, 0) == 1
     }
 
     /// Moves the clock to a moment, in ticks; a clock that stands later stays where it is. Wakes

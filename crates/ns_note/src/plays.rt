@@ -1,7 +1,8 @@
 //! The rule of the table, and what each step on it tells.
 
-ghost use Rattle.std.specs.Prelude.{◌≡◌, ◌-◌, ◌++◌, []};
-ghost use Rattle.ns_note.specs.declared.table_words.TheConstants.{NOTES};
+ghost use Rattle.std.specs.Prelude.{◌≡◌, ◌+◌, ◌-◌, ◌++◌, []};
+ghost use Rattle.ns_note.specs.declared.table_words.TheConstants.{BELLS, NOTES};
+ghost use Rattle.ns_note.specs.Known.{the};
 ghost use Rattle.ns_note.specs.Law.{Holds, fresh};
 ghost use Rattle.ns_seats.specs.Views.{first_of, rest_of};
 ghost use Rattle.ns_env.specs.declared.act.EnvAct.TheVariants as TheAct;
@@ -68,11 +69,18 @@ impl Play<(), View> for MoveClock {
     ghost then = { λ st me found now. OneActs (TheAct.MoveClock st.first) found me now };
 }
 
-/// A swap of a bell: nothing has happened by it, and the seat is as it was.
+/// A bell is rung, whosever it is: nothing has happened by it, and the seat is as it was.
 pub struct Ring;
 
 impl Play<(), View> for Ring {
-    ghost then = { λ st me found now. now ≡ me };
+    ghost then = { λ st me found now. (now ≡ me) × (st.first ≡ 1) };
+}
+
+/// A seat sets its own bell back: nothing has happened by it, and the seat is as it was.
+pub struct SetBack;
+
+impl Play<(), View> for SetBack {
+    ghost then = { λ st me found now. (now ≡ me) × ((st.first ≡ 0) × (st.word ≡ (the me.0).seat + BELLS)) };
 }
 
 /// A load by two seats that are joined: both see the history so far.
