@@ -390,7 +390,7 @@ impl Env {
         // what rings it after this line, the sleep finds rung or ends by. With the look first, a
         // ring between the two would be lost for good, and the sleeper would miss its note. No
         // clause refuses that, since to sleep is no step; two threads that hand notes to and fro
-        // stand still by it at once.
+        // soon stand still by it.
         self.set_bell_back(seat);
         let found = self.look(seat, Some(note), deadline);
         if found.is_none() {
