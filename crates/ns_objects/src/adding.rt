@@ -74,6 +74,7 @@ impl Objects {
             let value = decode_counter(word).judge(delta)?;
             let found = self.change(seat, counter, word, value);
             if found == word {
+                self.wake_at_zero(counter, value);
                 return Ok(value);
             }
             word = found;
@@ -86,8 +87,8 @@ impl Objects {
     ///
     /// Refuses what would end below 0 (`Under`), else what would end above 4,294,967,295 (`Over`),
     /// else a rise from 0 where a wait for 0 has begun (`AfterWait`); a refused change leaves the counter
-    /// as it was. Goes round only where another caller has changed or marked the counter in between. Needs the
-    /// number of a counter of these objects.
+    /// as it was. A change that gives 0 wakes all who sleep in a wait for it. Goes round only where another
+    /// caller has changed or marked the counter in between. Needs the number of a counter of these objects.
     pub fn counter_add<R: Wait>(
         &self,
         rt: &R,

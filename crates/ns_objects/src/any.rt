@@ -79,6 +79,7 @@ impl Objects {
     /// Waits until one of the items is ready, or until the clock of the environment has reached the
     /// deadline, in ticks. Answers the place of the first item that is ready, or the number of items where
     /// the deadline came first. With no deadline it waits for the items alone. nsync's `nsync_wait_n`.
+    /// The call sleeps meanwhile, for at most a millisecond at a time.
     ///
     /// Begins no wait for a counter: it may rise from 0 later. Needs at most 16 items, counters of these
     /// objects, notes that the caller's seat of the environment has seen made, and that seat.
@@ -108,7 +109,8 @@ impl Objects {
             if let Some(place) = self.look_at_any(seat, items, deadline, env, watch) {
                 return place;
             }
-            backoff.snooze();
+            // whatever ended the sleep, there is another round
+            self.rest_for_any(rt, seat, items, env, watch, &backoff);
         }
         unreachable!()
     }

@@ -38,6 +38,7 @@ pub mod objects;
 mod plays;
 pub mod running;
 pub mod seat;
+mod sleeping;
 #[cfg(test)]
 mod tests;
 mod view;

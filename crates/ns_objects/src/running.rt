@@ -12,7 +12,6 @@ ghost use Rattle.ns_seats.specs.Views.{IsOne};
 use crate::objects::Objects;
 use crate::plays::{Begin, End, LoadOnce};
 use crate::seat::{ObjSeat, TableSeat};
-use crossbeam_utils::Backoff;
 use ns_counters::made::MOST;
 use ns_counters::object::{ObjectEvent, Place};
 use ns_counters::once::OnceEvent;
@@ -62,7 +61,8 @@ impl Objects {
         decode_once(shared.compare_exchange::<Begin>(seat, word, unused, running))
     }
 
-    /// Says that the function of a once cell has run, which this caller has begun to run.
+    /// Says that the function of a once cell has run, which this caller has begun to run, and wakes who
+    /// sleeps until it has.
     fn end_once(&self, seat: &mut TableSeat, once: u8)
         requires objects { seat.old.table_id ≡ self.now }
         requires one { IsOne seat.old.me.0 }
@@ -76,6 +76,7 @@ impl Objects {
         self.table
             .shared
             .store::<End>(seat, word, encode_once(Stage::Done));
+        self.wake_at_done(once);
     }
 
     /// Begins to run the function of a once cell, or waits until it has run. Answers whether it begins.
@@ -90,12 +91,12 @@ impl Objects {
         ensures over { result ≡ false → OneComes [] Place.Free seat.old.me seat.new.me × (is_done ((standing_in (the seat.new.me.0)).onces once) ≡ true) }
     {
         let mut found = self.look_once(seat, once);
-        let backoff = Backoff::new();
         for _ in rt.forever() {
             match found {
                 Stage::Done => return false,
                 Stage::Running => {
-                    backoff.snooze();
+                    // whatever ended the sleep, the cell is looked at again
+                    self.rest_while_running(rt, once);
                     found = self.look_once(seat, once);
                 }
                 Stage::Unused => {
@@ -110,7 +111,7 @@ impl Objects {
     }
 
     /// Runs the function, if no call on this once cell has begun to run one; else waits until that one
-    /// has ended. nsync's `nsync_run_once`.
+    /// has ended, and sleeps meanwhile. nsync's `nsync_run_once`.
     ///
     /// Of all calls on one cell just one runs its function, and any other answers `Already` once that
     /// has ended. A function that doesn't return leaves all others waiting. Needs the number of a once

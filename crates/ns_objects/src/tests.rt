@@ -15,7 +15,8 @@ use ns_note::seat::EnvSeat;
 use std::alloc::Global;
 use std::sync::Wait;
 use std::test::Fail;
-use std::thread::{Threads, join};
+use std::thread::{Threads, join, sleep};
+use std::time::{Clock, Duration};
 
 /// Objects with two counters of these values and a once cell, and two seats of them.
 fn pair(alloc: Global, values: [u32; 2]) -> Option<(Objects, ObjSeat, ObjSeat)>
@@ -223,8 +224,13 @@ fn deadlines_to_the_tick(rt: HostRuntime) -> Result<(), Fail> {
     Ok(())
 }
 
-/// Two threads would each have their function run; what came of both.
-fn run_two<R: Threads + Wait + Sync>(
+/// Gives the other thread the time to fall asleep.
+fn linger<R: Clock>(rt: &R) {
+    sleep(rt, Duration::from_millis(5));
+}
+
+/// Two threads would each have their function run, which takes a while; what came of both.
+fn run_two<R: Threads + Wait + Clock + Sync>(
     rt: &R,
     objects: &Objects,
     mut first: ObjSeat,
@@ -240,20 +246,26 @@ fn run_two<R: Threads + Wait + Sync>(
             requires { IsSync R.row × (first.objects ≡ objects.now) × (0 < first.setup.cells) }
             ensures { result.0.objects ≡ objects.entry.now }
         {
-            let came = objects.run_once(rt, &mut first, 0, || 1u8);
+            let came = objects.run_once(rt, &mut first, 0, || {
+                linger(rt);
+                1u8
+            });
             (first, came)
         },
         move || -> (ObjSeat, Once<u8>)
             requires { IsSync R.row × (second.objects ≡ objects.now) × (0 < second.setup.cells) }
             ensures { result.0.objects ≡ objects.entry.now }
         {
-            let came = objects.run_once(rt, &mut second, 0, || 2u8);
+            let came = objects.run_once(rt, &mut second, 0, || {
+                linger(rt);
+                2u8
+            });
             (second, came)
         },
     )
 }
 
-/// Of two threads that call, just one has its function run. After they have met, neither runs again.
+/// Of two threads that call, just one has its function run, and the other sleeps until it has. After they have met, neither runs again.
 #[test]
 fn once_in_two_threads(rt: HostRuntime) -> Result<(), Fail> {
     let Some((objects, first, second)) = pair(rt.alloc(), [0, 0]) else {
@@ -269,10 +281,12 @@ fn once_in_two_threads(rt: HostRuntime) -> Result<(), Fail> {
     Ok(())
 }
 
-/// One thread waits for a counter to be 0, which the other makes it; what each was answered.
-fn count_down<R: Threads + Wait + Sync>(
+/// One thread waits for a counter to be 0, which the other makes it after a while; what each was
+/// answered.
+fn count_down<R: Threads + Wait + Clock + Sync>(
     rt: &R,
     objects: &Objects,
+    deadline: Option<u64>,
     env: &Env,
     mut first: ObjSeat,
     mut second: ObjSeat,
@@ -286,24 +300,79 @@ fn count_down<R: Threads + Wait + Sync>(
         rt,
         move || -> u32
             requires { IsSync R.row × (first.objects ≡ objects.now) × (0 < first.setup.counters) × (watch.env ≡ env.now) }
-        { objects.counter_wait(rt, &mut first, 0, None, env, &mut watch) },
+        { objects.counter_wait(rt, &mut first, 0, deadline, env, &mut watch) },
         move || -> Result<u32, CounterFault>
             requires { IsSync R.row × (second.objects ≡ objects.now) × (0 < second.setup.counters) }
-        { objects.counter_add(rt, &mut second, 0, -2) },
+        {
+            linger(rt);
+            objects.counter_add(rt, &mut second, 0, -2)
+        },
     )
 }
 
-/// A thread that waits for 0 sees what another thread counts down.
+/// Two threads as above, on objects of their own; what each was answered.
+fn count_down_from_two<R: Threads + Wait + Clock + Sync>(
+    rt: &R,
+    alloc: Global,
+    deadline: Option<u64>,
+) -> Option<(u32, Result<u32, CounterFault>)> {
+    let (objects, first, second) = pair(alloc, [2, 0])?;
+    let (env, watch) = watched(alloc)?;
+    Some(count_down(rt, &objects, deadline, &env, first, second, watch))
+}
+
+/// A thread that waits for 0, with a deadline or without, is woken by what another counts down.
 #[test]
 fn waits_for_zero(rt: HostRuntime) -> Result<(), Fail> {
-    let Some((objects, first, second)) = pair(rt.alloc(), [2, 0]) else {
+    let without = count_down_from_two(&rt, rt.alloc(), None);
+    assert_eq!(rt; without, Some((0, Ok(0))));
+    let with = count_down_from_two(&rt, rt.alloc(), Some(1));
+    assert_eq!(rt; with, Some((0, Ok(0))));
+    Ok(())
+}
+
+/// One thread waits for any of two counters, of which the other makes the second 0 after a while; what
+/// each was answered.
+fn count_the_second_down<R: Threads + Wait + Clock + Sync>(
+    rt: &R,
+    objects: &Objects,
+    env: &Env,
+    mut first: ObjSeat,
+    mut second: ObjSeat,
+    mut watch: EnvSeat,
+) -> (usize, Result<u32, CounterFault>)
+    requires objects { (first.objects ≡ objects.now) × (second.objects ≡ objects.now) }
+    requires counters { (first.setup.counters ≡ 2) × (second.setup.counters ≡ 2) }
+    requires env { watch.env ≡ env.now }
+{
+    join(
+        rt,
+        move || -> usize
+            requires { IsSync R.row × (first.objects ≡ objects.now) × (first.setup.counters ≡ 2) × (watch.env ≡ env.now) }
+        {
+            let items = [Item::Counter(0), Item::Counter(1)];
+            objects.wait_any(rt, &mut first, &items, None, env, &mut watch)
+        },
+        move || -> Result<u32, CounterFault>
+            requires { IsSync R.row × (second.objects ≡ objects.now) × (second.setup.counters ≡ 2) }
+        {
+            linger(rt);
+            objects.counter_add(rt, &mut second, 1, -1)
+        },
+    )
+}
+
+/// A thread that waits for any sees what another counts down, at whichever counter it sleeps.
+#[test]
+fn waits_for_the_second(rt: HostRuntime) -> Result<(), Fail> {
+    let Some((objects, first, second)) = pair(rt.alloc(), [2, 1]) else {
         panic!(rt; "no objects")
     };
     let Some((env, watch)) = watched(rt.alloc()) else {
         panic!(rt; "no environment")
     };
-    let (value, changed) = count_down(&rt, &objects, &env, first, second, watch);
-    assert_eq!(rt; value, 0);
+    let (place, changed) = count_the_second_down(&rt, &objects, &env, first, second, watch);
+    assert_eq!(rt; place, 1);
     assert_eq!(rt; changed, Ok(0));
     Ok(())
 }

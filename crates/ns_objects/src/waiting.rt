@@ -51,8 +51,9 @@ impl Objects {
     /// `nsync_counter_wait`.
     ///
     /// From when the wait begins, the counter refuses to rise from 0, for good. A value that isn't 0 is
-    /// answered only where the deadline has come. Needs the number of a counter of these objects, and
-    /// the seat of a caller of the environment.
+    /// answered only where the deadline has come. The call sleeps meanwhile, and the add that gives 0 wakes
+    /// it; with a deadline it sleeps for at most a millisecond at a time. Needs the number of a counter of
+    /// these objects, and the seat of a caller of the environment.
     pub fn counter_wait<R: Wait>(
         &self,
         rt: &R,
@@ -73,6 +74,7 @@ impl Objects {
         ensures past { result ≢ 0 → IsSomeAnd deadline (λ d. d ≤ clock_of watch.new.seen) }
     {
         watch.attest();
+        seat.attest();
         let mut value = self.mark_wait(seat, counter);
         let backoff = Backoff::new();
         for _ in rt.forever() {
@@ -82,7 +84,8 @@ impl Objects {
             if is_past(env, watch, deadline) {
                 return value;
             }
-            backoff.snooze();
+            // whatever ended the sleep, the counter is looked at again
+            self.rest_at_counter(rt, counter, value, deadline, &backoff);
             value = self.counter_value(seat, counter);
         }
         unreachable!()
