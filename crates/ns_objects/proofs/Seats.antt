@@ -1,7 +1,6 @@
 -- Seats of new objects, and seats that meet.
 use Rattle.std.specs.Prelude.{nat_lt}
-use Rattle.std.proofs.Common.{◌≡◌, ℕ, zero, suc, ◌+◌, ◌-◌, ◌<◌, ◌≤◌, eqb, List, [], ◌∷◌, ◌++◌, length, length-append, get_or, replicate, sym, refl, ap, subst, arith, ◌∙◌}
-use Rattle.std.proofs.lemmas.List.{length-replicate}
+use Rattle.std.proofs.Common.{◌≡◌, ℕ, zero, suc, ◌+◌, ◌≤◌, eqb, List, [], ◌∷◌, sym, refl, subst, arith, ◌∙◌}
 use Rattle.atomic_table.specs.Seated.{TableId}
 use Rattle.atomic_table.specs.Table.{Me, Allows}
 use Rattle.ns_model.specs.Tallies.{total, Every, one_if}
@@ -10,8 +9,8 @@ use Rattle.ns_model.proofs.Tallies.{one_most}
 use Rattle.ns_counters.specs.declared.object.ObjectEvent.{ObjectEvent}
 use Rattle.ns_counters.specs.declared.object.ObjectView.{ObjectView}
 use Rattle.ns_counters.specs.declared.object.Setup.{Setup}
-use Rattle.ns_counters.specs.Lawful.{AreWordsOf, HasWords, ViewFits, IsLawful}
-use Rattle.ns_counters.specs.Objects.{first_objects, IsLegalObjects, objects_own, AreObjectsBySeats}
+use Rattle.ns_counters.specs.Lawful.{HasWords, ViewFits, IsLawful}
+use Rattle.ns_counters.specs.Objects.{IsLegalObjects, objects_own, AreObjectsBySeats}
 use Rattle.ns_counters.proofs.Objects.{own-append}
 use Rattle.ns_objects.specs.Known.{known_of, sight_of, no_setup}
 use Rattle.ns_objects.specs.Law.{is_seat, IsRuled, fresh_seat, fresh, Holds}
