@@ -130,6 +130,6 @@ impl Objects {
                 return;
             }
         }
-        backoff.snooze();
+        env.rest(rt, watch, Duration::from_millis(MOMENT));
     }
 }

@@ -376,3 +376,49 @@ fn waits_for_the_second(rt: HostRuntime) -> Result<(), Fail> {
     assert_eq!(rt; changed, Ok(0));
     Ok(())
 }
+
+/// One thread waits for tick 1 alone, to which the other moves the clock after a while; what the first
+/// was answered, and the clock then.
+fn wait_for_the_clock<R: Threads + Wait + Clock + Sync>(
+    rt: &R,
+    objects: &Objects,
+    env: &Env,
+    mut seat: ObjSeat,
+    mut first: EnvSeat,
+    mut second: EnvSeat,
+) -> (usize, u64)
+    requires objects { seat.objects ≡ objects.now }
+    requires env { (first.env ≡ env.now) × (second.env ≡ env.now) }
+{
+    join(
+        rt,
+        move || -> usize
+            requires { IsSync R.row × (seat.objects ≡ objects.now) × (first.env ≡ env.now) }
+        { objects.wait_any(rt, &mut seat, &[], Some(1), env, &mut first) },
+        move || -> u64
+            requires { IsSync R.row × (second.env ≡ env.now) }
+        {
+            linger(rt);
+            env.advance(&mut second, 1);
+            env.now(&mut second)
+        },
+    )
+}
+
+/// A thread that waits without a counter, and so sleeps at its bell, comes back when the clock is moved.
+#[test]
+fn waits_for_the_clock(rt: HostRuntime) -> Result<(), Fail> {
+    let Some((objects, seat, _other)) = pair(rt.alloc(), [0, 0]) else {
+        panic!(rt; "no objects")
+    };
+    let Ok((env, mut seats)) = Env::new(rt.alloc(), 2) else {
+        panic!(rt; "no environment")
+    };
+    let (Some(second), Some(first)) = (seats.pop(), seats.pop()) else {
+        panic!(rt; "no seats")
+    };
+    let (place, clock) = wait_for_the_clock(&rt, &objects, &env, seat, first, second);
+    assert_eq!(rt; place, 0);
+    assert_eq!(rt; clock, 1);
+    Ok(())
+}
