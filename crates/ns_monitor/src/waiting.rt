@@ -6,11 +6,11 @@ ghost use Rattle.ns_monitor.specs.Prelude.{HasAcquired, HasRow, HasTakenAt, IfEn
 
 use crate::monitor::Monitor;
 use crate::watching::Watch;
-use crossbeam_utils::Backoff;
 use ns_env::limits::Cause;
 use ns_gate::gate::GateSeat;
 use ns_gate::queues::{Returning, Turned};
 use ns_model::condition::Condition;
+use ns_note::pause::Pause;
 use ns_word::act::Change;
 use ns_word::wait::{
     Aim, LeavePlace, Outcome, QueuePlace, Subject, Wait as Waiting, WaitPlace, arrival_of,
@@ -196,6 +196,17 @@ impl<C: Condition<N>, const N: usize> Monitor<C, N> {
         outcome
     }
 
+    /// Passes a round that has shown nothing: turns for a while at first, and then sleeps at the seat's
+    /// flag for some milliseconds at most, since a note and the clock wake nobody there.
+    fn rest<R: Wait>(&self, rt: &R, seat: &GateSeat<C, N>, number: u8, pause: &mut Pause)
+        requires of { seat.now.table_id ≡ self.now }
+        requires number { IsNumberOf number seat.now.me }
+    {
+        if let Some(longest) = pause.next() {
+            self.gate.park_timeout(rt, seat, number, longest);
+        }
+    }
+
     /// Goes round between the seat's flag and a look, until the flag is cleared, whose value it answers
     /// then, or the look shows what ends the wait.
     fn await_or_end<R: Wait, W: Watch>(
@@ -217,7 +228,7 @@ impl<C: Condition<N>, const N: usize> Monitor<C, N> {
         ensures ended { IfErr result (λ cause. W.shows watch.old watch.new wait.limits (Some cause)) }
         ensures came { WokenOrEnded C.means wait result seat.new.me }
     {
-        let backoff = Backoff::new();
+        let mut pause = Pause::new();
         for _ in rt.forever() {
             let flag = self.gate.load_flag(seat, number);
             if flag != 1 {
@@ -228,7 +239,7 @@ impl<C: Condition<N>, const N: usize> Monitor<C, N> {
             if let Some(cause) = shown {
                 return Err(cause);
             }
-            backoff.snooze();
+            self.rest(rt, seat, number, &mut pause);
         }
         unreachable!()
     }

@@ -44,6 +44,7 @@
 pub mod env;
 pub mod fault;
 pub mod note;
+pub mod pause;
 mod plays;
 pub mod seat;
 mod table_words;

@@ -8,9 +8,9 @@ ghost use Rattle.ns_objects.specs.Known.{Grows, IsTrueToHistory};
 
 use crate::objects::Objects;
 use crate::seat::ObjSeat;
-use crossbeam_utils::Backoff;
 use ns_note::env::Env;
 use ns_note::note::Note;
+use ns_note::pause::Pause;
 use ns_note::seat::EnvSeat;
 use std::sync::Wait;
 
@@ -79,7 +79,7 @@ impl Objects {
     /// Waits until one of the items is ready, or until the clock of the environment has reached the
     /// deadline, in ticks. Answers the place of the first item that is ready, or the number of items where
     /// the deadline came first. With no deadline it waits for the items alone. nsync's `nsync_wait_n`.
-    /// The call sleeps meanwhile, for at most a millisecond at a time.
+    /// The call turns for a while, and then sleeps for at most 16 milliseconds at a time.
     ///
     /// Begins no wait for a counter: it may rise from 0 later. Needs at most 16 items, counters of these
     /// objects, notes that the caller's seat of the environment has seen made, and that seat.
@@ -104,13 +104,13 @@ impl Objects {
     {
         seat.attest();
         watch.attest();
-        let backoff = Backoff::new();
+        let mut pause = Pause::new();
         for _ in rt.forever() {
             if let Some(place) = self.look_at_any(seat, items, deadline, env, watch) {
                 return place;
             }
             // whatever ended the sleep, there is another round
-            self.rest_for_any(rt, seat, items, env, watch, &backoff);
+            self.rest_for_any(rt, seat, items, env, watch, &mut pause);
         }
         unreachable!()
     }

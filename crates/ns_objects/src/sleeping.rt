@@ -1,11 +1,11 @@
 //! Where callers sleep, and who wakes them.
 //!
 //! A wait for a counter sleeps at that counter's word while the value is the one just seen, and the
-//! add that gives 0 wakes all who sleep there. With a deadline it sleeps for a moment at a time, and
-//! only once it has gone round for a while: the clock moves without waking anybody here. A call that
+//! add that gives 0 wakes all who sleep there. With a deadline it sleeps for some milliseconds at a time,
+//! and only once it has turned for a while: the clock moves without waking anybody here. A call that
 //! waits for another's function sleeps at the word of that once cell while the function runs, and who
-//! ran it wakes all who sleep there. A wait for any of several sleeps for a moment at a time, once it
-//! has gone round for a while: at the word of the first counter among its items, or at the caller's
+//! ran it wakes all who sleep there. A wait for any of several sleeps for some milliseconds at a time,
+//! once it has turned for a while: at the word of the first counter among its items, or at the caller's
 //! bell in the environment where it has no counter.
 //!
 //! Sleeping is no step, and may end for no reason: who has slept looks again. Who sleeps names the
@@ -20,21 +20,17 @@ ghost use Rattle.ns_objects.specs.Any.{IsKnown};
 use crate::any::Item;
 use crate::objects::Objects;
 use crate::seat::ObjSeat;
-use crossbeam_utils::Backoff;
 use ns_counters::made::MOST;
 use ns_counters::word::{Stage, decode_counter, encode_once};
 use ns_note::env::Env;
+use ns_note::pause::Pause;
 use ns_note::seat::EnvSeat;
 use std::sync::Wait;
 use std::time::Duration;
 
-/// The longest sleep, in milliseconds, of a wait that may end by what wakes nobody here: by the clock,
-/// by a note, or by another item than the one that it sleeps at.
-const MOMENT: u64 = 1;
-
 impl Objects {
     /// Sleeps between two looks of a wait for a counter, of which this value was just seen. With a
-    /// deadline it goes round for a while first, and then sleeps for a moment.
+    /// deadline it turns for a while first, and then sleeps for some milliseconds.
     ///
     /// Needs the number of a counter, below 16.
     pub(crate) fn rest_at_counter<R: Wait>(
@@ -43,18 +39,16 @@ impl Objects {
         counter: u8,
         value: u32,
         deadline: Option<u64>,
-        backoff: &Backoff,
+        pause: &mut Pause,
     )
         requires { counter < 16 }
     {
         let word = usize::from(counter);
         let shared = &self.table.shared;
-        match deadline {
-            None => shared.park(rt, word, value),
-            Some(_) if backoff.is_completed() => {
-                shared.park_timeout(rt, word, value, Duration::from_millis(MOMENT));
-            }
-            Some(_) => backoff.snooze(),
+        if deadline.is_none() {
+            shared.park(rt, word, value);
+        } else if let Some(longest) = pause.next() {
+            shared.park_timeout(rt, word, value, longest);
         }
     }
 
@@ -90,20 +84,21 @@ impl Objects {
         self.table.shared.wake_all(MOST + usize::from(once));
     }
 
-    /// Sleeps for a moment at the word of a counter, unless it is 0. The word is looked at without a
-    /// seat, which tells nothing: what that look misses costs a moment.
-    fn rest_while_above_zero<R: Wait>(&self, rt: &R, counter: u8)
+    /// Sleeps for a while at the word of a counter, unless it is 0. The word is looked at without a seat,
+    /// which tells nothing: what that look misses is seen after the sleep.
+    fn rest_while_above_zero<R: Wait>(&self, rt: &R, counter: u8, longest: Duration)
         requires { counter < 16 }
     {
         let word = usize::from(counter);
         let shared = &self.table.shared;
         let value = decode_counter(shared.peek(word)).value;
         if value != 0 {
-            shared.park_timeout(rt, word, value, Duration::from_millis(MOMENT));
+            shared.park_timeout(rt, word, value, longest);
         }
     }
 
-    /// Sleeps between two rounds of a wait for any: for a moment, once it has gone round for a while.
+    /// Passes a round of a wait for any that has shown nothing: turns for a while at first, and then sleeps
+    /// for some milliseconds.
     ///
     /// Needs what the wait needs of its items.
     pub(crate) fn rest_for_any<R: Wait>(
@@ -113,23 +108,22 @@ impl Objects {
         items: &[Item],
         env: &Env,
         watch: &mut EnvSeat,
-        backoff: &Backoff,
+        pause: &mut Pause,
     )
         requires env { watch.old.env ≡ env.now }
         requires known { Every (IsKnown seat.now watch.old) items.now }
         ensures watch { watch.new ≡ watch.old }
     {
-        if !backoff.is_completed() {
-            backoff.snooze();
+        let Some(longest) = pause.next() else {
             return;
-        }
+        };
         seat.attest();
         for item in items {
             if let Item::Counter(counter) = *item {
-                self.rest_while_above_zero(rt, counter);
+                self.rest_while_above_zero(rt, counter, longest);
                 return;
             }
         }
-        env.rest(rt, watch, Duration::from_millis(MOMENT));
+        env.rest(rt, watch, longest);
     }
 }

@@ -8,11 +8,11 @@ ghost use Rattle.ns_objects.specs.Known.{Grows, standing_of};
 use crate::objects::Objects;
 use crate::plays::Mark;
 use crate::seat::ObjSeat;
-use crossbeam_utils::Backoff;
 use ns_counters::counter::CounterEvent;
 use ns_counters::object::ObjectEvent;
 use ns_counters::word::{WAITED, decode_counter};
 use ns_note::env::Env;
+use ns_note::pause::Pause;
 use ns_note::seat::EnvSeat;
 use std::sync::Wait;
 
@@ -51,9 +51,9 @@ impl Objects {
     /// `nsync_counter_wait`.
     ///
     /// From when the wait begins, the counter refuses to rise from 0, for good. A value that isn't 0 is
-    /// answered only where the deadline has come. The call sleeps meanwhile, and the add that gives 0 wakes
-    /// it; with a deadline it sleeps for at most a millisecond at a time. Needs the number of a counter of
-    /// these objects, and the seat of a caller of the environment.
+    /// answered only where the deadline has come. The call sleeps meanwhile, and the change that gives 0
+    /// wakes it; with a deadline it turns for a while, and then sleeps for at most 16 milliseconds at a time.
+    /// Needs the number of a counter of these objects, and the seat of a caller of the environment.
     pub fn counter_wait<R: Wait>(
         &self,
         rt: &R,
@@ -76,7 +76,7 @@ impl Objects {
         watch.attest();
         seat.attest();
         let mut value = self.mark_wait(seat, counter);
-        let backoff = Backoff::new();
+        let mut pause = Pause::new();
         for _ in rt.forever() {
             if value == 0 {
                 return 0;
@@ -85,7 +85,7 @@ impl Objects {
                 return value;
             }
             // whatever ended the sleep, the counter is looked at again
-            self.rest_at_counter(rt, counter, value, deadline, &backoff);
+            self.rest_at_counter(rt, counter, value, deadline, &mut pause);
             value = self.counter_value(seat, counter);
         }
         unreachable!()

@@ -56,3 +56,8 @@ loop-preserved g c = let t = g.C.Condition.means in let me = c.load_flag-flag.ne
   g.W.Watch.then c.args.watch.now c.loop.watch c.look-shown.new.self c.loop.invariant.4 c.look-shown.ensures.since,
   waits_on t c.args.wait c.look-shown.result me c.look.new.seat.me c.in_default.is (looking g after c.if-flag-ne1.false) c.look.ensures.did,
 )
+
+-- the flag is set, and the look has shown nothing
+pub rest-requires : goal.rest-requires
+rest-requires g c = let t = g.C.Condition.means in let me = c.load_flag-flag.new.seat.me in let after = (goal.at.rest-requires g c).After-load_flag-flag in
+    (omega arith, (queues_fit g.row.C g.row.N g.met.C.Condition.has_room, (omega arith, (◌∙◌ {A = TableId} c.look.ensures.seat (◌∙◌ {A = TableId} c.load_flag-flag.ensures.seat (◌∙◌ {A = TableId} c.loop.invariant.2 c.requires.of)), same_number t None c.args.number c.args.seat.now.me c.look.new.seat.me c.requires.number (since_then None _ _ _ (since_flag g after) (since t None (Look c.args.wait.limits false) (Looked c.look-shown.result) me c.look.new.seat.me c.look.ensures.did))))))
