@@ -9,6 +9,8 @@
 //! the machine. Whatever that is, each wait comes to an end, and the counts of a round are known beforehand,
 //! or, of wakes, have to agree: who is called is woken, and nobody else.
 //!
+//! Behind each round two threads hand a turn to and fro by 1,024 fresh notes.
+//!
 //! The last line is `seed SEED ok`, with status 0, or `seed SEED round ROUND wrong: WHAT`, with status 3.
 //! Where memory is refused, the status is 4, and where the words are wrong, 2.
 #![tactic(auto)]
@@ -18,6 +20,7 @@ mod calls;
 mod door;
 mod kit;
 mod market;
+mod notes;
 mod ring;
 mod round;
 mod rousing;
@@ -32,6 +35,21 @@ use std::sync::Wait;
 use std::thread::Threads;
 use std::{env, io};
 
+/// How often two threads hand a turn round by the notes of an environment, behind each round: 64 notes
+/// each time, so 1,024 a round.
+const ENVIRONMENTS: u32 = 16;
+
+/// A round of this number, and behind it the notes that are handed round.
+fn one_round<R: AllocGlobal + Threads + Wait + Sync>(rt: &R, seed: u64, round: u64) -> Verdict {
+    let mut verdict = round::run(rt, rt.alloc(), seed, round);
+    for _ in 0..ENVIRONMENTS {
+        if let Verdict::Right = verdict {
+            verdict = notes::run(rt, rt.alloc());
+        }
+    }
+    verdict
+}
+
 /// Makes the rounds that are asked for, up to the first that is wrong, and prints what came of them.
 fn run<R: AllocGlobal + Print + Threads + Wait + Sync>(
     rt: &R,
@@ -39,7 +57,7 @@ fn run<R: AllocGlobal + Print + Threads + Wait + Sync>(
 ) -> io::Result<ExitCode> {
     let Asked { seed, rounds } = asked;
     for round in 0..rounds {
-        match round::run(rt, rt.alloc(), seed, round) {
+        match one_round(rt, seed, round) {
             Verdict::Right => (),
             Verdict::Wrong(what) => {
                 println!(rt; "seed {seed} round {round} wrong: {what}")?;
