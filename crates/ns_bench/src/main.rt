@@ -17,8 +17,12 @@
 //!   asked and answers.
 //! * `cv_pp`, `live_cv`: as `ccs_pp` and `live`, but by condition variables; `cv_bcast`: a broadcast to all
 //!   threads, the last of which signals that it is through; `cv_signal`: a signal with nobody waiting.
+//! * `idle_timed`: long work beside threads that wait with a deadline for what doesn't come.
 //! * `to0_mu`, `to0_cv`, `to0_note`, `cancel0`: a wait whose deadline has come, or whose note is notified;
-//!   `note_no`, `note_yes`, `note_child`: a look at a note.
+//!   `note_no`, `note_yes`, `note_child`: a look at a note; `note_pp`: two threads hand a turn to and fro by
+//!   notes.
+//! * `counter_add`: a change of a counter for which nobody waits; `once_done`: a call that would have a
+//!   function run once, which has run.
 //! * `pairs`: one thread makes so many pairs of an acquire by a try and a release, and as many by hand on
 //!   one word, and prints the medians of both in nanoseconds a pair, and how many times as long one takes
 //!   as the other; `mu`: the same, but each acquire is by a call that may wait.
@@ -35,11 +39,14 @@ mod contending;
 mod crowd;
 mod env_crew;
 mod hand_over;
+mod idle;
 mod limits;
 mod long_reads;
 mod mixed;
 mod never;
+mod note_turns;
 mod notes;
+mod objects;
 mod pairs;
 mod ring;
 mod ring_variables;
@@ -55,6 +62,7 @@ use crate::asked::{Asked, parsed};
 use crate::contending::Contending;
 use crate::limits::EarlyEnd;
 use crate::notes::Looks;
+use crate::objects::Sharing;
 use crate::pairs::{ByLock, ByTry, Medians};
 use crate::variables::Signaling;
 use crate::waiting::{Beside, Marked, Waiting};
@@ -150,6 +158,16 @@ fn at_variables(workload: &str) -> Option<Signaling> {
     match workload {
         "cv_pp" => Some(Signaling::Turns),
         "cv_bcast" => Some(Signaling::Rounds),
+        "idle_timed" => Some(Signaling::Idle),
+        _ => None,
+    }
+}
+
+/// What is done to a counter or a once cell in the workload of this name.
+fn at_objects(workload: &str) -> Option<Sharing> {
+    match workload {
+        "counter_add" => Some(Sharing::CountDown),
+        "once_done" => Some(Sharing::AskDone),
         _ => None,
     }
 }
@@ -208,8 +226,12 @@ fn run<R: AllocGlobal + Print + Clock + Threads + Wait + Sync>(
     if let Some(what) = at_variables(asked.workload) {
         return Ok(Ended::of(variables::run(rt, rt.alloc(), what, amount)));
     }
+    if let Some(what) = at_objects(asked.workload) {
+        return Ok(Ended::of(objects::run(rt, rt.alloc(), what, amount)));
+    }
     match asked.workload {
         "live" => Ok(Ended::of(ring::run(rt, rt.alloc(), amount))),
+        "note_pp" => Ok(Ended::of(note_turns::run(rt, rt.alloc(), amount))),
         "live_cv" => Ok(Ended::of(ring_variables::run(rt, rt.alloc(), amount))),
         _ if asked.threads == 1 => run_alone(rt, asked),
         _ => Ok(Ended::Lacks),

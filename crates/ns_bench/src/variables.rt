@@ -6,6 +6,7 @@ ghost use Rattle.std.specs.Thread.{IsSync};
 use crate::amount::{Amount, Count};
 use crate::conditions::{ARRIVED, Awaited, MARKS, SixCells};
 use crate::env_crew::{EnvJob, env_crew};
+use crate::idle::{wait_idly, work_beside};
 use crate::running::{crew, play, repeat};
 use crate::signals::{Commons, Seats, begin_rounds, come_through_all, take_turn};
 use ns_note::env::Env;
@@ -20,6 +21,8 @@ pub enum Signaling {
     Turns,
     /// They come through rounds, each of which begins with a broadcast.
     Rounds,
+    /// They wait with a deadline for what doesn't come, beside long work.
+    Idle,
 }
 
 impl Signaling {
@@ -46,6 +49,7 @@ impl Signaling {
                 come_through_all(rt, commons, seats, amount);
                 Count::new()
             }
+            Signaling::Idle => wait_idly(rt, commons, seats),
         }
     }
 
@@ -57,13 +61,15 @@ impl Signaling {
         match self {
             Signaling::Turns => seats,
             Signaling::Rounds => begin_rounds(rt, commons, seats, amount),
+            Signaling::Idle => work_beside(rt, commons, seats, amount),
         }
     }
 
-    /// Whether the row is as it has to be.
-    fn is_right(self, row: &[u64; 6], amount: Amount) -> bool {
+    /// Whether the row is as it has to be, and so many waits have timed out.
+    fn is_right(self, row: &[u64; 6], timed_out: u64, amount: Amount) -> bool {
         match self {
             Signaling::Turns => row[0] == 0,
+            Signaling::Idle => timed_out == amount.threads,
             Signaling::Rounds => {
                 let through = if amount.operations == 0 {
                     0
@@ -98,7 +104,7 @@ pub fn run<R: Threads + Wait + Sync>(
     let (env, jobs, env_seat) = env_crew(alloc, &monitor, jobs)?;
     let cells = &monitor;
     let notes = &env;
-    let (_, seats) = play(
+    let (total, seats) = play(
         rt,
         jobs,
         (seat, env_seat),
@@ -112,5 +118,5 @@ pub fn run<R: Threads + Wait + Sync>(
     )?;
     let (seat, _) = seats;
     let closed = monitor.close(seat);
-    Some(closed.free && what.is_right(&closed.row, amount))
+    Some(closed.free && what.is_right(&closed.row, total.writes, amount))
 }
