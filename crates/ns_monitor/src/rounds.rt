@@ -169,7 +169,8 @@ impl<C: Condition<N>, const N: usize> Monitor<C, N> {
     /// looked is a clause; that it did so first is how it is written.)
     ///
     /// Needs the environment's own seat, and a note, if one is given, that it has seen made. While it
-    /// waits with a deadline or a note it goes round between its wake and a look.
+    /// waits with a deadline or a note it goes round between its wake and a look, and after a while sleeps
+    /// between two rounds, for at most 16 milliseconds.
     pub fn wait_with_deadline<H: Renewed<C, N>, R: Wait>(
         &self,
         rt: &R,

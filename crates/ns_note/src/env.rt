@@ -205,7 +205,8 @@ impl Env {
             // since it was last rung, and whoever rang it wakes its sleeper. All steps are in one
             // order, so who sets it back from now on, and looks after that, sees the step that
             // came before this call. The same is so where the swap finds it rung meanwhile: only
-            // the one that found it set back wakes, since there is but one sleeper to a bell.
+            // the one that found it set back wakes, since there is but one sleeper to a bell; one that
+            // stops for good between the two leaves that sleeper asleep until it is rung anew.
             let bell = usize::from(number) + BELLS;
             if self.table.shared.peek(bell) == 0 && !self.ring_one(seat, number) {
                 self.table.shared.wake_one(bell);
@@ -434,8 +435,8 @@ impl Env {
     /// caller that waits for something of this environment and for something else too, and that
     /// looks at both again afterwards.
     ///
-    /// It comes back at once where one of these came since the seat last slept, and may come back
-    /// early for no reason. So a caller that looks each time after it, and rests again only where
+    /// It comes back at once where one of these came since the seat's last wait or rest, and may come
+    /// back early for no reason. So a caller that looks each time after it, and rests again only where
     /// that look showed nothing, sleeps through nothing of this environment. What else it waits for
     /// may come between its look and this call, and be slept through: `longest` bounds how late
     /// that is seen. Nothing is claimed of progress.

@@ -1,8 +1,8 @@
-//! What the calls of an environment refuse.
+//! What the calls of an environment refuse, and the making of objects above it.
 
 use std::alloc::AllocError;
 
-/// Why no environment was made.
+/// Why no environment was made, or no objects.
 #[derive(Clone, Copy, Debug, Drop, PartialEq, Eq)]
 pub enum Fault {
     /// More than 64 seats were asked for.

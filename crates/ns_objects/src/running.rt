@@ -23,7 +23,8 @@ use std::sync::Wait;
 pub enum Once<T> {
     /// The function ran in this call, and gave this.
     Ran(T),
-    /// Another call on the cell has run a function, to its end.
+    /// Another call on the cell has run a function. (That it has run to its end is how that call is written,
+    /// and tested: the clause is that it has said so.)
     Already,
 }
 
@@ -114,7 +115,7 @@ impl Objects {
     /// has ended, and sleeps meanwhile. nsync's `nsync_run_once`.
     ///
     /// Of all calls on one cell just one runs its function, and any other answers `Already` once that
-    /// has ended. A function that doesn't return leaves all others waiting. Needs the number of a once
+    /// has said that it has run, which is written behind its end. A function that doesn't return leaves all others waiting. Needs the number of a once
     /// cell of these objects, and a function that may be called.
     pub fn run_once<R: Wait, T, F: FnOnce() -> T>(
         &self,

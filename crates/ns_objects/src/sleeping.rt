@@ -8,10 +8,10 @@
 //! once it has turned for a while: at the word of the first counter among its items, or at the caller's
 //! bell in the environment where it has no counter.
 //!
-//! Sleeping is no step, and may end for no reason: who has slept looks again. Who sleeps names the
-//! number just seen, and the sleep itself compares the word with that. So a change between the look
-//! and the sleep isn't slept through, and the wake comes behind the change. Nothing is claimed of
-//! progress: no clause says that a sleep ends.
+//! Sleeping is no step, and may end for no reason: who has slept looks again. Who sleeps without an end
+//! names the number just seen, and the sleep itself compares the word with that. So a change between
+//! the look and the sleep isn't slept through, and the wake comes behind the change. Nothing is claimed
+//! of progress: no clause says that a sleep ends.
 
 ghost use Rattle.std.specs.Prelude.{◌≡◌, ◌<◌};
 ghost use Rattle.ns_model.specs.Tallies.{Every};
