@@ -1,7 +1,7 @@
 //! What histories of counters and once cells mean, and the law of the steps on them. Each function
 //! is a theorem: its clause holds, and it does nothing.
 
-ghost use Rattle.std.specs.Prelude.{◌≡◌, ℕ, ◌≤◌, ◌≢◌, ℤ, pos, ◌+ℤ◌, true, ◌++◌, List, [], length, slice_index, slice_set};
+ghost use Rattle.std.specs.Prelude.{◌≡◌, ℕ, ◌≤◌, ◌≢◌, ◌↔◌, ℤ, pos, ◌+ℤ◌, true, ◌++◌, List, [], length, slice_index, slice_set};
 ghost use Rattle.std.specs.List.{fold, list_any};
 ghost use Rattle.ns_counters.specs.declared.act.ObjectAct.{ObjectAct};
 ghost use Rattle.ns_counters.specs.declared.counter.CounterEvent.{CounterEvent};
@@ -11,7 +11,7 @@ ghost use Rattle.ns_counters.specs.declared.object.ObjectView.{ObjectView};
 ghost use Rattle.ns_counters.specs.declared.object.Setup.{Setup};
 ghost use Rattle.ns_counters.specs.declared.once.OnceEvent.{OnceEvent};
 ghost use Rattle.ns_counters.specs.Acted.{HasActed, acted, events_of};
-ghost use Rattle.ns_counters.specs.Counters.{IsLegalCounter, IsLegalCounterEvent, counter_after, counter_next, judged, most};
+ghost use Rattle.ns_counters.specs.Counters.{IsLegalCounter, IsLegalCounterEvent, counter_after, counter_next, is_ready, judged, most};
 ghost use Rattle.ns_counters.specs.Courses.{IsLegalFrom};
 ghost use Rattle.ns_counters.specs.Lawful.{IsLawful, ViewFits};
 ghost use Rattle.ns_counters.specs.Made.{first_words, padded, setup_of};
@@ -43,6 +43,11 @@ pub fn a_counter_remembers_waits()
 pub fn a_counter_waited_for_stays_at_zero()
     ensures { (now : CounterState) (events : List CounterEvent) → now.value ≡ 0 → now.waited ≡ true →
         IsLegalFrom IsLegalCounterEvent counter_next now events → (fold counter_next now events).value ≡ 0 }
+{}
+
+/// A wait for any of several takes a counter as ready just where its value is 0.
+pub fn a_counter_is_ready_at_zero()
+    ensures { (now : CounterState) → is_ready now ≡ true ↔ now.value ≡ 0 }
 {}
 
 /// The function of a once cell begins once at most, and has run once at most, by who began it.

@@ -20,6 +20,7 @@ use std::sync::Wait;
 
 impl Objects {
     /// Loads a counter that is to be changed. Where the change is refused, the refusal has then happened.
+    #[inline(always)]
     fn load_to_change(&self, seat: &mut TableSeat, counter: u8, delta: i64) -> u64
         requires objects { seat.old.table_id ≡ self.now }
         requires one { IsOne seat.old.me.0 }
@@ -36,6 +37,7 @@ impl Objects {
     }
 
     /// Changes a counter to a value, if its word is still the one seen; answers the word found.
+    #[inline(always)]
     fn change(&self, seat: &mut TableSeat, counter: u8, word: u64, value: u32) -> u64
         requires objects { seat.old.table_id ≡ self.now }
         requires one { IsOne seat.old.me.0 }
@@ -54,6 +56,7 @@ impl Objects {
     }
 
     /// Changes a counter, through a seat that is bound to no step.
+    #[inline(always)]
     fn add_at<R: Wait>(
         &self,
         rt: &R,
@@ -89,6 +92,7 @@ impl Objects {
     /// else a rise from 0 where a wait for 0 has begun (`AfterWait`); a refused change leaves the counter
     /// as it was. A change that gives 0 wakes all who sleep in a wait for it. Goes round only where another
     /// caller has changed or marked the counter in between. Needs the number of a counter of these objects.
+    #[inline(always)]
     pub fn counter_add<R: Wait>(
         &self,
         rt: &R,

@@ -30,6 +30,7 @@ pub enum Once<T> {
 
 impl Objects {
     /// How far a once cell has come.
+    #[inline(always)]
     fn look_once(&self, seat: &mut TableSeat, once: u8) -> Stage
         requires objects { seat.old.table_id ≡ self.now }
         requires one { IsOne seat.old.me.0 }
@@ -80,8 +81,9 @@ impl Objects {
         self.wake_at_done(once);
     }
 
-    /// Begins to run the function of a once cell, or waits until it has run. Answers whether it begins.
-    fn begin_or_wait<R: Wait>(&self, rt: &R, seat: &mut TableSeat, once: u8) -> bool
+    /// Begins to run the function of a once cell, or sleeps until it has run. Answers whether it begins.
+    #[cold]
+    fn begin_or_sleep<R: Wait>(&self, rt: &R, seat: &mut TableSeat, once: u8) -> bool
         requires objects { seat.old.table_id ≡ self.now }
         requires one { IsOne seat.old.me.0 }
         requires free { (the seat.old.me.0).place ≡ Place.Free }
@@ -111,12 +113,30 @@ impl Objects {
         unreachable!()
     }
 
+    /// Begins to run the function of a once cell, or waits until it has run. Answers whether it begins. A
+    /// cell that is done takes one look and no call; any other is looked at anew in the loop.
+    #[inline(always)]
+    fn begin_or_wait<R: Wait>(&self, rt: &R, seat: &mut TableSeat, once: u8) -> bool
+        requires objects { seat.old.table_id ≡ self.now }
+        requires one { IsOne seat.old.me.0 }
+        requires free { (the seat.old.me.0).place ≡ Place.Free }
+        requires room { HasWords (the seat.old.me.0).setup }
+        requires once { once < (the seat.old.me.0).setup.cells }
+        ensures seat { seat.new.table_id ≡ seat.old.table_id }
+        ensures begins { result ≡ true → OneComes (ObjectEvent.OnOnce once (OnceEvent.Began (the seat.old.me.0).seat) ∷ []) (Place.Running once) seat.old.me seat.new.me }
+        ensures over { result ≡ false → OneComes [] Place.Free seat.old.me seat.new.me × (is_done ((standing_in (the seat.new.me.0)).onces once) ≡ true) }
+    {
+        self.look_once(seat, once) != Stage::Done && self.begin_or_sleep(rt, seat, once)
+    }
+
     /// Runs the function, if no call on this once cell has begun to run one; else waits until that one
     /// has ended, and sleeps meanwhile. nsync's `nsync_run_once`.
     ///
     /// Of all calls on one cell just one runs its function, and any other answers `Already` once that
-    /// has said that it has run, which is written behind its end. A function that doesn't return leaves all others waiting. Needs the number of a once
-    /// cell of these objects, and a function that may be called.
+    /// has said that it has run, which is written behind its end. A function that doesn't return leaves
+    /// all others waiting. Needs the number of a once cell of these objects, and a function that may be
+    /// called.
+    #[inline(always)]
     pub fn run_once<R: Wait, T, F: FnOnce() -> T>(
         &self,
         rt: &R,
