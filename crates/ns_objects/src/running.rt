@@ -81,9 +81,9 @@ impl Objects {
         self.wake_at_done(once);
     }
 
-    /// Begins to run the function of a once cell, or sleeps until it has run. Answers whether it begins.
+    /// Begins to run the function of a once cell, or waits until it has run. Answers whether it begins.
     #[cold]
-    fn begin_or_sleep<R: Wait>(&self, rt: &R, seat: &mut TableSeat, once: u8) -> bool
+    fn begin_or_wait<R: Wait>(&self, rt: &R, seat: &mut TableSeat, once: u8) -> bool
         requires objects { seat.old.table_id ≡ self.now }
         requires one { IsOne seat.old.me.0 }
         requires free { (the seat.old.me.0).place ≡ Place.Free }
@@ -113,22 +113,6 @@ impl Objects {
         unreachable!()
     }
 
-    /// Begins to run the function of a once cell, or waits until it has run. Answers whether it begins. A
-    /// cell that is done takes one look and no call; any other is looked at anew in the loop.
-    #[inline(always)]
-    fn begin_or_wait<R: Wait>(&self, rt: &R, seat: &mut TableSeat, once: u8) -> bool
-        requires objects { seat.old.table_id ≡ self.now }
-        requires one { IsOne seat.old.me.0 }
-        requires free { (the seat.old.me.0).place ≡ Place.Free }
-        requires room { HasWords (the seat.old.me.0).setup }
-        requires once { once < (the seat.old.me.0).setup.cells }
-        ensures seat { seat.new.table_id ≡ seat.old.table_id }
-        ensures begins { result ≡ true → OneComes (ObjectEvent.OnOnce once (OnceEvent.Began (the seat.old.me.0).seat) ∷ []) (Place.Running once) seat.old.me seat.new.me }
-        ensures over { result ≡ false → OneComes [] Place.Free seat.old.me seat.new.me × (is_done ((standing_in (the seat.new.me.0)).onces once) ≡ true) }
-    {
-        self.look_once(seat, once) != Stage::Done && self.begin_or_sleep(rt, seat, once)
-    }
-
     /// Runs the function, if no call on this once cell has begun to run one; else waits until that one
     /// has ended, and sleeps meanwhile. nsync's `nsync_run_once`.
     ///
@@ -150,6 +134,10 @@ impl Objects {
         ensures grows { Grows seat.old seat.new }
         ensures answers { OnceAnswers (F.post function) once seat.old seat.new result }
     {
+        // a cell that is done takes this look and no call; any other is looked at anew
+        if self.look_once(&mut seat.seat, once) == Stage::Done {
+            return Once::Already;
+        }
         if self.begin_or_wait(rt, &mut seat.seat, once) {
             let given = function();
             self.end_once(&mut seat.seat, once);
