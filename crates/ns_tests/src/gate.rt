@@ -46,6 +46,17 @@ fn too_many_seats(rt: HostRuntime) {
     }
 }
 
+/// With each allocation refused in turn no gate is made, for that reason.
+#[test]
+fn refused_memory(rt: HostRuntime) {
+    match Gate::<Plain, 2>::new(rt.alloc(), 3) {
+        Ok((gate, mut all)) => {
+            gate.part(&mut all);
+        }
+        Err(fault) => assert_eq!(rt; fault, Fault::OutOfMemory),
+    }
+}
+
 /// The cell is at least 1.
 #[derive(Clone, Copy)]
 struct Raised;

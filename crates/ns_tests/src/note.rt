@@ -216,6 +216,15 @@ fn seats_of_an_environment(rt: HostRuntime) -> Result<(), Fail> {
     Ok(())
 }
 
+/// With each allocation refused in turn no environment is made, for that reason.
+#[test]
+fn refused_memory(rt: HostRuntime) {
+    match Env::new(rt.alloc(), 3) {
+        Ok((_env, seats)) => assert_eq!(rt; seats.len(), 3),
+        Err(fault) => assert_eq!(rt; fault, Fault::OutOfMemory),
+    }
+}
+
 /// The word of note 1 under note 0 with deadline 5, and of a notified note with neither.
 #[test]
 fn words(rt: HostRuntime) -> Result<(), Fail> {

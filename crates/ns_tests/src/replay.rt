@@ -18,6 +18,10 @@ const FIRST: &str =
 
 const FIRST_TEXT: &str = "0 0 ok\n0 1 ok\n0 2 5\n0 3 ok\nrow 5 0 0 0 0 0 0 0\n";
 
+/// The first of the worked scripts: a section, and what it left is read in another.
+const WORKED: &str =
+    "{\"version\":1,\"threads\":[[\"lock\",\"set 0 5\",\"get 0\",\"unlock\",\"rlock\",\"get 0\",\"runlock\"]],\"schedule\":\"0!*7\"}";
+
 const ROW: &str = "row 0 0 0 0 0 0 0 0\n";
 
 const EMPTY: &str = "{\"version\":1,\"threads\":[],\"schedule\":\"\"}";
@@ -44,7 +48,7 @@ fn replayed(
 
 #[test]
 fn fronts(rt: HostRuntime) {
-    let bytes = FIRST.as_bytes();
+    let bytes = WORKED.as_bytes();
     for n in 0..bytes.len() {
         let mut source = Pieces::new(&bytes[..n], 4096, usize::MAX);
         let mut sink = Expects::new(b"", 4096, usize::MAX);

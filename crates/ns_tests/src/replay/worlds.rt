@@ -71,6 +71,39 @@ fn two_try(rt: HostRuntime) -> Result<(), Fail> {
     Ok(())
 }
 
+/// A world of 64 seats is made, and one of 65 is refused.
+#[test]
+fn too_many_seats(rt: HostRuntime) {
+    match World::<Never, 8>::new(rt.alloc(), 64, &[], 0) {
+        Ok(world) => assert!(rt; world.history().is_empty()),
+        Err(_) => panic!(rt; "no world"),
+    }
+    match World::<Never, 8>::new(rt.alloc(), 65, &[], 0) {
+        Ok(_world) => panic!(rt; "a world of 65 seats"),
+        Err(fault) => assert_eq!(rt; fault, Fault::TooManySeats),
+    }
+}
+
+/// A number that is no seat's is refused, and whose turn it would be makes no step.
+#[test]
+fn no_such_seat(rt: HostRuntime) -> Result<(), Fail> {
+    let mut world = World::<Never, 8>::new(rt.alloc(), 1, &[], 0)?;
+    let calls = first_calls(rt.alloc())?;
+    let schedule = [Turn {
+        thread: 1,
+        whole: true,
+        times: 1,
+    }];
+    let run = world.run(rt.alloc(), &[calls], &schedule, 7).err();
+    assert_eq!(rt; run, Some(Fault::NoSuchSeat));
+    let begun = world.begin(1, Call::TryLock).err();
+    assert_eq!(rt; begun, Some(Fault::NoSuchSeat));
+    let step = world.step(1).err();
+    assert_eq!(rt; step, Some(Fault::NoSuchSeat));
+    assert_eq!(rt; world.state().row, [0; 8]);
+    Ok(())
+}
+
 /// With every allocation refused in turn, each answer is `OutOfMemory` and nothing is lost, or
 /// the answer with ample memory.
 #[test]
