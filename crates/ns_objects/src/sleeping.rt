@@ -2,7 +2,7 @@
 //!
 //! A wait for a counter sleeps at that counter's word while the value is the one just seen, and the
 //! add that gives 0 wakes all who sleep there. With a deadline it sleeps for some milliseconds at a time,
-//! and only once it has turned for a while: the clock moves without waking anybody here. A call that
+//! and only once it has turned for a while: the clock moves without waking anybody at a counter. A call that
 //! waits for another's function sleeps at the word of that once cell while the function runs, and who
 //! ran it wakes all who sleep there. A wait for any of several sleeps for some milliseconds at a time,
 //! once it has turned for a while: at the word of the first counter among its items, or at the caller's

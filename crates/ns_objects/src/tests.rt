@@ -37,39 +37,32 @@ fn watched(alloc: Global) -> Option<(Env, EnvSeat)>
     Some((env, seat))
 }
 
-/// Changes and their refusals, each of which leaves the value; and waits.
-#[test]
-fn changes_and_waits(rt: HostRuntime) -> Result<(), Fail> {
-    let Some((objects, mut seat, _other)) = pair(rt.alloc(), [0, 3]) else {
-        panic!(rt; "no objects")
-    };
-    let Some((env, mut watch)) = watched(rt.alloc()) else {
-        panic!(rt; "no environment")
-    };
-    assert_eq!(rt; objects.counter_add(&rt, &mut seat, 0, 2), Ok(2));
-    assert_eq!(rt;
-        objects.counter_add(&rt, &mut seat, 0, -3),
-        Err(CounterFault::Under)
-    );
-    assert_eq!(rt; objects.counter_value(&mut seat, 0), 2);
-    assert_eq!(rt;
-        objects.counter_add(&rt, &mut seat, 0, 4_294_967_295),
-        Err(CounterFault::Over)
-    );
-    assert_eq!(rt; objects.counter_add(&rt, &mut seat, 0, -2), Ok(0));
-    assert_eq!(rt;
-        objects.counter_wait(&rt, &mut seat, 0, None, &env, &mut watch),
-        0
-    );
-    assert_eq!(rt;
-        objects.counter_add(&rt, &mut seat, 0, 1),
-        Err(CounterFault::AfterWait)
-    );
-    assert_eq!(rt;
-        objects.counter_wait(&rt, &mut seat, 1, Some(0), &env, &mut watch),
-        3
-    );
-    Ok(())
+/// What the changes of a counter came to, and what was read of the counters beside them.
+type Answers = ([Result<u32, CounterFault>; 5], [u32; 3]);
+
+/// Changes of counter 0 and their refusals, each of which leaves the value; then a wait for it, behind which
+/// it doesn't rise any more, and one for counter 1 that ends by its deadline.
+fn change_and_wait<R: Wait>(
+    rt: &R,
+    objects: &Objects,
+    seat: &mut ObjSeat,
+    env: &Env,
+    watch: &mut EnvSeat,
+) -> Answers
+    requires objects { (seat.old.objects ≡ objects.now) × (seat.old.setup.counters ≡ 2) }
+    requires env { watch.old.env ≡ env.now }
+    ensures seat { (seat.new.objects ≡ objects.now) × (seat.new.setup ≡ seat.old.setup) }
+    ensures watch { watch.new.env ≡ watch.old.env }
+{
+    let added = objects.counter_add(rt, seat, 0, 2);
+    let under = objects.counter_add(rt, seat, 0, -3);
+    let value = objects.counter_value(seat, 0);
+    let over = objects.counter_add(rt, seat, 0, 4_294_967_295);
+    let zero = objects.counter_add(rt, seat, 0, -2);
+    let waited = objects.counter_wait(rt, seat, 0, None, env, watch);
+    let after = objects.counter_add(rt, seat, 0, 1);
+    let other = objects.counter_wait(rt, seat, 1, Some(0), env, watch);
+    ([added, under, over, zero, after], [value, waited, other])
 }
 
 /// What a wait for one of the two counters or the note answers, where the seat knows the note.
@@ -94,6 +87,74 @@ fn wait<R: Wait>(
     }
     let items = [Item::Counter(counter), Item::Note(note)];
     Some(objects.wait_any(rt, seat, &items, deadline, env, watch))
+}
+
+/// A new note, which is notified where that is asked.
+fn noted(env: &Env, watch: &mut EnvSeat, is_notified: bool) -> Option<Note>
+    requires { watch.old.env ≡ env.now }
+    ensures { watch.new.env ≡ watch.old.env }
+{
+    let note = env.note_new(watch, None, None).ok()?;
+    if is_notified {
+        env.notify(watch, note);
+    }
+    Some(note)
+}
+
+/// All this in a thread of its own, and then two waits for counter 1 or a note: one that is notified, and one
+/// that isn't, with a deadline that has come.
+fn work_in_a_thread<R: Threads + Wait + Sync>(
+    rt: &R,
+    objects: &Objects,
+    env: &Env,
+    mut seat: ObjSeat,
+    mut watch: EnvSeat,
+    notes: [Note; 2],
+) -> (Answers, [Option<usize>; 2])
+    requires objects { (seat.objects ≡ objects.now) × (seat.setup.counters ≡ 2) }
+    requires env { watch.env ≡ env.now }
+{
+    let (came, ()) = join(
+        rt,
+        move || -> (Answers, [Option<usize>; 2])
+            requires { IsSync R.row × (seat.objects ≡ objects.now) × (seat.setup.counters ≡ 2) × (watch.env ≡ env.now) }
+        {
+            let came = change_and_wait(rt, objects, &mut seat, env, &mut watch);
+            let [ready, other] = notes;
+            let first = wait(rt, objects, &mut seat, 1, ready, None, env, &mut watch);
+            let none = wait(rt, objects, &mut seat, 1, other, Some(0), env, &mut watch);
+            (came, [first, none])
+        },
+        || (),
+    );
+    came
+}
+
+/// Each change and each wait is answered as it must be, also in a thread.
+#[test]
+fn changes_and_waits(rt: HostRuntime) -> Result<(), Fail> {
+    let Some((objects, seat, _other)) = pair(rt.alloc(), [0, 3]) else {
+        panic!(rt; "no objects")
+    };
+    let Some((env, mut watch)) = watched(rt.alloc()) else {
+        panic!(rt; "no environment")
+    };
+    let Some(ready) = noted(&env, &mut watch, true) else {
+        panic!(rt; "no note")
+    };
+    let Some(other) = noted(&env, &mut watch, false) else {
+        panic!(rt; "no note")
+    };
+    let (came, places) = work_in_a_thread(&rt, &objects, &env, seat, watch, [ready, other]);
+    let (under, over, after) = (
+        CounterFault::Under,
+        CounterFault::Over,
+        CounterFault::AfterWait,
+    );
+    assert_eq!(rt; came.0, [Ok(2), Err(under), Err(over), Ok(0), Err(after)]);
+    assert_eq!(rt; came.1, [2, 0, 3]);
+    assert_eq!(rt; places, [Some(1), Some(2)]);
+    Ok(())
 }
 
 /// The first ready item in order, and the number of items where the deadline has come.
@@ -331,18 +392,19 @@ fn waits_for_zero(rt: HostRuntime) -> Result<(), Fail> {
     Ok(())
 }
 
-/// One thread waits for any of two counters, of which the other makes the second 0 after a while; what
-/// each was answered.
-fn count_the_second_down<R: Threads + Wait + Clock + Sync>(
+/// One thread waits for any of two counters, of which the other counts this one down after a while; what each
+/// was answered.
+fn count_one_down<R: Threads + Wait + Clock + Sync>(
     rt: &R,
     objects: &Objects,
+    counter: u8,
     env: &Env,
     mut first: ObjSeat,
     mut second: ObjSeat,
     mut watch: EnvSeat,
 ) -> (usize, Result<u32, CounterFault>)
     requires objects { (first.objects ≡ objects.now) × (second.objects ≡ objects.now) }
-    requires counters { (first.setup.counters ≡ 2) × (second.setup.counters ≡ 2) }
+    requires counters { (first.setup.counters ≡ 2) × (second.setup.counters ≡ 2) × (counter < 2) }
     requires env { watch.env ≡ env.now }
 {
     join(
@@ -354,27 +416,45 @@ fn count_the_second_down<R: Threads + Wait + Clock + Sync>(
             objects.wait_any(rt, &mut first, &items, None, env, &mut watch)
         },
         move || -> Result<u32, CounterFault>
-            requires { IsSync R.row × (second.objects ≡ objects.now) × (second.setup.counters ≡ 2) }
+            requires { IsSync R.row × (second.objects ≡ objects.now) × (second.setup.counters ≡ 2) × (counter < 2) }
         {
             linger(rt);
-            objects.counter_add(rt, &mut second, 1, -1)
+            objects.counter_add(rt, &mut second, counter, -1)
         },
     )
 }
 
-/// A thread that waits for any sees what another counts down, at whichever counter it sleeps.
+/// Two threads as above, on objects of their own, both counters at 1; what each was answered.
+fn count_one_of_two_down<R: Threads + Wait + Clock + Sync>(
+    rt: &R,
+    alloc: Global,
+    counter: u8,
+) -> Option<(usize, Result<u32, CounterFault>)>
+    requires { counter < 2 }
+{
+    let (objects, first, second) = pair(alloc, [1, 1])?;
+    let (env, watch) = watched(alloc)?;
+    Some(count_one_down(rt, &objects, counter, &env, first, second, watch))
+}
+
+/// A thread that waits for any sees what another counts down, at whichever counter it sleeps: the second, and
+/// in a later round the first as well.
 #[test]
-fn waits_for_the_second(rt: HostRuntime) -> Result<(), Fail> {
-    let Some((objects, first, second)) = pair(rt.alloc(), [2, 1]) else {
-        panic!(rt; "no objects")
-    };
-    let Some((env, watch)) = watched(rt.alloc()) else {
-        panic!(rt; "no environment")
-    };
-    let (place, changed) = count_the_second_down(&rt, &objects, &env, first, second, watch);
-    assert_eq!(rt; place, 1);
-    assert_eq!(rt; changed, Ok(0));
+fn waits_for_either(rt: HostRuntime) -> Result<(), Fail> {
+    let first = count_one_of_two_down(&rt, rt.alloc(), 0);
+    assert_eq!(rt; first, Some((0, Ok(0))));
+    let second = count_one_of_two_down(&rt, rt.alloc(), 1);
+    assert_eq!(rt; second, Some((1, Ok(0))));
     Ok(())
+}
+
+/// With each allocation refused in turn no objects are made, for that reason.
+#[test]
+fn refused_memory(rt: HostRuntime) {
+    match Objects::new(rt.alloc(), &[7], 1, 3) {
+        Ok((_objects, seats)) => assert_eq!(rt; seats.len(), 3),
+        Err(fault) => assert_eq!(rt; fault, Fault::OutOfMemory),
+    }
 }
 
 /// One thread waits for tick 1 alone, to which the other moves the clock after a while; what the first

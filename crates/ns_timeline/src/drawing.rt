@@ -13,6 +13,7 @@ use crate::sight::Sight;
 use crate::stepping::{Drawing, draw_schedule};
 use ns_model::seats::Seats;
 use ns_replay::{Fault, Run, Script, Sink, Source, collect_bytes, run_bytes, write_all};
+use ns_word::word::Word;
 use ns_world::schedule::Line;
 use ns_world::world::World;
 use std::alloc::{AllocError, Global};
@@ -43,6 +44,7 @@ fn headed(alloc: Global, shown: Seats, is_all: bool) -> Result<Drawing, AllocErr
         line,
         shown,
         sight: Sight::new(),
+        word: Word::FREE,
         over: [0; 64],
         turns: 0,
     })

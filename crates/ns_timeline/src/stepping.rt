@@ -7,6 +7,7 @@ use crate::line::{Drawn, push_turn};
 use crate::sight::{Sight, both, only};
 use ns_model::seats::Seats;
 use ns_replay::ScriptCondition;
+use ns_word::word::Word;
 use ns_world::call::Call;
 use ns_world::run::{is_end, next_call, turn};
 use ns_world::schedule::Turn;
@@ -25,6 +26,8 @@ pub struct Drawing {
     pub shown: Seats,
     /// What is seen.
     pub sight: Sight,
+    /// The lock word when that was seen.
+    pub word: Word,
     /// How many calls of each thread are over.
     pub over: [u16; 64],
     /// How many turns were made.
@@ -37,6 +40,19 @@ fn is_waiting(seen: &Sight, thread: u8, step: Step) -> bool {
     matches!(step, Step::Idle) && both(seen.busy, only(thread)) != Seats::none()
 }
 
+/// Whether the step can't have changed what is seen, of which to ask the world would take most of the time of a
+/// run that waits: the thread's call was in progress before and still is, the lock word is the same, nobody has
+/// the waiter queues in hand, and nobody is owed a wake. So who holds the lock and who stands in which list is
+/// as before, since a list changes only with the queues in a hand.
+fn is_as_seen(drawing: &Drawing, word: Word, thread: u8, step: Step) -> bool {
+    let sight = &drawing.sight;
+    matches!(step, Step::Went)
+        && both(sight.busy, only(thread)) != Seats::none()
+        && sight.owed == Seats::none()
+        && !word.spin
+        && word == drawing.word
+}
+
 /// Draws a step of the thread's call, if it changed something, or the call is over.
 fn draw(
     drawing: &mut Drawing,
@@ -45,9 +61,11 @@ fn draw(
     call: Call<ScriptCondition>,
     step: Step,
 ) -> Result<(), AllocError> {
-    if is_waiting(&drawing.sight, thread, step) {
+    let word = world.word();
+    if is_waiting(&drawing.sight, thread, step) || is_as_seen(drawing, word, thread, step) {
         return Ok(());
     }
+    drawing.word = word;
     let after = drawing.sight.after(&world.state(), thread);
     let reply = match step {
         Step::Finished(reply) => Some(reply),

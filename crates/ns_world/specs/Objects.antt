@@ -1,5 +1,5 @@
 -- The counters and once cells of a world, and one step of a seat in a call on them.
-use Rattle.std.specs.Prelude.{◌≡◌, ℕ, nat_lt, ◌<◌, ◌≤◌, ◌^◌, ◌==◌, ◌||◌, Bool, true, bit_or, if◌then◌else◌, List, [], replicate, Option, None, Some, is_some, slice_get, slice_index, slice_set, unwrap_or, Ok, get_or}
+use Rattle.std.specs.Prelude.{◌≡◌, ℕ, nat_lt, ◌<◌, ◌≤◌, ◌^◌, ◌==◌, Bool, true, bit_or, if◌then◌else◌, List, [], replicate, Option, None, Some, slice_get, slice_index, slice_set, unwrap_or, Ok}
 use Rattle.std.specs.List.{list_all}
 use Rattle.ns_model.specs.Environments.{NoteStanding}
 use Rattle.ns_counters.specs.declared.act.ObjectAct.{ObjectAct}

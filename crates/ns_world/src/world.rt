@@ -164,6 +164,13 @@ impl<C: Seated<N>, const N: usize> World<C, N> {
         self.history.as_slice()
     }
 
+    /// The lock word as it stands, as [`World::state`] shows it.
+    pub fn word(&self) -> Word
+        ensures { result ≡ self.now.lock.word }
+    {
+        unpacked(self.word)
+    }
+
     /// The world as it stands, of which the law of the lock holds, and those of the clock and the
     /// notes, and of the counters and once cells.
     pub fn state(&self) -> State<N>
@@ -177,7 +184,7 @@ impl<C: Seated<N>, const N: usize> World<C, N> {
     {
         let queues = shown_queues(&self.queues, &self.seats, &self.row);
         State {
-            word: unpacked(self.word),
+            word: self.word(),
             lock: queues.shown(Which::Lock),
             cvs: [
                 queues.shown(Which::Cv(0)),

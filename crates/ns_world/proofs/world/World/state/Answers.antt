@@ -4,12 +4,8 @@ use Rattle.ns_word.specs.Codec.{word_of}
 use Rattle.ns_queue.specs.Queues.{Lists}
 use Rattle.ns_queue.specs.Waiters.{shown_of}
 use Rattle.ns_queue.proofs.Shown.{each_shown}
-use Rattle.ns_word.proofs.Seen.{packable}
 use Rattle.ns_world.proofs.States.{listed, number_below, nowhere, few_seats, wakes_few}
 use Rattle.ns_world.proofs.world.World.state.Goals as goal
-
-pub unpacked-requires : goal.unpacked-requires
-unpacked-requires g c = packable _ _ _ _ c.self.invariant.lock.few c.self.invariant.lock.lawful
 
 pub shown_queues-queues-requires : goal.shown_queues-queues-requires
 shown_queues-queues-requires g c = (
@@ -48,7 +44,7 @@ returns-clause-variables g c =
     rw (← c.self.view_is) (all ∙ ap (λ (lists : Lists _). map (map shown_of) lists.cvs) (rw c.deref.ensures.value at c.shown_queues-queues.ensures))
 
 pub returns-clause-word : goal.returns-clause-word
-returns-clause-word g c = rw (← c.self.view_is) c.unpacked.ensures
+returns-clause-word g c = c.word.ensures
 
 pub returns-clause-lock : goal.returns-clause-lock
 returns-clause-lock g c = rw (← c.self.view_is) (c.shown.ensures.shown ∙ ap (λ (lists : Lists _). map shown_of lists.lock) (rw c.deref.ensures.value at c.shown_queues-queues.ensures))
