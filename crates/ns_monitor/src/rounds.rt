@@ -170,7 +170,7 @@ impl<C: Condition<N>, const N: usize> Monitor<C, N> {
     ///
     /// Needs the environment's own seat, and a note, if one is given, that it has seen made. While it
     /// waits with a deadline or a note it goes round between its wake and a look, and after a while sleeps
-    /// between two rounds, for at most 16 milliseconds.
+    /// between two rounds, for at most 64 milliseconds.
     pub fn wait_with_deadline<H: Renewed<C, N>, R: Wait>(
         &self,
         rt: &R,

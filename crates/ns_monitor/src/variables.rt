@@ -66,7 +66,7 @@ impl<C: Condition<N>, const N: usize> Monitor<C, N> {
     /// The behaviour is that of nsync's `nsync_cv_wait_with_deadline`. Needs a variable below 4; the
     /// environment's own seat; and a note, if one is given, that it has seen made. Without note and
     /// deadline it sleeps until it is woken; with one of them it goes round between its wake and a look, and
-    /// after a while sleeps between two rounds, for at most 16 milliseconds.
+    /// after a while sleeps between two rounds, for at most 64 milliseconds.
     pub fn cv_wait_with_deadline<H: Renewed<C, N>, R: Wait>(
         &self,
         rt: &R,

@@ -1,12 +1,10 @@
 -- Seats of a new environment, and seats that meet.
-use Rattle.std.specs.Prelude.{nat_lt}
 use Rattle.std.proofs.Common.{◌≡◌, ℕ, zero, suc, ◌+◌, ◌≤◌, eqb, List, [], ◌∷◌, replicate, sym, refl, ◌∙◌, subst, arith, append-nil}
 use Rattle.atomic_table.specs.Seated.{TableId}
 use Rattle.atomic_table.specs.Table.{Me, Allows}
 use Rattle.ns_model.specs.declared.environment.EnvEvent.{EnvEvent}
 use Rattle.ns_model.specs.Environments.{IsLegalEnv, IsEnvBySeats, env_own}
 use Rattle.ns_model.specs.Tallies.{total, Every, one_if}
-use Rattle.ns_model.proofs.Tallies.{one_most}
 use Rattle.ns_model.proofs.Beginnings.{begins_itself}
 use Rattle.ns_model.proofs.Environments.{env_own-append}
 use Rattle.ns_env.specs.declared.view.EnvView.{EnvView}
@@ -22,7 +20,7 @@ use Rattle.ns_seats.specs.Meetings.{IsBySums}
 use Rattle.ns_seats.specs.Sights.{HasSight}
 use Rattle.ns_seats.specs.Views.{ArePair, tally}
 use Rattle.ns_seats.proofs.Meetings.{learns as joined_learn}
-use Rattle.ns_seats.proofs.Numbered.{one_of_each}
+use Rattle.ns_seats.proofs.Numbered.{none_twice, numbered_count}
 use Rattle.ns_seats.proofs.Sights.{one_history}
 
 -- the rule reads the views by sums over what has to do with their numbers and with what they make, and by what holds of each
@@ -78,13 +76,6 @@ fresh_total : (f : EnvView → ℕ) (seat_count from k : ℕ) → ((w : ℕ) →
 fresh_total f seat_count from zero h = refl
 fresh_total f seat_count from (suc k) h = let a = h from in let b = fresh_total f seat_count (suc from) k h in omega arith
 
-fresh_count : (seat_count from k : ℕ) → total (λ (v : EnvView). 1) (fresh seat_count from k) ≡ k
-fresh_count seat_count from zero = refl
-fresh_count seat_count from (suc k) = let b = fresh_count seat_count (suc from) k in omega arith
-
-seat_once : (w seat_count : ℕ) → total (is_seat w) (fresh seat_count 0 seat_count) ≤ 1
-seat_once w seat_count = subst (λ n. n ≤ 1) (sym (one_of_each (fresh_seat seat_count) (λ v. v.seat) (λ k. refl) 0 seat_count w (omega arith))) (one_most (nat_lt w (0 + seat_count)))
-
 fresh_fits : (seat_count from k : ℕ) → from + k ≤ seat_count → Every (ViewFits seat_count []) (fresh seat_count from k)
 fresh_fits seat_count from zero h = tt
 fresh_fits seat_count from (suc k) h = (record { limited = refl; below = omega arith; seen = ([], refl); mine = refl; mine_seen = refl; making = tt }, fresh_fits seat_count (suc from) k (omega arith))
@@ -97,8 +88,8 @@ begins seat_count k few is = (
     words_are = zeros_are k is;
     lawful = new_lawful seat_count (tally is_adding (fresh seat_count 0 seat_count ∷ [])) (let a = fresh_total is_adding seat_count 0 seat_count (λ w. refl) in omega (arith, a));
     few = few;
-    seats = let a = fresh_count seat_count 0 seat_count in omega (arith, a);
-    once = λ w. let a = seat_once w seat_count in omega (arith, a);
+    seats = let a = numbered_count (fresh_seat seat_count) 0 seat_count in omega (arith, a);
+    once = λ w. let a = none_twice (fresh_seat seat_count) (λ v. v.seat) (λ k. refl) seat_count w in omega (arith, a);
     each = (fresh_fits seat_count 0 seat_count (omega arith), tt);
   },
 )

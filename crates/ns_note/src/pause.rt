@@ -12,8 +12,9 @@ use std::time::Duration;
 /// How long the first sleep may last, in milliseconds.
 const FIRST: u64 = 1;
 
-/// How long any sleep may last, in milliseconds: so late, at most, is seen what wakes nobody at that word.
-const LONGEST: u64 = 16;
+/// How long any sleep may last, in milliseconds: so late, at most, is seen what wakes nobody at that word. A sleep
+/// is twice as long as the one before, so one that has waited for a short time only looks again soon.
+const LONGEST: u64 = 64;
 
 /// The rounds of such a caller.
 #[derive(Drop)]
@@ -33,9 +34,9 @@ impl Pause {
     }
 
     /// Turns for a while, or answers for how long the caller may sleep in this round: a millisecond at
-    /// first, and twice as long each further time, but never more than 16.
+    /// first, and twice as long each further time, but never more than 64.
     pub fn next(&mut self) -> Option<Duration>
-        ensures { IfSome result (λ d. as_nanos d ≤ 16_000_000) }
+        ensures { IfSome result (λ d. as_nanos d ≤ 64_000_000) }
     {
         if !self.backoff.is_completed() {
             self.backoff.snooze();

@@ -1,11 +1,9 @@
 -- Seats of new objects, and seats that meet.
-use Rattle.std.specs.Prelude.{nat_lt}
 use Rattle.std.proofs.Common.{◌≡◌, ℕ, zero, suc, ◌+◌, ◌≤◌, eqb, List, [], ◌∷◌, sym, refl, subst, arith, ◌∙◌}
 use Rattle.atomic_table.specs.Seated.{TableId}
 use Rattle.atomic_table.specs.Table.{Me, Allows}
 use Rattle.ns_model.specs.Tallies.{total, Every, one_if}
 use Rattle.ns_model.proofs.Beginnings.{begins_itself}
-use Rattle.ns_model.proofs.Tallies.{one_most}
 use Rattle.ns_counters.specs.declared.object.ObjectEvent.{ObjectEvent}
 use Rattle.ns_counters.specs.declared.object.ObjectView.{ObjectView}
 use Rattle.ns_counters.specs.declared.object.Setup.{Setup}
@@ -19,7 +17,7 @@ use Rattle.ns_seats.specs.Meetings.{IsBySums}
 use Rattle.ns_seats.specs.Sights.{HasSight}
 use Rattle.ns_seats.specs.Views.{ArePair}
 use Rattle.ns_seats.proofs.Meetings.{learns as joined_learn}
-use Rattle.ns_seats.proofs.Numbered.{one_of_each}
+use Rattle.ns_seats.proofs.Numbered.{none_twice, numbered_count}
 use Rattle.ns_seats.proofs.Sights.{one_history}
 
 -- the rule reads the views by sums over what has to do with their numbers, and by what holds of each
@@ -64,13 +62,6 @@ learns S setup id slots me two = joined_learn (by_sums S setup) (fresh_seat no_s
 
 -- ---- a table at its start
 
-fresh_count : (setup : Setup) (from k : ℕ) → total (λ (v : ObjectView). 1) (fresh setup from k) ≡ k
-fresh_count setup from zero = refl
-fresh_count setup from (suc k) = let b = fresh_count setup (suc from) k in omega (arith, b)
-
-seat_once : (seat : ℕ) (setup : Setup) → total (is_seat seat) (fresh setup 0 setup.seats) ≤ 1
-seat_once seat setup = subst (λ n. n ≤ 1) (sym (one_of_each (fresh_seat setup) (λ v. v.seat) (λ k. refl) 0 setup.seats seat (omega arith))) (one_most (nat_lt seat (0 + setup.seats)))
-
 fresh_fits : (setup : Setup) (from k : ℕ) → from + k ≤ setup.seats → Every (ViewFits setup []) (fresh setup from k)
 fresh_fits setup from zero h = tt
 fresh_fits setup from (suc k) h = (record { made = refl; below = omega (arith, h); seen = ([], refl); mine = refl; mine_seen = refl; place = tt }, fresh_fits setup (suc from) k (omega (arith, h)))
@@ -80,8 +71,8 @@ begins setup words lawful = (
   [],
   record {
     lawful = lawful;
-    seats = let a = fresh_count setup 0 setup.seats in omega (arith, a);
-    once = λ seat. let a = seat_once seat setup in omega (arith, a);
+    seats = let a = numbered_count (fresh_seat setup) 0 setup.seats in omega (arith, a);
+    once = λ seat. let a = none_twice (fresh_seat setup) (λ v. v.seat) (λ k. refl) setup.seats seat in omega (arith, a);
     each = (fresh_fits setup 0 setup.seats (omega arith), tt);
   },
 )

@@ -79,7 +79,7 @@ impl Objects {
     /// Waits until one of the items is ready, or until the clock of the environment has reached the
     /// deadline, in ticks. Answers the place of the first item that is ready, or the number of items where
     /// the deadline came first. With no deadline it waits for the items alone. nsync's `nsync_wait_n`.
-    /// The call turns for a while, and then sleeps for at most 16 milliseconds at a time.
+    /// The call turns for a while, and then sleeps for at most 64 milliseconds at a time.
     ///
     /// Begins no wait for a counter: it may rise from 0 later. Needs at most 16 items, counters of these
     /// objects, notes that the caller's seat of the environment has seen made, and that seat.

@@ -52,7 +52,7 @@ impl Objects {
     ///
     /// From when the wait begins, the counter refuses to rise from 0, for good. A value that isn't 0 is
     /// answered only where the deadline has come. The call sleeps meanwhile, and the change that gives 0
-    /// wakes it; with a deadline it turns for a while, and then sleeps for at most 16 milliseconds at a time.
+    /// wakes it; with a deadline it turns for a while, and then sleeps for at most 64 milliseconds at a time.
     /// Needs the number of a counter of these objects, and the seat of a caller of the environment.
     pub fn counter_wait<R: Wait>(
         &self,

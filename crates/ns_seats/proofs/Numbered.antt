@@ -5,6 +5,7 @@ use Rattle.std.specs.List.{All}
 use Rattle.std.proofs.lemmas.List.Elements.{All-nil, All-cons}
 use Rattle.std.proofs.lemmas.Bool.{ne_eqb, cases_eq, le-ltb, lt-ltb}
 use Rattle.ns_model.specs.Tallies.{total, one_if}
+use Rattle.ns_model.proofs.Tallies.{one_most}
 use Rattle.ns_seats.specs.Views.{is_numbered, first_of, rest_of, numbered, AreNew}
 
 above : (a b : ℕ) → a ≤ b → a ≢ b → suc a ≤ b
@@ -19,6 +20,10 @@ module _ {V : Type 0} (new : ℕ → V) where
 
   pub numbered_rest : (n i : ℕ) → i < n → rest_of (numbered new i (n - i)) ≡ numbered new (i + 1) (n - (i + 1))
   numbered_rest n i low = ap (λ (k : ℕ). rest_of (numbered new i k)) (more n i low) ∙ ap (λ (k : ℕ). numbered new k (n - (i + 1))) (let e : suc i ≡ i + 1 = omega arith in e)
+
+  pub numbered_count : (from n : ℕ) → total (λ (seat : V). 1) (numbered new from n) ≡ n
+  numbered_count from zero = refl
+  numbered_count from (suc n) = let r = numbered_count (suc from) n in omega (arith, r)
 
   -- where new seats have their numbers, one of each stands among them
   module _ (number_of : V → ℕ) (so : (seat : ℕ) → number_of (new seat) ≡ seat) where
@@ -35,6 +40,9 @@ module _ {V : Type 0} (new : ℕ → V) where
       | inl e ↦ (let r = none_before (suc from) n seat (omega (arith, e)) in let o : one_if (eqb from seat) ≡ 1 = ap one_if (eq-eqb from seat e) in let is : one_if (nat_lt seat (from + suc n)) ≡ 1 = ap one_if (lt-ltb seat (from + suc n) (omega (arith, e))) in omega (arith, r, o, is, here))
       | inr ne ↦ (let r = one_of_each (suc from) n seat (above from seat low ne) in let z : one_if (eqb from seat) ≡ 0 = ap one_if (ne_eqb from seat ne) in let same : one_if (nat_lt seat (suc from + n)) ≡ one_if (nat_lt seat (from + suc n)) = ap (λ k. one_if (nat_lt seat k)) (omega arith) in omega (arith, r, z, same, here))
     ]
+
+    pub none_twice : (n seat : ℕ) → total (is_numbered number_of seat) (numbered new 0 n) ≤ 1
+    none_twice n seat = subst (λ k. k ≤ 1) (sym (one_of_each 0 n seat (omega arith))) (one_most (nat_lt seat (0 + n)))
 
   -- what is so of each new seat is so of all of them
   pub all_new : (Q : V → Type 0) → ((seat : ℕ) → Q (new seat)) → (from : ℕ) (seats : List V) → AreNew new from seats → All Q seats
