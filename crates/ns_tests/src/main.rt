@@ -10,37 +10,21 @@
 //! program runs in.
 #![tactic(auto)]
 
-#[cfg(test)]
-mod barging;
 mod compare;
 #[cfg(test)]
-mod crowd;
-#[cfg(test)]
 mod examples;
-#[cfg(test)]
-mod gate;
 #[cfg(test)]
 mod live;
 mod memory;
 #[cfg(test)]
 mod model;
 #[cfg(test)]
-mod monitor;
-#[cfg(test)]
-mod note;
-#[cfg(test)]
 mod queue;
 #[cfg(test)]
 mod replay;
 mod row;
 #[cfg(test)]
-mod showing;
-#[cfg(test)]
 mod tests;
-#[cfg(test)]
-mod variables;
-#[cfg(test)]
-mod waits;
 #[cfg(test)]
 mod words;
 

@@ -1,0 +1,224 @@
+//! A gate, from outside: it is made, its seats are taken out, and it is refused; and a seat is driven
+//! by walks as values, act by act, from what a place wants to where it goes.
+
+ghost use Rattle.std.specs.Prelude.{◌≡◌, [], None, Some, nat_le, slice_index, true, false};
+ghost use Rattle.ns_gate.specs.Calls.{HasAnswered, HasSince, IsAtRest, SeatOf};
+ghost use Rattle.ns_gate.specs.Performing.{Needs};
+ghost use Rattle.ns_gate.specs.Steps.{CanStep, Performed, carried_by, the};
+ghost use Rattle.ns_model.specs.Truths.{truths};
+ghost use Rattle.ns_queue.specs.Queues.{Lists};
+ghost use Rattle.ns_word.specs.Asked.{asked_of};
+ghost use Rattle.ns_word.specs.Begins.{IsFirst};
+ghost use Rattle.ns_word.specs.Places.{HasMode, PlaceFits};
+ghost use Rattle.ns_word.specs.Walks.{got_of, want_of};
+ghost use Rattle.ns_word.specs.declared.request.Request.TheVariants.{Await};
+
+use crate::waits::AtLeast;
+use ns_env::limits::Limits;
+use ns_gate::fault::Fault;
+use ns_gate::gate::{Gate, GateSeat};
+use ns_gate::perform::Beside;
+use ns_gate::queues::Turned;
+use ns_model::condition::Condition;
+use ns_model::event::{Answer, Mode};
+use ns_monitor::room::Gated;
+use ns_word::act::{Act, Found};
+use ns_word::wait::{Subject, Wait};
+use ns_word::walk::{Next, Reply, Walk};
+use ns_word::word::{Bits, Releasing};
+use std::process::Abort;
+
+/// A gate of as many seats as there may be, of which the first is taken out.
+#[test]
+fn a_gate_is_made(rt: HostRuntime) {
+    let Ok((gate, mut all)) = Gate::<AtLeast, 2>::new(rt.alloc(), 64) else {
+        panic!(rt; "no gate")
+    };
+    gate.part(&mut all);
+}
+
+/// One seat more is refused before any memory is asked for.
+#[test]
+fn too_many_seats(rt: HostRuntime) {
+    match Gate::<AtLeast, 2>::new(rt.alloc(), 65) {
+        Ok((_gate, _all)) => panic!(rt; "a gate of 65 seats"),
+        Err(fault) => assert_eq!(rt; fault, Fault::TooManySeats),
+    }
+}
+
+/// With each allocation refused in turn no gate is made, for that reason.
+#[test]
+fn refused_memory(rt: HostRuntime) {
+    match Gate::<AtLeast, 2>::new(rt.alloc(), 3) {
+        Ok((gate, mut all)) => {
+            gate.part(&mut all);
+        }
+        Err(fault) => assert_eq!(rt; fault, Fault::OutOfMemory),
+    }
+}
+
+/// The cell is at least 1.
+#[derive(Clone, Copy)]
+struct Raised;
+
+impl Condition<1> for Raised {
+    ghost use Rattle.std.proofs.Common.{rules};
+
+    ghost means = { truths (λ c row. nat_le 1 (slice_index row 0)) (λ c d. false) (λ before after. false) };
+
+    fn test(&self, row: &[u64; 1]) -> bool {
+        1 <= row[0]
+    }
+
+    fn same(&self, _other: &Self) -> bool {
+        false
+    }
+
+    fn quiet(_before: &[u64; 1], _after: &[u64; 1]) -> bool {
+        false
+    }
+
+    ghost same_agrees = { λ c d row n e. absurd (Prim.cc) };
+
+    ghost quiet_keeps = { λ c before after n m quiet h. absurd (Prim.cc) };
+
+    ghost has_cells = { Prim.search rules };
+
+    ghost has_room = { Prim.search rules };
+}
+
+/// What a seat knows that has no queues in hand, owes no wake and looks at nothing.
+const NOTHING: Beside<1> = Beside {
+    number: 0,
+    before: [0],
+    row: [0],
+    shown: None,
+    turned: Turned {
+        some: false,
+        bits: Bits {
+            waiting: false,
+            conditional: false,
+            writer_waits: false,
+            long: false,
+        },
+    },
+    woken: 0,
+    finds: Found::Made,
+};
+
+/// Whether the act needs nothing beside itself, and leaves the queues alone.
+fn is_plain<C: Gated<1>>(begins: Option<Walk<C>>, act: Act<C>) -> bool
+    ensures needs { result ≡ true → (beside : _) (me : SeatOf C 1) → Needs C.means begins act beside me }
+    ensures keeps { result ≡ true → (found : _) (lists : Lists C) → carried_by act found lists [] ≡ [] }
+{
+    match act {
+        Act::LoadWord => true,
+        Act::LoadCell(i) => i < 1,
+        Act::StoreCell(i, _) => begins.is_none() && i < 1,
+        Act::Acquire(_, _, last) => {
+            begins.is_none() && last.readers <= 64 && (!last.write || last.readers == 0)
+        }
+        Act::Release(_, last) => {
+            begins.is_none() && last.readers <= 64 && (!last.write || last.readers == 0)
+        }
+        _ => false,
+    }
+}
+
+/// Makes the step that the place wants, and tells where its walk goes.
+fn step<A: Abort, C: Gated<1>>(
+    rt: &A,
+    gate: &Gate<C, 1>,
+    seat: &mut GateSeat<C, 1>,
+    begins: Option<Walk<C>>,
+    walk: Walk<C>,
+) -> Next<C>
+    requires of { seat.old.table_id ≡ gate.now }
+    requires can { CanStep C.means begins (want_of walk) seat.old.me }
+    requires empty { seat.old.me.1 ≡ [] }
+    ensures of { seat.new.table_id ≡ gate.now }
+    ensures did { (found : _) × Performed C.means begins (want_of walk) found seat.old.me seat.new.me × (result ≡ got_of 1 walk found) }
+    ensures empty { seat.new.me.1 ≡ [] }
+{
+    let act = walk.want();
+    if !is_plain(begins, act) {
+        panic!(rt; "the place wants something of the queues, a flag or the clock");
+    }
+    let found = gate.perform(seat, begins, act, &NOTHING);
+    walk.got::<1>(found)
+}
+
+/// Drives a call from its first place to its answer.
+fn call<A: Abort, C: Gated<1>>(
+    rt: &A,
+    gate: &Gate<C, 1>,
+    seat: &mut GateSeat<C, 1>,
+    first: Walk<C>,
+) -> Reply
+    requires of { seat.old.table_id ≡ gate.now }
+    requires rest { IsAtRest C.means seat.old.me }
+    requires first { IsFirst 1 first × PlaceFits C.means (Some first) (the seat.old.me.0).at.held }
+    ensures of { seat.new.table_id ≡ gate.now }
+    ensures answered { HasAnswered C.means (asked_of first) result seat.new.me }
+    ensures since { HasSince (Some first) (the seat.old.me.0) (the seat.new.me.0) }
+{
+    let mut next = step(rt, gate, seat, Some(first), first);
+    for _ in 0..8u8 {
+        match next {
+            Next::On(walk) | Next::Idle(walk) => next = step(rt, gate, seat, None, walk),
+            Next::Done(reply) => return reply,
+        }
+    }
+    panic!(rt; "the call is not over")
+}
+
+/// Drives a wait for the condition, which is true: it is over with its first step.
+fn answer_at_once<A: Abort, C: Gated<1>>(
+    rt: &A,
+    gate: &Gate<C, 1>,
+    seat: &mut GateSeat<C, 1>,
+    wait: Wait<C>,
+    condition: C,
+) -> Reply
+    requires of { seat.old.table_id ≡ gate.now }
+    requires rest { IsAtRest C.means seat.old.me }
+    requires writes { HasMode Mode.Write (the seat.old.me.0).at.held }
+    requires on { (wait.on ≡ Subject.OnCondition condition) × (wait.mode ≡ Mode.Write) }
+    ensures of { seat.new.table_id ≡ gate.now }
+    ensures answered { HasAnswered C.means (Await wait) result seat.new.me }
+{
+    let first = Walk::wait::<1>(wait);
+    let found = gate.perform(seat, Some(first), first.want(), &NOTHING);
+    match first.got::<1>(found) {
+        Next::Done(reply) => reply,
+        _ => panic!(rt; "the condition is not met"),
+    }
+}
+
+/// A lock, a set, a wait that is answered at once, and a release, each reply as it is promised.
+#[test]
+fn walks_drive_a_seat(rt: HostRuntime) {
+    let Ok((gate, mut all)) = Gate::<Raised, 1>::new(rt.alloc(), 1) else {
+        panic!(rt; "no gate")
+    };
+    let mut seat = gate.part(&mut all);
+    let locked = call(&rt, &gate, &mut seat, Walk::lock(Mode::Write));
+    assert_eq!(rt; locked, Reply::Succeeded);
+    let set = call(&rt, &gate, &mut seat, Walk::set(0, 7));
+    assert_eq!(rt; set, Reply::Succeeded);
+    let wait = Wait {
+        mode: Mode::Write,
+        on: Subject::OnCondition(Raised),
+        limits: Limits {
+            deadline: None,
+            note: None,
+        },
+    };
+    let answered = answer_at_once(&rt, &gate, &mut seat, wait, Raised);
+    assert_eq!(rt; answered, Reply::Answered(Answer::Met));
+    let released = call(&rt, &gate, &mut seat, Walk::release(Releasing::Writer));
+    assert_eq!(rt; released, Reply::Succeeded);
+    let closed = gate.close(seat);
+    assert_eq!(rt; closed.row, [7]);
+    assert!(rt; closed.free);
+}
