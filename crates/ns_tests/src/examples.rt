@@ -1,13 +1,11 @@
 //! The examples at the heads of ns_model, ns_env, ns_queue, ns_word and ns_world. Those of ns_note and
 //! ns_replay stand beside their other tests.
 
-ghost use Rattle.std.specs.Prelude.{false};
-ghost use Rattle.ns_model.specs.Truths.{truths};
-
+use crate::model::AtLeast;
+use crate::queue;
 use ns_env::act::{EnvAct, EnvFound};
 use ns_env::reply::EnvReply;
 use ns_env::walk::{EnvNext, EnvWalk};
-use ns_model::condition::Condition;
 use ns_model::event::{Entry, Event, Exit, Mode};
 use ns_model::history::{legal, row_after};
 use ns_queue::queues::Queues;
@@ -22,67 +20,11 @@ use ns_world::step::Step;
 use ns_world::world::World;
 use std::test::Fail;
 
-/// A condition that is never true, of rows of 8 cells.
-#[derive(Clone, Copy)]
-struct Never;
+/// Any `Condition<2>`, by the name that it has in the example.
+type Plain = queue::AtLeast<'static>;
 
-impl Condition<8> for Never {
-    ghost use Rattle.std.proofs.Common.{rules};
-
-    ghost means = { truths (λ c row. false) (λ c d. false) (λ before after. false) };
-
-    fn test(&self, _row: &[u64; 8]) -> bool {
-        false
-    }
-
-    fn same(&self, _other: &Self) -> bool {
-        false
-    }
-
-    fn quiet(_before: &[u64; 8], _after: &[u64; 8]) -> bool {
-        false
-    }
-
-    ghost same_agrees = { λ c d row n e. absurd (Prim.cc) };
-
-    ghost quiet_keeps = { λ c before after n m quiet h. absurd (Prim.cc) };
-
-    ghost has_cells = { Prim.search rules };
-
-    ghost has_room = { Prim.search rules };
-}
-
-/// A condition that is never true, of rows of 2 cells.
-#[derive(Clone, Copy)]
-pub(crate) struct Plain;
-
-impl Condition<2> for Plain {
-    ghost use Rattle.std.proofs.Common.{rules};
-
-    ghost means = { truths (λ c row. false) (λ c d. false) (λ before after. false) };
-
-    fn test(&self, _row: &[u64; 2]) -> bool {
-        false
-    }
-
-    fn same(&self, _other: &Self) -> bool {
-        false
-    }
-
-    fn quiet(_before: &[u64; 2], _after: &[u64; 2]) -> bool {
-        false
-    }
-
-    ghost same_agrees = { λ c d row n e. absurd (Prim.cc) };
-
-    ghost quiet_keeps = { λ c before after n m quiet h. absurd (Prim.cc) };
-
-    ghost has_cells = { Prim.search rules };
-
-    ghost has_room = { Prim.search rules };
-}
-
-type AtLeast = Never;
+/// Any `Condition<8>`, likewise.
+type Never = AtLeast;
 
 #[test]
 fn a_history(rt: HostRuntime) {

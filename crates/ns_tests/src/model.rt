@@ -11,7 +11,7 @@ use ns_model::seats::Seats;
 
 /// The first cell is at least a value.
 #[derive(Clone, Copy)]
-struct AtLeast(u64);
+pub(crate) struct AtLeast(u64);
 
 impl Condition<8> for AtLeast {
     ghost use Rattle.std.proofs.Common.{arith, rules};

@@ -13,7 +13,7 @@ use std::cell::Cell;
 
 /// The cell is at least the value. Each test is counted in the cell that it refers to.
 #[derive(Clone, Copy)]
-struct AtLeast<'a> {
+pub(crate) struct AtLeast<'a> {
     cell: u8,
     value: u64,
     tests: &'a Cell<u32>,

@@ -1,11 +1,10 @@
-//! A world of `ns_world`, by its own calls and over a condition of its own. What its contracts say
+//! A world of `ns_world`, by its own calls, and over no condition of a script. What its contracts say
 //! is not tested again; they leave open that memory is there.
 
 ghost use Rattle.std.specs.Prelude.{IfOk};
-ghost use Rattle.ns_model.specs.Truths.{truths};
 ghost use Rattle.ns_world.specs.Runs.{ListFits};
 
-use ns_model::condition::Condition;
+use crate::model::AtLeast;
 use ns_model::event::{Entry, Event, Exit, Mode};
 use ns_model::history::{legal, row_after};
 use ns_world::call::Call;
@@ -17,41 +16,10 @@ use ns_world::world::World;
 use std::alloc::{AllocError, Global};
 use std::test::Fail;
 
-/// A condition that is never true.
-#[derive(Clone, Copy)]
-struct Never;
-
-impl Condition<8> for Never {
-    ghost use Rattle.std.proofs.Common.{rules};
-    ghost use Rattle.std.specs.Prelude.{false, true, refl};
-
-    ghost means = { truths (λ c row. false) (λ c d. true) (λ before after. true) };
-
-    fn test(&self, _row: &[u64; 8]) -> bool {
-        false
-    }
-
-    fn same(&self, _other: &Self) -> bool {
-        true
-    }
-
-    fn quiet(_before: &[u64; 8], _after: &[u64; 8]) -> bool {
-        true
-    }
-
-    ghost same_agrees = { λ c d row n e. refl };
-
-    ghost quiet_keeps = { λ c before after n m quiet h. h };
-
-    ghost has_cells = { Prim.search rules };
-
-    ghost has_room = { Prim.search rules };
-}
-
 /// One of two tries is busy.
 #[test]
 fn two_try(rt: HostRuntime) -> Result<(), Fail> {
-    let mut world = World::<Never, 8>::new(rt.alloc(), 2, &[], 0)?;
+    let mut world = World::<AtLeast, 8>::new(rt.alloc(), 2, &[], 0)?;
     for seat in [0, 1] {
         let begun = world.begin(seat, Call::TryLock)?;
         assert_eq!(rt; begun, Begun::Started);
@@ -74,11 +42,11 @@ fn two_try(rt: HostRuntime) -> Result<(), Fail> {
 /// A world of 64 seats is made, and one of 65 is refused.
 #[test]
 fn too_many_seats(rt: HostRuntime) {
-    match World::<Never, 8>::new(rt.alloc(), 64, &[], 0) {
+    match World::<AtLeast, 8>::new(rt.alloc(), 64, &[], 0) {
         Ok(world) => assert!(rt; world.history().is_empty()),
         Err(_) => panic!(rt; "no world"),
     }
-    match World::<Never, 8>::new(rt.alloc(), 65, &[], 0) {
+    match World::<AtLeast, 8>::new(rt.alloc(), 65, &[], 0) {
         Ok(_world) => panic!(rt; "a world of 65 seats"),
         Err(fault) => assert_eq!(rt; fault, Fault::TooManySeats),
     }
@@ -87,7 +55,7 @@ fn too_many_seats(rt: HostRuntime) {
 /// A number that is no seat's is refused, and whose turn it would be makes no step.
 #[test]
 fn no_such_seat(rt: HostRuntime) -> Result<(), Fail> {
-    let mut world = World::<Never, 8>::new(rt.alloc(), 1, &[], 0)?;
+    let mut world = World::<AtLeast, 8>::new(rt.alloc(), 1, &[], 0)?;
     let calls = first_calls(rt.alloc())?;
     let schedule = [Turn {
         thread: 1,
@@ -108,7 +76,7 @@ fn no_such_seat(rt: HostRuntime) -> Result<(), Fail> {
 /// the answer with ample memory.
 #[test]
 fn refused_memory_loses_nothing(rt: HostRuntime) -> Result<(), Fail> {
-    let mut world = match World::<Never, 8>::new(rt.alloc(), 1, &[], 0) {
+    let mut world = match World::<AtLeast, 8>::new(rt.alloc(), 1, &[], 0) {
         Ok(world) => world,
         Err(fault) => {
             assert_eq!(rt; fault, Fault::OutOfMemory);
@@ -147,7 +115,7 @@ fn refused_memory_loses_nothing(rt: HostRuntime) -> Result<(), Fail> {
 }
 
 /// The calls of the first path: an acquire, a write, a read, and the release.
-fn first_calls(alloc: Global) -> Result<Vec<Call<Never>>, AllocError>
+fn first_calls(alloc: Global) -> Result<Vec<Call<AtLeast>>, AllocError>
     ensures { IfOk result (λ calls. ListFits 8 calls.items) }
 {
     let mut calls = Vec::new(alloc);
@@ -161,7 +129,7 @@ fn first_calls(alloc: Global) -> Result<Vec<Call<Never>>, AllocError>
 /// The same of a run.
 #[test]
 fn a_run_refused_memory_is_as_its_last_turn_left_it(rt: HostRuntime) -> Result<(), Fail> {
-    let Ok(mut world) = World::<Never, 8>::new(rt.alloc(), 1, &[], 0) else {
+    let Ok(mut world) = World::<AtLeast, 8>::new(rt.alloc(), 1, &[], 0) else {
         return Ok(());
     };
     let Ok(calls) = first_calls(rt.alloc()) else {
