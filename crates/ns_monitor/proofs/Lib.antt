@@ -1,3 +1,4 @@
+pub mod Begins
 pub mod Callers
 pub mod Locks
 pub mod Looks

@@ -4,7 +4,8 @@ use Rattle.std.proofs.lemmas.Bool.{cond_both}
 use Rattle.ns_gate.proofs.Calls.{goes}
 use Rattle.ns_gate.specs.Prelude.{SeatOf, IsAtPlace, HasReached, the, Performed, Truths, IsList, waiters_of, times_in, Which, IsInRange, arrival_of, home_of, is_limited, outcome_taken, armed_place, got_of, AcquireLoad, ArmFlag, LoadFlag, Look, LeaveSelf, Flag, Looked, Made, Cause, Await, ForWait, AwaitWakeToLeave, Leave, LeaveLoad, Outcome, Ended, ArmToWait, Load, QueueToWait, Subject, OnCondition, OnVariable, Wait, AwaitWakeInWait, InLeaving, InQueuing, LookOut, Idle, On, InAcquire, InWait, Arrival, AsFresh, Word, LoadToScan, wait_has_queues}
 use Rattle.ns_gate.specs.declared.queues.Returning.TheVariants.{Changed}
-use Rattle.ns_word.specs.Walks.{load_place}
+use Rattle.ns_word.specs.Waits.{woken_by}
+use Rattle.ns_word.specs.Walks.{load_place, rest_or_look}
 use Rattle.ns_monitor.proofs.Locks.{HasArmed, arms}
 use Rattle.ns_monitor.proofs.Tests.{moves_in}
 use Rattle.ns_monitor.specs.Prelude.{HasTakenAt, IfEnded, found_back, lacks_row}
@@ -57,6 +58,13 @@ module _ {C : Type 0} {N : ℕ} (truths : Truths C) where
   taken_next wait cause flag outcome arrival me clear is how led =
       subst (λ (x : Outcome × Arrival). IsAtPlace truths (InAcquire (ForWait wait x.0) (AcquireLoad x.1)) me) (λ i. (sym is i, sym how i))
       (subst (λ (b : Bool). HasReached truths (Await wait) (cond b (Idle (InWait wait (InLeaving cause AwaitWakeToLeave))) (On (InAcquire (ForWait wait (outcome_taken wait.on cause flag)) (AcquireLoad (arrival_of 0 flag))))) me) (ne_eqb flag 1 clear) led)
+
+  -- one that finds its flag cleared comes back
+  pub woken_next : (wait : Wait C) (flag : ℕ) (outcome : Outcome) (arrival : Arrival) (me : SeatOf C N) → flag ≢ 1 → outcome ≡ woken_by wait.on flag → arrival ≡ arrival_of 0 flag → HasReached truths (Await wait) (got_of N (InWait wait AwaitWakeInWait) (Flag flag)) me
+      → IsAtPlace truths (InAcquire (ForWait wait outcome) (AcquireLoad arrival)) me
+  woken_next wait flag outcome arrival me clear is how led =
+      subst (λ (x : Outcome × Arrival). IsAtPlace truths (InAcquire (ForWait wait x.0) (AcquireLoad x.1)) me) (λ i. (sym is i, sym how i))
+      (subst (λ (b : Bool). HasReached truths (Await wait) (cond b (rest_or_look wait) (On (InAcquire (ForWait wait (woken_by wait.on flag)) (AcquireLoad (arrival_of 0 flag))))) me) (ne_eqb flag 1 clear) led)
 
   -- ---- it looks out
 

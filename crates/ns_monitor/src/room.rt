@@ -1,7 +1,7 @@
 //! Code over any condition owes that the values that it passes on fit in memory.
 
 ghost use Rattle.std.specs.Mem.{FitsInMemory};
-ghost use Rattle.ns_gate.proofs.Room.{room_fits};
+ghost use Rattle.ns_queue.specs.Sizes.{queues_fit};
 ghost use Rattle.ns_queue.specs.contracts.queues.Queues.{the_row as queues_row};
 
 use ns_model::condition::Condition;
@@ -10,9 +10,9 @@ use ns_model::condition::Condition;
 /// condition takes this for its bound, and a monitor's calls ask nothing more of it. Every condition has it, so
 /// nobody implements it.
 pub trait Gated<const N: usize>: Condition<N> {
-    ghost queues_fit: { FitsInMemory (queues_row Self.row N.row) };
+    ghost queues_fit: { FitsInMemory (queues_row Self.row N.row Self.Condition) };
 }
 
 impl<C: Condition<N>, const N: usize> Gated<N> for C {
-    ghost queues_fit = { room_fits Self.row N.row C.has_room };
+    ghost queues_fit = { queues_fit Self.row N.row C.has_room Self.Condition };
 }

@@ -2,10 +2,8 @@
 use Rattle.std.proofs.Common.{◌≡◌, ℕ, ◌+◌, ◌≤◌, ◌<◌, ◌⊎◌, inl, inr, Bool, true, false, not, cond, ◌&&◌, ◌||◌, List, [], ◌∷◌, ◌++◌, length, get_or, drop, Option, None, Some, is_some, is_none, IfSome, refl, ap, sym, ◌∙◌, arith}
 use Rattle.std.specs.Prelude.{unwrap_or}
 use Rattle.ns_queue.specs.declared.waiter.Waiter.{Waiter}
-use Rattle.ns_queue.specs.declared.stage.Stage.{Stage}
-use Rattle.ns_queue.specs.declared.stage.Stage.TheVariants.{Ended}
 use Rattle.ns_queue.specs.Scans.{is_satisfied, is_alike}
-use Rattle.ns_queue.specs.Marks.{needs, takes, stage_next, stage_after, asked_for, asking, scan_marks, tests_from}
+use Rattle.ns_queue.specs.Marks.{Ended, Stage, asked_for, asking, needs, scan_marks, stage_after, stage_next, takes, tests_from}
 use Rattle.ns_queue.proofs.Marking.{drop_step, pushed_on}
 
 module _ {C : Type 0} (same : C → C → Bool) (meets : C → Bool) where
@@ -65,13 +63,6 @@ module _ {C : Type 0} (same : C → C → Bool) (meets : C → Bool) where
   pub asking_most : (needed : Bool) (first : Option C) (truth : Option Bool) → asking needed first truth ≤ 1
   asking_most needed first truth = elim (needed && is_none truth && is_some first) as (λ b. cond b 1 0 ≤ 1) [ true ↦ omega arith | false ↦ omega arith ]
 
-  -- the marks, one waiter further
-  pub marks_on : (ws : List (Waiter C)) (i : ℕ) (w : Waiter C) (stage stage' : Stage) (b : Bool) (got got' whole : List Bool) → i < length ws → w ≡ get_or ws i w →
-      b ≡ takes meets stage w → stage' ≡ stage_next stage b w → got' ≡ got ++ b ∷ [] → got ++ scan_marks meets stage (drop i ws) ≡ whole → got' ++ scan_marks meets stage' (drop (i + 1) ws) ≡ whole
-  marks_on ws i w stage stage' b got got' whole within is mark after push before =
-      pushed_on got got' (scan_marks meets stage (drop i ws)) (scan_marks meets stage' (drop (i + 1) ws)) whole b push
-      (rw (drop_step ws i w w within (sym is), after, mark) refl) before
-
   -- the tests, one waiter further
   pub tests_on : (ws : List (Waiter C)) (i : ℕ) (w : Waiter C) (stage stage' : Stage) (b needed : Bool) (first first' : Option C) (truth truth' truth'' : Option Bool) (tests more whole : ℕ) →
       i < length ws → w ≡ get_or ws i w → b ≡ takes meets stage w → stage' ≡ stage_next stage b w → needed ≡ needs stage w → Enters w.cond first truth first' truth' →
@@ -87,13 +78,3 @@ module _ {C : Type 0} (same : C → C → Bool) (meets : C → Bool) where
   ended_tests first known [] = refl
   ended_tests first known (w ∷ ws) = elim (is_alike same w.cond first) as (λ b. cond b (0 + tests_from same meets Ended first known ws) (0 + tests_from same meets Ended w.cond false ws) ≡ 0)
       [ true ↦ omega (arith, ended_tests first known ws) | false ↦ omega (arith, ended_tests w.cond false ws) ]
-
-  pub marks_ended : (ws : List (Waiter C)) (i : ℕ) (w : Waiter C) (stage : Stage) (got got' whole : List Bool) → stage ≡ Ended → i < length ws → w ≡ get_or ws i w →
-      got' ≡ got ++ false ∷ [] → got ++ scan_marks meets stage (drop i ws) ≡ whole → got' ++ scan_marks meets stage (drop (i + 1) ws) ≡ whole
-  marks_ended ws i w stage got got' whole over within is push before = marks_on ws i w stage stage false got got' whole within is (rw over refl) (rw over refl) push before
-
-  pub tests_ended : (ws : List (Waiter C)) (i : ℕ) (stage : Stage) (first : Option C) (known : Bool) (tests whole : ℕ) → stage ≡ Ended →
-      tests + tests_from same meets stage first known (drop i ws) ≡ whole → tests + tests_from same meets stage first known (drop (i + 1) ws) ≡ whole
-  tests_ended ws i stage first known tests whole over before =
-      let was = rw over at before in
-      rw over (omega (arith, was, ended_tests first known (drop i ws), ended_tests first known (drop (i + 1) ws)))

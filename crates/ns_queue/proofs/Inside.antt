@@ -1,5 +1,6 @@
 -- The lists as the fields hold them.
 use Rattle.std.proofs.Common.{◌≡◌, ℕ, zero, suc, ◌+◌, ◌≤◌, ◌<◌, Bool, true, false, IsTrue, not, cond, eqb, List, [], ◌∷◌, ◌++◌, length, get_or, take, drop, set, map, refl, ap, sym, ◌∙◌, arith}
+use Rattle.std.specs.Bool.{OnFalse}
 use Rattle.std.specs.List.{filter, sum_by}
 use Rattle.std.proofs.lemmas.List.{length-set, length-map, map-set, get_or-map}
 use Rattle.std.proofs.lemmas.List.Sums.{get_or-le-sum_by, sum_by-cons, sum_by_more}
@@ -20,6 +21,11 @@ pub told_no : (b : Bool) (n : ℕ) → b ≡ false → (0 < n → IsTrue b) → 
 told_no b zero is tells = refl
 told_no b (suc n) is tells = let other = tells (omega arith) in cc
 
+pub on_none : (b : Bool) (n : ℕ) → (0 < n → IsTrue b) → OnFalse b (n ≡ 0)
+on_none true n tells = tt
+on_none false zero tells = refl
+on_none false (suc n) tells = let other = tells (omega arith) in cc
+
 module _ {C : Type 0} where
   abbrev pub shape : List (Waiter C) → List (ArrayVec (Waiter C)) → Lists C
   shape lock cvs = record { lock = lock; cvs = map (λ v. v.items) cvs }
@@ -34,9 +40,6 @@ module _ {C : Type 0} where
   pub list_put : (lock : List (Waiter C)) (cvs : List (ArrayVec (Waiter C))) (k : ℕ) (v : ArrayVec (Waiter C)) →
       shape lock (set cvs k v) ≡ with_waiters (shape lock cvs) (Cv k) v.items
   list_put lock cvs k v = ap (λ (vs : List (List (Waiter C))). record { lock = lock; cvs = vs }) (map-set (λ v. v.items) cvs k v)
-
-  pub lock_has_room : (lock : List (Waiter C)) (cvs : List (ArrayVec (Waiter C))) (w : Waiter C) → IsOrderly (shape lock cvs) → w.seat < 64 → times w.seat (shape lock cvs) ≡ 0 → length lock < 64
-  lock_has_room lock cvs w orderly low free = part_has_room (shape lock cvs) lock w orderly (lock_times (shape lock cvs)) low free
 
   pub list_has_room : (lock : List (Waiter C)) (cvs : List (ArrayVec (Waiter C))) (k : ℕ) (d : ArrayVec (Waiter C)) (w : Waiter C) →
       IsOrderly (shape lock cvs) → k < 4 → w.seat < 64 → times w.seat (shape lock cvs) ≡ 0 → length (get_or cvs k d).items < 64
@@ -78,6 +81,18 @@ module _ {C : Type 0} where
   pub lock_lessened : (lock lock' : List (Waiter C)) (cvs : List (ArrayVec (Waiter C))) → IsOrderly (shape lock cvs) →
       ((seat : ℕ) → times_in seat lock' ≤ times_in seat lock) → IsOrderly (shape lock' cvs)
   lock_lessened lock lock' cvs orderly less = orderly_less (shape lock cvs) (shape lock' cvs) orderly orderly.four (λ seat. omega (arith, less seat))
+
+  -- the same lists once more
+  pub again : (lock lock' : List (Waiter C)) (cvs : List (ArrayVec (Waiter C))) (p q r s a b c d : ArrayVec (Waiter C)) → IsOrderly (shape lock cvs) → lock' ≡ lock →
+      a.items ≡ (get_or cvs 0 p).items → b.items ≡ (get_or cvs 1 q).items → c.items ≡ (get_or cvs 2 r).items → d.items ≡ (get_or cvs 3 s).items →
+      shape lock' (a ∷ b ∷ c ∷ d ∷ []) ≡ shape lock cvs
+  again lock lock' [] p q r s a b c d orderly is ax by cz du = absurd (omega (arith, four_lists lock [] orderly))
+  again lock lock' (x ∷ []) p q r s a b c d orderly is ax by cz du = absurd (omega (arith, four_lists lock (x ∷ []) orderly))
+  again lock lock' (x ∷ y ∷ []) p q r s a b c d orderly is ax by cz du = absurd (omega (arith, four_lists lock (x ∷ y ∷ []) orderly))
+  again lock lock' (x ∷ y ∷ z ∷ []) p q r s a b c d orderly is ax by cz du = absurd (omega (arith, four_lists lock (x ∷ y ∷ z ∷ []) orderly))
+  again lock lock' (x ∷ y ∷ z ∷ u ∷ []) p q r s a b c d orderly is ax by cz du =
+      rw (is, ax, by, cz, du) refl
+  again lock lock' (x ∷ y ∷ z ∷ u ∷ v ∷ vs) p q r s a b c d orderly is ax by cz du = absurd (omega (arith, four_lists lock (x ∷ y ∷ z ∷ u ∷ v ∷ vs) orderly))
 
   -- a seat in one of the lists, and in none of them so far
   pub some_list : (cvs : List (ArrayVec (Waiter C))) (i : ℕ) (d : ArrayVec (Waiter C)) (ws : List (Waiter C)) (seat : ℕ) → i < 4 → length cvs ≡ 4 → ws ≡ (get_or cvs i d).items →

@@ -12,3 +12,12 @@ pub mod Shown
 pub mod Taken
 pub mod Wakes
 pub mod Woken
+pub mod Hops
+pub mod Links
+pub mod Making
+pub mod Places
+pub mod Ringed
+pub mod Running
+pub mod Seekings
+pub mod Leaving
+pub mod Reading

@@ -2,14 +2,12 @@
 use Rattle.std.proofs.Common.{◌≡◌, ℕ, suc, ◌≤◌, Bool, true, false, not, cond, ◌&&◌, List, [], ◌∷◌, length, drop, refl, ap, arith}
 use Rattle.std.specs.List.{filter}
 use Rattle.ns_queue.specs.declared.waiter.Waiter.{Waiter}
-use Rattle.ns_queue.specs.declared.stage.Stage.{Stage}
-use Rattle.ns_queue.specs.declared.stage.Stage.TheVariants.{Seeking, Reading, Ended}
 use Rattle.ns_queue.specs.declared.signal.Wanted.{Wanted}
 use Rattle.ns_queue.specs.declared.signal.Wanted.TheVariants.{Anybody, ReadersAndWriter, Readers, Nobody}
 use Rattle.ns_queue.specs.Waiters.{reads, writes, times_in}
 use Rattle.ns_queue.specs.Scans.{is_eligible, woken_of, left_of}
 use Rattle.ns_queue.specs.Signals.{readers_and_a_writer, signaled_of, unsignaled_of}
-use Rattle.ns_queue.specs.Marks.{marked, unmarked, stage_after, scan_marks, wanted_after, signal_marks}
+use Rattle.ns_queue.specs.Marks.{Ended, Reading, Seeking, Stage, marked, scan_marks, signal_marks, stage_after, unmarked, wanted_after}
 use Rattle.ns_queue.proofs.Seats.{times_in-cons}
 
 module _ {C : Type 0} where
@@ -102,16 +100,6 @@ module _ {C : Type 0} (meets : C → Bool) where
             [ true ↦ ended_leaves ws | false ↦ reading_leaves ws ]
         | false ↦ ap (λ vs. w ∷ vs) (scan_leaves ws)
       ]
-
-  -- what a list's marks make of it
-  pub chosen_fit : (a b : List (Waiter C)) (c ms : List Bool) (items : List (Waiter C)) → a ≡ items → b ≡ items → c ≡ ms → ms ≡ scan_marks meets Seeking a → length c ≡ length b
-  chosen_fit a b c ms items ea eb ec em = rw (ec, em, ea, eb) (length-scan_marks Seeking items)
-
-  pub chosen_takes : (a b : List (Waiter C)) (c ms : List Bool) (items : List (Waiter C)) → a ≡ items → b ≡ items → c ≡ ms → ms ≡ scan_marks meets Seeking a → marked c b ≡ woken_of meets items
-  chosen_takes a b c ms items ea eb ec em = rw (ec, em, ea, eb) (scan_takes items)
-
-  pub chosen_leaves : (a b : List (Waiter C)) (c ms : List Bool) (items : List (Waiter C)) → a ≡ items → b ≡ items → c ≡ ms → ms ≡ scan_marks meets Seeking a → unmarked c b ≡ left_of meets items
-  chosen_leaves a b c ms items ea eb ec em = rw (ec, em, ea, eb) (scan_leaves items)
 
   pub times_left : (ws : List (Waiter C)) (seat : ℕ) → times_in seat (left_of meets ws) ≤ times_in seat ws
   times_left ws seat = rw (← scan_leaves ws) (times_unmarked (scan_marks meets Seeking ws) ws seat)

@@ -31,14 +31,6 @@ module _ {C : Type 0} where
   pub read_apart : (lists : Lists C) (k j : ℕ) (ws : List (Waiter C)) → j ≢ k → waiters_of (with_waiters lists (Cv k) ws) (Cv j) ≡ waiters_of lists (Cv j)
   read_apart lists k j ws ne = get_or-set_other lists.cvs k j ws [] ne
 
-  -- a variable's list in place of another leaves the lock's
-  pub lock_kept : (lists : Lists C) (k : ℕ) (ws : List (Waiter C)) → (with_waiters lists (Cv k) ws).lock ≡ lists.lock
-  lock_kept lists k ws = refl
-
-  -- the lock's list in place of another leaves those of the variables
-  pub cvs_kept : (lists : Lists C) (ws : List (Waiter C)) → (with_waiters lists Lock ws).cvs ≡ lists.cvs
-  cvs_kept lists ws = refl
-
   -- and as many lists of variables as before
   pub four_kept : (lists : Lists C) (which : Which) (ws : List (Waiter C)) → length (with_waiters lists which ws).cvs ≡ length lists.cvs
   four_kept lists Lock ws = refl
@@ -64,12 +56,6 @@ module _ {C : Type 0} where
   -- and only seats below 64 do
   pub below_in : (lists : Lists C) (which : Which) → IsOrderly lists → IsList which → HaveSeats (waiters_of lists which)
   below_in lists which orderly is seat high = omega (arith, times_at_most lists which seat orderly.four is, orderly.below seat high)
-
-  -- lists stay orderly where no seat stands more often in one of them
-  pub orderly_with : (lists : Lists C) (which : Which) (ws : List (Waiter C)) → IsOrderly lists → IsList which → ((seat : ℕ) → times_in seat ws ≤ times_in seat (waiters_of lists which)) → IsOrderly (with_waiters lists which ws)
-  orderly_with lists which ws orderly is less =
-      orderly_less lists (with_waiters lists which ws) orderly (four_kept lists which ws ∙ orderly.four)
-      (λ seat. omega (arith, times_with lists which ws seat orderly.four is, less seat))
 
   -- ---- a seat that stands in one of them is taken out of that one alone
 

@@ -3,11 +3,9 @@ use Rattle.std.proofs.Common.{◌≡◌, ℕ, ◌+◌, ◌≤◌, Bool, true, fa
 use Rattle.std.specs.List.{count_by, list_any}
 use Rattle.std.proofs.lemmas.List.Sums.{sum_by-append, sum_by-cons, count_by-le-length}
 use Rattle.ns_queue.specs.declared.waiter.Waiter.{Waiter}
-use Rattle.ns_queue.specs.declared.stage.Stage.{Stage}
-use Rattle.ns_queue.specs.declared.stage.Stage.TheVariants.{Seeking, Reading, Ended}
 use Rattle.ns_queue.specs.Waiters.{reads, writes}
 use Rattle.ns_queue.specs.Scans.{is_eligible, is_alike, Asked, asked_of, goes_on, started, ended, runs_after, runs_of, tests_of}
-use Rattle.ns_queue.specs.Marks.{needs, stage_after, tests_from}
+use Rattle.ns_queue.specs.Marks.{Ended, Reading, Seeking, Stage, needs, stage_after, tests_from}
 use Rattle.ns_queue.proofs.Seats.{one_if}
 
 module _ {C : Type 0} where

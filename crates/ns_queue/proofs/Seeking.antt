@@ -3,10 +3,8 @@ use Rattle.std.proofs.Common.{◌≡◌, ℕ, zero, suc, ◌+◌, ◌≤◌, ◌
 use Rattle.std.proofs.lemmas.Bool.{cases_Bool}
 use Rattle.std.proofs.lemmas.List.{drop_all, length-append, length-replicate}
 use Rattle.ns_queue.specs.declared.waiter.Waiter.{Waiter}
-use Rattle.ns_queue.specs.declared.stage.Stage.{Stage}
-use Rattle.ns_queue.specs.declared.stage.Stage.TheVariants.{Seeking}
 use Rattle.ns_queue.specs.Scans.{is_eligible, is_satisfied, is_alike, woken_of, left_of}
-use Rattle.ns_queue.specs.Marks.{needs, stage_after, stage_next, scan_marks, tests_from, in_front, tests_seeking}
+use Rattle.ns_queue.specs.Marks.{Seeking, Stage, in_front, needs, scan_marks, stage_after, stage_next, tests_from, tests_seeking}
 use Rattle.ns_queue.proofs.Marking.{drop_step}
 
 pub at_most_one : (b : Bool) → cond b 1 0 ≤ 1
@@ -24,9 +22,6 @@ one_more answer is n same holds one = rw (sym same ∙ holds) one
 
 pub none_more : (answer is : Bool) (n : ℕ) → answer ≡ is → answer ≡ false → n ≡ 0 → n ≡ cond is 1 0
 none_more answer is n same fails none = rw (sym same ∙ fails) none
-
-pub length_front : (n : ℕ) → length (replicate n false ++ true ∷ []) ≡ (n + 1) + 0
-length_front n = omega (arith, length-append (replicate n false) (true ∷ []), length-replicate n false)
 
 module _ {C : Type 0} (same : C → C → Bool) (meets : C → Bool) where
   -- the condition, if there is one, is false
@@ -77,43 +72,7 @@ module _ {C : Type 0} (same : C → C → Bool) (meets : C → Bool) where
 
   -- ---- one waiter further
 
-  pub front_on : (ws : List (Waiter C)) (i : ℕ) (w : Waiter C) (passed whole : ℕ) → i < length ws → w ≡ get_or ws i w → is_eligible meets w ≡ false →
-      passed + in_front meets (drop i ws) ≡ whole → (passed + 1) + in_front meets (drop (i + 1) ws) ≡ whole
-  front_on ws i w passed whole within is stays before =
-      let cut = ap (in_front meets) (drop_step ws i w w within (sym is)) in
-      omega (arith, cut, front_no w (drop (i + 1) ws) stays, before)
-
-  pub front_here : (ws : List (Waiter C)) (i : ℕ) (w : Waiter C) (passed whole : ℕ) → i < length ws → w ≡ get_or ws i w → is_eligible meets w ≡ true →
-      passed + in_front meets (drop i ws) ≡ whole → passed ≡ whole
-  front_here ws i w passed whole within is goes before =
-      let cut = ap (in_front meets) (drop_step ws i w w within (sym is)) in
-      omega (arith, cut, front_yes w (drop (i + 1) ws) goes, before)
-
-  pub sought_alike : (ws : List (Waiter C)) (i : ℕ) (w : Waiter C) (first : Option C) (tests whole : ℕ) → i < length ws → w ≡ get_or ws i w → is_eligible meets w ≡ false → is_alike same w.cond first ≡ true →
-      tests + tests_seeking same meets first (drop i ws) ≡ whole → tests + tests_seeking same meets first (drop (i + 1) ws) ≡ whole
-  sought_alike ws i w first tests whole within is stays alike before =
-      let cut = ap (tests_seeking same meets first) (drop_step ws i w w within (sym is)) in
-      omega (arith, cut, seeking_alike w (drop (i + 1) ws) first stays alike, before)
-
-  pub sought_other : (ws : List (Waiter C)) (i : ℕ) (w : Waiter C) (first : Option C) (tests more whole : ℕ) → i < length ws → w ≡ get_or ws i w → is_eligible meets w ≡ false → is_alike same w.cond first ≡ false →
-      more ≡ cond (is_some w.cond) 1 0 → tests + tests_seeking same meets first (drop i ws) ≡ whole → (tests + more) + tests_seeking same meets w.cond (drop (i + 1) ws) ≡ whole
-  sought_other ws i w first tests more whole within is stays other counts before =
-      let cut = ap (tests_seeking same meets first) (drop_step ws i w w within (sym is)) in
-      omega (arith, cut, seeking_other w (drop (i + 1) ws) first stays other, counts, before)
-
-  pub sought_found : (ws : List (Waiter C)) (i : ℕ) (w : Waiter C) (first : Option C) (tests more whole : ℕ) → i < length ws → w ≡ get_or ws i w → is_eligible meets w ≡ true → is_alike same w.cond first ≡ false →
-      more ≡ cond (is_some w.cond) 1 0 → tests + tests_seeking same meets first (drop i ws) ≡ whole → tests + more ≡ whole
-  sought_found ws i w first tests more whole within is goes other counts before =
-      let cut = ap (tests_seeking same meets first) (drop_step ws i w w within (sym is)) in
-      omega (arith, cut, seeking_found w (drop (i + 1) ws) first goes other, counts, before)
-
   -- ---- at the end of the list
-
-  pub front_end : (ws : List (Waiter C)) (i passed whole : ℕ) → length ws ≤ i → passed + in_front meets (drop i ws) ≡ whole → passed ≡ whole
-  front_end ws i passed whole over before = let cut = ap (in_front meets) (drop_all i ws over) in omega (arith, cut, before)
-
-  pub sought_end : (ws : List (Waiter C)) (i : ℕ) (first : Option C) (tests whole : ℕ) → length ws ≤ i → tests + tests_seeking same meets first (drop i ws) ≡ whole → tests ≡ whole
-  sought_end ws i first tests whole over before = let cut = ap (tests_seeking same meets first) (drop_all i ws over) in omega (arith, cut, before)
 
   -- ---- where nobody is taken
 
@@ -137,13 +96,6 @@ module _ {C : Type 0} (same : C → C → Bool) (meets : C → Bool) where
     | inl goes ↦ absurd (omega (arith, all, front_yes w ws goes))
     | inr stays ↦ rw stays (ap (λ vs. w ∷ vs) (all_left ws (omega (arith, all, front_no w ws stays))))
   ]
-
-  pub all_passed : (ws items : List (Waiter C)) (passed n : ℕ) → ws ≡ items → passed ≡ in_front meets ws → n ≡ length items → passed ≡ n → in_front meets items ≡ length items
-  all_passed ws items passed n is front size all = let here : passed ≡ in_front meets items = front ∙ ap (in_front meets) is in omega (arith, here, size, all)
-
-  pub some_ahead : (ws vs items : List (Waiter C)) (passed n : ℕ) → ws ≡ items → vs ≡ items → passed ≡ in_front meets ws → n ≡ length items → (passed ≡ n → ⊥) → passed < length vs
-  some_ahead ws vs items passed n is same_list front size some =
-      let here : passed ≡ in_front meets items = front ∙ ap (in_front meets) is in rw same_list (omega (arith, here, size, some, front_most items))
 
   whole_list : (ws : List (Waiter C)) → take (suc (length ws)) ws ≡ ws
   whole_list [] = refl
@@ -200,17 +152,3 @@ module _ {C : Type 0} (same : C → C → Bool) (meets : C → Bool) where
   pub few_sought : (ws : List (Waiter C)) (passed tests : ℕ) → passed ≡ in_front meets ws → tests ≡ tests_seeking same meets None ws → tests ≤ passed + 1
   few_sought ws passed tests front count =
       omega (arith, front, count, tests_most None false (take (suc (in_front meets ws)) ws) Seeking, few_taken (suc (in_front meets ws)) ws)
-
-  pub marks_start : (ws rest : List (Waiter C)) (w : Waiter C) (passed : ℕ) (stage : Stage) (got : List Bool) → passed ≡ in_front meets ws → passed < length ws → w ≡ get_or ws passed w →
-      stage ≡ stage_next Seeking true w → got ≡ replicate passed false ++ true ∷ [] → rest ≡ drop (passed + 1) ws → got ++ scan_marks meets stage rest ≡ scan_marks meets Seeking ws
-  marks_start ws rest w passed stage got front within is after mark behind =
-      rw (mark, append_assoc, after, behind, add-one, front) (marks_found ws w (rw front at within) (rw front at is))
-
-  pub tests_start : ((c d : C) → same c d ≡ true → meets c ≡ meets d) → (ws rest : List (Waiter C)) (w : Waiter C) (passed tests : ℕ) (stage : Stage) (first : Option C) → passed ≡ in_front meets ws → passed < length ws →
-      w ≡ get_or ws passed w → stage ≡ stage_next Seeking true w → first ≡ w.cond → tests ≡ tests_seeking same meets None ws → rest ≡ drop (passed + 1) ws →
-      tests + tests_from same meets stage first true rest ≡ tests_from same meets Seeking None false ws
-  tests_start agree ws rest w passed tests stage first front within is after begins count behind =
-      rw (count, after, behind, begins, add-one, front) (tests_found agree ws w (rw front at within) (rw front at is))
-
-  pub known_start : (ws : List (Waiter C)) (w : Waiter C) (passed : ℕ) (first : Option C) → passed ≡ in_front meets ws → passed < length ws → w ≡ get_or ws passed w → first ≡ w.cond → true ≡ is_satisfied meets first
-  known_start ws w passed first front within is begins = rw begins (sym (found_at ws w (rw front at within) (rw front at is)))

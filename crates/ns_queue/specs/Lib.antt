@@ -1,7 +1,10 @@
 pub mod Marks
 pub mod Queues
+pub mod Rings
 pub mod Room
+pub mod Runs
 pub mod Scans
 pub mod Signals
+pub mod Sizes
 pub mod Waiters
 pub mod Wakes

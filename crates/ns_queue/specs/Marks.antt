@@ -1,12 +1,16 @@
 -- Lists taken apart by marks, one for each waiter, and the stages in which a scan and a signal set them.
 use Rattle.std.specs.Prelude.{ℕ, suc, take, ◌+◌, Bool, true, false, not, ◌&&◌, ◌||◌, List, [], ◌∷◌, if◌then◌else◌, Option, Some, is_none, is_some}
 use Rattle.ns_queue.specs.declared.waiter.Waiter.{Waiter}
-use Rattle.ns_queue.specs.declared.stage.Stage.{Stage}
-use Rattle.ns_queue.specs.declared.stage.Stage.TheVariants.{Seeking, Reading, Ended}
 use Rattle.ns_queue.specs.declared.signal.Wanted.{Wanted}
 use Rattle.ns_queue.specs.declared.signal.Wanted.TheVariants.{Anybody, ReadersAndWriter, Readers, Nobody}
 use Rattle.ns_queue.specs.Waiters.{reads, writes}
 use Rattle.ns_queue.specs.Scans.{is_eligible, is_satisfied, is_alike}
+
+-- How far a scan of the lock list has come: it has taken nobody yet, or a reader, or a writer and so has come to its end.
+pub data Stage : Type 0 where
+  Seeking : Stage
+  Reading : Stage
+  Ended : Stage
 
 -- those with a mark, and those without
 abbrev pub marked : {A : Type 0} → List Bool → List A → List A

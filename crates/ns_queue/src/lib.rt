@@ -25,10 +25,15 @@
 //! ```
 #![tactic(auto)]
 
+mod alike;
+mod counts;
+mod lock_list;
 mod marks;
 pub mod queues;
+mod remake;
+mod ring;
 pub mod room;
 pub mod scan;
 pub mod signal;
-mod stage;
 pub mod waiter;
+mod walk;

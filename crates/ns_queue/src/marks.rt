@@ -1,44 +1,12 @@
 //! What is taken out of a list, by a mark for each waiter.
 
-ghost use Rattle.std.specs.Prelude.{◌≡◌, ◌<◌, ◌≤◌, ◌∷◌, ◌++◌, [], false, true, length, replicate, take};
+ghost use Rattle.std.specs.Prelude.{◌≡◌, ◌≤◌, length, take};
 ghost use Rattle.arrayvec.specs.ArrayVec.{array_vec_len};
 ghost use Rattle.ns_queue.specs.Marks.{marked, unmarked};
-ghost use Rattle.ns_queue.specs.Waiters.{seats_of};
 
 use crate::room::Queueable;
 use crate::waiter::Waiter;
 use arrayvec::ArrayVec;
-
-/// The marks of a list up to the first that has one, with this many in front of it.
-pub(crate) fn front_marks(passed: usize) -> ArrayVec<bool, 64>
-    requires { passed < 64 }
-    ensures { result.items ≡ replicate passed false ++ true ∷ [] }
-{
-    let mut marks = ArrayVec::new();
-    for _ in 0..passed {
-        marks.push(false);
-    }
-    marks.push(true);
-    marks
-}
-
-/// The seats of those with a mark, in order.
-pub(crate) fn marked_seats<C: Queueable<N>, const N: usize>(
-    waiters: &[Waiter<C>],
-    marks: &[bool],
-) -> ArrayVec<u8, 64>
-    requires same { length marks.now ≡ length waiters.now }
-    requires most { length waiters.now ≤ 64 }
-    ensures { result.items ≡ seats_of (marked marks.now waiters.now) }
-{
-    let mut seats = ArrayVec::new();
-    for i in 0..waiters.len() {
-        if marks[i] {
-            seats.push(waiters[i].seat);
-        }
-    }
-    seats
-}
 
 /// Those with a mark, in order.
 pub(crate) fn marked<C: Queueable<N>, const N: usize>(

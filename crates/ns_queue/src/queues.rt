@@ -1,11 +1,12 @@
 //! The lists, and what changes one waiter.
 
-ghost use Rattle.std.specs.Prelude.{◌≡◌, ℕ, ◌+◌, ◌<◌, ◌≤◌, ◌↔◌, ◌&&◌, not, [], ◌∷◌, ◌++◌, length, map, nat_lt, replicate, sum_by, take, IsTrue};
+ghost use Rattle.std.specs.Prelude.{◌≡◌, ◌<◌, ℕ, ◌+◌, ◌≤◌, ◌↔◌, ◌&&◌, not, [], ◌∷◌, ◌++◌, length, map, nat_lt, replicate, sum_by, take, IsTrue};
 ghost use Rattle.std.specs.Bool.{OnFalse, OnTrue};
 ghost use Rattle.std.specs.List.{list_any};
 ghost use Rattle.ns_queue.specs.Queues.{IsList, IsOrderly, times, waiters_of, with_waiters, without};
 ghost use Rattle.ns_queue.specs.Waiters.{HaveSeats, has_condition, is_long, shown_of, times_in, without_in, writes};
 
+use crate::lock_list::LockList;
 use crate::room::Queueable;
 use crate::waiter::{LONG_TRIES, Shown, Waiter, Which};
 use arrayvec::ArrayVec;
@@ -14,20 +15,20 @@ use std::marker::Model;
 /// The waiter lists of a lock. To its callers this is five lists: the lock's, and one for each of four condition
 /// variables. A seat stands in at most one of them, once.
 #[derive(Drop)]
-pub struct Queues<C, const N: usize> {
-    pub(crate) lock: ArrayVec<Waiter<C>, 64>,
+pub struct Queues<C: Queueable<N>, const N: usize> {
+    pub(crate) lock: LockList<C, N>,
     pub(crate) cvs: [ArrayVec<Waiter<C>, 64>; 4],
 }
 
-impl<C, const N: usize> Model for Queues<C, N> {
+impl<C: Queueable<N>, const N: usize> Model for Queues<C, N> {
     ghost use Rattle.std.specs.Prelude.{map};
     ghost use Rattle.ns_queue.specs.Queues.{Lists, IsOrderly};
 
     ghost Value = { Lists C };
 
-    ghost view = { λ q. record { lock = q.lock.items; cvs = map (λ v. v.items) q.cvs } };
+    ghost view = { λ q. record { lock = q.lock; cvs = map (λ v. v.items) q.cvs } };
 
-    ghost invariant = { λ q. IsOrderly (record { lock = q.lock.items; cvs = map (λ v. v.items) q.cvs }) };
+    ghost invariant = { λ q. IsOrderly (record { lock = q.lock; cvs = map (λ v. v.items) q.cvs }) };
 }
 
 impl<C: Queueable<N>, const N: usize> Queues<C, N> {
@@ -36,7 +37,7 @@ impl<C: Queueable<N>, const N: usize> Queues<C, N> {
         ensures { result ≡ record { lock = []; cvs = replicate 4 [] } }
     {
         Queues {
-            lock: ArrayVec::new(),
+            lock: LockList::new(),
             cvs: [
                 ArrayVec::new(),
                 ArrayVec::new(),
@@ -54,7 +55,7 @@ impl<C: Queueable<N>, const N: usize> Queues<C, N> {
         ensures { result.items ≡ waiters_of self.now list }
     {
         match list {
-            Which::Lock => copied(&self.lock),
+            Which::Lock => self.lock.waiters(),
             Which::Cv(k) => copied(&self.cvs[k as usize]),
         }
     }
@@ -68,7 +69,7 @@ impl<C: Queueable<N>, const N: usize> Queues<C, N> {
         ensures orderly { IsOrderly self.now }
     {
         match list {
-            Which::Lock => shown_all(self.lock.as_slice()),
+            Which::Lock => self.lock.shown(),
             Which::Cv(k) => shown_all(self.cvs[k as usize].as_slice()),
         }
     }
@@ -78,7 +79,7 @@ impl<C: Queueable<N>, const N: usize> Queues<C, N> {
         ensures { result ≡ self.now }
     {
         Queues {
-            lock: copied(&self.lock),
+            lock: self.lock.copied(),
             cvs: [
                 copied(&self.cvs[0]),
                 copied(&self.cvs[1]),
@@ -94,7 +95,7 @@ impl<C: Queueable<N>, const N: usize> Queues<C, N> {
         ensures nowhere { OnFalse result (times seat self.now ≡ 0) }
         ensures orderly { IsOrderly self.now }
     {
-        stands_in(self.lock.as_slice(), seat) || stands_in_any(&self.cvs, seat)
+        self.lock.holds(seat) || stands_in_any(&self.cvs, seat)
     }
 
     /// Whether the seat stands in that list.
@@ -106,7 +107,7 @@ impl<C: Queueable<N>, const N: usize> Queues<C, N> {
         ensures orderly { IsOrderly self.now }
     {
         match list {
-            Which::Lock => stands_in(self.lock.as_slice(), seat),
+            Which::Lock => self.lock.holds(seat),
             Which::Cv(k) => stands_in(self.cvs[k as usize].as_slice(), seat),
         }
     }
@@ -122,7 +123,7 @@ impl<C: Queueable<N>, const N: usize> Queues<C, N> {
         ensures { self.new ≡ with_waiters self.old list (waiters_of self.old list ++ waiter ∷ []) }
     {
         match list {
-            Which::Lock => self.lock.push(waiter),
+            Which::Lock => self.lock.push_back(waiter),
             Which::Cv(k) => {
                 let queue = &mut self.cvs[k as usize];
                 queue.push(waiter)
@@ -151,7 +152,7 @@ impl<C: Queueable<N>, const N: usize> Queues<C, N> {
         requires free { times waiter.seat self.old ≡ 0 }
         ensures { self.new ≡ with_waiters self.old Which.Lock (waiter ∷ self.old.lock) }
     {
-        self.lock.insert(0, waiter);
+        self.lock.push_front(waiter);
     }
 
     /// Takes the seat out of the list that it stands in, and answers whether it stood in one. The
@@ -164,7 +165,7 @@ impl<C: Queueable<N>, const N: usize> Queues<C, N> {
         if !self.holds(seat) {
             return false;
         }
-        drop_seat(&mut self.lock, seat);
+        self.lock.remove(seat);
         drop_from_all(&mut self.cvs, seat);
         true
     }
@@ -178,50 +179,8 @@ impl<C: Queueable<N>, const N: usize> Queues<C, N> {
         ensures writer_waits { result.2 ≡ list_any (λ w. writes w && not (has_condition w)) self.now.lock }
         ensures long { result.3 ≡ list_any is_long self.now.lock }
     {
-        let waiters = self.lock.as_slice();
-        (
-            !waiters.is_empty(),
-            some_conditional(waiters),
-            some_plain_writer(waiters),
-            some_long(waiters),
-        )
+        self.lock.bits()
     }
-}
-
-/// Whether a waiter of the list has a condition.
-fn some_conditional<C: Queueable<N>, const N: usize>(waiters: &[Waiter<C>]) -> bool
-    ensures { result ≡ list_any has_condition waiters.now }
-{
-    for waiter in waiters {
-        if waiter.cond.is_some() {
-            return true;
-        }
-    }
-    false
-}
-
-/// Whether a writer of the list has no condition.
-fn some_plain_writer<C: Queueable<N>, const N: usize>(waiters: &[Waiter<C>]) -> bool
-    ensures { result ≡ list_any (λ w. writes w && not (has_condition w)) waiters.now }
-{
-    for waiter in waiters {
-        if waiter.mode.is_write() && waiter.cond.is_none() {
-            return true;
-        }
-    }
-    false
-}
-
-/// Whether a waiter of the list waits long.
-fn some_long<C: Queueable<N>, const N: usize>(waiters: &[Waiter<C>]) -> bool
-    ensures { result ≡ list_any is_long waiters.now }
-{
-    for waiter in waiters {
-        if waiter.tries == LONG_TRIES {
-            return true;
-        }
-    }
-    false
 }
 
 /// Takes the seat out of the list.

@@ -1,6 +1,6 @@
 //! Whom a signal and a broadcast take from the list of a condition variable.
 
-ghost use Rattle.std.specs.Prelude.{◌≡◌, ◌≤◌, ◌<◌, [], length};
+ghost use Rattle.std.specs.Prelude.{◌≡◌, ◌<◌, ◌≤◌, [], length};
 ghost use Rattle.ns_queue.specs.Marks.{is_wanted, signal_marks, wanted_after};
 ghost use Rattle.ns_queue.specs.Queues.{IsOrderly, waiters_of, with_waiters};
 ghost use Rattle.ns_queue.specs.Signals.{signaled_of, taken_set, unsignaled_of};

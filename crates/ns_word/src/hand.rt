@@ -18,6 +18,7 @@ use crate::wait::{Aim, LeavePlace, QueuePlace, Subject, Wait, WaitPlace};
 use crate::walk::Walk;
 use crate::word::{Arrival, Bits};
 use arrayvec::ArrayVec;
+use ns_env::limits::Cause;
 use ns_model::event::Mode;
 use ns_queue::queues::Queues;
 use ns_queue::room::Queueable;
@@ -177,6 +178,47 @@ fn change_releasing<C: Queueable<N>, const N: usize>(
     }
 }
 
+/// Does to the queues what a wait that queues at this place has done to them in hand.
+fn change_queuing<C: Queueable<N>, const N: usize>(
+    queues: &mut Queues<C, N>,
+    seat: u8,
+    wait: Wait<C>,
+    again: bool,
+    place: QueuePlace,
+    row: &[u64; N],
+)
+    requires list { IsInRange wait.on }
+    requires below { seat < 64 }
+    requires free { has_armed (Some (Walk.InWait wait (WaitPlace.InQueuing again place))) ≡ true → times seat queues.old ≡ 0 }
+    ensures { queues.new ≡ wait_hand C.means seat wait (WaitPlace.InQueuing again place) row.now queues.old }
+{
+    match place {
+        QueuePlace::QueueToWait(_) => {
+            let _ = scan_and_queue(queues, row, seat, wait, again);
+        }
+        _ => (),
+    }
+}
+
+/// Does to the queues what a wait that leaves its list at this place has done to them in hand.
+fn change_leaving<C: Queueable<N>, const N: usize>(
+    queues: &mut Queues<C, N>,
+    seat: u8,
+    wait: Wait<C>,
+    cause: Cause,
+    place: LeavePlace,
+)
+    requires { IsInRange wait.on }
+    ensures { queues.new ≡ wait_hand C.means seat wait (WaitPlace.InLeaving cause place) [] queues.old }
+{
+    match place {
+        LeavePlace::Leave(_) => {
+            let _ = leave_self(queues, seat, wait.on.home());
+        }
+        _ => (),
+    }
+}
+
 /// Does to the queues what a wait at this place has done to them in hand.
 fn change_waiting<C: Queueable<N>, const N: usize>(
     queues: &mut Queues<C, N>,
@@ -191,12 +233,8 @@ fn change_waiting<C: Queueable<N>, const N: usize>(
     ensures { queues.new ≡ wait_hand C.means seat wait place row.now queues.old }
 {
     match place {
-        WaitPlace::InQueuing(again, QueuePlace::QueueToWait(_)) => {
-            let _ = scan_and_queue(queues, row, seat, wait, again);
-        }
-        WaitPlace::InLeaving(_, LeavePlace::Leave(_)) => {
-            let _ = leave_self(queues, seat, wait.on.home());
-        }
+        WaitPlace::InQueuing(again, place) => change_queuing(queues, seat, wait, again, place, row),
+        WaitPlace::InLeaving(cause, place) => change_leaving(queues, seat, wait, cause, place),
         _ => (),
     }
 }

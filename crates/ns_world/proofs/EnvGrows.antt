@@ -12,7 +12,6 @@ use Rattle.ns_word.specs.Walks.{got_of, walk_after}
 use Rattle.ns_env.proofs.Asks.{set_here, keeps_env}
 use Rattle.ns_env.proofs.Keeps.{outcome_by}
 use Rattle.ns_world.specs.declared.step.Step.{Step}
-use Rattle.ns_world.specs.declared.step.Step.TheVariants.{Went, Idle, Finished, Nothing}
 use Rattle.ns_world.specs.Asks.{env_state}
 use Rattle.ns_world.specs.Looks.{look_of, note_in}
 use Rattle.ns_env.specs.declared.act.EnvAct.{EnvAct}

@@ -1,17 +1,15 @@
 -- How far a call on counters and once cells has come: whatever others do leaves that as it is, and each step of its own takes it on to an answer that means what it says.
 use Rattle.std.specs.Prelude.{nat_lt, nat_le, IsSomeAnd}
-use Rattle.std.proofs.Common.{◌≡◌, ◌≢◌, ℕ, zero, suc, ◌<◌, ◌≤◌, ℤ, Bool, true, false, cond, eqb, List, [], ◌∷◌, ◌++◌, Option, None, Some, slice_get, slice_set, slice_index, Result, Ok, Err, refl, ap, sym, ◌∙◌, subst, arith, inl, inr, append-nil, eq-eqb}
+use Rattle.std.proofs.Common.{◌≡◌, ℕ, zero, suc, ◌<◌, ◌≤◌, ℤ, Bool, true, false, cond, eqb, List, [], ◌∷◌, ◌++◌, Option, None, Some, slice_get, slice_index, Result, Ok, Err, refl, ap, sym, ◌∙◌, subst, arith, inl, inr, append-nil, eq-eqb}
 use Rattle.std.proofs.lemmas.Bool.{cases_eq, ltb-true, ltb-false, leb-true, leb-false, eqb-true}
 use Rattle.std.proofs.lemmas.List.Sums.{fold-append}
 use Rattle.ns_model.specs.declared.environment.EnvEvent.{EnvEvent}
 use Rattle.ns_model.specs.Beginnings.{BeginsWith, IsBetween}
-use Rattle.ns_model.specs.Environments.{NoteStanding, IsLegalEnv, clock_of, env_after, is_due, is_notified}
+use Rattle.ns_model.specs.Environments.{IsLegalEnv, clock_of, env_after, is_due, is_notified}
 use Rattle.ns_model.specs.Lines.{IsLeftAt}
 use Rattle.ns_model.proofs.Beginnings.{begins_itself, begins_through}
 use Rattle.ns_model.proofs.Environments.{legal_begins, made_begins}
 use Rattle.ns_model.proofs.Lines.{line_starts}
-use Rattle.ns_counters.specs.declared.act.ObjectAct.{ObjectAct}
-use Rattle.ns_counters.specs.declared.act.ObjectAct.TheVariants.{LookCounter, LoadToAdd, ExchangeToAdd, MarkWait, LookOnce, BeginOnce, EndOnce}
 use Rattle.ns_counters.specs.declared.counter.CounterEvent.TheVariants as TheCounter
 use Rattle.ns_counters.specs.declared.counter.CounterFault.{CounterFault}
 use Rattle.ns_counters.specs.declared.counter.CounterState.{CounterState}
@@ -24,18 +22,16 @@ use Rattle.ns_counters.specs.declared.once.OnceState.{OnceState}
 use Rattle.ns_counters.specs.declared.once.OnceState.TheVariants as TheState
 use Rattle.ns_counters.specs.declared.word.Stage.{Stage}
 use Rattle.ns_counters.specs.declared.word.Stage.TheVariants as TheStage
-use Rattle.ns_counters.specs.Counters.{counter_next, is_ready, judged}
+use Rattle.ns_counters.specs.Counters.{is_ready, judged}
 use Rattle.ns_counters.specs.Lawful.{IsLawful}
 use Rattle.ns_counters.specs.Objects.{ObjectStanding, first_objects, object_next, objects_after, objects_own}
 use Rattle.ns_counters.specs.Onces.{is_done}
-use Rattle.ns_counters.specs.Steps.{Outcome, outcome, tried, word_at, word_of_once}
-use Rattle.ns_counters.specs.Words.{counter_word, counter_of, stage, stage_of, stage_word}
+use Rattle.ns_counters.specs.Steps.{Outcome, tried, word_of_once}
+use Rattle.ns_counters.specs.Words.{counter_word, counter_of, stage, stage_of}
 use Rattle.ns_counters.proofs.Objects.{own-append}
 use Rattle.ns_counters.proofs.Words.{counter_of-counter_word, stage_of-stage_word}
-use Rattle.ns_env.specs.declared.act.EnvAct.TheVariants.{LoadClock, LoadNote}
 use Rattle.ns_env.specs.declared.act.EnvFound.{EnvFound}
 use Rattle.ns_env.specs.declared.act.EnvFound.TheVariants.{Clock, Note}
-use Rattle.ns_env.specs.declared.note.NoteState.{NoteState}
 use Rattle.ns_env.specs.declared.walk.Chain.TheVariants.{ForIsNotified}
 use Rattle.ns_env.specs.declared.walk.EnvNext.{EnvNext}
 use Rattle.ns_env.specs.declared.walk.EnvNext.TheVariants as TheEnv
@@ -43,21 +39,16 @@ use Rattle.ns_env.specs.declared.walk.EnvWalk.TheVariants.{NoteLoad}
 use Rattle.ns_env.specs.declared.reply.EnvReply.TheVariants.{Is as IsSo}
 use Rattle.ns_env.specs.Chains.{ChainFits}
 use Rattle.ns_env.specs.Meanings.{AtSomePoint}
-use Rattle.ns_env.specs.Steps.{EnvPlain}
 use Rattle.ns_env.specs.Asks.{EnvState, IsLawfulEnv}
-use Rattle.ns_env.specs.Lawful.{Meets}
-use Rattle.ns_env.specs.Notes.{standing_of}
 use Rattle.ns_env.specs.Walks.{env_got_of}
 use Rattle.ns_env.proofs.Chains.{chain_answers}
 use Rattle.ns_world.specs.declared.items.Item.{Item}
 use Rattle.ns_world.specs.declared.items.Item.TheVariants.{OnNote, OnCounter as OnCounterItem}
 use Rattle.ns_world.specs.declared.items.Items.{Items}
-use Rattle.ns_world.specs.declared.object_walk.ObjectNext.{ObjectNext}
-use Rattle.ns_world.specs.declared.object_walk.ObjectNext.TheVariants.{Go, Repeat, Over}
+use Rattle.ns_world.specs.declared.object_walk.ObjectNext.TheVariants.{Repeat, Over}
 use Rattle.ns_world.specs.declared.object_walk.ObjectWalk.{ObjectWalk}
 use Rattle.ns_world.specs.declared.object_walk.ObjectWalk.TheVariants.{AddLoad, AddExchange, ValueLoad, WaitMark, WaitLoad, WaitClock, OnceLoad, OnceBegin, OnceEnd, DoneLoad, InRound}
-use Rattle.ns_world.specs.declared.reply.Reply.{Reply}
-use Rattle.ns_world.specs.declared.reply.Reply.TheVariants.{Number, Is, Refused, Ran, Already}
+use Rattle.ns_world.specs.declared.reply.Reply.TheVariants.{Number}
 use Rattle.ns_world.specs.declared.round.ObjectFound.{ObjectFound}
 use Rattle.ns_world.specs.declared.round.ObjectFound.TheVariants.{Word, Env}
 use Rattle.ns_world.specs.declared.round.Round.{Round}
@@ -66,8 +57,8 @@ use Rattle.ns_world.specs.declared.round.RoundNext.TheVariants.{RoundGo, RoundOv
 use Rattle.ns_world.specs.declared.round.RoundPlace.{RoundPlace}
 use Rattle.ns_world.specs.declared.round.RoundPlace.TheVariants.{FirstClock, AtNote, AtCounter}
 use Rattle.ns_world.specs.Items.{item_at}
-use Rattle.ns_world.specs.Objects.{AreThere, ObjectEffect, WalkFits}
-use Rattle.ns_world.specs.ObjectMeanings.{Past, past_and, object_asked, AnyAnswers, AtSomeMoment, HadValue, ObjectGoes, ObjectMeans, ObjectSoFar, RoundSoFar, WasDue, WasReady, WereThere, WereUnready}
+use Rattle.ns_world.specs.Objects.{ObjectEffect, WalkFits}
+use Rattle.ns_world.specs.ObjectMeanings.{Past, past_and, object_asked, AnyAnswers, AtSomeMoment, HadValue, ObjectGoes, ObjectSoFar, RoundSoFar, WasDue, WasReady, WereThere, WereUnready}
 use Rattle.ns_world.specs.ObjectWalks.{by_answer, by_begun, by_deadline, by_judging, by_round, by_stage, has_run, object_got, object_place, object_want, waited_next}
 use Rattle.ns_world.specs.Rounds.{by_chain, chain_from, from_place, to_item}
 use Rattle.ns_world.proofs.ObjectLaw.{clock_found, counter_there, note_found, note_there}

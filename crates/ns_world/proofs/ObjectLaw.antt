@@ -3,7 +3,7 @@ use Rattle.std.specs.Prelude.{nat_lt}
 use Rattle.std.specs.List.{list_all}
 use Rattle.std.proofs.Common.{◌≡◌, ◌≢◌, ℕ, zero, suc, ◌<◌, ◌≤◌, ◌%◌, ◌^◌, ℤ, Bool, true, false, cond, ◌&&◌, eqb, List, [], ◌∷◌, ◌++◌, Option, None, Some, take, slice_get, slice_set, slice_index, Result, Ok, Err, refl, ap, sym, ◌∙◌, subst, arith, inl, inr, append-nil}
 use Rattle.std.proofs.lemmas.Bool.{cases_eq, ltb-true}
-use Rattle.ns_model.specs.Environments.{NoteStanding, env_after}
+use Rattle.ns_model.specs.Environments.{NoteStanding}
 use Rattle.ns_model.specs.declared.environment.EnvEvent.{EnvEvent}
 use Rattle.ns_model.specs.Tallies.{Every}
 use Rattle.ns_counters.specs.declared.act.ObjectAct.{ObjectAct}
@@ -22,26 +22,23 @@ use Rattle.ns_counters.specs.declared.once.OnceState.TheVariants as TheOnce
 use Rattle.ns_counters.specs.declared.word.Stage.{Stage}
 use Rattle.ns_counters.specs.declared.word.Stage.TheVariants as TheStage
 use Rattle.ns_counters.specs.Counters.{most, judged}
-use Rattle.ns_counters.specs.Lawful.{IsLawful, ViewFits, PlaceFits}
+use Rattle.ns_counters.specs.Lawful.{ViewFits, PlaceFits}
 use Rattle.ns_counters.specs.Objects.{ObjectStanding, objects_after, object_who, objects_own}
 use Rattle.ns_counters.specs.Steps.{CanAct, Outcome, outcome, tried, word_at}
 use Rattle.ns_counters.specs.Words.{counter_word, counter_of, stage_of}
 use Rattle.ns_counters.proofs.Acts.{acted_lawful, acted_fits, others_fit}
-use Rattle.ns_counters.proofs.Keeps.{StepKeeps, step_keeps}
+use Rattle.ns_counters.proofs.Keeps.{step_keeps}
 use Rattle.ns_model.proofs.Beginnings.{begins_itself}
-use Rattle.ns_env.specs.declared.act.EnvAct.TheVariants.{LoadClock, LoadNote}
 use Rattle.ns_env.specs.declared.act.EnvFound.{EnvFound}
-use Rattle.ns_env.specs.declared.act.EnvFound.TheVariants.{NextNumber, Taken, Stored, Clock, Note}
+use Rattle.ns_env.specs.declared.act.EnvFound.TheVariants.{Clock, Note}
 use Rattle.ns_env.specs.declared.note.NoteState.{NoteState}
 use Rattle.ns_env.specs.declared.walk.Chain.TheVariants.{ForIsNotified}
 use Rattle.ns_env.specs.declared.walk.EnvNext.{EnvNext}
 use Rattle.ns_env.specs.declared.walk.EnvNext.TheVariants as TheEnv
-use Rattle.ns_env.specs.declared.walk.EnvWalk.{EnvWalk}
-use Rattle.ns_env.specs.declared.walk.EnvWalk.TheVariants.{NextLoad, TakeNumber, MakeNote, Notifying, Advancing, ClockLoad, NoteLoad, ExpiryLoad}
+use Rattle.ns_env.specs.declared.walk.EnvWalk.TheVariants.{NoteLoad}
 use Rattle.ns_env.specs.declared.reply.EnvReply.TheVariants.{Is}
 use Rattle.ns_world.specs.declared.reply.Reply.TheVariants.{Number}
 use Rattle.ns_env.specs.Steps.{EnvPlain}
-use Rattle.ns_env.specs.Asks.{EnvEffect, EnvActFits}
 use Rattle.ns_env.specs.Lawful.{Meets}
 use Rattle.ns_env.specs.Notes.{standing_of, state_of}
 use Rattle.ns_env.specs.Walks.{env_got_of}
@@ -61,9 +58,8 @@ use Rattle.ns_world.specs.declared.round.ObjectWant.TheVariants.{OnWord, OnEnv}
 use Rattle.ns_world.specs.declared.round.Round.{Round}
 use Rattle.ns_world.specs.declared.round.RoundNext.{RoundNext}
 use Rattle.ns_world.specs.declared.round.RoundNext.TheVariants.{RoundGo, RoundOver}
-use Rattle.ns_world.specs.declared.round.RoundPlace.{RoundPlace}
 use Rattle.ns_world.specs.declared.round.RoundPlace.TheVariants.{FirstClock, AtNote, AtCounter}
-use Rattle.ns_world.specs.Items.{items_of, item_at}
+use Rattle.ns_world.specs.Items.{item_at}
 use Rattle.ns_world.specs.Objects.{AreLedTo, AreThere, ObjectEffect, RoundFits, WalkFits, is_there, walk_in, word_left}
 use Rattle.ns_world.specs.ObjectWalks.{by_answer, by_begun, by_deadline, by_judging, by_round, by_stage, object_after, object_got, object_place, object_want, waited_next}
 use Rattle.ns_world.specs.Rounds.{by_chain, chain_from, from_place, round_got, to_item}

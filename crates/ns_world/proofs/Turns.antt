@@ -35,7 +35,7 @@ use Rattle.ns_world.specs.Objects.{walk_in}
 use Rattle.ns_world.specs.Whole.{Whole, WholeIsBusy, WholeIsIdle, WholeStarts, WholeBegins, WholeMoves, WholeStep, WholeFault, WholeCommits, whole_busy}
 use Rattle.ns_world.specs.Commits.{Commits}
 use Rattle.ns_world.specs.Begins.{BeginFault, Starts, begun_at}
-use Rattle.ns_world.specs.World.{Now, CommitsNext, LookGoes, Moves, IsWalking, IsBusy, IsIdle, StepOf, StepFault, is_walking, is_asking, is_busy}
+use Rattle.ns_world.specs.World.{Now, LookGoes, Moves, IsWalking, IsBusy, IsIdle, StepFault, is_walking, is_asking, is_busy}
 use Rattle.ns_world.specs.Runs.{Progress, progress, progressed, finished, GoesOnOrBegins, TurnOf, TurnsWith, TurnFault}
 use Rattle.ns_world.proofs.Busy.{or_true, both, walking_at, walking_set_same, walking_set_other, asking_at, asking_set_same, asking_set_other}
 use Rattle.ns_env.proofs.Asks.{set_here}

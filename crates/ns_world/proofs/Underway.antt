@@ -1,8 +1,7 @@
 -- From its beginning to its answer a call is under way, whatever others do, and its answer means what it says.
 use Rattle.std.specs.Prelude.{slice_get}
-use Rattle.std.proofs.Common.{◌≡◌, ◌≢◌, inl, inr, ℕ, List, [], ◌++◌, Option, None, Some, slice_set, refl, ap, sym, ◌∙◌, subst, Bool, ◌⊎◌, zero, suc, length}
+use Rattle.std.proofs.Common.{◌≡◌, ◌≢◌, inl, inr, ℕ, List, [], ◌++◌, Option, None, Some, slice_set, refl, ap, sym, ◌∙◌, subst, Bool, length}
 use Rattle.std.proofs.lemmas.List.{append-nil, append_assoc}
-use Rattle.std.proofs.lemmas.Bool.{cases_eq}
 use Rattle.std.proofs.lemmas.Option.{slice_get_within}
 use Rattle.ns_model.proofs.Beginnings.{begins_through, begins_itself}
 use Rattle.ns_model.proofs.Environments.{env_own-append}
@@ -74,8 +73,7 @@ use Rattle.ns_world.specs.declared.call.Call.TheVariants.{Lock, RLock, TryLock, 
 use Rattle.ns_world.specs.declared.call.Call.{Call}
 use Rattle.ns_world.specs.declared.call.Start.TheVariants.{Ask, OnLock, OnObjects}
 use Rattle.ns_world.specs.declared.call.Start.{Start}
-use Rattle.ns_world.specs.declared.step.Begun.TheVariants.{Started}
-use Rattle.ns_world.specs.declared.step.Step.TheVariants.{Finished, Idle, Nothing, Went}
+use Rattle.ns_world.specs.declared.step.Step.TheVariants.{Finished}
 use Rattle.ns_world.specs.declared.step.Step.{Step}
 
 -- what a history begins with, it begins with when it has grown

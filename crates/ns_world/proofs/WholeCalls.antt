@@ -1,19 +1,15 @@
 -- From its beginning to its answer a call in a whole world is under way, whatever others do, and its answer means what it says.
-use Rattle.std.proofs.Common.{◌≡◌, ◌≢◌, ℕ, zero, suc, ◌<◌, List, [], ◌∷◌, ◌++◌, Option, None, Some, slice_get, slice_set, refl, ap, sym, ◌∙◌, subst, inl, inr, ◌⊎◌}
+use Rattle.std.proofs.Common.{◌≡◌, ◌≢◌, ℕ, zero, suc, List, [], ◌++◌, Option, None, Some, slice_set, refl, ap, sym, ◌∙◌, subst, inl, inr, ◌⊎◌}
 use Rattle.std.proofs.lemmas.Bool.{cases_eq}
 use Rattle.std.proofs.lemmas.List.{append-nil, append_assoc}
 use Rattle.ns_model.proofs.Beginnings.{begins_itself}
 use Rattle.ns_model.specs.Beginnings.{BeginsWith}
-use Rattle.ns_model.specs.Environments.{NoteStanding, env_own, env_after}
-use Rattle.ns_model.specs.Histories.{own}
-use Rattle.ns_model.specs.Tallies.{Every}
+use Rattle.ns_model.specs.Environments.{env_after}
 use Rattle.ns_model.specs.declared.environment.EnvEvent.{EnvEvent}
 use Rattle.ns_counters.specs.declared.object.ObjectEvent.{ObjectEvent}
-use Rattle.ns_counters.specs.declared.object.Setup.{Setup}
 use Rattle.ns_counters.specs.Lawful.{IsLawful}
-use Rattle.ns_counters.specs.Objects.{object_who, objects_after, objects_own}
+use Rattle.ns_counters.specs.Objects.{objects_after, objects_own}
 use Rattle.ns_counters.proofs.Objects.{own-append, own_all, own_none}
-use Rattle.ns_env.specs.Steps.{EnvPlain}
 use Rattle.ns_world.specs.declared.call.Asked.{Asked}
 use Rattle.ns_world.specs.declared.call.Asked.TheVariants.{OfLock, OfNotes, OfObjects}
 use Rattle.ns_world.specs.declared.call.Call.{Call}
@@ -29,16 +25,16 @@ use Rattle.ns_world.specs.declared.step.Step.{Step}
 use Rattle.ns_world.specs.declared.step.Step.TheVariants.{Went, Idle, Finished, Nothing}
 use Rattle.ns_world.specs.Asks.{env_state}
 use Rattle.ns_world.specs.Calls.{CallFits, object_start, mode_of}
-use Rattle.ns_world.specs.Meanings.{AnswersCall, AnswersOfObjects, AnswersTo, Happens, HasLedTo, IsUnfinished, Meanwhile, asks_of, done_by, done_in, happened, held_at, held_in, nothing_done}
+use Rattle.ns_world.specs.Meanings.{AnswersCall, AnswersTo, Happens, HasLedTo, IsUnfinished, Meanwhile, asks_of, done_by, done_in, happened, held_at, held_in, nothing_done}
 use Rattle.ns_world.specs.ObjectMeanings.{Past, past_and, object_asked, ObjectGoes, ObjectSoFar}
-use Rattle.ns_world.specs.Objects.{AreLedTo, AreThere, HasOperated, WalkFits, object_step_of, objects_begun, put_at, walk_in}
+use Rattle.ns_world.specs.Objects.{AreLedTo, AreThere, WalkFits, object_step_of, objects_begun, walk_in}
 use Rattle.ns_world.specs.ObjectWalks.{object_after, object_got}
 use Rattle.ns_world.specs.Whole.{Whole, AreObjectsBy, HaveLedTo, IsLawfulWhole, LockSteps, Operates, WholeBegins, WholeMoves, WholeStarts, WholeStep, notes_done, objects_done}
-use Rattle.ns_world.specs.World.{Now, AreEnvBy, IsIdle, LedTo, Moves, env_done}
+use Rattle.ns_world.specs.World.{Now, AreEnvBy, IsIdle, LedTo, env_done}
 use Rattle.ns_world.proofs.EnvGrows.{moves_led}
 use Rattle.ns_world.proofs.ObjectCourses.{operates_on, so_far_on}
 use Rattle.ns_world.proofs.ObjectLaw.{operates_keeps}
-use Rattle.ns_world.proofs.Underway.{IsOfLock, IsUnderway, LockAnswers, Outcome, Underway, begin_away, begins_on, begins_underway, moves_away, moves_on, no_event, not_idle, stays_underway}
+use Rattle.ns_world.proofs.Underway.{IsOfLock, IsUnderway, Outcome, Underway, begin_away, begins_on, begins_underway, moves_away, moves_on, not_idle, stays_underway}
 use Rattle.ns_world.proofs.Walks.{put_here, put_there, stands_within}
 use Rattle.ns_world.proofs.Wholes.{begun_led, led_more, moves_make}
 

@@ -1,13 +1,12 @@
 -- The law of a whole world: how it begins, and that calls that begin and steps keep it.
 use Rattle.std.specs.List.{list_all}
-use Rattle.std.proofs.Common.{◌≡◌, ◌≢◌, ℕ, ◌<◌, ◌≤◌, Bool, true, false, cond, List, [], ◌∷◌, ◌++◌, Option, None, Some, is_some, length, replicate, take, slice_get, slice_set, slice_index, refl, ap, sym, ◌∙◌, subst, arith, inl, inr, Result, Ok, Err}
+use Rattle.std.proofs.Common.{◌≡◌, ◌≢◌, ℕ, ◌<◌, ◌≤◌, Bool, true, List, [], ◌∷◌, ◌++◌, Option, None, Some, is_some, length, replicate, slice_get, slice_set, slice_index, refl, ap, sym, ◌∙◌, subst, arith, inl, inr, Result, Ok, Err}
 use Rattle.std.specs.Prelude.{IfOk, IfErr}
 use Rattle.std.proofs.lemmas.Bool.{cases_eq}
 use Rattle.std.proofs.lemmas.List.{length-replicate, length-set}
 use Rattle.std.proofs.lemmas.Option.{slice_get_within}
-use Rattle.ns_model.specs.Environments.{NoteStanding, env_after}
+use Rattle.ns_model.specs.Environments.{NoteStanding}
 use Rattle.ns_model.specs.Truths.{Truths}
-use Rattle.ns_model.specs.declared.environment.EnvEvent.{EnvEvent}
 use Rattle.ns_model.specs.declared.event.Mode.{Mode}
 use Rattle.ns_model.proofs.Environments.{made_below}
 use Rattle.ns_counters.specs.declared.act.ObjectAct.{ObjectAct}
@@ -19,11 +18,10 @@ use Rattle.ns_counters.proofs.NewObjects.{new_lawful}
 use Rattle.ns_word.specs.declared.view.SeatView.{SeatView}
 use Rattle.ns_env.specs.declared.walk.EnvNext.{EnvNext}
 use Rattle.ns_env.specs.declared.walk.EnvNext.TheVariants as TheEnv
-use Rattle.ns_env.specs.declared.act.EnvFound.{EnvFound}
 use Rattle.ns_env.specs.Steps.{EnvPlain}
 use Rattle.ns_env.specs.Lawful.{Meets}
 use Rattle.ns_env.specs.Walks.{env_got_of, env_want_of}
-use Rattle.ns_env.proofs.Asks.{if_made_stays, set_here, set_there}
+use Rattle.ns_env.proofs.Asks.{if_made_stays, set_there}
 use Rattle.ns_world.specs.declared.call.Call.{Call}
 use Rattle.ns_world.specs.declared.call.Call.TheVariants.{Lock, RLock, TryLock, TryRLock, Unlock, RUnlock, UnlockQuiet, Get, Set, Wait, CvWait, Signal, Broadcast, NewNote, Notify, Advance, IsNotified, Expiry, NoteWait, Add, Value, CounterWait, Once, Done, WaitAny}
 use Rattle.ns_world.specs.declared.call.Start.{Start}
@@ -36,8 +34,7 @@ use Rattle.ns_world.specs.declared.object_walk.ObjectNext.TheVariants.{Go, Repea
 use Rattle.ns_world.specs.declared.object_walk.ObjectWalk.{ObjectWalk}
 use Rattle.ns_world.specs.declared.object_walk.ObjectWalk.TheVariants.{AddLoad, AddExchange, ValueLoad, WaitMark, WaitLoad, WaitClock, OnceLoad, OnceBegin, OnceEnd, DoneLoad, InRound}
 use Rattle.ns_world.specs.declared.objects.Objects.{Objects}
-use Rattle.ns_world.specs.declared.round.ObjectWant.{ObjectWant}
-use Rattle.ns_world.specs.declared.round.ObjectWant.TheVariants.{OnWord, OnEnv}
+use Rattle.ns_world.specs.declared.round.ObjectWant.TheVariants.{OnWord}
 use Rattle.ns_world.specs.declared.round.Round.{Round}
 use Rattle.ns_world.specs.declared.round.RoundPlace.{RoundPlace}
 use Rattle.ns_world.specs.declared.round.RoundPlace.TheVariants.{FirstClock, AtNote, AtCounter}
@@ -50,12 +47,12 @@ use Rattle.ns_world.specs.declared.step.Step.TheVariants.{Went, Idle, Finished, 
 use Rattle.ns_world.specs.Begins.{BeginAnswers, Starts, begun_at}
 use Rattle.ns_world.specs.Calls.{CallFits, start_of, object_start, mode_of}
 use Rattle.ns_world.specs.Items.{items_of}
-use Rattle.ns_world.specs.Objects.{AreLedTo, AreThere, HasOperated, RoundFits, StepFits, WalkFits, WantFits, fresh_objects, is_there, object_step_of, objects_begun, walk_in}
+use Rattle.ns_world.specs.Objects.{AreLedTo, AreThere, HasOperated, RoundFits, StepFits, WalkFits, WantFits, is_there, object_step_of, objects_begun, walk_in}
 use Rattle.ns_world.specs.ObjectWalks.{object_after, object_got, object_want, IsInBounds}
-use Rattle.ns_world.specs.Whole.{Whole, whole, AreApart, HaveLedTo, IsLawfulWhole, LockSteps, Operates, WholeBegins, WholeFault, WholeIsBusy, WholeMoves, WholeStarts, WholeStep, fresh_whole}
-use Rattle.ns_world.specs.World.{Now, Goes, LookGoes, Moves, StepOf, StepFault, IsIdle, IsLawfulWorld, LedTo, fresh}
+use Rattle.ns_world.specs.Whole.{Whole, whole, IsLawfulWhole, Operates, WholeBegins, WholeFault, WholeIsBusy, WholeStarts, WholeStep, fresh_whole}
+use Rattle.ns_world.specs.World.{Now, Goes, LookGoes, Moves, StepOf, StepFault, IsIdle, IsLawfulWorld}
 use Rattle.ns_world.proofs.Fresh.{lawful_new, length_views}
-use Rattle.ns_world.proofs.ObjectLaw.{first_of_all, rest_of_all, in_list, operates_keeps, stays_put, want_below}
+use Rattle.ns_world.proofs.ObjectLaw.{first_of_all, rest_of_all, in_list, operates_keeps, want_below}
 use Rattle.ns_world.proofs.Turns.{moves_stay, begun_stays, Pairs, pairs}
 use Rattle.ns_world.proofs.Walks.{put_here, put_there, none_stand, stands_within}
 

@@ -1,5 +1,5 @@
 -- What the answer of a call on counters and once cells means, whatever others do while it is in progress, and how far such a call has come at each of its places.
-use Rattle.std.specs.Prelude.{◌≡◌, ◌≢◌, ◌⊎◌, ℕ, ◌<◌, ◌≤◌, Bool, true, false, List, [], ◌∷◌, ◌++◌, Option, None, Some, IsSomeAnd, Ok, Err}
+use Rattle.std.specs.Prelude.{◌≡◌, ◌≢◌, ◌⊎◌, ℕ, ◌<◌, ◌≤◌, Bool, true, false, List, [], ◌∷◌, ◌++◌, Option, Some, IsSomeAnd, Ok, Err}
 use Rattle.ns_model.specs.declared.environment.EnvEvent.{EnvEvent}
 use Rattle.ns_model.specs.Beginnings.{IsBetween}
 use Rattle.ns_model.specs.Environments.{env_after, is_notified, clock_of}

@@ -1,17 +1,13 @@
--- A world's seat and its lists fit in memory, over any condition.
-use Rattle.std.specs.Prelude.{◌+◌, ◌*◌, ◌<◌, ◌^◌}
+-- A world's seat fits in memory, over any condition.
+use Rattle.std.specs.Prelude.{◌<◌, ◌^◌}
 use Rattle.std.proofs.Common.{arith}
 use Rattle.std.specs.Mem.{FitsInMemory}
 use prog.Memory.{size}
-use mir.Syntax.{Ty, ty_array, tnil, tcons}
+use mir.Syntax.{Ty}
 use denote.RattleType.{RattleType}
-use denote.Param.{layout, copied, param, number}
-use denote.Builtin.{unit}
+use denote.Param.{layout, copied, param}
 use Rattle.ns_world.specs.contracts.seat.Seat.{the_row as seat_row}
-use Rattle.ns_queue.specs.contracts.queues.Queues.{the_row as queues_row}
-use Rattle.ns_queue.specs.contracts.waiter.Waiter.{the_row as waiter_row}
-use Rattle.arrayvec.specs.contracts.array_vec.ArrayVec.{the_row as list_row}
-use Rattle.ns_model.specs.Room.{HasRoom, room, rooms, room_enough}
+use Rattle.ns_model.specs.Room.{HasRoom, room, room_enough}
 
 -- a seat of a world fits in memory
 abbrev pub SeatFits : (C N : RattleType) → Type 0
@@ -26,21 +22,3 @@ pub seat_fits : (C N : RattleType) → HasRoom (copied 0 C) (param 1 N) → Seat
 seat_fits C N small =
     let few : room (layout (seat_row (copied 0 C) (param 1 N))) < 2 ^ 63 = omega (arith, small.0, small.1) in
     small_by (layout (seat_row (copied 0 C) (param 1 N))) few
-
--- the lists fit in memory
-abbrev pub QueuesFit : (C N : RattleType) → Type 0
-QueuesFit C N = FitsInMemory (queues_row C N)
-
--- one of them takes little by the bound
-list_room : (C N : RattleType) → HasRoom (copied 0 C) (param 1 N) → room (layout (list_row (waiter_row (copied 0 C)) (number 64) unit)) < 2 ^ 50
-list_room C N small = let one = room_enough (layout (waiter_row (copied 0 C))) in omega (arith, one, small.0)
-
--- so all five do; of any type of list, so that no size is worked out
-five_small : (τ : Ty) → room τ < 2 ^ 50 → 2 + 3 * rooms (tcons τ (tcons (ty_array τ 4) tnil)) < 2 ^ 63
-five_small τ few = let one = room_enough τ in omega (arith, one, few)
-
--- they fit where a condition and a row have room
-pub queues_fit : (C N : RattleType) → HasRoom (copied 0 C) (param 1 N) → QueuesFit (copied 0 C) (param 1 N)
-queues_fit C N small =
-    let few : room (layout (queues_row (copied 0 C) (param 1 N))) < 2 ^ 63 = five_small (layout (list_row (waiter_row (copied 0 C)) (number 64) unit)) (list_room C N small) in
-    small_by (layout (queues_row (copied 0 C) (param 1 N))) few

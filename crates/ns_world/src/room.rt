@@ -1,6 +1,9 @@
 //! Code over any condition owes that the values that it passes on fit in memory.
 
-ghost use Rattle.ns_world.specs.Room.{QueuesFit, SeatFits, queues_fit, seat_fits};
+ghost use Rattle.std.specs.Mem.{FitsInMemory};
+ghost use Rattle.ns_queue.specs.Sizes.{queues_fit};
+ghost use Rattle.ns_queue.specs.contracts.queues.Queues.{the_row as queues_row};
+ghost use Rattle.ns_world.specs.Room.{SeatFits, seat_fits};
 
 use ns_model::condition::Condition;
 use ns_queue::room::Queueable;
@@ -11,11 +14,11 @@ use ns_word::room::Fits;
 pub trait Seated<const N: usize>: Fits<N> + Queueable<N> {
     ghost seat_fits: { SeatFits Self.row N.row };
 
-    ghost queues_fit: { QueuesFit Self.row N.row };
+    ghost queues_fit: { FitsInMemory (queues_row Self.row N.row Self.Condition) };
 }
 
 impl<C: Condition<N>, const N: usize> Seated<N> for C {
     ghost seat_fits = { seat_fits Self.row N.row C.has_room };
 
-    ghost queues_fit = { queues_fit Self.row N.row C.has_room };
+    ghost queues_fit = { queues_fit Self.row N.row C.has_room Self.Condition };
 }

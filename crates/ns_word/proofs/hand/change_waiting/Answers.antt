@@ -1,23 +1,27 @@
-use Rattle.std.proofs.Common.{◌≡◌, refl, rules}
-use Rattle.ns_word.specs.declared.wait.LeavePlace.TheVariants.{Leave}
-use Rattle.ns_word.specs.declared.wait.QueuePlace.TheVariants.{QueueToWait}
+use Rattle.std.proofs.Common.{rules, refl, ◌≡◌, ◌∙◌, ℕ, List, []}
+use Rattle.ns_env.specs.declared.limits.Cause.{Cause}
+use Rattle.ns_model.specs.Truths.{Truths}
+use Rattle.ns_queue.specs.Queues.{Lists}
+use Rattle.ns_word.specs.Steps.{wait_hand}
+use Rattle.ns_word.specs.declared.wait.LeavePlace.{LeavePlace}
+use Rattle.ns_word.specs.declared.wait.LeavePlace.TheVariants.{LeaveLoad, Leave, AwaitWakeToLeave, TakeToLeave}
+use Rattle.ns_word.specs.declared.wait.Wait.{Wait}
+use Rattle.ns_word.specs.declared.wait.WaitPlace.TheVariants.{InLeaving}
 use Rattle.ns_word.proofs.hand.change_waiting.Goals as goal
 
-pub returns-in-InLeaving-default-Leave : goal.returns-in-InLeaving-default-Leave
-returns-in-InLeaving-default-Leave g c =
-    let here = c.in-InLeaving-default-Leave in
-    let last : here.field-1 ≡ Leave here.field-1-0 = rw here.is at here.field-1-is in
-    rw (here.is, last) (rw c.home.ensures at (c.leave_self.ensures.left here.field-1-0))
+pub change_queuing-requires : goal.change_queuing-requires
+change_queuing-requires g c = (search rules, (search rules, (c.requires.list, (c.requires.below, rw c.in-InQueuing.is at c.requires.free))))
 
-pub returns-in-InQueuing-default-QueueToWait : goal.returns-in-InQueuing-default-QueueToWait
-returns-in-InQueuing-default-QueueToWait g c =
-    let here = c.in-InQueuing-default-QueueToWait in
-    let last : here.field-1 ≡ QueueToWait here.field-1-0 = rw here.is at here.field-1-is in
-    rw (here.is, last) c.scan_and_queue.ensures.lists
+pub returns-in-InQueuing : goal.returns-in-InQueuing
+returns-in-InQueuing g c = rw c.in-InQueuing.is c.change_queuing.ensures
 
-pub scan_and_queue-requires : goal.scan_and_queue-requires
-scan_and_queue-requires g c =
-    let here = c.in-InQueuing-default-QueueToWait in
-    let last : here.field-1 ≡ QueueToWait here.field-1-0 = rw here.is at here.field-1-is in
-    let free = rw (here.is, last) at c.requires.free in
-    (search rules, (search rules, (c.requires.list, (c.requires.below, free refl))))
+-- who leaves needs no row
+at_any_row : {C : Type 0} (truths : Truths C) (seat : ℕ) (wait : Wait C) (cause : Cause) (place : LeavePlace) (row : List ℕ) (lists : Lists C) → wait_hand truths seat wait (InLeaving cause place) [] lists ≡ wait_hand truths seat wait (InLeaving cause place) row lists
+at_any_row truths seat wait cause (Leave last) row lists = refl
+at_any_row truths seat wait cause LeaveLoad row lists = refl
+at_any_row truths seat wait cause AwaitWakeToLeave row lists = refl
+at_any_row truths seat wait cause (TakeToLeave last) row lists = refl
+
+pub returns-in-InLeaving : goal.returns-in-InLeaving
+returns-in-InLeaving g c = let here = c.in-InLeaving in
+    rw here.is (c.change_leaving.ensures ∙ at_any_row g.C.Condition.means c.args.seat c.args.wait here.cause here.place c.args.row.now c.args.queues.now)

@@ -1,10 +1,11 @@
-use Rattle.std.proofs.Common.{rules, ◌≡◌, ℕ, ◌+◌, ◌<◌, ◌≤◌, List, ap, ◌∙◌, arith}
+use Rattle.std.proofs.Common.{rules, ◌≡◌, ℕ, ◌+◌, ◌<◌, ◌≤◌, ◌++◌, Bool, true, false, List, [], ap, ◌∙◌, arith, if◌then◌else◌}
 use Rattle.ns_queue.specs.declared.waiter.Waiter.{Waiter}
-use Rattle.ns_queue.specs.declared.waiter.Which.TheVariants.{Cv}
+use Rattle.ns_queue.specs.declared.waiter.Which.TheVariants.{Cv, Lock}
 use Rattle.ns_queue.specs.Queues.{Lists, IsOrderly, times, waiters_of, with_waiters}
-use Rattle.ns_queue.specs.Waiters.{HaveSeats, times_in}
+use Rattle.ns_queue.specs.Waiters.{HaveSeats, seats_of, times_in}
 use Rattle.ns_queue.proofs.Parts.{below_in, times_with}
 use Rattle.ns_queue.proofs.Taken.{times_signaled}
+use Rattle.ns_word.specs.Steps.{moved_to}
 use Rattle.ns_word.proofs.hand.wake_waiters.Goals.{in-Signaling, in-Broadcasting}
 use Rattle.ns_word.proofs.hand.wake_waiters.Goals as goal
 
@@ -28,4 +29,32 @@ append-requires g c = elim c.match-waking.branch [
     room_to_move c.args.queues.now c.match-waking.queues c.args.k c.as_slice.result.now _ _ w.take_all-taken.ensures.orderly c.requires (λ seat. omega arith)
         (w.queues-is ∙ w.take_all-taken.ensures.left) (c.as_slice.ensures.value ∙ ap (λ v. v.items) w.taken-is ∙ w.take_all-taken.ensures.taken),
   )
+]
+
+-- they are moved, or owed a wake
+were_moved : {C : Type 0} (held : Bool) (lists mid new : Lists C) (ws taken : List (Waiter C)) → held ≡ true → ws ≡ taken → mid ≡ lists → new ≡ with_waiters mid Lock (mid.lock ++ ws) → new ≡ moved_to held taken lists
+were_moved held lists mid new ws taken is same there becomes = rw (is, ← same, ← there) becomes
+
+were_left : {C : Type 0} (held : Bool) (lists mid : Lists C) (taken : List (Waiter C)) → held ≡ false → mid ≡ lists → mid ≡ moved_to held taken lists
+were_left held lists mid taken is there = rw is there
+
+are_owed : {C : Type 0} (held : Bool) (owed : List ℕ) (ws taken : List (Waiter C)) → held ≡ false → owed ≡ seats_of ws → ws ≡ taken → owed ≡ (if held then [] else seats_of taken)
+are_owed held owed ws taken is seats same = rw is (seats ∙ ap seats_of same)
+
+pub returns-then-held-clause-lists : goal.returns-then-held-clause-lists
+returns-then-held-clause-lists g c = elim c.match-waking.branch [
+  | in-Signaling w ↦ rw w.in-Signaling.is (were_moved c.args.held _ c.match-waking.queues c.append.new.self c.as_slice.result.now _ c.if-held.true (c.as_slice.ensures.value ∙ ap (λ v. v.items) w.taken-is ∙ w.take_signal-taken.ensures.taken) (w.queues-is ∙ w.take_signal-taken.ensures.left) c.append.ensures)
+  | in-Broadcasting w ↦ rw w.in-Broadcasting.is (were_moved c.args.held _ c.match-waking.queues c.append.new.self c.as_slice.result.now _ c.if-held.true (c.as_slice.ensures.value ∙ ap (λ v. v.items) w.taken-is ∙ w.take_all-taken.ensures.taken) (w.queues-is ∙ w.take_all-taken.ensures.left) c.append.ensures)
+]
+
+pub returns-else-held-clause-owed : goal.returns-else-held-clause-owed
+returns-else-held-clause-owed g c = elim c.match-waking.branch [
+  | in-Signaling w ↦ rw w.in-Signaling.is (are_owed c.args.held _ c.as_slice-else-held.result.now _ c.if-held.false c.seats.ensures (c.as_slice-else-held.ensures.value ∙ ap (λ v. v.items) w.taken-is ∙ w.take_signal-taken.ensures.taken))
+  | in-Broadcasting w ↦ rw w.in-Broadcasting.is (are_owed c.args.held _ c.as_slice-else-held.result.now _ c.if-held.false c.seats.ensures (c.as_slice-else-held.ensures.value ∙ ap (λ v. v.items) w.taken-is ∙ w.take_all-taken.ensures.taken))
+]
+
+pub returns-else-held-clause-lists : goal.returns-else-held-clause-lists
+returns-else-held-clause-lists g c = elim c.match-waking.branch [
+  | in-Signaling w ↦ rw w.in-Signaling.is (were_left c.args.held _ c.match-waking.queues _ c.if-held.false (w.queues-is ∙ w.take_signal-taken.ensures.left))
+  | in-Broadcasting w ↦ rw w.in-Broadcasting.is (were_left c.args.held _ c.match-waking.queues _ c.if-held.false (w.queues-is ∙ w.take_all-taken.ensures.left))
 ]

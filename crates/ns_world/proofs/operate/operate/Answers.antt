@@ -1,7 +1,6 @@
-use Rattle.std.proofs.Common.{refl, ap, sym, ◌∙◌, slice_set, subst, Some}
-use Rattle.ns_world.specs.Asks.{plain_of}
-use Rattle.ns_world.specs.Objects.{ObjectEffect, object_step_of}
-use Rattle.ns_world.specs.ObjectWalks.{object_after, object_place}
+use Rattle.std.proofs.Common.{refl, ap, ◌∙◌, Some}
+use Rattle.ns_world.specs.Objects.{object_step_of}
+use Rattle.ns_world.specs.ObjectWalks.{object_place}
 use Rattle.ns_world.proofs.operate.operate.Goals as goal
 
 pub returns : goal.returns

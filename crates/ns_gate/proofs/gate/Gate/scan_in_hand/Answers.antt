@@ -1,6 +1,7 @@
 use Rattle.std.proofs.Common.{rules, ap, ◌∙◌}
-use Rattle.ns_gate.specs.Prelude.{bits_of, lists_scanned}
-use Rattle.ns_gate.proofs.Findings.{has_slot, was_in_hand}
+use Rattle.ns_gate.specs.Prelude.{bits_of, lists_scanned, meets_at, the}
+use Rattle.ns_gate.proofs.Findings.{has_slot, now_in_hand, was_in_hand}
+use Rattle.ns_queue.specs.Scans.{tests_of}
 use Rattle.ns_gate.proofs.gate.Gate.scan_in_hand.Goals as goal
 
 pub slot_mut-queues-requires : goal.slot_mut-queues-requires
@@ -8,3 +9,12 @@ slot_mut-queues-requires g c = (search rules, has_slot _ _ c.requires.has)
 
 pub returns-clause-bits : goal.returns-clause-bits
 returns-clause-bits g c = c.bits.ensures ∙ ap (λ lists. bits_of lists.lock) (c.scan-scan.ensures.left ∙ ap (λ lists. lists_scanned g.C.Condition.means c.args.row.now lists) (was_in_hand _ _ c.args.seat.now.me.1 c.requires.has c.slot_mut-queues.ensures.value))
+
+pub returns-clause-tests : goal.returns-clause-tests
+returns-clause-tests g c =
+    c.scan-scan.ensures.tests ∙ ap (λ lists. tests_of g.C.Condition.means.same (meets_at g.C.Condition.means c.args.row.now) lists.lock) (was_in_hand _ _ c.args.seat.now.me.1 c.requires.has c.slot_mut-queues.ensures.value)
+
+pub returns-clause-lists : goal.returns-clause-lists
+returns-clause-lists g c =
+    now_in_hand (the c.args.seat.now.me.0).stood c.scan-scan.new.self _ c.args.seat.now.me.1 c.requires.has
+    (c.scan-scan.ensures.left ∙ ap (λ lists. lists_scanned g.C.Condition.means c.args.row.now lists) (was_in_hand _ _ c.args.seat.now.me.1 c.requires.has c.slot_mut-queues.ensures.value))

@@ -1,7 +1,8 @@
-use Rattle.std.proofs.Common.{◌∙◌, sym, refl, None}
+use Rattle.std.proofs.Common.{◌∙◌, sym, refl, arith, None}
 use Rattle.ns_gate.specs.Prelude.{TableId, the, AcquireLoad, LoadWord, Saw, InAcquire}
 use Rattle.ns_gate.proofs.Calls.{since, since_itself, since_then}
-use Rattle.ns_monitor.proofs.Standing.{loads}
+use Rattle.ns_gate.proofs.Room.{queues_fit}
+use Rattle.ns_monitor.proofs.Standing.{can_load, loads, same_number}
 use Rattle.ns_monitor.proofs.monitor.Monitor.acquire_on.Goals as goal
 
 pub loop-init : goal.loop-init
@@ -16,3 +17,14 @@ loop-preserved g c = let t = g.C.Condition.means in let inv = c.loop.invariant i
   since_then None _ _ _ inv.4 (since_then None _ _ _ c.go_or_take.ensures.since (since_then None _ _ _ c.queue-arrival.ensures.since (since t None LoadWord (Saw c.load-word.result) me3 now did))),
   loads t walk c.load-word.result me3 now tt c.queue-arrival.ensures.woken did,
 )
+
+pub returns-in_default-clause-since : goal.returns-in_default-clause-since
+returns-in_default-clause-since g c = since_then None _ _ _ c.loop.invariant.4 c.go_or_take.ensures.since
+
+pub queue-arrival-requires : goal.queue-arrival-requires
+queue-arrival-requires g c = let inv = c.loop.invariant in let came = c.in-Some-go_or_take.ensures.came in
+    (omega arith, (queues_fit g.row.C g.row.N g.met.C.Condition.has_room g.C.Condition, (omega arith, (c.go_or_take.ensures.seat, (same_number g.C.Condition.means None c.args.number c.args.seat.now.me c.go_or_take.new.seat.me c.requires.number (since_then None _ _ _ inv.4 c.go_or_take.ensures.since), (came.packs, (came.at, came.taken)))))))
+
+pub load-word-requires : goal.load-word-requires
+load-word-requires g c =
+    (omega arith, (queues_fit g.row.C g.row.N g.met.C.Condition.has_room g.C.Condition, (omega arith, (◌∙◌ {A = TableId} c.queue-arrival.ensures.seat (sym c.self.view_is), can_load g.C.Condition.means (InAcquire c.args.aim (AcquireLoad c.queue-arrival.result)) c.queue-arrival.new.seat.me tt c.queue-arrival.ensures.woken))))

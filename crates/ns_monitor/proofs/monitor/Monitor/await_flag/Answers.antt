@@ -12,7 +12,7 @@ loop-init g c = (tt, tt, refl, since_itself (the c.args.seat.now.me.0), c.requir
 
 pub load_flag-flag-requires : goal.load_flag-flag-requires
 load_flag-flag-requires g c = let t = g.C.Condition.means in let inv = c.loop.invariant in
-    (omega arith, (queues_fit g.row.C g.row.N g.met.C.Condition.has_room, (omega arith, (◌∙◌ {A = TableId} inv.2 (◌∙◌ {A = TableId} c.requires.of (sym c.self.view_is)), (same_number t None c.args.number c.args.seat.now.me c.loop.seat.me c.requires.number inv.3, can_go t c.args._walk LoadFlag c.loop.seat.me c.requires.sleeps.loads inv.4)))))
+    (omega arith, (queues_fit g.row.C g.row.N g.met.C.Condition.has_room g.C.Condition, (omega arith, (◌∙◌ {A = TableId} inv.2 (◌∙◌ {A = TableId} c.requires.of (sym c.self.view_is)), (same_number t None c.args.number c.args.seat.now.me c.loop.seat.me c.requires.number inv.3, can_go t c.args._walk LoadFlag c.loop.seat.me c.requires.sleeps.loads inv.4)))))
 
 since_now : (g : Over) (c : After-load_flag-flag g) → HasSince None (the c.args.seat.now.me.0) (the c.load_flag-flag.new.seat.me.0)
 since_now g c = since_then None _ _ _ c.loop.invariant.3 (since g.C.Condition.means None LoadFlag (Flag c.load_flag-flag.result) c.loop.seat.me c.load_flag-flag.new.seat.me c.load_flag-flag.ensures.did)

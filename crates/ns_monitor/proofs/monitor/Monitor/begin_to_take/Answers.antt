@@ -1,7 +1,9 @@
-use Rattle.std.proofs.Common.{◌∙◌, refl, sym, subst, arith, Some}
-use Rattle.ns_gate.specs.Prelude.{TableId, HasReached, HasSince, the, asked_of, got_of, Saw}
+use Rattle.std.proofs.Common.{◌∙◌, ap, refl, sym, subst, arith, Some}
+use Rattle.ns_gate.specs.Prelude.{TableId, HasReached, HasSince, the, asked_of, got_of, LoadWord, Part, Saw}
+use Rattle.ns_gate.proofs.Calls.{since_then}
+use Rattle.ns_gate.proofs.Findings.{does}
 use Rattle.ns_gate.proofs.Room.{queues_fit}
-use Rattle.ns_monitor.proofs.Standing.{loads_first}
+use Rattle.ns_monitor.proofs.Standing.{loads_first, same_held}
 use Rattle.ns_monitor.specs.Prelude.{MayGoAlone}
 use Rattle.ns_monitor.proofs.monitor.Monitor.begin_to_take.Given.{Over}
 use Rattle.ns_monitor.proofs.monitor.Monitor.begin_to_take.Goals.{After-load-first}
@@ -12,7 +14,20 @@ first : (g : Over) (c : After-load-first g) → HasReached g.C.Condition.means (
 first g c = loads_first g.C.Condition.means c.args.walk c.args.walk c.load-first.result c.args.seat.now.me c.load-first.new.seat.me refl c.requires.rest c.load-first.ensures.did
 
 pub go_or_take-requires : goal.go_or_take-requires
-go_or_take-requires g c = (omega arith, (queues_fit g.row.C g.row.N g.met.C.Condition.has_room, (omega arith, (◌∙◌ {A = TableId} c.load-first.ensures.seat c.requires.of, (c.requires.decides, (sym c.requires.going, (c.load-first.ensures.word, (first g (goal.at.go_or_take-requires g c).After-load-first).0)))))))
+go_or_take-requires g c = (omega arith, (queues_fit g.row.C g.row.N g.met.C.Condition.has_room g.C.Condition, (omega arith, (◌∙◌ {A = TableId} c.load-first.ensures.seat c.requires.of, (c.requires.decides, (sym c.requires.going, (c.load-first.ensures.word, (first g (goal.at.go_or_take-requires g c).After-load-first).0)))))))
 
 pub unreachable-requires : goal.unreachable-requires
 unreachable-requires g c = subst MayGoAlone c.requires.going c.in-None.ensures.came.0
+
+pub returns-clause-since : goal.returns-clause-since
+returns-clause-since g c = since_then (Some c.args.walk) _ _ _ (first g (goal.at.returns-clause-since g c).After-load-first).1 c.in-Some.ensures.since
+
+pub returns-clause-taken : goal.returns-clause-taken
+returns-clause-taken g c = let took = c.in-Some.ensures.came in let t = g.C.Condition.means in let me = c.args.seat.now.me in let now = c.load-first.new.seat.me in let did = c.load-first.ensures.did in record {
+  at = took.at;
+  taken = took.taken;
+  packs = took.packs;
+  held = took.held ∙ same_held t (Some c.args.walk) LoadWord (Saw c.load-first.result) me now did (ap (λ (q : Part g.row.C.Denot g.row.N). q.held) (does t (Some c.args.walk) LoadWord (Saw c.load-first.result) me now did).1);
+  tells = took.tells;
+  orderly = took.orderly;
+}

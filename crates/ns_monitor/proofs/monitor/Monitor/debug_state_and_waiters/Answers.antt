@@ -16,7 +16,7 @@ put_back-requires g c = let t = g.C.Condition.means in let took = c.take_to_show
     let at = subst (λ (w : Word). IsAtPlace t (InShow (ReturnShown w)) me) (sym c.taken-taken.ensures) took.ensures.at in (
       omega arith,
       (
-        queues_fit g.row.C g.row.N g.met.C.Condition.has_room,
+        queues_fit g.row.C g.row.N g.met.C.Condition.has_room g.C.Condition,
         (
           omega arith,
           (

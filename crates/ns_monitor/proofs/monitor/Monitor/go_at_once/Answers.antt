@@ -27,7 +27,7 @@ returns-then-not-may_go g c = record {
 pub exchange_to_go-requires : goal.exchange_to_go-requires
 exchange_to_go-requires g c = let t = g.C.Condition.means in let walk = c.args.walk in let word = c.load-word.result in let me = c.load-word.new.seat.me in let is = c.requires.going in
     let may = may_by c.args.going walk word c.may_go.result true is c.may_go.ensures c.if-not-may_go.false in
-    (omega arith, (queues_fit g.row.C g.row.N g.met.C.Condition.has_room, (omega arith, (◌∙◌ {A = TableId} c.load-word.ensures.seat c.requires.of, (c.load-word.ensures.word, (may.0, subst (λ x. CanStep t None (going_act x word) me) (sym is) (can_go_by t walk word me c.requires.decides may.1 (at g (goal.at.exchange_to_go-requires g c).After-load-word may.1))))))))
+    (omega arith, (queues_fit g.row.C g.row.N g.met.C.Condition.has_room g.C.Condition, (omega arith, (◌∙◌ {A = TableId} c.load-word.ensures.seat c.requires.of, (c.load-word.ensures.word, (may.0, subst (λ x. CanStep t None (going_act x word) me) (sym is) (can_go_by t walk word me c.requires.decides may.1 (at g (goal.at.exchange_to_go-requires g c).After-load-word may.1))))))))
 
 pub returns-in-Ok : goal.returns-in-Ok
 returns-in-Ok g c = record {

@@ -11,7 +11,7 @@ loop-i-init g c = (refl, loads_none g.C.Condition.means _ _ _ _ c.told-row c.req
 pub load_cell-requires : goal.load_cell-requires
 load_cell-requires g c = let inv = c.loop-i.invariant in let few = c.requires.count.0 in let low = c.loop-i-test.true in
     let can = can_load_cell g.C.Condition.means _ _ _ _ _ _ _ (subst (λ n. c.loop-i.i < n) c.requires.count.1 low) inv.1 in
-    (omega arith, (queues_fit g.row.C g.row.N g.met.C.Condition.has_room, (omega arith, (◌∙◌ {A = TableId} inv.0 (◌∙◌ {A = TableId} c.requires.of (sym c.self.view_is)), (omega (arith, few, low), can)))))
+    (omega arith, (queues_fit g.row.C g.row.N g.met.C.Condition.has_room g.C.Condition, (omega arith, (◌∙◌ {A = TableId} inv.0 (◌∙◌ {A = TableId} c.requires.of (sym c.self.view_is)), (omega (arith, few, low), can)))))
 
 pub loop-i-preserved : goal.loop-i-preserved
 loop-i-preserved g c = let inv = c.loop-i.invariant in let few = c.requires.count.0 in let low = c.loop-i-test.true in

@@ -1,5 +1,5 @@
-use Rattle.std.proofs.Common.{◌∙◌, sym, refl, arith, None, true, false, rules}
-use Rattle.ns_gate.specs.Prelude.{TableId, the, Look, Looked, LookIn, InQueuing, InWait}
+use Rattle.std.proofs.Common.{◌≡◌, ◌∙◌, sym, refl, arith, IfSome, None, Option, Some, true, false, rules}
+use Rattle.ns_gate.specs.Prelude.{Cause, Limits, TableId, is_limited, the, Look, Looked, LookIn, InQueuing, InWait}
 use Rattle.ns_gate.proofs.Calls.{can_go, since, since_itself}
 use Rattle.ns_gate.proofs.Findings.{does}
 use Rattle.ns_gate.proofs.Room.{queues_fit}
@@ -21,7 +21,12 @@ returns-then-not-is_some g c = record {
 
 pub look-requires : goal.look-requires
 look-requires g c = let t = g.C.Condition.means in let me = c.args.seat.now.me in let wait = c.args.wait in
-    (omega arith, (queues_fit g.row.C g.row.N g.met.C.Condition.has_room, (omega arith, (◌∙◌ {A = TableId} c.requires.of (sym c.self.view_is), (c.requires.number, (g.W.Watch.names c.args.watch.now c.look-shown.new.self wait.limits c.look-shown.result c.requires.watches c.look-shown.ensures.shown, can_go t (InWait wait (InQueuing c.args.again LookIn)) (Look wait.limits c.args.again) me refl (by_limits t wait c.args.again true me (sym c.is_some.ensures ∙ c.if-not-is_some.false) c.requires.at)))))))
+    (omega arith, (queues_fit g.row.C g.row.N g.met.C.Condition.has_room g.C.Condition, (omega arith, (◌∙◌ {A = TableId} c.requires.of (sym c.self.view_is), (c.requires.number, (g.W.Watch.names c.args.watch.now c.look-shown.new.self wait.limits c.look-shown.result c.requires.watches c.look-shown.ensures.shown, can_go t (InWait wait (InQueuing c.args.again LookIn)) (Look wait.limits c.args.again) me refl (by_limits t wait c.args.again true me (sym c.is_some.ensures ∙ c.if-not-is_some.false) c.requires.at)))))))
+
+-- what a look has shown, it has shown for a limit
+is_limited_if : (limits : Limits) (shown : Option Cause) → is_limited limits ≡ true → IfSome shown (λ cause. is_limited limits ≡ true)
+is_limited_if limits None is = tt
+is_limited_if limits (Some cause) is = is
 
 pub returns : goal.returns
 returns g c = record {
@@ -29,7 +34,7 @@ returns g c = record {
   since = since g.C.Condition.means None (Look c.args.wait.limits c.args.again) (Looked c.look-shown.result) c.args.seat.now.me c.look.new.seat.me c.look.ensures.did;
   looked = search rules;
   shown = search rules;
-  ends = search rules;
+  ends = is_limited_if c.args.wait.limits c.look-shown.result (sym c.is_some.ensures ∙ c.if-not-is_some.false);
   mine = commits_none g.C.Condition.means None (Look c.args.wait.limits c.args.again) (Looked c.look-shown.result) c.args.seat.now.me c.look.new.seat.me c.look.ensures.did (does g.C.Condition.means None (Look c.args.wait.limits c.args.again) (Looked c.look-shown.result) c.args.seat.now.me c.look.new.seat.me c.look.ensures.did).2;
   leads = let t = g.C.Condition.means in let me = c.args.seat.now.me in looks_in t c.args.wait c.args.again c.look-shown.result me c.look.new.seat.me (by_limits t c.args.wait c.args.again true me (sym c.is_some.ensures ∙ c.if-not-is_some.false) c.requires.at) c.look.ensures.did;
   fresh = look_fresh g.C.Condition.means c.args.wait c.args.again c.look-shown.result c.args.seat.now.me c.look.new.seat.me c.look.ensures.did;

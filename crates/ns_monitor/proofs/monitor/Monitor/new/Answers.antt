@@ -12,7 +12,7 @@ seated-requires g c = let few = c.in_ok-gate.ensures.2 in let n = c.args.seats i
     let is = c.part-seat.ensures.part.1 ∙ ap (λ (vs : List (GateView g.row.C.Denot g.row.N)). (vs, [])) (ap first_of c.loop-number.invariant.1 ∙ numbered_first (fresh_seat {C = g.row.C.Denot} {N = g.row.N} n) n i lt) in
     let number : IsNumberOf i c.part-seat.result.me = (ap (λ (m : SeatOf g.row.C.Denot g.row.N). (the m.0).at.seat) (sym is), omega (arith, lt, few)) in
     let rests = new_rests g.row.C.Denot g.row.N g.C.Condition.means n i c.part-seat.result.me is in
-    (queues_fit g.row.C g.row.N g.met.C.Condition.has_room, (search rules, (search rules, (rests.0, number, rests.1))))
+    (queues_fit g.row.C g.row.N g.met.C.Condition.has_room g.C.Condition, (search rules, (search rules, (rests.0, number, rests.1))))
 
 pub loop-number-preserved : goal.loop-number-preserved
 loop-number-preserved g c = let v = c.loop-number.invariant in let n = c.args.seats in let i = c.loop-number.number in let lt : i < n = omega arith in let p = c.in_ok-add.ensures in let t = c.in_ok-gate.all.table_id in

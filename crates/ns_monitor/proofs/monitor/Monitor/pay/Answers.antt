@@ -13,7 +13,7 @@ pub pay_wake-requires : goal.pay_wake-requires
 pay_wake-requires g c = let t = g.C.Condition.means in let inv = c.loop-number.invariant in let i = c.loop-number.number-index in let items = c.as_slice-number-items.result.now in
     let some = inv.1 ∙ drop_more items i 0 c.loop-number-test.true in
     let at = can_pay t c.args._walk c.args.value (get_or items i 0) (drop (i + 1) items) c.loop-number.seat.me c.requires.pays some inv.3 in
-    (omega arith, (queues_fit g.row.C g.row.N g.met.C.Condition.has_room, (omega arith, (◌∙◌ {A = TableId} inv.0 (◌∙◌ {A = TableId} c.requires.of (sym c.self.view_is)), (owes_next t (get_or items i 0) (drop (i + 1) items) c.loop-number.seat.me some at.owes, can_go t c.args._walk (PayWake c.args.value) c.loop-number.seat.me c.requires.pays.pays at)))))
+    (omega arith, (queues_fit g.row.C g.row.N g.met.C.Condition.has_room g.C.Condition, (omega arith, (◌∙◌ {A = TableId} inv.0 (◌∙◌ {A = TableId} c.requires.of (sym c.self.view_is)), (owes_next t (get_or items i 0) (drop (i + 1) items) c.loop-number.seat.me some at.owes, can_go t c.args._walk (PayWake c.args.value) c.loop-number.seat.me c.requires.pays.pays at)))))
 
 pub loop-number-preserved : goal.loop-number-preserved
 loop-number-preserved g c = let t = g.C.Condition.means in let inv = c.loop-number.invariant in let i = c.loop-number.number-index in let items = c.as_slice-number-items.result.now in let me = c.loop-number.seat.me in let now = c.pay_wake.new.seat.me in

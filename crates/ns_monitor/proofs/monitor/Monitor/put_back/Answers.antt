@@ -14,7 +14,7 @@ pub exchange_to_return-requires : goal.exchange_to_return-requires
 exchange_to_return-requires g c = let t = g.C.Condition.means in let inv = c.loop.invariant in let me = c.loop.seat.me in let last = c.loop.word in
     let hand = hand_stays t c.args.returning c.args.turned c.args.seat.now.me me inv.5 c.requires.hand in
     let can = subst (λ r. CanStep t None (act_returning r last) me) (sym c.requires.returning) (can_put_back t c.args._walk last me c.requires.puts inv.6) in
-    (omega arith, (queues_fit g.row.C g.row.N g.met.C.Condition.has_room, (omega arith, (◌∙◌ {A = TableId} inv.2 (◌∙◌ {A = TableId} c.requires.of (sym c.self.view_is)), (inv.3, (can, (hand.carries last, (hand.some last, hand.bits last))))))))
+    (omega arith, (queues_fit g.row.C g.row.N g.met.C.Condition.has_room g.C.Condition, (omega arith, (◌∙◌ {A = TableId} inv.2 (◌∙◌ {A = TableId} c.requires.of (sym c.self.view_is)), (inv.3, (can, (hand.carries last, (hand.some last, hand.bits last))))))))
 
 pub returns-in-Ok : goal.returns-in-Ok
 returns-in-Ok g c = record {

@@ -18,12 +18,12 @@ number_is g c = c.requires.number.0 ∙ sym (armed g c).since.seat
 
 pub queue_in_hand-bits-requires : goal.queue_in_hand-bits-requires
 queue_in_hand-bits-requires g c = let me1 = c.arm_flag.new.seat.me in let after = (goal.at.queue_in_hand-bits-requires g c).After-arm_flag in let is = armed g after in
-    (omega arith, (queues_fit g.row.C g.row.N g.met.C.Condition.has_room, (omega arith, (◌∙◌ {A = TableId} c.arm_flag.ensures.seat (◌∙◌ {A = TableId} c.requires.of (sym c.self.view_is)), (is.taken, (c.requires.number.1, subst (λ n. times n (the me1.0).stood ≡ 0) (sym (number_is g after)) is.nowhere))))))
+    (omega arith, (queues_fit g.row.C g.row.N g.met.C.Condition.has_room g.C.Condition, (omega arith, (◌∙◌ {A = TableId} c.arm_flag.ensures.seat (◌∙◌ {A = TableId} c.requires.of (sym c.self.view_is)), (is.taken, (c.requires.number.1, subst (λ n. times n (the me1.0).stood ≡ 0) (sym (number_is g after)) is.nowhere))))))
 
 pub put_back-requires : goal.put_back-requires
 put_back-requires g c = let t = g.C.Condition.means in let me1 = c.arm_flag.new.seat.me in let queued = c.queue_in_hand-bits in let after = (goal.at.put_back-requires g c).After-arm_flag in let same = queued.ensures.seat.1 in let mode = c.mode-mode.result in
     let hand = hand_by t (QueueSelf mode c.args.arrival) c.args.number queued.result me1 queued.new.seat.me (number_is g after) same (λ last. refl) queued.ensures.lists queued.ensures.bits in
-    (omega arith, (queues_fit g.row.C g.row.N g.met.C.Condition.has_room, (omega arith, (◌∙◌ {A = TableId} queued.ensures.seat.0 (◌∙◌ {A = TableId} c.arm_flag.ensures.seat c.requires.of), (tt, (ap (λ m. Changed (QueueSelf m c.args.arrival)) c.mode-mode.ensures, (c.requires.word, (works t (InAcquire c.args.aim (Queue c.args.arrival c.args.word)) me1 queued.new.seat.me (armed g after).at refl same, hand))))))))
+    (omega arith, (queues_fit g.row.C g.row.N g.met.C.Condition.has_room g.C.Condition, (omega arith, (◌∙◌ {A = TableId} queued.ensures.seat.0 (◌∙◌ {A = TableId} c.arm_flag.ensures.seat c.requires.of), (tt, (ap (λ m. Changed (QueueSelf m c.args.arrival)) c.mode-mode.ensures, (c.requires.word, (works t (InAcquire c.args.aim (Queue c.args.arrival c.args.word)) me1 queued.new.seat.me (armed g after).at refl same, hand))))))))
 
 pub returns : goal.returns
 returns g c = record {

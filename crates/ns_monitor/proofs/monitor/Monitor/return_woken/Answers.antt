@@ -15,7 +15,7 @@ loop-init g c = (tt, tt, refl, c.requires.word, since_itself (the c.args.seat.no
 
 pub exchange_to_return-requires : goal.exchange_to_return-requires
 exchange_to_return-requires g c = let t = g.C.Condition.means in let inv = c.loop.invariant in let hand = inv.7 in
-    (omega arith, (queues_fit g.row.C g.row.N g.met.C.Condition.has_room, (omega arith, (◌∙◌ {A = TableId} inv.2 (◌∙◌ {A = TableId} c.requires.of (sym c.self.view_is)), (inv.3, (can_return t c.args.waking c.args.k c.loop.word c.loop.seat.me inv.6, (hand.carries, (hand.some, hand.bits))))))))
+    (omega arith, (queues_fit g.row.C g.row.N g.met.C.Condition.has_room g.C.Condition, (omega arith, (◌∙◌ {A = TableId} inv.2 (◌∙◌ {A = TableId} c.requires.of (sym c.self.view_is)), (inv.3, (can_return t c.args.waking c.args.k c.loop.word c.loop.seat.me inv.6, (hand.carries, (hand.some, hand.bits))))))))
 
 pub returns-in-Ok : goal.returns-in-Ok
 returns-in-Ok g c = record {
@@ -46,7 +46,7 @@ turn_in_hand-turned-requires g c = let after = (goal.at.turn_in_hand-turned-requ
     let other : is_held c.loop.word ≡ not held = sym (ap not c.is_held-held.ensures ∙ differs) in (
       omega arith,
       (
-        queues_fit g.row.C g.row.N g.met.C.Condition.has_room,
+        queues_fit g.row.C g.row.N g.met.C.Condition.has_room g.C.Condition,
         (
           omega arith,
           (

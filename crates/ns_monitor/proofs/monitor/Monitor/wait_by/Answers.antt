@@ -15,7 +15,7 @@ in_mode : (g : Over) (c : After-wait g) → HasMode c.mode-mode.result (the c.he
 in_mode g c = subst (λ m. HasMode m (the c.held.inside.seat.me.0).at.held) (sym c.mode-mode.ensures) (g.met.H.Section.in_mode c.held.inside.hand (the c.held.inside.seat.me.0).at.held c.held.invariant.2)
 
 pub test-requires : goal.test-requires
-test-requires g c = (omega arith, (queues_fit g.row.C g.row.N g.met.C.Condition.has_room, (omega arith, (omega (arith, g.met.C.Condition.has_cells), (◌∙◌ {A = TableId} (ap (λ (k : Known _ _). k.monitor) c.held.view_is) c.requires.of, (refl, (c.wait.ensures.first, refl, c.held.invariant.0, in_mode g (goal.at.test-requires g c).After-wait)))))))
+test-requires g c = (omega arith, (queues_fit g.row.C g.row.N g.met.C.Condition.has_room g.C.Condition, (omega arith, (omega (arith, g.met.C.Condition.has_cells), (◌∙◌ {A = TableId} (ap (λ (k : Known _ _). k.monitor) c.held.view_is) c.requires.of, (refl, (c.wait.ensures.first, refl, c.held.invariant.0, in_mode g (goal.at.test-requires g c).After-wait)))))))
 
 -- the call that it began
 began : (g : Over) (c : After-test g) → HasSince (Some (wait_first g.row.N (waits_by c.mode-mode.result c.args.condition c.args.limits))) (the c.held.inside.seat.me.0) (the c.test.new.seat.me.0)
@@ -49,7 +49,7 @@ returns-then-test g c = record {
 }
 
 pub look_before-requires : goal.look_before-requires
-look_before-requires g c = (omega arith, (queues_fit g.row.C g.row.N g.met.C.Condition.has_room, search rules))
+look_before-requires g c = (omega arith, (queues_fit g.row.C g.row.N g.met.C.Condition.has_room g.C.Condition, search rules))
 
 -- it has looked
 looked : (g : Over) (c : After-look_before g) → HasSince (Some (wait_first g.row.N (waits_by c.mode-mode.result c.args.condition c.args.limits))) (the c.held.inside.seat.me.0) (the c.look_before.new.seat.me.0)
@@ -76,7 +76,7 @@ returns-in-Some g c = record {
 pub wait_on-answer-requires : goal.wait_on-answer-requires
 wait_on-answer-requires g c = let t = g.C.Condition.means in let wait = waits_by c.mode-mode.result c.args.condition c.args.limits in let now = c.look_before.new.seat.me in let after = (goal.at.wait_on-answer-requires g c).After-look_before in
     let led = subst (λ o. QueuesOrEnds t wait false o c.test.new.seat.me now) c.in_default.is c.look_before.ensures.leads in
-    (omega arith, (queues_fit g.row.C g.row.N g.met.C.Condition.has_room, (omega arith, (omega (arith, g.met.C.Condition.has_cells), (c.look_before.ensures.seat, (same_number t (Some (wait_first g.row.N wait)) c.held.inside.number c.held.inside.seat.me now c.held.invariant.1 (looked g after), (refl, (g.W.Watch.still c.args.watch.now c.look_before.new.watch c.args.limits c.look_before.ensures.looked c.requires.watches, (c.test.ensures.tested.row_is ∙ ap row_in (sym (led.1 ∙ c.test.ensures.tested.held)), led.0)))))))))
+    (omega arith, (queues_fit g.row.C g.row.N g.met.C.Condition.has_room g.C.Condition, (omega arith, (omega (arith, g.met.C.Condition.has_cells), (c.look_before.ensures.seat, (same_number t (Some (wait_first g.row.N wait)) c.held.inside.number c.held.inside.seat.me now c.held.invariant.1 (looked g after), (refl, (g.W.Watch.still c.args.watch.now c.look_before.new.watch c.args.limits c.look_before.ensures.looked c.requires.watches, (c.test.ensures.tested.row_is ∙ ap row_in (sym (led.1 ∙ c.test.ensures.tested.held)), led.0)))))))))
 
 -- it has waited
 over : (g : Over) (c : After-wait_on-answer g) → HasSince (Some (wait_first g.row.N (waits_by c.mode-mode.result c.args.condition c.args.limits))) (the c.held.inside.seat.me.0) (the c.wait_on-answer.new.seat.me.0)

@@ -15,11 +15,11 @@ use Rattle.ns_monitor.proofs.monitor.Monitor.wait_for_variable.Goals as goal
 pub begin_to_take-word-requires : goal.begin_to_take-word-requires
 begin_to_take-word-requires g c = let held = c.held.inside in let mode = c.mode-mode.result in
     let in_mode = subst (λ m. HasMode m (the held.seat.me.0).at.held) (sym c.mode-mode.ensures) (g.met.H.Section.in_mode held.hand (the held.seat.me.0).at.held c.held.invariant.2) in
-    (omega arith, (queues_fit g.row.C g.row.N g.met.C.Condition.has_room, (omega arith, (◌∙◌ {A = TableId} (ap (λ (k : Known _ _). k.monitor) c.held.view_is) c.requires.of, (c.held.invariant.0, (tt, (refl, ((refl, tt), may_wait g.C.Condition.means mode c.args.k c.args.limits (the held.seat.me.0).at.held c.requires.variable in_mode c.held.invariant.0.settled))))))))
+    (omega arith, (queues_fit g.row.C g.row.N g.met.C.Condition.has_room g.C.Condition, (omega arith, (◌∙◌ {A = TableId} (ap (λ (k : Known _ _). k.monitor) c.held.view_is) c.requires.of, (c.held.invariant.0, (tt, (refl, ((refl, tt), may_wait g.C.Condition.means mode c.args.k c.args.limits (the held.seat.me.0).at.held c.requires.variable in_mode c.held.invariant.0.settled))))))))
 
 pub leave_section-requires : goal.leave_section-requires
 leave_section-requires g c = let t = g.C.Condition.means in let took = c.begin_to_take-word in let me = c.held.inside.seat.me in let now = took.new.seat.me in let walk = InWait (waits_for_variable c.mode-mode.result c.args.k c.args.limits) (InQueuing false Load) in
-    (omega arith, (queues_fit g.row.C g.row.N g.met.C.Condition.has_room, (omega arith, (omega (arith, g.met.C.Condition.has_cells), (took.ensures.seat, (same_number t (Some walk) c.held.inside.number me now c.held.invariant.1 took.ensures.since, (c.requires.variable, (taken_now t walk took.result me now took.ensures.taken, tt))))))))
+    (omega arith, (queues_fit g.row.C g.row.N g.met.C.Condition.has_room g.C.Condition, (omega arith, (omega (arith, g.met.C.Condition.has_cells), (took.ensures.seat, (same_number t (Some walk) c.held.inside.number me now c.held.invariant.1 took.ensures.since, (c.requires.variable, (taken_now t walk took.result me now took.ensures.taken, tt))))))))
 
 -- it has left its section
 left : (g : Over) (c : After-leave_section g) → HasSince (Some (InWait (waits_for_variable c.mode-mode.result c.args.k c.args.limits) (InQueuing false Load))) (the c.held.inside.seat.me.0) (the c.leave_section.new.seat.me.0)
@@ -27,7 +27,7 @@ left g c = since_then (Some (InWait (waits_for_variable c.mode-mode.result c.arg
 
 pub come_back-outcome-requires : goal.come_back-outcome-requires
 come_back-outcome-requires g c = let t = g.C.Condition.means in let walk = InWait (waits_for_variable c.mode-mode.result c.args.k c.args.limits) (InQueuing false Load) in
-    (omega arith, (queues_fit g.row.C g.row.N g.met.C.Condition.has_room, (omega arith, (c.leave_section.ensures.seat, (same_number t (Some walk) c.held.inside.number c.held.inside.seat.me c.leave_section.new.seat.me c.held.invariant.1 (left g (goal.at.come_back-outcome-requires g c).After-leave_section), (c.requires.variable, (c.requires.watches, c.leave_section.ensures.waits)))))))
+    (omega arith, (queues_fit g.row.C g.row.N g.met.C.Condition.has_room g.C.Condition, (omega arith, (c.leave_section.ensures.seat, (same_number t (Some walk) c.held.inside.number c.held.inside.seat.me c.leave_section.new.seat.me c.held.invariant.1 (left g (goal.at.come_back-outcome-requires g c).After-leave_section), (c.requires.variable, (c.requires.watches, c.leave_section.ensures.waits)))))))
 
 -- and has come back
 over : (g : Over) (c : After-come_back-outcome g) → HasSince (Some (InWait (waits_for_variable c.mode-mode.result c.args.k c.args.limits) (InQueuing false Load))) (the c.held.inside.seat.me.0) (the c.come_back-outcome.new.seat.me.0)

@@ -1,9 +1,6 @@
 use Rattle.ns_queue.proofs.Orders.{list_small}
 use Rattle.ns_queue.proofs.queues.Queues.new.Goals as goal
 
-pub new-requires : goal.new-requires
-new-requires g c = list_small _ g.met.C.Queueable.list_fits
-
 pub new-requires-2 : goal.new-requires-2
 new-requires-2 g c = list_small _ g.met.C.Queueable.list_fits
 

@@ -1,25 +1,19 @@
-use Rattle.std.proofs.Common.{refl, rules}
+use Rattle.std.proofs.Common.{refl}
 use Rattle.ns_queue.proofs.Inside.{lock_lessened}
 use Rattle.ns_queue.proofs.Meaning.{times_left}
-use Rattle.ns_queue.proofs.Orders.{list_small}
-use Rattle.ns_queue.proofs.RunCounts.{tests_most}
 use Rattle.ns_queue.proofs.queues.Queues.scan.Goals as goal
 
 pub invariant_of-self : goal.invariant_of-self
-invariant_of-self g c = lock_lessened _ _ _ c.self.invariant (λ seat. rw c.scan_list.ensures.left (times_left (λ d. g.C.Condition.means.holds d c.args.row.now) c.self.inside.lock.items seat))
-
-pub returns-clause-at_most_runs : goal.returns-clause-at_most_runs
-returns-clause-at_most_runs g c =
-    rw (c.scan_list.ensures.tests, ← c.self.view_is) (tests_most g.C.Condition.means.same (λ d. g.C.Condition.means.holds d c.args.row.now) c.self.inside.lock.items)
+invariant_of-self g c = lock_lessened _ _ _ c.self.invariant (λ seat. rw c.scan.ensures.left (times_left (λ d. g.C.Condition.means.holds d c.args.row.now) c.self.inside.lock seat))
 
 pub returns-clause-woken : goal.returns-clause-woken
-returns-clause-woken g c = rw (← c.self.view_is) c.scan_list.ensures.woken
+returns-clause-woken g c = rw (← c.self.view_is) c.scan.ensures.woken
 
 pub returns-clause-left : goal.returns-clause-left
-returns-clause-left g c = rw (← c.self.view_is, c.scan_list.ensures.left) refl
+returns-clause-left g c = rw (← c.self.view_is, c.scan.ensures.left) refl
 
 pub returns-clause-tests : goal.returns-clause-tests
-returns-clause-tests g c = rw (← c.self.view_is) c.scan_list.ensures.tests
+returns-clause-tests g c = rw (← c.self.view_is) c.scan.ensures.tests
 
-pub scan_list-requires : goal.scan_list-requires
-scan_list-requires g c = (list_small _ g.met.C.Queueable.list_fits, search rules)
+pub returns-clause-at_most_runs : goal.returns-clause-at_most_runs
+returns-clause-at_most_runs g c = rw (← c.self.view_is) c.scan.ensures.at_most_runs

@@ -13,4 +13,7 @@ pub returns-in-Cv-clause-stands : goal.returns-in-Cv-clause-stands
 returns-in-Cv-clause-stands g c =
     let low : c.in-Cv.k < 4 = rw c.in-Cv.is at c.requires in
     rw (c.in-Cv.is, ← c.self.view_is, list_at _ _ c.in-Cv.k c.index-self-k.result c.self.invariant low)
-    (ltb_from_iff c.stands_in-in-Cv.ensures ∙ ap (λ ws. nat_lt 0 (times_in c.args.seat ws)) c.as_slice-in-Cv.ensures.value)
+    (ltb_from_iff c.stands_in.ensures ∙ ap (λ ws. nat_lt 0 (times_in c.args.seat ws)) c.as_slice.ensures.value)
+
+pub returns-in-Lock-clause-stands : goal.returns-in-Lock-clause-stands
+returns-in-Lock-clause-stands g c = rw (c.in-Lock.is, ← c.self.view_is) (ltb_from_iff c.holds.ensures.stands)

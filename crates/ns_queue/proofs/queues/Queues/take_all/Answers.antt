@@ -8,7 +8,7 @@ pub offset_bounds-self-inside-k : goal.offset_bounds-self-inside-k
 offset_bounds-self-inside-k g c = offset_fits c.args.k _ c.requires g.met.C.Queueable.list_fits
 
 pub invariant_of-self : goal.invariant_of-self
-invariant_of-self g c = list_lessened c.self.inside.lock.items c.self.inside.cvs c.args.k c.index-self-k.result c.clear.new.self c.self.invariant c.requires (λ seat. omega (arith, ap (times_in seat) c.clear.ensures))
+invariant_of-self g c = list_lessened c.self.inside.lock c.self.inside.cvs c.args.k c.index-self-k.result c.clear.new.self c.self.invariant c.requires (λ seat. omega (arith, ap (times_in seat) c.clear.ensures))
 
 pub returns-clause-left : goal.returns-clause-left
 returns-clause-left g c = rw (← c.self.view_is, ← c.clear.ensures) (list_put _ _ c.args.k _)

@@ -9,7 +9,7 @@ pub offset_bounds-self-inside-k : goal.offset_bounds-self-inside-k
 offset_bounds-self-inside-k g c = offset_fits c.args.k _ c.requires g.met.C.Queueable.list_fits
 
 pub invariant_of-self : goal.invariant_of-self
-invariant_of-self g c = list_lessened c.self.inside.lock.items c.self.inside.cvs c.args.k c.index-self-k.result c.signal_list.new.waiters c.self.invariant c.requires
+invariant_of-self g c = list_lessened c.self.inside.lock c.self.inside.cvs c.args.k c.index-self-k.result c.signal_list.new.waiters c.self.invariant c.requires
     (λ seat. omega (arith, ap (times_in seat) c.signal_list.ensures.left, times_unsignaled (get_or c.self.inside.cvs c.args.k c.index-self-k.result).items seat))
 
 pub returns-clause-taken : goal.returns-clause-taken

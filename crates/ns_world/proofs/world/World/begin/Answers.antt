@@ -1,4 +1,4 @@
-use Rattle.std.proofs.Common.{rules, ◌≡◌, sym, ◌∙◌, ap, refl, Option, Some, None, is_some, true, false}
+use Rattle.std.proofs.Common.{arith, ◌≡◌, sym, ◌∙◌, ap, refl, Option, Some, None, is_some, false}
 use Rattle.ns_world.specs.declared.step.Begun.TheVariants.{Misuse, Busy}
 use Rattle.ns_word.specs.Codec.{word_of}
 use Rattle.ns_world.specs.Whole.{whole_with}
@@ -7,7 +7,7 @@ use Rattle.ns_world.proofs.Wholes.{busy_elsewhere, unbegun, same_keeps, whole_be
 use Rattle.ns_world.proofs.world.World.begin.Goals as goal
 
 pub begin_at-requires : goal.begin_at-requires
-begin_at-requires g c = (search rules, (search rules, (g.met.C.Seated.seat_fits, (g.met.C.Fits.event_fits, (c.self.invariant.lock, c.requires)))))
+begin_at-requires g c = (omega (arith, g.met.C.Condition.has_room.1), (g.met.C.Seated.queues_fit, (g.met.C.Seated.seat_fits, (g.met.C.Fits.event_fits, (c.self.invariant.lock, c.requires)))))
 
 none_by : {A : Type 0} (walk : Option A) → is_some walk ≡ false → walk ≡ None
 none_by None e = refl

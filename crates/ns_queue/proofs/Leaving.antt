@@ -1,0 +1,76 @@
+-- What is left of a list whose taken waiters are taken out one by one.
+use Rattle.std.proofs.Common.{◌≡◌, ◌≢◌, ℕ, ◌+◌, ◌-◌, ◌≤◌, ◌<◌, inl, inr, Bool, not, ◌&&◌, List, [], ◌∷◌, length, drop, filter, get_or, refl, ap, sym, ◌∙◌, arith}
+use Rattle.std.proofs.lemmas.Bool.{cases_Bool, eq-eqb, ne_eqb}
+use Rattle.ns_queue.specs.declared.waiter.Waiter.{Waiter}
+use Rattle.ns_queue.specs.Scans.{is_eligible, left_of, woken_of}
+use Rattle.ns_queue.specs.Waiters.{reads, seats_of, times_in, without_in, writes}
+use Rattle.ns_queue.proofs.Inside.{times_in-filter}
+use Rattle.ns_queue.proofs.Marking.{drop_step}
+use Rattle.ns_queue.proofs.Seats.{times_in-cons}
+use Rattle.ns_queue.specs.Rings.{IsRow, without_all}
+use Rattle.ns_queue.proofs.Hops.{stands_not}
+use Rattle.ns_queue.proofs.Places.{row_own, row_rest}
+use Rattle.ns_queue.proofs.Ringed.{without_none}
+
+module _ {C : Type 0} where
+  -- one seat further
+  pub all_on : (seats : List ℕ) (n : ℕ) (now next whole : List (Waiter C)) → 0 < n → n ≤ length seats → next ≡ without_in (get_or seats (n - 1) 0) now → now ≡ without_all (drop n seats) whole → next ≡ without_all (drop (n - 1) seats) whole
+  all_on seats n now next whole some within out before =
+      let e : (n - 1) + 1 ≡ n = omega (arith, some) in
+      let step = drop_step seats (n - 1) 0 (get_or seats (n - 1) 0) (omega (arith, some, within)) refl in
+      out ∙ ap (without_in (get_or seats (n - 1) 0)) (before ∙ ap (λ k. without_all (drop k seats) whole) (sym e)) ∙ sym (ap (λ ss. without_all ss whole) step)
+
+  other_stays : (s : ℕ) (w : Waiter C) (ws : List (Waiter C)) → w.seat ≢ s → without_in s (w ∷ ws) ≡ w ∷ without_in s ws
+  other_stays s w ws ne = rw (ne_eqb w.seat s ne) refl
+
+  -- one who isn't among them stays
+  stays_first : (vs : List (Waiter C)) (w : Waiter C) (ws : List (Waiter C)) → times_in w.seat vs ≡ 0 → without_all (seats_of vs) (w ∷ ws) ≡ w ∷ without_all (seats_of vs) ws
+  stays_first [] w ws out = refl
+  stays_first (v ∷ vs) w ws out =
+      let apart = stands_not w.seat v vs out in
+      ap (without_in v.seat) (stays_first vs w ws apart.1) ∙ other_stays v.seat w (without_all (seats_of vs) ws) apart.0
+
+  first_goes : (w : Waiter C) (ws : List (Waiter C)) → times_in w.seat ws ≡ 0 → without_in w.seat (w ∷ ws) ≡ ws
+  first_goes w ws out = rw (eq-eqb w.seat w.seat refl) (without_none w.seat ws out)
+
+  -- the first goes after others did
+  goes_last : (vs : List (Waiter C)) (w : Waiter C) (ws left : List (Waiter C)) → times_in w.seat vs ≡ 0 → times_in w.seat left ≡ 0 → without_all (seats_of vs) ws ≡ left → without_in w.seat (without_all (seats_of vs) (w ∷ ws)) ≡ left
+  goes_last vs w ws left out gone is = ap (without_in w.seat) (stays_first vs w ws out ∙ ap (λ us. w ∷ us) is) ∙ first_goes w left gone
+
+  filter_leaves : (p : Waiter C → Bool) (ws : List (Waiter C)) → IsRow ws → without_all (seats_of (filter p ws)) ws ≡ filter (λ v. not (p v)) ws
+  filter_leaves p [] row = refl
+  filter_leaves p (w ∷ ws) row =
+      let rest = filter_leaves p ws (row_rest w ws row) in
+      let own = row_own w ws row in
+      let out : times_in w.seat (filter p ws) ≡ 0 = omega (arith, times_in-filter p ws w.seat, own) in
+      elim (cases_Bool (p w)) [
+        | inl goes ↦ rw goes (goes_last (filter p ws) w ws (filter (λ v. not (p v)) ws) out (omega (arith, times_in-filter (λ v. not (p v)) ws w.seat, own)) rest)
+        | inr stays ↦ rw stays (stays_first (filter p ws) w ws out ∙ ap (λ vs. w ∷ vs) rest)
+      ]
+
+  module _ (meets : C → Bool) where
+    abbrev along : Waiter C → Bool
+    along v = reads v && is_eligible meets v
+
+    times_woken : (s : ℕ) (ws : List (Waiter C)) → times_in s (woken_of meets ws) ≤ times_in s ws
+    times_woken s [] = omega arith
+    times_woken s (w ∷ ws) = elim (cases_Bool (is_eligible meets w)) [
+      | inl goes ↦ elim (cases_Bool (writes w)) [
+        | inl alone ↦ rw (goes, alone) (omega (arith, times_in-cons s w ws, times_in-cons s w []))
+        | inr reader ↦ rw (goes, reader) (omega (arith, times_in-cons s w ws, times_in-cons s w (filter along ws), times_in-filter along ws s))
+      ]
+      | inr stays ↦ rw stays (omega (arith, times_in-cons s w ws, times_woken s ws))
+    ]
+
+    pub woken_leave : (ws : List (Waiter C)) → IsRow ws → without_all (seats_of (woken_of meets ws)) ws ≡ left_of meets ws
+    woken_leave [] row = refl
+    woken_leave (w ∷ ws) row =
+        let own = row_own w ws row in
+        elim (cases_Bool (is_eligible meets w)) [
+          | inl goes ↦ elim (cases_Bool (writes w)) [
+            | inl alone ↦ rw (goes, alone) (first_goes w ws own)
+            | inr reader ↦ rw (goes, reader) (goes_last (filter along ws) w ws (filter (λ v. not (along v)) ws) (omega (arith, times_in-filter along ws w.seat, own)) (omega (arith, times_in-filter (λ v. not (along v)) ws w.seat, own))
+                (filter_leaves along ws (row_rest w ws row)))
+          ]
+          | inr stays ↦ rw stays (stays_first (woken_of meets ws) w ws (omega (arith, times_woken w.seat ws, own)) ∙ ap (λ vs. w ∷ vs) (woken_leave ws (row_rest w ws row)))
+        ]

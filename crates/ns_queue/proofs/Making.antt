@@ -1,0 +1,343 @@
+-- What a change of a list makes of the links of its runs.
+use Rattle.std.proofs.Common.{◌≡◌, ◌≢◌, ℕ, ◌<◌, inl, inr, Bool, true, false, true≢false, List, [], ◌∷◌, ◌++◌, length, get_or, set, Option, None, Some, refl, ap, sym, ◌∙◌, subst, arith, length-set}
+use Rattle.std.proofs.lemmas.Bool.{cases_Bool}
+use Rattle.std.proofs.lemmas.List.{get_or-set_same, get_or-set_other}
+use Rattle.ns_queue.specs.declared.waiter.Waiter.{Waiter}
+use Rattle.ns_queue.specs.Waiters.{times_in, without_in}
+use Rattle.ns_queue.specs.Rings.{ahead, behind, from, first_seat, last_seat, seated, IsRow}
+use Rattle.ns_queue.specs.Runs.{place_of, joins, head_of, last_run, RunLinks, RunsOn, IsRuns, StandRuns, MadeUpTo}
+use Rattle.ns_queue.proofs.Hops.{seated_none, stands_not}
+use Rattle.ns_queue.proofs.Ringed.{first_low, last_low}
+use Rattle.ns_queue.proofs.Places.{split, ahead_out, from_none, found, cut_at, stepped, row_at, row_parts, row_rest, row_own, row_front, row_low, standing, without_is, row_without}
+use Rattle.ns_queue.proofs.Links.{head_yes, head_no, last_run-append, last_seat-append, heads_other, lasts_other, on_lasts, open_end, links_join, on_join, on_part, on_rest, on_at, head_link, run_seated, run_out, run_inner, run_low, stand_of, stand_heads, stand_lasts}
+
+other_end : (links : List ℕ) (c v : ℕ) → c < 64 → get_or links 64 0 ≡ 64 → get_or (set links c v) 64 0 ≡ 64
+other_end links c v low is = get_or-set_other links c 64 v 0 (λ e. omega (arith, e, low)) ∙ is
+
+write_at : (links : List ℕ) (c k v : ℕ) → c ≡ k → c < length links → get_or (set links c v) k 0 ≡ v
+write_at links c k v e within = ap (λ n. get_or (set links c v) n 0) (sym e) ∙ get_or-set_same links c v 0 within
+
+module _ {C : Type 0} (same : C → C → Bool) where
+  -- the links in front of a place, with the last run's first linked
+  closed_front : (heads lasts : List ℕ) (head v : ℕ) (xs : List (Waiter C)) → IsRow xs → head ≡ place_of (last_run same None xs) → RunLinks same heads lasts None 64 xs → RunLinks same heads (set lasts head v) None 64 xs
+  closed_front heads lasts head v xs row is h =
+      let P : ℕ → Type 0 = λ k. RunLinks same heads (set lasts k v) None 64 xs in
+      subst P (sym is) (open_end same heads lasts None 64 xs v (row.below 64 (omega arith)) row h)
+
+  -- ---- one waiter further
+
+  pub made_joins : (heads lasts : List ℕ) (head before at n : ℕ) (ws : List (Waiter C)) (w : Waiter C) → IsRow ws → seated at ws ≡ Some w → n ≡ first_seat 64 (behind at ws) → joins same w (last_run same None (ahead at ws)) ≡ true →
+      MadeUpTo same heads lasts head before at ws → MadeUpTo same (set heads at head) lasts head at n ws
+  made_joins heads lasts head before at n ws w row is next goes m =
+      let s = stepped at ws w n row is next in
+      let xs = ahead at ws in
+      let run = last_run same None xs in
+      let here : get_or (set heads at head) w.seat 0 ≡ place_of (head_of same w run) = write_at heads at w.seat head (sym s.here) (omega (arith, s.low, m.heads_all)) ∙ m.head_is ∙ ap place_of (sym (head_yes same w run goes)) in
+      let one : RunLinks same (set heads at head) lasts run (last_seat 64 xs) (w ∷ []) = (λ e. absurd (true≢false (sym goes ∙ e)), here, tt) in
+      let P : List (Waiter C) → Type 0 = λ vs. StandRuns same heads lasts vs in
+      let rest : StandRuns same heads lasts (w ∷ from n ws) = subst P s.from_is m.rest in
+      record {
+        links = rw s.ahead_is (links_join same (set heads at head) lasts None 64 xs (w ∷ []) (heads_other same heads lasts None 64 xs at head (ahead_out at ws) m.links) one);
+        head_is = m.head_is ∙ ap place_of (sym (ap (last_run same None) s.ahead_is ∙ last_run-append same None xs (w ∷ []) ∙ head_yes same w run goes));
+        before_is = sym (ap (last_seat 64) s.ahead_is ∙ last_seat-append 64 xs (w ∷ []) ∙ s.here);
+        rest = stand_heads same heads lasts (from n ws) at head s.out rest.1;
+        end = other_end heads at head s.low m.end;
+        heads_all = length-set heads at head ∙ m.heads_all;
+        lasts_all = m.lasts_all;
+      }
+
+  made_begins : (heads lasts : List ℕ) (head before at n : ℕ) (ws : List (Waiter C)) (w : Waiter C) → IsRow ws → seated at ws ≡ Some w → n ≡ first_seat 64 (behind at ws) → joins same w (last_run same None (ahead at ws)) ≡ false →
+      MadeUpTo same heads lasts head before at ws → MadeUpTo same (set heads at at) (set lasts head before) at at n ws
+  made_begins heads lasts head before at n ws w row is next begins m =
+      let s = stepped at ws w n row is next in
+      let f = found at ws w is in
+      let xs = ahead at ws in
+      let run = last_run same None xs in
+      let rows = row_parts xs (w ∷ behind at ws) (row_at ws _ f.is row) in
+      let low : head < 65 = rw m.head_is (run_low same xs rows.0) in
+      let out = stands_not head w (behind at ws) (rw m.head_is (run_out same xs (w ∷ behind at ws) (row_at ws _ f.is row))) in
+      let end : get_or (set lasts head before) (place_of run) 0 ≡ last_seat 64 xs = write_at lasts head (place_of run) before m.head_is (omega (arith, low, m.lasts_all)) ∙ m.before_is in
+      let here : get_or (set heads at at) w.seat 0 ≡ place_of (head_of same w run) = write_at heads at w.seat at (sym s.here) (omega (arith, s.low, m.heads_all)) ∙ sym s.here ∙ ap place_of (sym (head_no same w run begins)) in
+      let one : RunLinks same (set heads at at) (set lasts head before) run (last_seat 64 xs) (w ∷ []) = (λ e. end, here, tt) in
+      let P : List (Waiter C) → Type 0 = λ vs. StandRuns same heads lasts vs in
+      let rest : StandRuns same heads lasts (w ∷ from n ws) = subst P s.from_is m.rest in
+      record {
+        links = rw s.ahead_is (links_join same (set heads at at) (set lasts head before) None 64 xs (w ∷ [])
+            (heads_other same heads (set lasts head before) None 64 xs at at (ahead_out at ws) (closed_front heads lasts head before xs rows.0 m.head_is m.links)) one);
+        head_is = sym s.here ∙ ap place_of (sym (ap (last_run same None) s.ahead_is ∙ last_run-append same None xs (w ∷ []) ∙ head_no same w run begins));
+        before_is = sym (ap (last_seat 64) s.ahead_is ∙ last_seat-append 64 xs (w ∷ []) ∙ s.here);
+        rest = stand_heads same heads (set lasts head before) (from n ws) at at s.out (stand_lasts same heads lasts (from n ws) head before (rw (← s.behind_is) out.1) rest.1);
+        end = other_end heads at at s.low m.end;
+        heads_all = length-set heads at at ∙ m.heads_all;
+        lasts_all = length-set lasts head before ∙ m.lasts_all;
+      }
+
+  pub made_begun : (heads lasts lasts' : List ℕ) (head head' before at n : ℕ) (ws : List (Waiter C)) (w : Waiter C) → IsRow ws → seated at ws ≡ Some w → n ≡ first_seat 64 (behind at ws) → joins same w (last_run same None (ahead at ws)) ≡ false →
+      head' ≡ at → lasts' ≡ set lasts head before → MadeUpTo same heads lasts head before at ws → MadeUpTo same (set heads at head') lasts' head' at n ws
+  made_begun heads lasts lasts' head head' before at n ws w row is next begins e f m = rw (e, f) (made_begins heads lasts head before at n ws w row is next begins m)
+
+  -- where a run begins that began there before
+  pub made_stops : (heads lasts : List ℕ) (head before at : ℕ) (ws : List (Waiter C)) (w : Waiter C) → IsRow ws → seated at ws ≡ Some w → joins same w (last_run same None (ahead at ws)) ≡ false → get_or heads at 0 ≡ at →
+      MadeUpTo same heads lasts head before at ws → IsRuns same heads (set lasts head before) ws
+  made_stops heads lasts head before at ws w row is begins began m =
+      let f = found at ws w is in
+      let xs = ahead at ws in
+      let ys = behind at ws in
+      let run = last_run same None xs in
+      let row' = row_at ws _ f.is row in
+      let rows = row_parts xs (w ∷ ys) row' in
+      let low : head < 65 = rw m.head_is (run_low same xs rows.0) in
+      let out = stands_not head w ys (rw m.head_is (run_out same xs (w ∷ ys) row')) in
+      let end : get_or (set lasts head before) (place_of run) 0 ≡ last_seat 64 xs = write_at lasts head (place_of run) before m.head_is (omega (arith, low, m.lasts_all)) ∙ m.before_is in
+      let own : get_or heads w.seat 0 ≡ w.seat = ap (λ k. get_or heads k 0) f.here ∙ began ∙ sym f.here in
+      let P : List (Waiter C) → Type 0 = λ vs. StandRuns same heads lasts vs in
+      let rest : StandRuns same heads lasts (w ∷ ys) = subst P f.from_is m.rest in
+      let on = on_at same heads (set lasts head before) (Some w) (head_of same w run) w.seat ys (sym (head_no same w run begins)) (on_lasts same heads lasts (Some w) w.seat ys head before out.0 out.1 (rest.0 own)) in
+      let Q : List (Waiter C) → Type 0 = λ vs. RunsOn same heads (set lasts head before) None 64 vs in
+      record {
+        on = subst Q (sym f.is) (on_join same heads (set lasts head before) None 64 xs (w ∷ ys) (closed_front heads lasts head before xs rows.0 m.head_is m.links)
+            (record { links = (λ e. end, own ∙ ap place_of (sym (head_no same w run begins)), on.links); ended = on.ended }));
+        end = m.end;
+        heads_all = m.heads_all;
+        lasts_all = length-set lasts head before ∙ m.lasts_all;
+      }
+
+  -- at the list's end
+  pub made_ends : (heads lasts : List ℕ) (head before at : ℕ) (ws : List (Waiter C)) → IsRow ws → seated at ws ≡ None → MadeUpTo same heads lasts head before at ws → IsRuns same heads (set lasts head before) ws
+  made_ends heads lasts head before at ws row none m =
+      let all = (from_none at ws none).1 in
+      let P : List (Waiter C) → Type 0 = λ vs. RunLinks same heads lasts None 64 vs in
+      let is = m.head_is ∙ ap (λ vs. place_of (last_run same None vs)) all in
+      let low : head < 65 = rw is (run_low same ws row) in
+      record {
+        on = record {
+          links = closed_front heads lasts head before ws row is (subst P all m.links);
+          ended = write_at lasts head (place_of (last_run same None ws)) before is (omega (arith, low, m.lasts_all)) ∙ m.before_is ∙ ap (last_seat 64) all;
+        };
+        end = m.end;
+        heads_all = m.heads_all;
+        lasts_all = length-set lasts head before ∙ m.lasts_all;
+      }
+
+  -- ---- one more at the back
+
+  pub back_head : (heads lasts : List ℕ) (back : ℕ) (ws : List (Waiter C)) → back ≡ last_seat 64 ws → IsRuns same heads lasts ws → get_or heads back 0 ≡ place_of (last_run same None ws)
+  back_head heads lasts back ws is h = ap (λ k. get_or heads k 0) is ∙ head_link same heads lasts None 64 ws h.end h.on.links
+
+  pushed_joins : (heads lasts : List ℕ) (head : ℕ) (ws : List (Waiter C)) (w : Waiter C) → IsRow (ws ++ w ∷ []) → head ≡ place_of (last_run same None ws) → joins same w (last_run same None ws) ≡ true →
+      IsRuns same heads lasts ws → IsRuns same (set heads w.seat head) (set lasts head w.seat) (ws ++ w ∷ [])
+  pushed_joins heads lasts head ws w row is goes h =
+      let run = last_run same None ws in
+      let rows = row_parts ws (w ∷ []) row in
+      let low : head < 65 = rw is (run_low same ws rows.0) in
+      let within = row_low ws [] w row in
+      let head_is : place_of (head_of same w run) ≡ head = ap place_of (head_yes same w run goes) ∙ sym is in
+      record {
+        on = on_join same (set heads w.seat head) (set lasts head w.seat) None 64 ws (w ∷ [])
+            (heads_other same heads (set lasts head w.seat) None 64 ws w.seat head (row_front ws [] w row) (closed_front heads lasts head w.seat ws rows.0 is h.on.links))
+            (record {
+              links = (λ e. absurd (true≢false (sym goes ∙ e)), get_or-set_same heads w.seat head 0 (omega (arith, within, h.heads_all)) ∙ sym head_is, tt);
+              ended = write_at lasts head (place_of (head_of same w run)) w.seat (sym head_is) (omega (arith, low, h.lasts_all));
+            });
+        end = other_end heads w.seat head within h.end;
+        heads_all = length-set heads w.seat head ∙ h.heads_all;
+        lasts_all = length-set lasts head w.seat ∙ h.lasts_all;
+      }
+
+  pushed_begins : (heads lasts : List ℕ) (ws : List (Waiter C)) (w : Waiter C) → IsRow (ws ++ w ∷ []) → joins same w (last_run same None ws) ≡ false →
+      IsRuns same heads lasts ws → IsRuns same (set heads w.seat w.seat) (set lasts w.seat w.seat) (ws ++ w ∷ [])
+  pushed_begins heads lasts ws w row begins h =
+      let run = last_run same None ws in
+      let within = row_low ws [] w row in
+      let out = row_front ws [] w row in
+      let apart = stands_not (place_of run) w [] (run_out same ws (w ∷ []) row) in
+      let head_is : place_of (head_of same w run) ≡ w.seat = ap place_of (head_no same w run begins) in
+      record {
+        on = on_join same (set heads w.seat w.seat) (set lasts w.seat w.seat) None 64 ws (w ∷ [])
+            (heads_other same heads (set lasts w.seat w.seat) None 64 ws w.seat w.seat out (lasts_other same heads lasts None 64 ws w.seat w.seat (λ e. omega (arith, e, within)) out h.on.links))
+            (record {
+              links = (λ e. get_or-set_other lasts w.seat (place_of run) w.seat 0 apart.0 ∙ h.on.ended, get_or-set_same heads w.seat w.seat 0 (omega (arith, within, h.heads_all)) ∙ sym head_is, tt);
+              ended = write_at lasts w.seat (place_of (head_of same w run)) w.seat (sym head_is) (omega (arith, within, h.lasts_all));
+            });
+        end = other_end heads w.seat w.seat within h.end;
+        heads_all = length-set heads w.seat w.seat ∙ h.heads_all;
+        lasts_all = length-set lasts w.seat w.seat ∙ h.lasts_all;
+      }
+
+  pub pushed : (heads lasts : List ℕ) (head : ℕ) (ws : List (Waiter C)) (w : Waiter C) → IsRow (ws ++ w ∷ []) → head ≡ place_of (head_of same w (last_run same None ws)) →
+      IsRuns same heads lasts ws → IsRuns same (set heads w.seat head) (set lasts head w.seat) (ws ++ w ∷ [])
+  pushed heads lasts head ws w row is h = elim (cases_Bool (joins same w (last_run same None ws))) [
+    | inl goes ↦ pushed_joins heads lasts head ws w row (is ∙ ap place_of (head_yes same w (last_run same None ws) goes)) goes h
+    | inr begins ↦
+        let own : head ≡ w.seat = is ∙ ap place_of (head_no same w (last_run same None ws) begins) in
+        let P : ℕ → Type 0 = λ k. IsRuns same (set heads w.seat k) (set lasts k w.seat) (ws ++ w ∷ []) in
+        subst P (sym own) (pushed_begins heads lasts ws w row begins h)
+  ]
+
+  -- the first of the run that a waiter would stand in
+  pub head_goes : (o : Option (Waiter C)) (w : Waiter C) (head : ℕ) → head ≡ place_of o → joins same w o ≡ true → head ≡ place_of (head_of same w o)
+  head_goes o w head is goes = is ∙ ap place_of (sym (head_yes same w o goes))
+
+  pub head_begins : (o : Option (Waiter C)) (w : Waiter C) → joins same w o ≡ false → w.seat ≡ place_of (head_of same w o)
+  head_begins o w begins = ap place_of (sym (head_no same w o begins))
+
+  -- ---- one more at the front
+
+  pub start_link : (heads lasts : List ℕ) (ws : List (Waiter C)) → RunsOn same heads lasts None 64 ws → get_or lasts 64 0 ≡ 64
+  start_link heads lasts [] h = h.ended
+  start_link heads lasts (w ∷ ws) h = h.links.0 refl
+
+  pub fronted : (heads lasts : List ℕ) (first : ℕ) (ws : List (Waiter C)) (w : Waiter C) → IsRow (w ∷ ws) → first ≡ first_seat 64 ws → IsRuns same heads lasts ws →
+      MadeUpTo same (set heads w.seat w.seat) lasts w.seat w.seat first (w ∷ ws)
+  fronted heads lasts first ws w row is h =
+      let cuts = cut_at (w ∷ []) ws row in
+      let one : ahead first (w ∷ ws) ≡ w ∷ [] = ap (λ k. ahead k (w ∷ ws)) is ∙ cuts.1 in
+      let rest : from first (w ∷ ws) ≡ ws = ap (λ k. from k (w ∷ ws)) is ∙ cuts.0 in
+      let within = row_low [] ws w row in
+      let rows = row_rest w ws row in
+      record {
+        links = rw one (λ e. start_link heads lasts ws h.on, get_or-set_same heads w.seat w.seat 0 (omega (arith, within, h.heads_all)), tt);
+        head_is = rw one refl;
+        before_is = rw one refl;
+        rest = rw rest (stand_heads same heads lasts ws w.seat w.seat (row_own w ws row) (stand_of same heads lasts None 64 ws (rows.below 64 (omega arith)) rows h.on));
+        end = other_end heads w.seat w.seat within h.end;
+        heads_all = length-set heads w.seat w.seat ∙ h.heads_all;
+        lasts_all = h.lasts_all;
+      }
+
+  -- ---- one less
+
+  -- the first of a run
+  pub dropped : (heads lasts : List ℕ) (s before n : ℕ) (ws : List (Waiter C)) → IsRow ws → 0 < times_in s ws → get_or heads s 0 ≡ s → before ≡ last_seat 64 (ahead s ws) → n ≡ first_seat 64 (behind s ws) →
+      IsRuns same heads lasts ws → MadeUpTo same heads lasts (get_or heads before 0) before n (without_in s ws)
+  dropped heads lasts s before n ws row stands own back next h =
+      let st = standing s ws stands in
+      let w = st.w in
+      let f = found s ws w st.is in
+      let xs = ahead s ws in
+      let ys = behind s ws in
+      let row' = row_at ws _ f.is row in
+      let rows = row_parts xs (w ∷ ys) row' in
+      let left = without_is s ws w row f in
+      let Q : List (Waiter C) → Type 0 = λ vs. RunsOn same heads lasts None 64 vs in
+      let parts = on_part same heads lasts None 64 xs (w ∷ ys) (subst Q f.is h.on) in
+      let run = last_run same None xs in
+      let cuts = cut_at xs ys (row_at _ _ left (row_without s ws row)) in
+      let front : ahead n (without_in s ws) ≡ xs = ap (λ k. ahead k (without_in s ws)) next ∙ ap (ahead (first_seat 64 ys)) left ∙ cuts.1 in
+      let rest : from n (without_in s ws) ≡ ys = ap (λ k. from k (without_in s ws)) next ∙ ap (from (first_seat 64 ys)) left ∙ cuts.0 in
+      let out = run_out same xs (w ∷ ys) row' in
+      let stand : StandRuns same heads lasts (w ∷ ys) = stand_of same heads lasts run (last_seat 64 xs) (w ∷ ys) out rows.1 parts.1 in
+      record {
+        links = rw front parts.0;
+        head_is = ap (λ k. get_or heads k 0) back ∙ head_link same heads lasts None 64 xs h.end parts.0 ∙ sym (ap (λ vs. place_of (last_run same None vs)) front);
+        before_is = back ∙ sym (ap (last_seat 64) front);
+        rest = rw rest stand.1;
+        end = h.end;
+        heads_all = h.heads_all;
+        lasts_all = h.lasts_all;
+      }
+
+  -- the last of a run that goes on in front of it
+  cut_last : (heads lasts : List ℕ) (o : Option (Waiter C)) (s p q : ℕ) (ys : List (Waiter C)) → q ≡ place_of o → q < length lasts → times_in q ys ≡ 0 → get_or heads (first_seat 64 ys) 0 ≢ q →
+      RunsOn same heads lasts o s ys → RunsOn same heads (set lasts q p) o p ys
+  cut_last heads lasts o s p q [] is within out ne h = record { links = tt; ended = write_at lasts q (place_of o) p is within }
+  cut_last heads lasts o s p q (y ∷ ys) is within out ne h =
+      let apart = stands_not q y ys out in
+      elim (cases_Bool (joins same y o)) [
+        | inl goes ↦ absurd (ne (h.links.1 ∙ ap place_of (head_yes same y o goes) ∙ sym is))
+        | inr begins ↦
+            let rest = on_at same heads lasts (head_of same y o) (Some y) y.seat ys (head_no same y o begins) (on_rest same heads lasts o s y ys h) in
+            let on = on_at same heads (set lasts q p) (Some y) (head_of same y o) y.seat ys (sym (head_no same y o begins)) (on_lasts same heads lasts (Some y) y.seat ys q p apart.0 apart.1 rest) in
+            record { links = (λ e. write_at lasts q (place_of o) p is within, h.links.1, on.links); ended = on.ended }
+      ]
+
+  -- and one in a run that goes on behind it
+  cut_inner : (heads lasts : List ℕ) (o : Option (Waiter C)) (s p q : ℕ) (ys : List (Waiter C)) → q ≡ place_of o → q < 64 → get_or heads 64 0 ≡ 64 → times_in q ys ≡ 0 → get_or heads (first_seat 64 ys) 0 ≡ q →
+      RunsOn same heads lasts o s ys → RunsOn same heads lasts o p ys
+  cut_inner heads lasts o s p q [] is low end out e h = absurd (omega (arith, low, end, e))
+  cut_inner heads lasts o s p q (y ∷ ys) is low end out e h =
+      let apart = stands_not q y ys out in
+      elim (cases_Bool (joins same y o)) [
+        | inl goes ↦ record { links = (λ f. absurd (true≢false (sym goes ∙ f)), h.links.1, h.links.2); ended = h.ended }
+        | inr begins ↦ absurd (apart.0 (sym e ∙ h.links.1 ∙ ap place_of (head_no same y o begins)))
+      ]
+
+  pub record Inner (heads lasts : List ℕ) (s before : ℕ) (ws : List (Waiter C)) : Type 0 where
+    pub low : get_or heads s 0 < 65
+    pub last : get_or heads (first_seat 64 (behind s ws)) 0 ≢ get_or heads s 0 → IsRuns same heads (set lasts (get_or heads s 0) before) (without_in s ws)
+    pub inner : get_or heads (first_seat 64 (behind s ws)) 0 ≡ get_or heads s 0 → IsRuns same heads lasts (without_in s ws)
+
+  pub inner : (heads lasts : List ℕ) (s before : ℕ) (ws : List (Waiter C)) → IsRow ws → 0 < times_in s ws → get_or heads s 0 ≢ s → before ≡ last_seat 64 (ahead s ws) → IsRuns same heads lasts ws → Inner heads lasts s before ws
+  inner heads lasts s before ws row stands ne back h =
+      let st = standing s ws stands in
+      let w = st.w in
+      let f = found s ws w st.is in
+      let xs = ahead s ws in
+      let ys = behind s ws in
+      let row' = row_at ws _ f.is row in
+      let rows = row_parts xs (w ∷ ys) row' in
+      let left = without_is s ws w row f in
+      let q = get_or heads s 0 in
+      let Q : List (Waiter C) → Type 0 = λ vs. RunsOn same heads lasts None 64 vs in
+      let parts = on_part same heads lasts None 64 xs (w ∷ ys) (subst Q f.is h.on) in
+      let run = last_run same None xs in
+      let own : q ≡ place_of (head_of same w run) = ap (λ k. get_or heads k 0) (sym f.here) ∙ parts.1.links.1 in
+      let goes : joins same w run ≡ true = elim (cases_Bool (joins same w run)) [ inl goes ↦ goes | inr begins ↦ absurd (ne (own ∙ ap place_of (head_no same w run begins) ∙ f.here)) ] in
+      let is : q ≡ place_of run = own ∙ ap place_of (head_yes same w run goes) in
+      let low : q < 64 = rw is (run_inner same xs (w ∷ ys) w row' goes) in
+      let out : times_in q ys ≡ 0 = rw is (stands_not (place_of run) w ys (run_out same xs (w ∷ ys) row')).1 in
+      let rest = on_at same heads lasts (head_of same w run) run w.seat ys (head_yes same w run goes) (on_rest same heads lasts run (last_seat 64 xs) w ys parts.1) in
+      record {
+        low = omega (arith, low);
+        last = λ apart. record {
+          on = rw (left, back) (on_join same heads (set lasts q (last_seat 64 xs)) None 64 xs ys (closed_front heads lasts q (last_seat 64 xs) xs rows.0 is parts.0)
+              (cut_last heads lasts run w.seat (last_seat 64 xs) q ys is (omega (arith, low, h.lasts_all)) out apart rest));
+          end = h.end;
+          heads_all = h.heads_all;
+          lasts_all = length-set lasts q before ∙ h.lasts_all;
+        };
+        inner = λ goes_on. record {
+          on = rw left (on_join same heads lasts None 64 xs ys parts.0 (cut_inner heads lasts run w.seat (last_seat 64 xs) q ys is low h.end out goes_on rest));
+          end = h.end;
+          heads_all = h.heads_all;
+          lasts_all = h.lasts_all;
+        };
+      }
+
+  -- ---- what the code reads
+
+  pub run_read : (head at : ℕ) (ws : List (Waiter C)) → IsRow ws → head ≡ place_of (last_run same None (ahead at ws)) → seated head ws ≡ last_run same None (ahead at ws)
+  run_read head at ws row is =
+      let whole = split at ws in
+      ap (λ k. seated k ws) is ∙ ap (seated (place_of (last_run same None (ahead at ws)))) whole ∙ run_seated same (ahead at ws) (from at ws) (row_at ws _ whole row)
+
+  pub back_read : (head : ℕ) (ws : List (Waiter C)) → IsRow ws → head ≡ place_of (last_run same None ws) → seated head ws ≡ last_run same None ws
+  back_read head ws row is = run_read head 64 ws row (is ∙ ap (λ vs. place_of (last_run same None vs)) (sym (from_none 64 ws (seated_none 64 ws (row.below 64 (omega arith)))).1))
+      ∙ ap (last_run same None) (from_none 64 ws (seated_none 64 ws (row.below 64 (omega arith)))).1
+
+  pub joins_told : (b : Bool) (w : Waiter C) (o p q : Option (Waiter C)) (v : Bool) → b ≡ joins same w o → o ≡ p → p ≡ q → b ≡ v → joins same w q ≡ v
+  joins_told b w o p q v told read is value = sym (told ∙ ap (joins same w) (read ∙ is)) ∙ value
+
+  pub head_low : (heads lasts : List ℕ) (head before at : ℕ) (ws : List (Waiter C)) → IsRow ws → MadeUpTo same heads lasts head before at ws → head < 65
+  head_low heads lasts head before at ws row m = rw m.head_is (run_low same (ahead at ws) (row_parts (ahead at ws) (from at ws) (row_at ws _ (split at ws) row)).0)
+
+  pub goes_low : (ws : List (Waiter C)) (w : Waiter C) (head : ℕ) → IsRow ws → w.seat < 64 → head ≡ place_of (head_of same w (last_run same None ws)) → head < 65
+  goes_low ws w head row low is = rw is (elim (cases_Bool (joins same w (last_run same None ws))) [ inl goes ↦ rw goes (run_low same ws row) | inr begins ↦ rw begins (omega (arith, low)) ])
+
+module _ {C : Type 0} where
+  pub back_place : (ws : List (Waiter C)) (back : ℕ) → IsRow ws → back ≡ last_seat 64 ws → back < 65
+  back_place ws back row is = rw is (last_low 64 ws (omega arith) row.below)
+
+  pub next_place : (ws : List (Waiter C)) (s next : ℕ) → IsRow ws → 0 < times_in s ws → next ≡ first_seat 64 (behind s ws) → next < 65
+  next_place ws s next row stands is =
+      let st = standing s ws stands in
+      let f = found s ws st.w st.is in
+      let rows = row_parts (ahead s ws) (st.w ∷ behind s ws) (row_at ws _ f.is row) in
+      rw is (first_low (behind s ws) (row_rest st.w (behind s ws) rows.1).below)
+
+  pub prev_place : (ws : List (Waiter C)) (s prev : ℕ) → IsRow ws → 0 < times_in s ws → prev ≡ last_seat 64 (ahead s ws) → prev < 65
+  prev_place ws s prev row stands is =
+      let st = standing s ws stands in
+      let f = found s ws st.w st.is in
+      let rows = row_parts (ahead s ws) (st.w ∷ behind s ws) (row_at ws _ f.is row) in
+      rw is (last_low 64 (ahead s ws) (omega arith) rows.0.below)

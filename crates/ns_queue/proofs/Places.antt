@@ -1,0 +1,177 @@
+-- A place in a list: those in front of it, and those from it on.
+use Rattle.std.proofs.Common.{◌≡◌, ℕ, ◌+◌, ◌≤◌, ◌<◌, inl, inr, eqb, not, List, [], ◌∷◌, ◌++◌, None, Some, refl, ap, sym, ◌∙◌, length, subst, arith, append_assoc, get_or, take, length-append}
+use Rattle.std.proofs.lemmas.Bool.{ne_eqb, eq-eqb, cases_eq}
+use Rattle.std.proofs.lemmas.List.{append-nil}
+use Rattle.std.proofs.lemmas.List.Sums.{sum_by_more_le}
+use Rattle.ns_queue.specs.declared.waiter.Waiter.{Waiter}
+use Rattle.ns_queue.specs.Waiters.{is_of, times_in, without_in}
+use Rattle.ns_queue.proofs.Seats.{few, one_if, times_in-cons, times_in-append}
+use Rattle.ns_queue.proofs.Inside.{times_in-filter}
+use Rattle.ns_queue.specs.Rings.{ahead, behind, from, first_seat, seated, IsRow}
+use Rattle.ns_queue.proofs.Hops.{seated_rest, stands_not}
+use Rattle.ns_queue.proofs.Ringed.{stands_low, without_among}
+
+module _ {C : Type 0} where
+  pub split : (s : ℕ) (ws : List (Waiter C)) → ws ≡ ahead s ws ++ from s ws
+  split s [] = refl
+  split s (w ∷ ws) = elim (cases_eq w.seat s) [
+    | inl e ↦ rw (eq-eqb w.seat s e) refl
+    | inr ne ↦ rw (ne_eqb w.seat s ne) (ap (λ vs. w ∷ vs) (split s ws))
+  ]
+
+  pub ahead_out : (s : ℕ) (ws : List (Waiter C)) → times_in s (ahead s ws) ≡ 0
+  ahead_out s [] = refl
+  ahead_out s (w ∷ ws) = elim (cases_eq w.seat s) [
+    | inl e ↦ rw (eq-eqb w.seat s e) refl
+    | inr ne ↦ rw (ne_eqb w.seat s ne) (let no = ap one_if (ne_eqb w.seat s ne) in omega (arith, times_in-cons s w (ahead s ws), ahead_out s ws, no))
+  ]
+
+  -- nobody stands at a place that has no waiter
+  pub from_none : (s : ℕ) (ws : List (Waiter C)) → seated s ws ≡ None → (from s ws ≡ []) × (ahead s ws ≡ ws)
+  from_none s [] none = (refl, refl)
+  from_none s (w ∷ ws) none = elim (cases_eq w.seat s) [
+    | inl e ↦ let no = rw (eq-eqb w.seat s e) at none in absurd (cc)
+    | inr ne ↦ let rest = from_none s ws (rw (ne_eqb w.seat s ne) at none) in rw (ne_eqb w.seat s ne) (rest.0, ap (λ vs. w ∷ vs) rest.1)
+  ]
+
+  -- the waiter that stands at a place
+  pub record Found (s : ℕ) (ws : List (Waiter C)) (w : Waiter C) : Type 0 where
+    pub here : w.seat ≡ s
+    pub from_is : from s ws ≡ w ∷ behind s ws
+    pub is : ws ≡ ahead s ws ++ w ∷ behind s ws
+
+  some_same : (w v : Waiter C) → Some w ≡ Some v → w ≡ v
+  some_same w v e = cc
+
+  pub found : (s : ℕ) (ws : List (Waiter C)) (w : Waiter C) → seated s ws ≡ Some w → Found s ws w
+  found s [] w is = absurd (cc)
+  found s (v ∷ ws) w is = elim (cases_eq v.seat s) [
+    | inl e ↦ let same : v ≡ w = some_same v w (rw (eq-eqb v.seat s e) at is) in
+        record { here = ap (λ u. u.seat) (sym same) ∙ e; from_is = rw (eq-eqb v.seat s e) (ap (λ u. u ∷ ws) same); is = rw (eq-eqb v.seat s e) (ap (λ u. u ∷ ws) same) }
+    | inr ne ↦ let f = found s ws w (rw (ne_eqb v.seat s ne) at is) in
+        record { here = f.here; from_is = rw (ne_eqb v.seat s ne) f.from_is; is = rw (ne_eqb v.seat s ne) (ap (λ us. v ∷ us) f.is) }
+  ]
+
+  cut : (c : ℕ) (xs ys : List (Waiter C)) → times_in c xs ≡ 0 → (from c (xs ++ ys) ≡ from c ys) × (ahead c (xs ++ ys) ≡ xs ++ ahead c ys) × (behind c (xs ++ ys) ≡ behind c ys)
+  cut c [] ys out = (refl, refl, refl)
+  cut c (x ∷ xs) ys out =
+      let apart = stands_not c x xs out in
+      let rest = cut c xs ys apart.1 in
+      rw (ne_eqb x.seat c (λ e. apart.0 (sym e))) (rest.0, ap (λ vs. x ∷ vs) rest.1, rest.2)
+
+  pub own : (ys : List (Waiter C)) → (from (first_seat 64 ys) ys ≡ ys) × (ahead (first_seat 64 ys) ys ≡ [])
+  own [] = (refl, refl)
+  own (y ∷ ys) = rw (eq-eqb y.seat y.seat refl) (refl, refl)
+
+  pub own_times : (w : Waiter C) (ws : List (Waiter C)) → times_in w.seat (w ∷ ws) ≡ 1 + times_in w.seat ws
+  own_times w ws = let one = ap one_if (eq-eqb w.seat w.seat refl) in omega (arith, times_in-cons w.seat w ws, one)
+
+  pub first_out : (xs ys : List (Waiter C)) → IsRow (xs ++ ys) → times_in (first_seat 64 ys) xs ≡ 0
+  first_out xs [] row = omega (arith, row.below 64 (omega arith), times_in-append 64 xs [])
+  first_out xs (y ∷ ys) row = omega (arith, row.once y.seat, times_in-append y.seat xs (y ∷ ys), own_times y ys)
+
+  -- the place of the first of the later ones
+  pub cut_at : (xs ys : List (Waiter C)) → IsRow (xs ++ ys) → (from (first_seat 64 ys) (xs ++ ys) ≡ ys) × (ahead (first_seat 64 ys) (xs ++ ys) ≡ xs)
+  cut_at xs ys row =
+      let c = cut (first_seat 64 ys) xs ys (first_out xs ys row) in
+      (c.0 ∙ (own ys).0, c.1 ∙ ap (λ vs. xs ++ vs) (own ys).1 ∙ append-nil xs)
+
+  pub row_parts : (xs ys : List (Waiter C)) → IsRow (xs ++ ys) → IsRow xs × IsRow ys
+  row_parts xs ys row = (
+    record { once = λ s. omega (arith, row.once s, times_in-append s xs ys); below = λ s high. omega (arith, row.below s high, times_in-append s xs ys) },
+    record { once = λ s. omega (arith, row.once s, times_in-append s xs ys); below = λ s high. omega (arith, row.below s high, times_in-append s xs ys) },
+  )
+
+  pub row_rest : (w : Waiter C) (ws : List (Waiter C)) → IsRow (w ∷ ws) → IsRow ws
+  row_rest w ws row = record { once = λ s. omega (arith, row.once s, times_in-cons s w ws); below = λ s high. omega (arith, row.below s high, times_in-cons s w ws) }
+
+  pub row_own : (w : Waiter C) (ws : List (Waiter C)) → IsRow (w ∷ ws) → times_in w.seat ws ≡ 0
+  row_own w ws row = omega (arith, row.once w.seat, own_times w ws)
+
+  pub row_at : (ws vs : List (Waiter C)) → ws ≡ vs → IsRow ws → IsRow vs
+  row_at ws vs is row = let P : List (Waiter C) → Type 0 = λ us. IsRow us in subst P is row
+
+  pub row_front : (xs ys : List (Waiter C)) (w : Waiter C) → IsRow (xs ++ w ∷ ys) → times_in w.seat xs ≡ 0
+  row_front xs ys w row = omega (arith, row.once w.seat, times_in-append w.seat xs (w ∷ ys), own_times w ys)
+
+  pub row_low : (xs ys : List (Waiter C)) (w : Waiter C) → IsRow (xs ++ w ∷ ys) → w.seat < 64
+  row_low xs ys w row = stands_low w.seat (xs ++ w ∷ ys) row.below (omega (arith, times_in-append w.seat xs (w ∷ ys), own_times w ys))
+
+  -- one waiter further
+  pub record Stepped (s : ℕ) (ws : List (Waiter C)) (w : Waiter C) (n : ℕ) : Type 0 where
+    pub here : w.seat ≡ s
+    pub from_is : from s ws ≡ w ∷ from n ws
+    pub ahead_is : ahead n ws ≡ ahead s ws ++ w ∷ []
+    pub behind_is : behind s ws ≡ from n ws
+    pub low : s < 64
+    pub out : times_in s (from n ws) ≡ 0
+
+  pub stepped : (s : ℕ) (ws : List (Waiter C)) (w : Waiter C) (n : ℕ) → IsRow ws → seated s ws ≡ Some w → n ≡ first_seat 64 (behind s ws) → Stepped s ws w n
+  stepped s ws w n row is next =
+      let f = found s ws w is in
+      let whole : ws ≡ (ahead s ws ++ w ∷ []) ++ behind s ws = f.is ∙ sym (append_assoc (ahead s ws) (w ∷ []) (behind s ws)) in
+      let c = cut_at (ahead s ws ++ w ∷ []) (behind s ws) (row_at ws _ whole row) in
+      let on : from n ws ≡ behind s ws = ap (λ k. from k ws) next ∙ ap (from (first_seat 64 (behind s ws))) whole ∙ c.0 in
+      record {
+        here = f.here;
+        from_is = f.from_is ∙ ap (λ vs. w ∷ vs) (sym on);
+        ahead_is = ap (λ k. ahead k ws) next ∙ ap (ahead (first_seat 64 (behind s ws))) whole ∙ c.1;
+        behind_is = sym on;
+        low = (let P : ℕ → Type 0 = λ k. k < 64 in subst P f.here (row_low (ahead s ws) (behind s ws) w (row_at ws _ f.is row)));
+        out = (let P : ℕ → Type 0 = λ k. times_in k (from n ws) ≡ 0 in subst P f.here (rw on (row_own w (behind s ws) (row_parts (ahead s ws) (w ∷ behind s ws) (row_at ws _ f.is row)).1)));
+      }
+
+  -- where a list is parted at a waiter
+  pub parted : (xs ys : List (Waiter C)) (w : Waiter C) → times_in w.seat xs ≡ 0 → behind w.seat (xs ++ w ∷ ys) ≡ ys
+  parted xs ys w out = (cut w.seat xs (w ∷ ys) out).2 ∙ rw (eq-eqb w.seat w.seat refl) refl
+
+  -- who stands there
+  pub record Standing (s : ℕ) (ws : List (Waiter C)) : Type 0 where
+    pub w : Waiter C
+    pub is : seated s ws ≡ Some w
+
+  pub standing : (s : ℕ) (ws : List (Waiter C)) → 0 < times_in s ws → Standing s ws
+  standing s [] stands = absurd (omega (arith, stands))
+  standing s (w ∷ ws) stands = elim (cases_eq w.seat s) [
+    | inl e ↦ record { w = w; is = rw (eq-eqb w.seat s e) refl }
+    | inr ne ↦ (let rest = standing s ws (let no = ap one_if (ne_eqb w.seat s ne) in omega (arith, stands, times_in-cons s w ws, no)) in record { w = rest.w; is = seated_rest s w ws ne ∙ rest.is })
+  ]
+
+  pub without_is : (s : ℕ) (ws : List (Waiter C)) (w : Waiter C) → IsRow ws → Found s ws w → without_in s ws ≡ ahead s ws ++ behind s ws
+  without_is s ws w row f =
+      let row' = row_at ws _ f.is row in
+      ap (without_in s) f.is ∙ ap (λ k. without_in k (ahead s ws ++ w ∷ behind s ws)) (sym f.here)
+      ∙ without_among (ahead s ws) (behind s ws) w (row_front (ahead s ws) (behind s ws) w row') (row_own w (behind s ws) (row_parts (ahead s ws) (w ∷ behind s ws) row').1)
+
+  pub row_without : (s : ℕ) (ws : List (Waiter C)) → IsRow ws → IsRow (without_in s ws)
+  row_without s ws row = record { once = λ k. omega (arith, row.once k, times_in-filter (λ w. not (is_of s w)) ws k); below = λ k high. omega (arith, row.below k high, times_in-filter (λ w. not (is_of s w)) ws k) }
+
+  pub seated_low : (s : ℕ) (ws : List (Waiter C)) (w : Waiter C) → IsRow ws → seated s ws ≡ Some w → s < 64
+  seated_low s ws w row is = let f = found s ws w is in (let P : ℕ → Type 0 = λ k. k < 64 in subst P f.here (row_low (ahead s ws) (behind s ws) w (row_at ws _ f.is row)))
+
+  pub seated_stands : (s : ℕ) (ws : List (Waiter C)) (w : Waiter C) → seated s ws ≡ Some w → 0 < times_in s ws
+  seated_stands s ws w is =
+      let f = found s ws w is in
+      let here : times_in w.seat ws ≡ times_in w.seat (ahead s ws) + times_in w.seat (w ∷ behind s ws) = ap (times_in w.seat) f.is ∙ times_in-append w.seat (ahead s ws) (w ∷ behind s ws) in
+      let P : ℕ → Type 0 = λ k. 0 < times_in k ws in subst P f.here (omega (arith, here, own_times w (behind s ws)))
+
+  pub smaller : (s : ℕ) (ws : List (Waiter C)) (w : Waiter C) (n : ℕ) → IsRow ws → seated s ws ≡ Some w → n ≡ first_seat 64 (behind s ws) → length (from n ws) < length (from s ws)
+  smaller s ws w n row is next = let one = ap length (stepped s ws w n row is next).from_is in omega (arith, one)
+
+  pub ahead_few : (s : ℕ) (ws : List (Waiter C)) (w : Waiter C) → IsRow ws → seated s ws ≡ Some w → length (ahead s ws) < 64
+  ahead_few s ws w row is =
+      let all = ap length (found s ws w is).is in omega (arith, all, length-append (ahead s ws) (w ∷ behind s ws), few 64 ws row.once row.below)
+
+  -- the next of those put behind the others stands nowhere yet
+  pub next_free : (ws now vs : List (Waiter C)) (i : ℕ) (w : Waiter C) → ((seat : ℕ) → times_in seat vs + times_in seat ws ≤ 1) → i < length vs → w ≡ get_or vs i w → now ≡ ws ++ take i vs → times_in w.seat now ≡ 0
+  next_free ws now vs i w once within is so_far =
+      let more : times_in w.seat (take i vs) + one_if (eqb (get_or vs i w).seat w.seat) ≤ times_in w.seat vs = sum_by_more_le (λ v. one_if (eqb v.seat w.seat)) vs i w within in
+      let one : ◌≡◌ {A = ℕ} (one_if (eqb (get_or vs i w).seat w.seat)) 1 = ap one_if (eq-eqb (get_or vs i w).seat w.seat (ap (λ v. v.seat) (sym is))) in
+      omega (arith, more, one, once w.seat, times_in-append w.seat ws (take i vs), ap (times_in w.seat) so_far)
+
+  -- who stands at a place doesn't stand in front of it
+  pub ahead_free : (s : ℕ) (ws : List (Waiter C)) (w : Waiter C) → IsRow ws → seated s ws ≡ Some w → (w.seat < 64) × (times_in w.seat (ahead s ws) ≡ 0)
+  ahead_free s ws w row is =
+      let f = found s ws w is in
+      let low = seated_low s ws w row is in
+      let P : ℕ → Type 0 = λ k. (k < 64) × (times_in k (ahead s ws) ≡ 0) in subst P (sym f.here) (low, ahead_out s ws)

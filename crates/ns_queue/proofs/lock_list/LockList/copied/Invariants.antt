@@ -1,0 +1,11 @@
+use Rattle.std.proofs.Common.{◌≡◌, length}
+use Rattle.ns_queue.specs.Rings.{ahead, from}
+use Rattle.ns_queue.proofs.lock_list.LockList.copied.Given as goal
+
+-- those so far
+abbrev pub invariant-loop-waiter : goal.invariant-loop-waiter
+invariant-loop-waiter g l = l.copy ≡ ahead l.at l.self-inside.ring
+
+-- those that are left
+abbrev pub decreases-loop-waiter : goal.decreases-loop-waiter
+decreases-loop-waiter g l = length (from l.at l.self-inside.ring)

@@ -1,0 +1,12 @@
+use Rattle.ns_queue.proofs.Making.{goes_low, pushed}
+use Rattle.ns_queue.proofs.Ringed.{row_back}
+use Rattle.ns_queue.proofs.lock_list.LockList.push_back.Goals as goal
+
+pub bounds-self-inside-head : goal.bounds-self-inside-head
+bounds-self-inside-head g c =
+    goes_low g.C.Condition.means.same c.self.inside.ring c.args.waiter c.head_for-head.result (rw (← c.self.view_is) at c.head_for-head.ensures.orderly) c.requires.below (rw (← c.self.view_is) at c.head_for-head.ensures.head)
+
+pub invariant_of-self : goal.invariant_of-self
+invariant_of-self g c =
+    let row = row_back c.self.inside.ring c.args.waiter (rw (← c.self.view_is) at c.head_for-head.ensures.orderly) c.requires.below (rw (← c.self.view_is) at c.requires.free) in
+    rw c.push_back.ensures (pushed g.C.Condition.means.same c.self.inside.heads c.self.inside.lasts c.head_for-head.result c.self.inside.ring c.args.waiter row (rw (← c.self.view_is) at c.head_for-head.ensures.head) c.self.invariant)

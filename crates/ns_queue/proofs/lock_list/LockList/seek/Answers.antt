@@ -1,0 +1,70 @@
+use Rattle.std.proofs.Common.{rules, true, false, sym, arith}
+use Rattle.std.specs.Option.{option_copied}
+use Rattle.ns_queue.proofs.Seeking.{answered}
+use Rattle.ns_queue.specs.Waiters.{has_condition}
+use Rattle.ns_queue.proofs.Places.{seated_low}
+use Rattle.ns_queue.proofs.Running.{next_run, sought_few, sought_here, sought_none, sought_on, sought_smaller, sought_start, tests_fit}
+use Rattle.ns_queue.proofs.Making.{start_link}
+use Rattle.ns_queue.proofs.lock_list.LockList.seek.Goals as goal
+
+pub loop-waiter-init : goal.loop-waiter-init
+loop-waiter-init g c =
+    let meets = λ (d : g.row.C.Denot). g.C.Condition.means.holds d c.args.row.now in
+    sought_start g.C.Condition.means.same meets (λ d e is. g.met.C.Condition.same_agrees d e c.args.row.now c.told-row is) _ _ c.front-seat.result c.self.inside.ring c.front-seat.ensures.place c.self.invariant.on
+
+pub overflow_add-tests : goal.overflow_add-tests
+overflow_add-tests g c =
+    let meets = λ (d : g.row.C.Denot). g.C.Condition.means.holds d c.args.row.now in
+    let w = c.in-Some.waiter.now in
+    let low = sought_few g.C.Condition.means.same meets (λ d e is. g.met.C.Condition.same_agrees d e c.args.row.now c.told-row is) _ _ c.loop-waiter.seat c.loop-waiter.tests c.self.inside.ring w c.front-seat.ensures.orderly (sym c.in-Some.ensures.waiter) c.loop-waiter.invariant in
+    tests_fit c.loop-waiter.tests c.tests_for-tests.result (has_condition w) low c.tests_for-tests.ensures
+
+pub returns-then-is_met-clause-seat : goal.returns-then-is_met-clause-seat
+returns-then-is_met-clause-seat g c =
+    let meets = λ (d : g.row.C.Denot). g.C.Condition.means.holds d c.args.row.now in
+    let same = g.C.Condition.means.same in
+    let w = c.in-Some.waiter.now in
+    let met = answered same meets w.cond (option_copied c.as_ref.result) c.is_met.result true c.as_ref.ensures.value c.is_met.ensures c.if-is_met.true in
+    rw (← c.self.view_is) (sought_here same meets (λ d e is. g.met.C.Condition.same_agrees d e c.args.row.now c.told-row is) _ _ c.loop-waiter.seat c.loop-waiter.tests c.tests_for-tests.result c.self.inside.ring w (sym c.in-Some.ensures.waiter) met c.tests_for-tests.ensures c.loop-waiter.invariant).0
+
+pub returns-then-is_met-clause-tests : goal.returns-then-is_met-clause-tests
+returns-then-is_met-clause-tests g c =
+    let meets = λ (d : g.row.C.Denot). g.C.Condition.means.holds d c.args.row.now in
+    let same = g.C.Condition.means.same in
+    let w = c.in-Some.waiter.now in
+    let met = answered same meets w.cond (option_copied c.as_ref.result) c.is_met.result true c.as_ref.ensures.value c.is_met.ensures c.if-is_met.true in
+    rw (← c.self.view_is) (sought_here same meets (λ d e is. g.met.C.Condition.same_agrees d e c.args.row.now c.told-row is) _ _ c.loop-waiter.seat c.loop-waiter.tests c.tests_for-tests.result c.self.inside.ring w (sym c.in-Some.ensures.waiter) met c.tests_for-tests.ensures c.loop-waiter.invariant).1
+
+pub bounds-self-inside-seat : goal.bounds-self-inside-seat
+bounds-self-inside-seat g c = let low = seated_low c.loop-waiter.seat c.self.inside.ring c.in-Some.waiter.now c.front-seat.ensures.orderly (sym c.in-Some.ensures.waiter) in omega (arith, low)
+
+pub next-seat-requires : goal.next-seat-requires
+next-seat-requires g c =
+    let r = next_run g.C.Condition.means.same c.self.inside.heads c.self.inside.lasts c.loop-waiter.seat c.self.inside.ring c.in-Some.waiter.now c.front-seat.ensures.orderly (sym c.in-Some.ensures.waiter) c.loop-waiter.invariant.runs in
+    (search rules, r.stands)
+
+pub loop-waiter-smaller : goal.loop-waiter-smaller
+loop-waiter-smaller g c =
+    let meets = λ (d : g.row.C.Denot). g.C.Condition.means.holds d c.args.row.now in
+    let r = next_run g.C.Condition.means.same c.self.inside.heads c.self.inside.lasts c.loop-waiter.seat c.self.inside.ring c.in-Some.waiter.now c.front-seat.ensures.orderly (sym c.in-Some.ensures.waiter) c.loop-waiter.invariant.runs in
+    sought_smaller g.C.Condition.means.same c.self.inside.lasts c.loop-waiter.seat c.next-seat.result c.self.inside.ring c.in-Some.waiter.now r c.next-seat.ensures
+
+pub loop-waiter-preserved : goal.loop-waiter-preserved
+loop-waiter-preserved g c =
+    let meets = λ (d : g.row.C.Denot). g.C.Condition.means.holds d c.args.row.now in
+    let same = g.C.Condition.means.same in
+    let w = c.in-Some.waiter.now in
+    let unmet = answered same meets w.cond (option_copied c.as_ref.result) c.is_met.result false c.as_ref.ensures.value c.is_met.ensures c.if-is_met.false in
+    let r = next_run same c.self.inside.heads c.self.inside.lasts c.loop-waiter.seat c.self.inside.ring w c.front-seat.ensures.orderly (sym c.in-Some.ensures.waiter) c.loop-waiter.invariant.runs in
+    sought_on same meets (λ d e is. g.met.C.Condition.same_agrees d e c.args.row.now c.told-row is) c.self.inside.heads c.self.inside.lasts c.loop-waiter.seat c.loop-waiter.tests c.tests_for-tests.result c.next-seat.result c.self.inside.ring w
+    (start_link same c.self.inside.heads c.self.inside.lasts c.self.inside.ring c.self.invariant.on) r unmet c.tests_for-tests.ensures c.next-seat.ensures c.loop-waiter.invariant
+
+pub returns-clause-seat : goal.returns-clause-seat
+returns-clause-seat g c =
+    let meets = λ (d : g.row.C.Denot). g.C.Condition.means.holds d c.args.row.now in
+    rw (← c.self.view_is) (sought_none g.C.Condition.means.same meets (λ d e is. g.met.C.Condition.same_agrees d e c.args.row.now c.told-row is) _ _ c.loop-waiter.seat c.loop-waiter.tests c.self.inside.ring (sym c.in_default.ensures.waiter) c.loop-waiter.invariant).0
+
+pub returns-clause-tests : goal.returns-clause-tests
+returns-clause-tests g c =
+    let meets = λ (d : g.row.C.Denot). g.C.Condition.means.holds d c.args.row.now in
+    rw (← c.self.view_is) (sought_none g.C.Condition.means.same meets (λ d e is. g.met.C.Condition.same_agrees d e c.args.row.now c.told-row is) _ _ c.loop-waiter.seat c.loop-waiter.tests c.self.inside.ring (sym c.in_default.ensures.waiter) c.loop-waiter.invariant).1

@@ -1,0 +1,12 @@
+use Rattle.std.proofs.Common.{length}
+use Rattle.ns_queue.specs.Rings.{from}
+use Rattle.ns_queue.specs.Runs.{MadeUpTo}
+use Rattle.ns_queue.proofs.remake.remake.Given as goal
+
+-- the links are made up to here
+abbrev pub invariant-loop-waiter : goal.invariant-loop-waiter
+invariant-loop-waiter g l = MadeUpTo g.C.Condition.means.same l.heads l.lasts l.head l.before l.at l.ring
+
+-- those that are left
+abbrev pub decreases-loop-waiter : goal.decreases-loop-waiter
+decreases-loop-waiter g l = length (from l.at l.ring)

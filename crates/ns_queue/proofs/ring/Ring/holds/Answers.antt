@@ -1,0 +1,7 @@
+use Rattle.std.proofs.Common.{◌∙◌}
+use Rattle.std.specs.Option.{option_copied}
+use Rattle.ns_queue.proofs.Ringed.{mapped_some, tells}
+use Rattle.ns_queue.proofs.ring.Ring.holds.Goals as goal
+
+pub returns-clause-stands : goal.returns-clause-stands
+returns-clause-stands g c = tells c.args.seat c.args.self.now (option_copied c.get.result) c.is_some.result c.get.ensures.waiter (c.is_some.ensures ∙ mapped_some _ c.get.result)

@@ -1,0 +1,54 @@
+//! Whether conditions are declared the same, and whether one is true.
+
+ghost use Rattle.std.specs.Prelude.{◌≡◌};
+ghost use Rattle.std.specs.Option.{option_copied};
+ghost use Rattle.ns_queue.specs.Scans.{is_alike, is_satisfied};
+ghost use Rattle.ns_queue.specs.Waiters.{has_condition};
+ghost use Rattle.ns_queue.specs.Rings.{one_for};
+ghost use Rattle.ns_queue.specs.Runs.{joins};
+
+use crate::room::Queueable;
+use crate::waiter::Waiter;
+
+/// Whether the waiter's condition is declared the same as the one given.
+pub(crate) fn is_alike<C: Queueable<N>, const N: usize>(
+    waiter: &Waiter<C>,
+    first: Option<&C>,
+) -> bool
+    ensures { result ≡ is_alike C.means.same waiter.now.cond (option_copied first.entry) }
+{
+    match (&waiter.cond, first) {
+        (Some(next), Some(first)) => next.same(first),
+        _ => false,
+    }
+}
+
+/// Whether the waiter goes on with the run of this first.
+pub(crate) fn joins<C: Queueable<N>, const N: usize>(
+    waiter: &Waiter<C>,
+    first: Option<&Waiter<C>>,
+) -> bool
+    ensures { result ≡ joins C.means.same waiter.now (option_copied first.entry) }
+{
+    match first {
+        Some(first) => is_alike(waiter, first.cond.as_ref()),
+        None => false,
+    }
+}
+
+/// Whether the condition, if there is one, is true of the row.
+pub(crate) fn is_met<C: Queueable<N>, const N: usize>(first: Option<&C>, row: &[u64; N]) -> bool
+    ensures { result ≡ is_satisfied (λ c. C.means.holds c row.now) (option_copied first.entry) }
+{
+    match first {
+        Some(c) => c.test(row),
+        None => true,
+    }
+}
+
+/// How many tests it takes to learn whether the waiter can go on.
+pub(crate) fn tests_for<C: Queueable<N>, const N: usize>(waiter: &Waiter<C>) -> u32
+    ensures { result ≡ one_for (has_condition waiter.now) }
+{
+    if waiter.cond.is_some() { 1 } else { 0 }
+}
