@@ -9,14 +9,15 @@ use ns_model::condition::Condition;
 use ns_model::event::Mode;
 use ns_queue::queues::Queues;
 use ns_queue::waiter::{Shown, Waiter, Which};
-use std::cell::Cell;
+use std::sync::atomic::AtomicU32;
+use std::sync::atomic::Ordering::SeqCst;
 
-/// The cell is at least the value. Each test is counted in the cell that it refers to.
+/// The cell is at least the value. Each test is counted in the atomic that it refers to.
 #[derive(Clone, Copy)]
 pub(crate) struct AtLeast<'a> {
     cell: u8,
     value: u64,
-    tests: &'a Cell<u32>,
+    tests: &'a AtomicU32,
 }
 
 impl<'a> Condition<2> for AtLeast<'a> {
@@ -25,7 +26,7 @@ impl<'a> Condition<2> for AtLeast<'a> {
     ghost means = { truths (λ c row. nat_lt c.cell (length row) && nat_le c.value (slice_index row c.cell)) (λ c d. (c.cell == d.cell) && (c.value == d.value)) (λ before after. false) };
 
     fn test(&self, row: &[u64; 2]) -> bool {
-        self.tests.set(self.tests.get().wrapping_add(1));
+        self.tests.fetch_add(1, SeqCst);
         let cell = self.cell as usize;
         cell < row.len() && self.value <= row[cell]
     }
@@ -139,7 +140,7 @@ fn queue<'a>(queues: &mut Queues<AtLeast<'a>, 2>, list: Which, waiter: Waiter<At
     }
 }
 
-fn condition<'a>(given: Option<(u8, u64)>, tests: &'a Cell<u32>) -> Option<AtLeast<'a>> {
+fn condition<'a>(given: Option<(u8, u64)>, tests: &'a AtomicU32) -> Option<AtLeast<'a>> {
     match given {
         Some((cell, value)) => Some(AtLeast { cell, value, tests }),
         None => None,
@@ -158,7 +159,7 @@ fn seats<'a>(waiters: &ArrayVec<Waiter<AtLeast<'a>>, 64>) -> ArrayVec<u8, 64> {
 #[test]
 fn scan_table(rt: HostRuntime) {
     for (given, row, woken, left, tests) in SCANS.iter() {
-        let counter = Cell::new(0);
+        let counter = AtomicU32::new(0);
         let mut queues = Queues::new();
         for (seat, (mode, cond)) in (0u8..64).zip(given.iter()) {
             let cond = condition(*cond, &counter);
@@ -178,13 +179,13 @@ fn scan_table(rt: HostRuntime) {
         assert_eq!(rt; scan.woken.as_slice(), *woken);
         assert_eq!(rt; seats(&others).as_slice(), *left);
         assert_eq!(rt; scan.tests, *tests);
-        assert_eq!(rt; counter.get(), *tests);
+        assert_eq!(rt; counter.load(SeqCst), *tests);
     }
 }
 
 #[test]
 fn signal_table(rt: HostRuntime) {
-    let counter = Cell::new(0);
+    let counter = AtomicU32::new(0);
     for (modes, taken, left) in SIGNALS.iter() {
         let mut queues: Queues<AtLeast<'_>, 2> = Queues::new();
         for (seat, mode) in (0u8..64).zip(modes.iter()) {
@@ -209,7 +210,7 @@ fn signal_table(rt: HostRuntime) {
 /// How many tests a scan of 64 writers with false conditions reports, how many were made, and how
 /// many writers stay. The conditions differ if `step` isn't 0.
 fn crowd(step: u64) -> (u32, u32, usize) {
-    let counter = Cell::new(0);
+    let counter = AtomicU32::new(0);
     let mut queues = Queues::new();
     let mut value = 1u64;
     for seat in 0u8..64 {
@@ -228,18 +229,38 @@ fn crowd(step: u64) -> (u32, u32, usize) {
     }
     let scan = queues.scan(&[0, 0]);
     let others = queues.waiters(Which::Lock);
-    (scan.tests, counter.get(), others.len())
+    (scan.tests, counter.load(SeqCst), others.len())
 }
 
 #[test]
 fn tests_counted(rt: HostRuntime) {
     assert!(rt; crowd(0) == (1, 1, 64));
     assert!(rt; crowd(1) == (64, 64, 64));
+    let counter = AtomicU32::new(0);
+    let mut queues = Queues::new();
+    for (seat, given) in (0u8..64).zip([(0, 5), (1, 1), (0, 5)].iter()) {
+        let cond = condition(Some(*given), &counter);
+        queue(
+            &mut queues,
+            Which::Lock,
+            Waiter {
+                seat,
+                mode: Mode::Write,
+                cond,
+                tries: 0,
+            },
+        );
+    }
+    let apart = queues.scan(&[0, 0]).tests;
+    assert!(rt; apart == 3 && counter.load(SeqCst) == 3);
+    assert!(rt; queues.remove(1)); // the two beside it are neighbours now, and one run
+    let together = queues.scan(&[0, 0]).tests;
+    assert!(rt; together == 1 && counter.load(SeqCst) == 4);
 }
 
 #[test]
 fn one_after_another(rt: HostRuntime) {
-    let counter = Cell::new(0);
+    let counter = AtomicU32::new(0);
     let mut queues = Queues::new();
     let cond = condition(None, &counter);
     queue(
@@ -271,7 +292,7 @@ fn one_after_another(rt: HostRuntime) {
 
 #[test]
 fn shows(rt: HostRuntime) {
-    let counter = Cell::new(0);
+    let counter = AtomicU32::new(0);
     let waiter = Waiter {
         seat: 5,
         mode: Mode::Read,
