@@ -13,7 +13,7 @@ use Rattle.ns_env.specs.Lawful.{adds, IsLawful, ViewFits}
 use Rattle.ns_env.specs.Steps.{fresh_plain}
 use Rattle.ns_env.proofs.Begins.{new_lawful}
 use Rattle.ns_note.specs.Known.{known_of, sight_of}
-use Rattle.ns_note.specs.Law.{is_adding, is_seat, IsRuled, fresh_seat, fresh, Holds}
+use Rattle.ns_note.specs.Law.{is_adding, IsRuled, fresh_seat, fresh, Holds}
 use Rattle.ns_note.specs.Told.{Adds, HaveLearned, Learned}
 use Rattle.ns_note.proofs.Words.{zeros_are}
 use Rattle.ns_seats.specs.Meetings.{IsBySums}

@@ -11,7 +11,7 @@ use Rattle.ns_counters.specs.Lawful.{HasWords, ViewFits, IsLawful}
 use Rattle.ns_counters.specs.Objects.{IsLegalObjects, objects_own, AreObjectsBySeats}
 use Rattle.ns_counters.proofs.Objects.{own-append}
 use Rattle.ns_objects.specs.Known.{known_of, sight_of, no_setup}
-use Rattle.ns_objects.specs.Law.{is_seat, IsRuled, fresh_seat, fresh, Holds}
+use Rattle.ns_objects.specs.Law.{IsRuled, fresh_seat, fresh, Holds}
 use Rattle.ns_objects.specs.Told.{HaveMet, Learned}
 use Rattle.ns_seats.specs.Meetings.{IsBySums}
 use Rattle.ns_seats.specs.Sights.{HasSight}

@@ -1,10 +1,8 @@
--- One waiter further in a scan.
-use Rattle.std.proofs.Common.{◌≡◌, ℕ, ◌+◌, ◌≤◌, ◌<◌, ◌⊎◌, inl, inr, Bool, true, false, not, cond, ◌&&◌, ◌||◌, List, [], ◌∷◌, ◌++◌, length, get_or, drop, Option, None, Some, is_some, is_none, IfSome, refl, ap, sym, ◌∙◌, arith}
+-- What is known of a run's first condition, and what it takes to learn that.
+use Rattle.std.proofs.Common.{◌≡◌, ◌≤◌, ◌⊎◌, inl, inr, Bool, true, false, cond, ◌&&◌, Option, None, Some, is_some, is_none, IfSome, refl, ap, sym, ◌∙◌, arith}
 use Rattle.std.specs.Prelude.{unwrap_or}
-use Rattle.ns_queue.specs.declared.waiter.Waiter.{Waiter}
 use Rattle.ns_queue.specs.Scans.{is_satisfied, is_alike}
-use Rattle.ns_queue.specs.Marks.{Ended, Stage, asked_for, asking, needs, scan_marks, stage_after, stage_next, takes, tests_from}
-use Rattle.ns_queue.proofs.Marking.{drop_step, pushed_on}
+use Rattle.ns_queue.specs.Marks.{asked_for, asking}
 
 module _ {C : Type 0} (same : C → C → Bool) (meets : C → Bool) where
   -- the run that a waiter stands in
@@ -38,43 +36,5 @@ module _ {C : Type 0} (same : C → C → Bool) (meets : C → Bool) where
   taken_asked true first (Some t) known = known
   taken_asked false first truth known = refl
 
-  count_alike : (needed : Bool) (truth : Option Bool) (o first : Option C) (R : Bool → ℕ) → is_alike same o first ≡ true →
-      cond (needed && not (is_some truth)) 1 0 + R (needed || is_some truth) ≡ asking needed first truth + R (is_some (asked_for meets needed first truth))
-  count_alike true None (Some d) (Some c) R alike = refl
-  count_alike true None (Some d) None R alike = absurd (cc)
-  count_alike true None None first R alike = absurd (cc)
-  count_alike true (Some t) o first R alike = refl
-  count_alike false None o first R alike = refl
-  count_alike false (Some t) o first R alike = refl
-
-  count_start : (needed : Bool) (o : Option C) (R : Bool → ℕ) →
-      cond (needed && is_some o) 1 0 + R needed ≡ asking needed o None + R (is_some (asked_for meets needed o None))
-  count_start true o R = refl
-  count_start false o R = refl
-
-  pub tests_entered : (stage : Stage) (w : Waiter C) (ws : List (Waiter C)) (first : Option C) (truth : Option Bool) (first' : Option C) (truth' : Option Bool) → Enters w.cond first truth first' truth' →
-      tests_from same meets stage first (is_some truth) (w ∷ ws)
-      ≡ asking (needs stage w) first' truth' + tests_from same meets (stage_after meets stage w) first' (is_some (asked_for meets (needs stage w) first' truth')) ws
-  tests_entered stage w ws first truth first' truth' (inl e) =
-      rw (e.0, e.1, e.2) (count_alike (needs stage w) truth w.cond first (λ b. tests_from same meets (stage_after meets stage w) first b ws) e.0)
-  tests_entered stage w ws first truth first' truth' (inr e) =
-      rw (e.0, e.1, e.2) (count_start (needs stage w) w.cond (λ b. tests_from same meets (stage_after meets stage w) w.cond b ws))
-
   pub asking_most : (needed : Bool) (first : Option C) (truth : Option Bool) → asking needed first truth ≤ 1
   asking_most needed first truth = elim (needed && is_none truth && is_some first) as (λ b. cond b 1 0 ≤ 1) [ true ↦ omega arith | false ↦ omega arith ]
-
-  -- the tests, one waiter further
-  pub tests_on : (ws : List (Waiter C)) (i : ℕ) (w : Waiter C) (stage stage' : Stage) (b needed : Bool) (first first' : Option C) (truth truth' truth'' : Option Bool) (tests more whole : ℕ) →
-      i < length ws → w ≡ get_or ws i w → b ≡ takes meets stage w → stage' ≡ stage_next stage b w → needed ≡ needs stage w → Enters w.cond first truth first' truth' →
-      truth'' ≡ asked_for meets needed first' truth' → more ≡ asking needed first' truth' →
-      tests + tests_from same meets stage first (is_some truth) (drop i ws) ≡ whole → (tests + more) + tests_from same meets stage' first' (is_some truth'') (drop (i + 1) ws) ≡ whole
-  tests_on ws i w stage stage' b needed first first' truth truth' truth'' tests more whole within is mark after need enters told counts before =
-      let cut = ap (tests_from same meets stage first (is_some truth)) (drop_step ws i w w within (sym is)) in
-      let step = tests_entered stage w (drop (i + 1) ws) first truth first' truth' enters in
-      rw (after, mark, told, counts, need) (omega (arith, cut, step, before))
-
-  -- behind a writer that was taken nobody is taken, and nothing is tested
-  ended_tests : (first : Option C) (known : Bool) (ws : List (Waiter C)) → tests_from same meets Ended first known ws ≡ 0
-  ended_tests first known [] = refl
-  ended_tests first known (w ∷ ws) = elim (is_alike same w.cond first) as (λ b. cond b (0 + tests_from same meets Ended first known ws) (0 + tests_from same meets Ended w.cond false ws) ≡ 0)
-      [ true ↦ omega (arith, ended_tests first known ws) | false ↦ omega (arith, ended_tests w.cond false ws) ]

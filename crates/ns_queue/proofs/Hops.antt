@@ -4,7 +4,7 @@ use Rattle.std.proofs.lemmas.Bool.{ne_eqb, eq-eqb, cases_eq}
 use Rattle.std.proofs.lemmas.List.{get_or-set_same, get_or-set_other}
 use Rattle.ns_queue.specs.declared.waiter.Waiter.{Waiter}
 use Rattle.ns_queue.specs.Waiters.{times_in}
-use Rattle.ns_queue.specs.Rings.{Hops, first_seat, last_seat, seated, walk, ahead, behind}
+use Rattle.ns_queue.specs.Rings.{Hops, first_seat, last_seat, seated, gather, ahead, behind}
 use Rattle.ns_queue.proofs.Seats.{one_if, times_in-cons, times_in-append}
 
 module _ {A : Type 0} where
@@ -178,17 +178,17 @@ module _ {C : Type 0} where
   seated_here (v ∷ xs) ys w out =
       let apart = stands_not w.seat v xs out in seated_rest w.seat v (xs ++ w ∷ ys) (λ e. apart.0 (sym e)) ∙ seated_here xs ys w apart.1
 
-  -- ---- the walk
+  -- ---- what is gathered along the links
 
-  pub walk_is : (held : List (Option (Waiter C))) (nx pv : List ℕ) (ws : List (Waiter C)) (x y n : ℕ) → Hops nx pv x ws y → ((s : ℕ) → times_in s ws ≤ 1) →
-      ((s : ℕ) → 1 ≤ times_in s ws → get_or held s None ≡ seated s ws) → n ≡ length ws → walk held nx n (get_or nx x 0) ≡ ws
-  unfolding walk
-  walk_is held nx pv [] x y n h once has size = rw size refl
-  walk_is held nx pv (w ∷ ws) x y n h once has size =
+  pub gather_is : (held : List (Option (Waiter C))) (nx pv : List ℕ) (ws : List (Waiter C)) (x y n : ℕ) → Hops nx pv x ws y → ((s : ℕ) → times_in s ws ≤ 1) →
+      ((s : ℕ) → 1 ≤ times_in s ws → get_or held s None ≡ seated s ws) → n ≡ length ws → gather held nx n (get_or nx x 0) ≡ ws
+  unfolding gather
+  gather_is held nx pv [] x y n h once has size = rw size refl
+  gather_is held nx pv (w ∷ ws) x y n h once has size =
       let own = own_first w ws (once w.seat) in
       let one = ap one_if (eq-eqb w.seat w.seat refl) in
       let here : get_or held w.seat None ≡ Some w = has w.seat (omega (arith, times_in-cons w.seat w ws, one)) ∙ seated_first w ws in
-      let rest = walk_is held nx pv ws w.seat y (length ws) h.1 (λ s. omega (arith, once s, times_in-cons s w ws))
+      let rest = gather_is held nx pv ws w.seat y (length ws) h.1 (λ s. omega (arith, once s, times_in-cons s w ws))
       (λ s stands. has s (omega (arith, stands, times_in-cons s w ws)) ∙ seated_rest s w ws (λ e. absurd (let off = ap (λ k. times_in k ws) e in omega (arith, off, own, stands)))) refl in
       rw (size, h.0.0, here) (ap (λ vs. w ∷ vs) rest)
 

@@ -11,7 +11,7 @@ use Rattle.ns_queue.specs.declared.waiter.Which.TheVariants.{Cv}
 use Rattle.ns_queue.specs.Waiters.{times_in, without_in}
 use Rattle.ns_queue.specs.Queues.{Lists, IsOrderly, times, with_waiters, waiters_of}
 use Rattle.ns_queue.proofs.Seats.{times_in-cons, times_in_push}
-use Rattle.ns_queue.proofs.Orders.{orderly_more, orderly_less, times_set, lock_times, cv_times, part_has_room}
+use Rattle.ns_queue.proofs.Orders.{orderly_more, orderly_less, times_set, cv_times, part_has_room}
 
 -- what a test told
 pub told_yes : (b : Bool) (n : ℕ) → b ≡ true → (IsTrue b → 0 < n) → 0 < n
@@ -25,6 +25,10 @@ pub on_none : (b : Bool) (n : ℕ) → (0 < n → IsTrue b) → OnFalse b (n ≡
 on_none true n tells = tt
 on_none false zero tells = refl
 on_none false (suc n) tells = let other = tells (omega arith) in cc
+
+-- one who stands in neither part
+pub neither : (m n : ℕ) → m ≡ 0 → n ≡ 0 → (IsTrue false → 0 < m + n) × (0 < m + n → IsTrue false)
+neither m n none out = (λ no. absurd (cc), λ here. absurd (omega (arith, here, none, out)))
 
 module _ {C : Type 0} where
   abbrev pub shape : List (Waiter C) → List (ArrayVec (Waiter C)) → Lists C
@@ -130,6 +134,10 @@ module _ {C : Type 0} where
   sums_without out [] seat = omega arith
   sums_without out (v ∷ vs) seat =
       omega (arith, sum_by-cons (times_in seat) v vs, sum_by-cons (times_in seat) (without_in out v) (map (without_in out) vs), sums_without out vs seat, times_in-filter (λ w. not (eqb w.seat out)) v seat)
+
+  -- a seat taken out of the lock list
+  pub lock_left : (lock lock' : List (Waiter C)) (cvs : List (ArrayVec (Waiter C))) (out : ℕ) → IsOrderly (shape lock cvs) → lock' ≡ without_in out lock → IsOrderly (shape lock' cvs)
+  lock_left lock lock' cvs out orderly is = lock_lessened lock lock' cvs orderly (λ seat. rw is (times_in-filter (λ w. not (eqb w.seat out)) lock seat))
 
   pub removed : (lock lock' : List (Waiter C)) (cvs cvs' : List (ArrayVec (Waiter C))) (out : ℕ) → IsOrderly (shape lock cvs) → lock' ≡ without_in out lock →
       map (λ u. u.items) cvs' ≡ map (without_in out) (map (λ u. u.items) cvs) → IsOrderly (shape lock' cvs')

@@ -74,3 +74,14 @@ module _ {C : Type 0} where
           ]
           | inr stays ↦ rw stays (stays_first (woken_of meets ws) w ws (omega (arith, times_woken w.seat ws, own)) ∙ ap (λ vs. w ∷ vs) (woken_leave ws (row_rest w ws row)))
         ]
+
+    -- nobody comes in
+    pub times_left : (ws : List (Waiter C)) (seat : ℕ) → times_in seat (left_of meets ws) ≤ times_in seat ws
+    times_left [] seat = omega arith
+    times_left (w ∷ ws) seat = elim (cases_Bool (is_eligible meets w)) [
+      | inl goes ↦ elim (cases_Bool (writes w)) [
+        | inl alone ↦ rw (goes, alone) (omega (arith, times_in-cons seat w ws))
+        | inr reader ↦ rw (goes, reader) (omega (arith, times_in-cons seat w ws, times_in-filter (λ v. not (along v)) ws seat))
+      ]
+      | inr stays ↦ rw stays (omega (arith, times_in-cons seat w ws, times_in-cons seat w (left_of meets ws), times_left ws seat))
+    ]

@@ -18,6 +18,5 @@ pub mod Making
 pub mod Places
 pub mod Ringed
 pub mod Running
-pub mod Seekings
 pub mod Leaving
 pub mod Reading

@@ -1,7 +1,7 @@
 -- What a change of a list makes of the links of its runs.
-use Rattle.std.proofs.Common.{◌≡◌, ◌≢◌, ℕ, ◌<◌, inl, inr, Bool, true, false, true≢false, List, [], ◌∷◌, ◌++◌, length, get_or, set, Option, None, Some, refl, ap, sym, ◌∙◌, subst, arith, length-set}
+use Rattle.std.proofs.Common.{◌≡◌, ◌≢◌, ℕ, ◌<◌, inl, inr, Bool, true, false, true≢false, List, [], ◌∷◌, ◌++◌, length, get_or, set, replicate, Option, None, Some, refl, ap, sym, ◌∙◌, subst, arith, length-set}
 use Rattle.std.proofs.lemmas.Bool.{cases_Bool}
-use Rattle.std.proofs.lemmas.List.{get_or-set_same, get_or-set_other}
+use Rattle.std.proofs.lemmas.List.{get_or-set_same, get_or-set_other, get_or-replicate, length-replicate}
 use Rattle.ns_queue.specs.declared.waiter.Waiter.{Waiter}
 use Rattle.ns_queue.specs.Waiters.{times_in, without_in}
 use Rattle.ns_queue.specs.Rings.{ahead, behind, from, first_seat, last_seat, seated, IsRow}
@@ -203,6 +203,29 @@ module _ {C : Type 0} (same : C → C → Bool) where
         end = other_end heads w.seat w.seat within h.end;
         heads_all = length-set heads w.seat w.seat ∙ h.heads_all;
         lasts_all = h.lasts_all;
+      }
+
+  -- ---- made anew from the front, where no waiter links to a first
+
+  stand_none : (heads lasts : List ℕ) (ws : List (Waiter C)) → IsRow ws → ((k : ℕ) → k < 64 → get_or heads k 0 ≡ 64) → StandRuns same heads lasts ws
+  stand_none heads lasts [] row none = tt
+  stand_none heads lasts (w ∷ ws) row none =
+      let low = row_low [] ws w row in
+      (λ own. absurd (omega (arith, own, none w.seat low, low)), stand_none heads lasts ws (row_rest w ws row) none)
+
+  pub anew : (lasts : List ℕ) (first : ℕ) (ws : List (Waiter C)) → IsRow ws → first ≡ first_seat 64 ws → length lasts ≡ 65 → MadeUpTo same (replicate 65 64) lasts 64 64 first ws
+  anew lasts first ws row is all =
+      let cuts = cut_at [] ws row in
+      let nobody : ahead first ws ≡ [] = ap (λ k. ahead k ws) is ∙ cuts.1 in
+      let rest : from first ws ≡ ws = ap (λ k. from k ws) is ∙ cuts.0 in
+      record {
+        links = rw nobody tt;
+        head_is = rw nobody refl;
+        before_is = rw nobody refl;
+        rest = rw rest (stand_none (replicate 65 64) lasts ws row (λ k low. get_or-replicate 65 k 64 0 (omega (arith, low))));
+        end = get_or-replicate 65 64 64 0 (omega arith);
+        heads_all = length-replicate {A = ℕ} 65 64;
+        lasts_all = all;
       }
 
   -- ---- one less

@@ -1,13 +1,12 @@
--- What the marks and the counts come to.
-use Rattle.std.proofs.Common.{◌≡◌, ℕ, suc, ◌≤◌, Bool, true, false, not, cond, ◌&&◌, List, [], ◌∷◌, length, drop, refl, ap, arith}
+-- What the marks of a signal come to.
+use Rattle.std.proofs.Common.{◌≡◌, ℕ, suc, ◌≤◌, Bool, true, false, not, cond, List, [], ◌∷◌, length, drop, refl, ap, arith}
 use Rattle.std.specs.List.{filter}
 use Rattle.ns_queue.specs.declared.waiter.Waiter.{Waiter}
 use Rattle.ns_queue.specs.declared.signal.Wanted.{Wanted}
 use Rattle.ns_queue.specs.declared.signal.Wanted.TheVariants.{Anybody, ReadersAndWriter, Readers, Nobody}
 use Rattle.ns_queue.specs.Waiters.{reads, writes, times_in}
-use Rattle.ns_queue.specs.Scans.{is_eligible, woken_of, left_of}
 use Rattle.ns_queue.specs.Signals.{readers_and_a_writer, signaled_of, unsignaled_of}
-use Rattle.ns_queue.specs.Marks.{Ended, Reading, Seeking, Stage, marked, scan_marks, signal_marks, stage_after, unmarked, wanted_after}
+use Rattle.ns_queue.specs.Marks.{marked, signal_marks, unmarked, wanted_after}
 use Rattle.ns_queue.proofs.Seats.{times_in-cons}
 
 module _ {C : Type 0} where
@@ -58,51 +57,6 @@ module _ {C : Type 0} where
   signal_leaves [] = refl
   signal_leaves (w ∷ ws) = elim (writes w) as (λ b. unmarked (signal_marks (cond b Nobody ReadersAndWriter) ws) ws ≡ cond b ws (drop 1 (filter writes ws)))
       [ true ↦ nobody_left ws | false ↦ mixed_left ws ]
-
-module _ {C : Type 0} (meets : C → Bool) where
-  pub length-scan_marks : (stage : Stage) (ws : List (Waiter C)) → length (scan_marks meets stage ws) ≡ length ws
-  length-scan_marks stage [] = refl
-  length-scan_marks stage (w ∷ ws) = ap suc (length-scan_marks (stage_after meets stage w) ws)
-
-  ended_takes : (ws : List (Waiter C)) → marked (scan_marks meets Ended ws) ws ≡ []
-  ended_takes [] = refl
-  ended_takes (w ∷ ws) = ended_takes ws
-
-  ended_leaves : (ws : List (Waiter C)) → unmarked (scan_marks meets Ended ws) ws ≡ ws
-  ended_leaves [] = refl
-  ended_leaves (w ∷ ws) = ap (λ vs. w ∷ vs) (ended_leaves ws)
-
-  reading_takes : (ws : List (Waiter C)) → marked (scan_marks meets Reading ws) ws ≡ filter (λ v. reads v && is_eligible meets v) ws
-  reading_takes [] = refl
-  reading_takes (w ∷ ws) = ap (λ vs. cond (reads w && is_eligible meets w) (w ∷ vs) vs) (reading_takes ws)
-
-  reading_leaves : (ws : List (Waiter C)) → unmarked (scan_marks meets Reading ws) ws ≡ filter (λ v. not (reads v && is_eligible meets v)) ws
-  reading_leaves [] = refl
-  reading_leaves (w ∷ ws) = elim (reads w && is_eligible meets w) as (λ b. cond b (unmarked (scan_marks meets Reading ws) ws) (w ∷ unmarked (scan_marks meets Reading ws) ws) ≡ cond (not b) (w ∷ filter (λ v. not (reads v && is_eligible meets v)) ws) (filter (λ v. not (reads v && is_eligible meets v)) ws))
-      [ true ↦ reading_leaves ws | false ↦ ap (λ vs. w ∷ vs) (reading_leaves ws) ]
-
-  pub scan_takes : (ws : List (Waiter C)) → marked (scan_marks meets Seeking ws) ws ≡ woken_of meets ws
-  scan_takes [] = refl
-  scan_takes (w ∷ ws) =
-      elim (is_eligible meets w) as (λ b. cond b (w ∷ marked (scan_marks meets (cond b (cond (writes w) Ended Reading) Seeking) ws) ws) (marked (scan_marks meets (cond b (cond (writes w) Ended Reading) Seeking) ws) ws)
-      ≡ cond b (w ∷ cond (writes w) [] (filter (λ v. reads v && is_eligible meets v) ws)) (woken_of meets ws)) [
-        | true ↦ elim (writes w) as (λ b. (w ∷ marked (scan_marks meets (cond b Ended Reading) ws) ws) ≡ (w ∷ cond b [] (filter (λ v. reads v && is_eligible meets v) ws)))
-            [ true ↦ ap (λ vs. w ∷ vs) (ended_takes ws) | false ↦ ap (λ vs. w ∷ vs) (reading_takes ws) ]
-        | false ↦ scan_takes ws
-      ]
-
-  pub scan_leaves : (ws : List (Waiter C)) → unmarked (scan_marks meets Seeking ws) ws ≡ left_of meets ws
-  scan_leaves [] = refl
-  scan_leaves (w ∷ ws) =
-      elim (is_eligible meets w) as (λ b. cond b (unmarked (scan_marks meets (cond b (cond (writes w) Ended Reading) Seeking) ws) ws) (w ∷ unmarked (scan_marks meets (cond b (cond (writes w) Ended Reading) Seeking) ws) ws)
-      ≡ cond b (cond (writes w) ws (filter (λ v. not (reads v && is_eligible meets v)) ws)) (w ∷ left_of meets ws)) [
-        | true ↦ elim (writes w) as (λ b. unmarked (scan_marks meets (cond b Ended Reading) ws) ws ≡ cond b ws (filter (λ v. not (reads v && is_eligible meets v)) ws))
-            [ true ↦ ended_leaves ws | false ↦ reading_leaves ws ]
-        | false ↦ ap (λ vs. w ∷ vs) (scan_leaves ws)
-      ]
-
-  pub times_left : (ws : List (Waiter C)) (seat : ℕ) → times_in seat (left_of meets ws) ≤ times_in seat ws
-  times_left ws seat = rw (← scan_leaves ws) (times_unmarked (scan_marks meets Seeking ws) ws seat)
 
 module _ {C : Type 0} where
   pub signaled_fit : (a b : List (Waiter C)) (c ms : List Bool) (items : List (Waiter C)) → a ≡ items → b ≡ items → c ≡ ms → ms ≡ signal_marks Anybody a → length c ≡ length b

@@ -1,5 +1,5 @@
 -- One of the five lists: read back, changed, and left by a seat.
-use Rattle.std.proofs.Common.{◌≡◌, ◌≢◌, ℕ, zero, suc, ◌+◌, ◌≤◌, ◌<◌, inl, inr, cond, eqb, List, [], ◌∷◌, length, get_or, set, map, refl, ap, ◌∙◌, arith}
+use Rattle.std.proofs.Common.{◌≡◌, ◌≢◌, ℕ, zero, suc, ◌+◌, ◌≤◌, ◌<◌, inl, inr, cond, eqb, List, [], ◌∷◌, length, get_or, set, map, refl, ap, arith}
 use Rattle.std.specs.List.{sum_by}
 use Rattle.std.proofs.lemmas.List.{length-set, get_or-set_same, get_or-set_other}
 use Rattle.std.proofs.lemmas.List.Sums.{sum_by-cons, get_or-le-sum_by}
@@ -10,7 +10,7 @@ use Rattle.ns_queue.specs.declared.waiter.Which.TheVariants.{Lock, Cv}
 use Rattle.ns_queue.specs.Waiters.{times_in, without_in, HaveSeats}
 use Rattle.ns_queue.specs.Queues.{Lists, IsList, IsOrderly, times, waiters_of, with_waiters, without}
 use Rattle.ns_queue.proofs.Seats.{times_in-cons}
-use Rattle.ns_queue.proofs.Orders.{orderly_less, times_set, lock_times, cv_times}
+use Rattle.ns_queue.proofs.Orders.{times_set, lock_times, cv_times}
 
 module _ {C : Type 0} where
   -- ---- a list that was put
@@ -20,14 +20,7 @@ module _ {C : Type 0} where
   read_back lists Lock ws four low = refl
   read_back lists (Cv k) ws four low = get_or-set_same lists.cvs k ws [] (omega (arith, four, low))
 
-  -- what was put into a list leaves every other list
-  pub read_other : (lists : Lists C) (which other : Which) (ws : List (Waiter C)) → other ≢ which → waiters_of (with_waiters lists which ws) other ≡ waiters_of lists other
-  read_other lists Lock Lock ws ne = absurd (ne refl)
-  read_other lists Lock (Cv j) ws ne = refl
-  read_other lists (Cv k) Lock ws ne = refl
-  read_other lists (Cv k) (Cv j) ws ne = get_or-set_other lists.cvs k j ws [] (λ e. ne (ap Cv e))
-
-  -- the same of two variables
+  -- what was put into a variable's list leaves every other variable's
   pub read_apart : (lists : Lists C) (k j : ℕ) (ws : List (Waiter C)) → j ≢ k → waiters_of (with_waiters lists (Cv k) ws) (Cv j) ≡ waiters_of lists (Cv j)
   read_apart lists k j ws ne = get_or-set_other lists.cvs k j ws [] ne
 

@@ -9,9 +9,9 @@ use Rattle.std.proofs.lemmas.List.Sums.{sum_by-cons, sum_by-append}
 use Rattle.ns_queue.specs.declared.waiter.Waiter.{Waiter}
 use Rattle.ns_queue.specs.declared.counts.Counts.{Counts}
 use Rattle.ns_queue.specs.Waiters.{times_in, without_in, HaveSeats, has_condition, is_long}
-use Rattle.ns_queue.specs.Rings.{Hops, first_seat, last_seat, seated, walk, ahead, behind, IsRow, Holds, DoCount, counts_of, counts_more, counts_less, writes_plainly}
+use Rattle.ns_queue.specs.Rings.{Hops, first_seat, last_seat, seated, gather, ahead, behind, IsRow, Holds, DoCount, counts_of, counts_more, counts_less, writes_plainly}
 use Rattle.ns_queue.proofs.Seats.{one_if, times_in-cons, times_in-append, room_for}
-use Rattle.ns_queue.proofs.Hops.{Spread, stands_not, linked, joined, seated_none, seated_other, seated_here, walk_is, first_hop, last_hop, rest_hops, hop_back, Parted, part}
+use Rattle.ns_queue.proofs.Hops.{Spread, stands_not, linked, joined, seated_none, seated_other, seated_here, gather_is, first_hop, last_hop, rest_hops, hop_back, Parted, part}
 
 -- where an entry lies, in bytes
 pub entry_at : (seat size : ℕ) → seat < 64 → size < 2 ^ 50 → Fits w64 (seat * size)
@@ -91,10 +91,10 @@ module _ {C : Type 0} where
 
   -- ---- what the links and entries hold
 
-  pub view_of : (held : List (Option (Waiter C))) (nx pv : List ℕ) (c : Counts) (ws : List (Waiter C)) → Holds held nx pv c ws → walk held nx c.len (get_or nx 64 0) ≡ ws
-  view_of held nx pv c ws h = walk_is held nx pv ws 64 64 c.len h.ring.hops h.ring.once (λ s stands. h.ring.held_by s) (ap (λ k. k.len) h.counted)
+  pub view_of : (held : List (Option (Waiter C))) (nx pv : List ℕ) (c : Counts) (ws : List (Waiter C)) → Holds held nx pv c ws → gather held nx c.len (get_or nx 64 0) ≡ ws
+  view_of held nx pv c ws h = gather_is held nx pv ws 64 64 c.len h.ring.hops h.ring.once (λ s stands. h.ring.held_by s) (ap (λ k. k.len) h.counted)
 
-  pub closes : (held : List (Option (Waiter C))) (nx pv : List ℕ) (c : Counts) (ws : List (Waiter C)) → Holds held nx pv c ws → Holds held nx pv c (walk held nx c.len (get_or nx 64 0))
+  pub closes : (held : List (Option (Waiter C))) (nx pv : List ℕ) (c : Counts) (ws : List (Waiter C)) → Holds held nx pv c ws → Holds held nx pv c (gather held nx c.len (get_or nx 64 0))
   closes held nx pv c ws h = rw (view_of held nx pv c ws h) h
 
   pub has_room : (held : List (Option (Waiter C))) (nx pv : List ℕ) (c : Counts) (ws : List (Waiter C)) (w : Waiter C) → Holds held nx pv c ws → w.seat < 64 → times_in w.seat ws ≡ 0 → c.len < 64

@@ -11,7 +11,7 @@ use Rattle.ns_queue.specs.Rings.{ahead, behind, from, first_seat, one_for, seate
 use Rattle.ns_queue.specs.Runs.{place_of, joins, head_of, RunsOn, sought_seat}
 use Rattle.ns_queue.proofs.Places.{found, from_none, cut_at, own, own_times, parted, row_at, row_front}
 use Rattle.ns_queue.proofs.Links.{head_yes, head_no, on_at, on_rest}
-use Rattle.ns_queue.proofs.Seekings.{front_no, front_yes, seeking_alike, seeking_other, seeking_found}
+use Rattle.ns_queue.proofs.Seeking.{front_no, front_yes, seeking_alike, seeking_other, seeking_found}
 
 -- tests stay few
 pub tests_fit : (tests more : ℕ) (b : Bool) → tests < 64 → more ≡ one_for b → Fits w32 (tests + more)

@@ -34,7 +34,7 @@ module _ {C : Type 0} where
   pub times_in_push : (ws : List (Waiter C)) (w : Waiter C) (seat : ℕ) → times_in seat (ws ++ w ∷ []) ≡ times_in seat ws + one_if (eqb w.seat seat)
   times_in_push ws w seat = omega (arith, times_in-append seat ws (w ∷ []), times_in-cons seat w [])
 
-  -- ---- a walk along a list that looks for a seat
+  -- ---- a pass along a list that looks for a seat
 
   pub found_in : (ws : List (Waiter C)) (i : ℕ) (w : Waiter C) (seat : ℕ) → i < length ws → w ≡ get_or ws i w → w.seat ≡ seat → 0 < times_in seat ws
   found_in ws i w seat within is here =
@@ -51,7 +51,7 @@ module _ {C : Type 0} where
       let none : times_in seat ws ≡ 0 = sym (ap (times_in seat) (take_all i ws over)) ∙ before in
       (λ is. absurd (cc), λ some. absurd (omega (arith, none, some)))
 
-  -- ---- a walk along a list that gathers its seats
+  -- ---- a pass along a list that gathers its seats
 
   pub seats_so_far : (ws : List (Waiter C)) (i : ℕ) (got : List ℕ) → i < length ws → length ws ≤ 64 → got ≡ seats_of (take i ws) → length got < 64
   seats_so_far ws i got within most is =

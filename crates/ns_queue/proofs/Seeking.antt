@@ -1,11 +1,10 @@
 -- Whom a scan takes first, and how many conditions it tests to find that one, or nobody.
-use Rattle.std.proofs.Common.{◌≡◌, ℕ, zero, suc, ◌+◌, ◌≤◌, ◌<◌, inl, inr, Bool, true, false, cond, List, [], ◌∷◌, ◌++◌, length, get_or, take, drop, replicate, Option, None, Some, is_some, IfSome, refl, ap, sym, ◌∙◌, arith, append_assoc, add-one, not, ◌&&◌, ◌||◌}
+use Rattle.std.proofs.Common.{◌≡◌, ℕ, zero, suc, ◌+◌, ◌≤◌, ◌<◌, inl, inr, Bool, true, false, cond, List, [], ◌∷◌, length, get_or, take, drop, Option, None, Some, is_some, IfSome, refl, ap, sym, ◌∙◌, arith, not, ◌&&◌, ◌||◌}
 use Rattle.std.proofs.lemmas.Bool.{cases_Bool}
-use Rattle.std.proofs.lemmas.List.{drop_all, length-append, length-replicate}
 use Rattle.ns_queue.specs.declared.waiter.Waiter.{Waiter}
-use Rattle.ns_queue.specs.Scans.{is_eligible, is_satisfied, is_alike, woken_of, left_of}
-use Rattle.ns_queue.specs.Marks.{Seeking, Stage, in_front, needs, scan_marks, stage_after, stage_next, tests_from, tests_seeking}
-use Rattle.ns_queue.proofs.Marking.{drop_step}
+use Rattle.ns_queue.specs.Scans.{is_eligible, is_satisfied, is_alike, woken_of}
+use Rattle.ns_queue.specs.Rings.{one_for}
+use Rattle.ns_queue.specs.Marks.{Seeking, Stage, in_front, needs, stage_after, stage_next, tests_from, tests_seeking}
 
 pub at_most_one : (b : Bool) → cond b 1 0 ≤ 1
 at_most_one true = omega arith
@@ -15,13 +14,6 @@ few_taken : {A : Type 0} (n : ℕ) (xs : List A) → length (take n xs) ≤ n
 few_taken zero xs = omega arith
 few_taken (suc n) [] = omega arith
 few_taken (suc n) (x ∷ xs) = omega (arith, few_taken n xs)
-
--- a condition that is tested is counted
-pub one_more : (answer is : Bool) (n : ℕ) → answer ≡ is → answer ≡ true → n ≡ 1 → n ≡ cond is 1 0
-one_more answer is n same holds one = rw (sym same ∙ holds) one
-
-pub none_more : (answer is : Bool) (n : ℕ) → answer ≡ is → answer ≡ false → n ≡ 0 → n ≡ cond is 1 0
-none_more answer is n same fails none = rw (sym same ∙ fails) none
 
 module _ {C : Type 0} (same : C → C → Bool) (meets : C → Bool) where
   -- the condition, if there is one, is false
@@ -36,6 +28,10 @@ module _ {C : Type 0} (same : C → C → Bool) (meets : C → Bool) where
   -- what a test of a waiter's condition tells
   pub answered : (o tested : Option C) (answer value : Bool) → tested ≡ o → answer ≡ is_satisfied meets tested → answer ≡ value → is_satisfied meets o ≡ value
   answered o tested answer value new told is = ap (is_satisfied meets) (sym new) ∙ sym told ∙ is
+
+  -- and how many tests that takes
+  pub counted : (o tested : Option C) (tests : ℕ) → tested ≡ o → tests ≡ one_for (is_some tested) → tests ≡ one_for (is_some o)
+  counted o tested tests new is = is ∙ ap (λ p. one_for (is_some p)) new
 
   pub unmet_of : (o : Option C) → is_satisfied meets o ≡ false → Unmet o
   unmet_of None stays = tt
@@ -52,27 +48,23 @@ module _ {C : Type 0} (same : C → C → Bool) (meets : C → Bool) where
 
   -- ---- one waiter
 
-  front_no : (w : Waiter C) (ws : List (Waiter C)) → is_eligible meets w ≡ false → in_front meets (w ∷ ws) ≡ suc (in_front meets ws)
+  pub front_no : (w : Waiter C) (ws : List (Waiter C)) → is_eligible meets w ≡ false → in_front meets (w ∷ ws) ≡ suc (in_front meets ws)
   front_no w ws stays = rw stays refl
 
-  front_yes : (w : Waiter C) (ws : List (Waiter C)) → is_eligible meets w ≡ true → in_front meets (w ∷ ws) ≡ 0
+  pub front_yes : (w : Waiter C) (ws : List (Waiter C)) → is_eligible meets w ≡ true → in_front meets (w ∷ ws) ≡ 0
   front_yes w ws goes = rw goes refl
 
-  seeking_alike : (w : Waiter C) (ws : List (Waiter C)) (first : Option C) → is_eligible meets w ≡ false → is_alike same w.cond first ≡ true →
+  pub seeking_alike : (w : Waiter C) (ws : List (Waiter C)) (first : Option C) → is_eligible meets w ≡ false → is_alike same w.cond first ≡ true →
       tests_seeking same meets first (w ∷ ws) ≡ tests_seeking same meets first ws
   seeking_alike w ws first stays alike = rw (stays, alike, some_alike w.cond first alike) (omega arith)
 
-  seeking_other : (w : Waiter C) (ws : List (Waiter C)) (first : Option C) → is_eligible meets w ≡ false → is_alike same w.cond first ≡ false →
+  pub seeking_other : (w : Waiter C) (ws : List (Waiter C)) (first : Option C) → is_eligible meets w ≡ false → is_alike same w.cond first ≡ false →
       tests_seeking same meets first (w ∷ ws) ≡ cond (is_some w.cond) 1 0 + tests_seeking same meets w.cond ws
   seeking_other w ws first stays other = rw (stays, other, some_unmet w.cond stays) refl
 
-  seeking_found : (w : Waiter C) (ws : List (Waiter C)) (first : Option C) → is_eligible meets w ≡ true → is_alike same w.cond first ≡ false →
+  pub seeking_found : (w : Waiter C) (ws : List (Waiter C)) (first : Option C) → is_eligible meets w ≡ true → is_alike same w.cond first ≡ false →
       tests_seeking same meets first (w ∷ ws) ≡ cond (is_some w.cond) 1 0
   seeking_found w ws first goes other = rw (goes, other) (omega arith)
-
-  -- ---- one waiter further
-
-  -- ---- at the end of the list
 
   -- ---- where nobody is taken
 
@@ -90,13 +82,6 @@ module _ {C : Type 0} (same : C → C → Bool) (meets : C → Bool) where
     | inr stays ↦ rw stays (nobody_taken ws (omega (arith, all, front_no w ws stays)))
   ]
 
-  pub all_left : (ws : List (Waiter C)) → in_front meets ws ≡ length ws → left_of meets ws ≡ ws
-  all_left [] all = refl
-  all_left (w ∷ ws) all = elim (cases_Bool (is_eligible meets w)) [
-    | inl goes ↦ absurd (omega (arith, all, front_yes w ws goes))
-    | inr stays ↦ rw stays (ap (λ vs. w ∷ vs) (all_left ws (omega (arith, all, front_no w ws stays))))
-  ]
-
   whole_list : (ws : List (Waiter C)) → take (suc (length ws)) ws ≡ ws
   whole_list [] = refl
   whole_list (w ∷ ws) = ap (λ vs. w ∷ vs) (whole_list ws)
@@ -105,21 +90,6 @@ module _ {C : Type 0} (same : C → C → Bool) (meets : C → Bool) where
   all_sought ws all = rw (all, whole_list ws) refl
 
   -- ---- where somebody is taken
-
-  pub found_at : (ws : List (Waiter C)) (w : Waiter C) → in_front meets ws < length ws → w ≡ get_or ws (in_front meets ws) w → is_eligible meets w ≡ true
-  found_at [] w within is = absurd (omega (arith, within))
-  found_at (v ∷ ws) w within is = elim (cases_Bool (is_eligible meets v)) [
-    | inl goes ↦ let here : w ≡ v = rw goes at is in ap (is_eligible meets) here ∙ goes
-    | inr stays ↦ found_at ws w (omega (arith, within, front_no v ws stays)) (rw stays at is)
-  ]
-
-  pub marks_found : (ws : List (Waiter C)) (w : Waiter C) → in_front meets ws < length ws → w ≡ get_or ws (in_front meets ws) w →
-      replicate (in_front meets ws) false ++ true ∷ scan_marks meets (stage_next Seeking true w) (drop (suc (in_front meets ws)) ws) ≡ scan_marks meets Seeking ws
-  marks_found [] w within is = absurd (omega (arith, within))
-  marks_found (v ∷ ws) w within is = elim (cases_Bool (is_eligible meets v)) [
-    | inl goes ↦ let here : w ≡ v = rw goes at is in rw (goes, here) refl
-    | inr stays ↦ rw stays (ap (λ ms. false ∷ ms) (marks_found ws w (omega (arith, within, front_no v ws stays)) (rw stays at is)))
-  ]
 
   tests_split : ((c d : C) → same c d ≡ true → meets c ≡ meets d) → (first : Option C) (ws : List (Waiter C)) (w : Waiter C) → Unmet first → in_front meets ws < length ws → w ≡ get_or ws (in_front meets ws) w →
       tests_seeking same meets first ws + tests_from same meets (stage_next Seeking true w) w.cond true (drop (suc (in_front meets ws)) ws) ≡ tests_from same meets Seeking first (is_some first) ws

@@ -1,4 +1,4 @@
--- Lists taken apart by marks, one for each waiter, and the stages in which a scan and a signal set them.
+-- The tests of a scan, stage by stage, and lists that are taken apart by marks, one for each waiter, as a signal does.
 use Rattle.std.specs.Prelude.{ℕ, suc, take, ◌+◌, Bool, true, false, not, ◌&&◌, ◌||◌, List, [], ◌∷◌, if◌then◌else◌, Option, Some, is_none, is_some}
 use Rattle.ns_queue.specs.declared.waiter.Waiter.{Waiter}
 use Rattle.ns_queue.specs.declared.signal.Wanted.{Wanted}
@@ -51,11 +51,6 @@ asked_for meets needed first truth = if needed && is_none truth then Some (is_sa
 -- how many tests it takes to learn what is needed of a condition: one, where it is needed and not known yet
 abbrev pub asking : {C : Type 0} → Bool → Option C → Option Bool → ℕ
 asking needed first truth = if needed && is_none truth && is_some first then 1 else 0
-
--- the marks of a scan from a stage on
-abbrev pub scan_marks : {C : Type 0} → (C → Bool) → Stage → List (Waiter C) → List Bool
-scan_marks meets stage [] = []
-scan_marks meets stage (w ∷ ws) = takes meets stage w ∷ scan_marks meets (stage_after meets stage w) ws
 
 -- the tests of a scan from a stage on, in a run with this first condition, which was tested or not
 abbrev pub tests_from : {C : Type 0} → (C → C → Bool) → (C → Bool) → Stage → Option C → Bool → List (Waiter C) → ℕ

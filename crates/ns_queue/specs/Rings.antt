@@ -49,9 +49,9 @@ after_one None ws = []
 after_one (Some w) ws = w ∷ ws
 
 -- what lies at the places that the links lead to
-unfoldable pub walk : {C : Type 0} → List (Option (Waiter C)) → List ℕ → ℕ → ℕ → List (Waiter C)
-walk held next zero seat = []
-walk held next (suc n) seat = after_one (slice_index_or held seat None) (walk held next n (slice_index next seat))
+unfoldable pub gather : {C : Type 0} → List (Option (Waiter C)) → List ℕ → ℕ → ℕ → List (Waiter C)
+gather held next zero seat = []
+gather held next (suc n) seat = after_one (slice_index_or held seat None) (gather held next n (slice_index next seat))
 
 -- nobody stands in the list twice, and each has a seat below 64
 pub record IsRow {C : Type 0} (ws : List (Waiter C)) : Type 0 where

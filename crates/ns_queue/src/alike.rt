@@ -1,9 +1,8 @@
 //! Whether conditions are declared the same, and whether one is true.
 
-ghost use Rattle.std.specs.Prelude.{◌≡◌};
+ghost use Rattle.std.specs.Prelude.{◌≡◌, is_some};
 ghost use Rattle.std.specs.Option.{option_copied};
 ghost use Rattle.ns_queue.specs.Scans.{is_alike, is_satisfied};
-ghost use Rattle.ns_queue.specs.Waiters.{has_condition};
 ghost use Rattle.ns_queue.specs.Rings.{one_for};
 ghost use Rattle.ns_queue.specs.Runs.{joins};
 
@@ -46,9 +45,9 @@ pub(crate) fn is_met<C: Queueable<N>, const N: usize>(first: Option<&C>, row: &[
     }
 }
 
-/// How many tests it takes to learn whether the waiter can go on.
-pub(crate) fn tests_for<C: Queueable<N>, const N: usize>(waiter: &Waiter<C>) -> u32
-    ensures { result ≡ one_for (has_condition waiter.now) }
+/// How many tests it takes to learn whether the condition is met: one, if there is one.
+pub(crate) fn tests_for<C>(cond: Option<&C>) -> u32
+    ensures { result ≡ one_for (is_some (option_copied cond.entry)) }
 {
-    if waiter.cond.is_some() { 1 } else { 0 }
+    if cond.is_some() { 1 } else { 0 }
 }

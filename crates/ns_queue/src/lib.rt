@@ -27,6 +27,7 @@
 
 mod alike;
 mod counts;
+mod gather;
 mod lock_list;
 mod marks;
 pub mod queues;
@@ -36,4 +37,3 @@ pub mod room;
 pub mod scan;
 pub mod signal;
 pub mod waiter;
-mod walk;

@@ -10,13 +10,14 @@ ghost use Rattle.ns_queue.specs.Rings.{IsRow, without_all};
 ghost use Rattle.ns_queue.specs.Runs.{head_of, last_run, place_of, sought_seat};
 
 use crate::alike::{is_met, joins, tests_for};
+use crate::gather::{gathered, shown_all};
 use crate::remake::{mend, remake};
 use crate::ring::{END, Ring};
 use crate::room::Queueable;
 use crate::scan::{Scan, Sought, choose};
 use crate::waiter::{Shown, Waiter};
-use crate::walk::{gathered, shown_all};
 use arrayvec::ArrayVec;
+use ns_model::condition::Condition;
 use std::marker::Model;
 
 /// Waiters in a row, each by its seat, and for each the first of its run, and for that one the last
@@ -25,13 +26,13 @@ use std::marker::Model;
 /// The place [`END`] has these links too, as it has those to neighbours: so nobody in front, or
 /// behind, is no case of its own.
 #[derive(Drop)]
-pub struct LockList<C: Queueable<N>, const N: usize> {
+pub struct LockList<C: Condition<N>, const N: usize> {
     ring: Ring<C, N>,
     heads: [u8; 65],
     lasts: [u8; 65],
 }
 
-impl<C: Queueable<N>, const N: usize> Model for LockList<C, N> {
+impl<C: Condition<N>, const N: usize> Model for LockList<C, N> {
     ghost use Rattle.std.specs.Prelude.{List};
     ghost use Rattle.ns_queue.specs.declared.waiter.Waiter.{Waiter};
 
@@ -42,6 +43,19 @@ impl<C: Queueable<N>, const N: usize> Model for LockList<C, N> {
     ghost view = { λ r. r.ring };
 
     ghost invariant = { λ r. IsRuns C.means.same r.heads r.lasts r.ring };
+}
+
+/// Takes these seats out, the last of them first. The others stay as they are.
+fn take_out<C: Queueable<N>, const N: usize>(ring: &mut Ring<C, N>, seats: &[u8])
+    ensures { ring.new ≡ without_all seats.now ring.old }
+{
+    let mut left = seats.len();
+    while left > 0 {
+        left -= 1;
+        if ring.holds(seats[left]) {
+            ring.remove(seats[left]);
+        }
+    }
 }
 
 impl<C: Queueable<N>, const N: usize> LockList<C, N> {
@@ -81,6 +95,7 @@ impl<C: Queueable<N>, const N: usize> LockList<C, N> {
             counts.long > 0,
         )
     }
+
     /// The waiters, front first.
     pub fn waiters(&self) -> ArrayVec<Waiter<C>, 64>
         ensures { result.items ≡ self.now }
@@ -117,8 +132,9 @@ impl<C: Queueable<N>, const N: usize> LockList<C, N> {
         let mut seat = self.ring.front();
         let mut tests = 0;
         while let Some(waiter) = self.ring.get(seat) {
-            tests += tests_for(waiter);
-            if is_met(waiter.cond.as_ref(), row) {
+            let cond = waiter.cond.as_ref();
+            tests += tests_for(cond);
+            if is_met(cond, row) {
                 return Sought { seat, tests };
             }
             seat = self.ring.next(self.lasts[seat as usize]);
@@ -200,15 +216,30 @@ impl<C: Queueable<N>, const N: usize> LockList<C, N> {
         true
     }
 
-    /// Takes these seats out, the last of them first. The others stay as they are. So where many go
-    /// of one run, its first goes last, and the run is made anew but once.
+    /// Takes these seats out. The others stay as they are. Where more than one goes, the runs of
+    /// those who stay are made anew once, from the front to the end: no link to a first stands
+    /// before, so nothing stops that.
     fn remove_all(&mut self, seats: &[u8])
         ensures { self.new ≡ without_all seats.now self.old }
     {
-        let mut left = seats.len();
-        while left > 0 {
-            left -= 1;
-            self.remove(seats[left]);
+        match seats {
+            [] => {}
+            [seat] => {
+                self.remove(*seat);
+            }
+            _ => {
+                take_out(&mut self.ring, seats);
+                self.heads = [END; 65];
+                let first = self.ring.front();
+                remake(
+                    &self.ring,
+                    &mut self.heads,
+                    &mut self.lasts,
+                    END,
+                    END,
+                    first,
+                );
+            }
         }
     }
 

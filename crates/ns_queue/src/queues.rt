@@ -10,17 +10,18 @@ use crate::lock_list::LockList;
 use crate::room::Queueable;
 use crate::waiter::{LONG_TRIES, Shown, Waiter, Which};
 use arrayvec::ArrayVec;
+use ns_model::condition::Condition;
 use std::marker::Model;
 
 /// The waiter lists of a lock. To its callers this is five lists: the lock's, and one for each of four condition
 /// variables. A seat stands in at most one of them, once.
 #[derive(Drop)]
-pub struct Queues<C: Queueable<N>, const N: usize> {
+pub struct Queues<C: Condition<N>, const N: usize> {
     pub(crate) lock: LockList<C, N>,
     pub(crate) cvs: [ArrayVec<Waiter<C>, 64>; 4],
 }
 
-impl<C: Queueable<N>, const N: usize> Model for Queues<C, N> {
+impl<C: Condition<N>, const N: usize> Model for Queues<C, N> {
     ghost use Rattle.std.specs.Prelude.{map};
     ghost use Rattle.ns_queue.specs.Queues.{Lists, IsOrderly};
 
@@ -162,10 +163,13 @@ impl<C: Queueable<N>, const N: usize> Queues<C, N> {
         ensures removed { OnTrue result (self.new ≡ without seat self.old) }
         ensures absent { OnFalse result (self.new ≡ self.old) }
     {
-        if !self.holds(seat) {
+        // It stands in one list at most, so where it stood in the lock's no other is looked at.
+        if self.lock.remove(seat) {
+            return true;
+        }
+        if !stands_in_any(&self.cvs, seat) {
             return false;
         }
-        self.lock.remove(seat);
         drop_from_all(&mut self.cvs, seat);
         true
     }

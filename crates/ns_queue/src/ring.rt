@@ -29,11 +29,11 @@ impl<C, const N: usize> Model for Ring<C, N> {
 
     ghost Value = { List (Waiter C) };
 
-    ghost use Rattle.ns_queue.specs.Rings.{Holds, walk};
+    ghost use Rattle.ns_queue.specs.Rings.{Holds, gather};
 
-    ghost view = { λ r. walk r.held r.next r.counts.len (slice_index r.next 64) };
+    ghost view = { λ r. gather r.held r.next r.counts.len (slice_index r.next 64) };
 
-    ghost invariant = { λ r. Holds r.held r.next r.prev r.counts (walk r.held r.next r.counts.len (slice_index r.next 64)) };
+    ghost invariant = { λ r. Holds r.held r.next r.prev r.counts (gather r.held r.next r.counts.len (slice_index r.next 64)) };
 }
 
 /// Links a seat between two places.

@@ -10,7 +10,7 @@ ghost use Rattle.ns_queue.specs.Waiters.{reads, seats_of};
 ghost use Rattle.ns_queue.specs.Rings.{IsRow};
 ghost use Rattle.ns_queue.specs.Runs.{sought_seat};
 
-use crate::alike::{is_alike, is_met};
+use crate::alike::{is_alike, is_met, tests_for};
 use crate::queues::Queues;
 use crate::ring::Ring;
 use crate::room::Queueable;
@@ -58,8 +58,7 @@ fn ask<C: Queueable<N>, const N: usize>(
     if !needed || truth.is_some() {
         return (truth, 0);
     }
-    let tests = if first.is_some() { 1 } else { 0 };
-    (Some(is_met(first, row)), tests)
+    (Some(is_met(first, row)), tests_for(first))
 }
 
 /// Looks at a waiter behind a reader that was taken, in a run with this first condition, of whose
@@ -107,21 +106,15 @@ pub(crate) fn choose<C: Queueable<N>, const N: usize>(
     ensures orderly { IsRow ring.now }
 {
     let mut woken = ArrayVec::new();
+    let mut tests = sought.tests;
     let Some(found) = ring.get(sought.seat) else {
-        return Scan {
-            woken,
-            tests: sought.tests,
-        };
+        return Scan { woken, tests };
     };
     woken.push(sought.seat);
     if found.mode.is_write() {
         // Behind a writer that is taken nobody else is, so no condition is looked at.
-        return Scan {
-            woken,
-            tests: sought.tests,
-        };
+        return Scan { woken, tests };
     }
-    let mut tests = sought.tests;
     let mut first = found.cond.as_ref();
     let mut truth = Some(true);
     let mut at = ring.next(sought.seat);

@@ -1,6 +1,6 @@
 use Rattle.std.proofs.Common.{rules, true, false, sym, arith}
 use Rattle.std.specs.Option.{option_copied}
-use Rattle.ns_queue.proofs.Seeking.{answered}
+use Rattle.ns_queue.proofs.Seeking.{answered, counted}
 use Rattle.ns_queue.specs.Waiters.{has_condition}
 use Rattle.ns_queue.proofs.Places.{seated_low}
 use Rattle.ns_queue.proofs.Running.{next_run, sought_few, sought_here, sought_none, sought_on, sought_smaller, sought_start, tests_fit}
@@ -17,23 +17,23 @@ overflow_add-tests g c =
     let meets = λ (d : g.row.C.Denot). g.C.Condition.means.holds d c.args.row.now in
     let w = c.in-Some.waiter.now in
     let low = sought_few g.C.Condition.means.same meets (λ d e is. g.met.C.Condition.same_agrees d e c.args.row.now c.told-row is) _ _ c.loop-waiter.seat c.loop-waiter.tests c.self.inside.ring w c.front-seat.ensures.orderly (sym c.in-Some.ensures.waiter) c.loop-waiter.invariant in
-    tests_fit c.loop-waiter.tests c.tests_for-tests.result (has_condition w) low c.tests_for-tests.ensures
+    tests_fit c.loop-waiter.tests c.tests_for-tests.result (has_condition w) low (counted g.C.Condition.means.same meets w.cond (option_copied c.as_ref-cond.result) c.tests_for-tests.result c.as_ref-cond.ensures.value c.tests_for-tests.ensures)
 
 pub returns-then-is_met-clause-seat : goal.returns-then-is_met-clause-seat
 returns-then-is_met-clause-seat g c =
     let meets = λ (d : g.row.C.Denot). g.C.Condition.means.holds d c.args.row.now in
     let same = g.C.Condition.means.same in
     let w = c.in-Some.waiter.now in
-    let met = answered same meets w.cond (option_copied c.as_ref.result) c.is_met.result true c.as_ref.ensures.value c.is_met.ensures c.if-is_met.true in
-    rw (← c.self.view_is) (sought_here same meets (λ d e is. g.met.C.Condition.same_agrees d e c.args.row.now c.told-row is) _ _ c.loop-waiter.seat c.loop-waiter.tests c.tests_for-tests.result c.self.inside.ring w (sym c.in-Some.ensures.waiter) met c.tests_for-tests.ensures c.loop-waiter.invariant).0
+    let met = answered same meets w.cond (option_copied c.as_ref-cond.result) c.is_met.result true c.as_ref-cond.ensures.value c.is_met.ensures c.if-is_met.true in
+    rw (← c.self.view_is) (sought_here same meets (λ d e is. g.met.C.Condition.same_agrees d e c.args.row.now c.told-row is) _ _ c.loop-waiter.seat c.loop-waiter.tests c.tests_for-tests.result c.self.inside.ring w (sym c.in-Some.ensures.waiter) met (counted g.C.Condition.means.same meets w.cond (option_copied c.as_ref-cond.result) c.tests_for-tests.result c.as_ref-cond.ensures.value c.tests_for-tests.ensures) c.loop-waiter.invariant).0
 
 pub returns-then-is_met-clause-tests : goal.returns-then-is_met-clause-tests
 returns-then-is_met-clause-tests g c =
     let meets = λ (d : g.row.C.Denot). g.C.Condition.means.holds d c.args.row.now in
     let same = g.C.Condition.means.same in
     let w = c.in-Some.waiter.now in
-    let met = answered same meets w.cond (option_copied c.as_ref.result) c.is_met.result true c.as_ref.ensures.value c.is_met.ensures c.if-is_met.true in
-    rw (← c.self.view_is) (sought_here same meets (λ d e is. g.met.C.Condition.same_agrees d e c.args.row.now c.told-row is) _ _ c.loop-waiter.seat c.loop-waiter.tests c.tests_for-tests.result c.self.inside.ring w (sym c.in-Some.ensures.waiter) met c.tests_for-tests.ensures c.loop-waiter.invariant).1
+    let met = answered same meets w.cond (option_copied c.as_ref-cond.result) c.is_met.result true c.as_ref-cond.ensures.value c.is_met.ensures c.if-is_met.true in
+    rw (← c.self.view_is) (sought_here same meets (λ d e is. g.met.C.Condition.same_agrees d e c.args.row.now c.told-row is) _ _ c.loop-waiter.seat c.loop-waiter.tests c.tests_for-tests.result c.self.inside.ring w (sym c.in-Some.ensures.waiter) met (counted g.C.Condition.means.same meets w.cond (option_copied c.as_ref-cond.result) c.tests_for-tests.result c.as_ref-cond.ensures.value c.tests_for-tests.ensures) c.loop-waiter.invariant).1
 
 pub bounds-self-inside-seat : goal.bounds-self-inside-seat
 bounds-self-inside-seat g c = let low = seated_low c.loop-waiter.seat c.self.inside.ring c.in-Some.waiter.now c.front-seat.ensures.orderly (sym c.in-Some.ensures.waiter) in omega (arith, low)
@@ -54,10 +54,10 @@ loop-waiter-preserved g c =
     let meets = λ (d : g.row.C.Denot). g.C.Condition.means.holds d c.args.row.now in
     let same = g.C.Condition.means.same in
     let w = c.in-Some.waiter.now in
-    let unmet = answered same meets w.cond (option_copied c.as_ref.result) c.is_met.result false c.as_ref.ensures.value c.is_met.ensures c.if-is_met.false in
+    let unmet = answered same meets w.cond (option_copied c.as_ref-cond.result) c.is_met.result false c.as_ref-cond.ensures.value c.is_met.ensures c.if-is_met.false in
     let r = next_run same c.self.inside.heads c.self.inside.lasts c.loop-waiter.seat c.self.inside.ring w c.front-seat.ensures.orderly (sym c.in-Some.ensures.waiter) c.loop-waiter.invariant.runs in
     sought_on same meets (λ d e is. g.met.C.Condition.same_agrees d e c.args.row.now c.told-row is) c.self.inside.heads c.self.inside.lasts c.loop-waiter.seat c.loop-waiter.tests c.tests_for-tests.result c.next-seat.result c.self.inside.ring w
-    (start_link same c.self.inside.heads c.self.inside.lasts c.self.inside.ring c.self.invariant.on) r unmet c.tests_for-tests.ensures c.next-seat.ensures c.loop-waiter.invariant
+    (start_link same c.self.inside.heads c.self.inside.lasts c.self.inside.ring c.self.invariant.on) r unmet (counted same meets w.cond (option_copied c.as_ref-cond.result) c.tests_for-tests.result c.as_ref-cond.ensures.value c.tests_for-tests.ensures) c.next-seat.ensures c.loop-waiter.invariant
 
 pub returns-clause-seat : goal.returns-clause-seat
 returns-clause-seat g c =

@@ -1,6 +1,6 @@
 use Rattle.std.proofs.Common.{refl}
 use Rattle.ns_queue.proofs.Inside.{lock_lessened}
-use Rattle.ns_queue.proofs.Meaning.{times_left}
+use Rattle.ns_queue.proofs.Leaving.{times_left}
 use Rattle.ns_queue.proofs.queues.Queues.scan.Goals as goal
 
 pub invariant_of-self : goal.invariant_of-self

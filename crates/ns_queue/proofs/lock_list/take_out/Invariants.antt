@@ -1,10 +1,10 @@
 use Rattle.std.proofs.Common.{◌≡◌, ◌≤◌, drop, length}
 use Rattle.ns_queue.specs.Rings.{without_all}
-use Rattle.ns_queue.proofs.lock_list.LockList.remove_all.Given as goal
+use Rattle.ns_queue.proofs.lock_list.take_out.Given as goal
 
 -- those from here on are out
 abbrev pub invariant-loop-left : goal.invariant-loop-left
-invariant-loop-left g l = record { out : l.self ≡ without_all (drop l.left l.seats) l.initial.self; within : l.left ≤ length l.seats }
+invariant-loop-left g l = record { out : l.ring ≡ without_all (drop l.left l.seats) l.initial.ring; within : l.left ≤ length l.seats }
 
 -- those that are still to go
 abbrev pub decreases-loop-left : goal.decreases-loop-left

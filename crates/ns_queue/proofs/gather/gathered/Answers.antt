@@ -1,6 +1,6 @@
 use Rattle.std.proofs.Common.{rules, ◌++◌, ◌∷◌, [], ap, sym, ◌∙◌}
 use Rattle.ns_queue.proofs.Places.{ahead_few, from_none, own, seated_stands, smaller, stepped}
-use Rattle.ns_queue.proofs.walk.gathered.Goals as goal
+use Rattle.ns_queue.proofs.gather.gathered.Goals as goal
 
 pub loop-waiter-init : goal.loop-waiter-init
 loop-waiter-init g c = rw (c.new-all.ensures, c.front-at.ensures.place) (sym (own c.args.ring.now).1)

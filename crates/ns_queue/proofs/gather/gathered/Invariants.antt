@@ -1,11 +1,10 @@
-use Rattle.std.proofs.Common.{◌≡◌, length, map}
-use Rattle.ns_queue.specs.Waiters.{shown_of}
+use Rattle.std.proofs.Common.{◌≡◌, length}
 use Rattle.ns_queue.specs.Rings.{ahead, from}
-use Rattle.ns_queue.proofs.walk.shown_all.Given as goal
+use Rattle.ns_queue.proofs.gather.gathered.Given as goal
 
 -- those so far
 abbrev pub invariant-loop-waiter : goal.invariant-loop-waiter
-invariant-loop-waiter g l = l.all.items ≡ map shown_of (ahead l.at l.ring)
+invariant-loop-waiter g l = l.all.items ≡ ahead l.at l.ring
 
 -- those that are left
 abbrev pub decreases-loop-waiter : goal.decreases-loop-waiter

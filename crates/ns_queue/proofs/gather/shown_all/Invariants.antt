@@ -1,10 +1,11 @@
-use Rattle.std.proofs.Common.{◌≡◌, length}
+use Rattle.std.proofs.Common.{◌≡◌, length, map}
+use Rattle.ns_queue.specs.Waiters.{shown_of}
 use Rattle.ns_queue.specs.Rings.{ahead, from}
-use Rattle.ns_queue.proofs.walk.gathered.Given as goal
+use Rattle.ns_queue.proofs.gather.shown_all.Given as goal
 
 -- those so far
 abbrev pub invariant-loop-waiter : goal.invariant-loop-waiter
-invariant-loop-waiter g l = l.all.items ≡ ahead l.at l.ring
+invariant-loop-waiter g l = l.all.items ≡ map shown_of (ahead l.at l.ring)
 
 -- those that are left
 abbrev pub decreases-loop-waiter : goal.decreases-loop-waiter

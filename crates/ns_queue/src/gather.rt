@@ -1,4 +1,4 @@
-//! Walks along the links, from the first waiter to the last.
+//! What is found along the links, from the first waiter to the last.
 
 ghost use Rattle.std.specs.Prelude.{◌≡◌, map};
 ghost use Rattle.ns_queue.specs.Waiters.{shown_of};
