@@ -13,8 +13,8 @@ use Rattle.ns_queue.specs.declared.waiter.Which.TheVariants.{Cv, Lock}
 use Rattle.ns_queue.specs.Waiters.{is_of, without_in}
 use Rattle.ns_queue.proofs.Inside.{told_no}
 use Rattle.ns_queue.proofs.Marking.{drop_step}
-use Rattle.ns_queue.proofs.Parts.{below_in, none_without, times_with}
-use Rattle.ns_queue.proofs.Seats.{times_in-cons}
+use Rattle.ns_queue.proofs.Parts.{below_in, times_with}
+use Rattle.ns_queue.proofs.Seats.{none_without, times_in-cons}
 use Rattle.ns_queue.proofs.Taken.{times_signaled}
 use Rattle.ns_word.proofs.Ranges.{lists_orderly}
 use Rattle.ns_gate.specs.Prelude.{SeatOf, the, Carries, Performed, change_found, moves, seats_of, Act, Found, Walk, Truths, Lists, Waiter, HaveSeats, IsOrderly, bits_of, times, times_in, waiters_of, with_waiters, without, Part, SeatView, has_queues, has_some, is_held, kept_by, moved_to, taken_by, lists_left, lists_woken, owed_woken, taken_from, turned_to, without_each, woken_nobody, ReturnQueues, WakeWaiters, Woke, Waking, Broadcasting, Signaling, Word}

@@ -3,15 +3,14 @@ use Rattle.std.proofs.Common.{◌≡◌, ℕ, ◌+◌, ◌≤◌, ◌<◌, eqb, 
 use Rattle.std.proofs.lemmas.List.Sums.{sum_by_more_le}
 use Rattle.std.proofs.lemmas.Bool.{eq-eqb}
 use Rattle.arrayvec.specs.ArrayVec.{ArrayVec}
+use Rattle.ns_model.specs.Tallies.{one_if}
 use Rattle.ns_queue.specs.declared.waiter.Waiter.{Waiter}
 use Rattle.ns_queue.specs.declared.waiter.Which.TheVariants.{Lock, Cv}
 use Rattle.ns_queue.specs.Waiters.{HaveSeats, times_in}
 use Rattle.ns_queue.specs.Queues.{Lists, IsOrderly, times, with_waiters}
-use Rattle.ns_queue.specs.Signals.{signaled_of}
-use Rattle.ns_queue.proofs.Seats.{one_if, times_in-append}
+use Rattle.ns_queue.proofs.Seats.{times_in-append}
 use Rattle.ns_queue.proofs.Inside.{shape, list_at}
 use Rattle.ns_queue.proofs.Parts.{below_in}
-use Rattle.ns_queue.proofs.Taken.{times_signaled}
 
 module _ {C : Type 0} where
   -- the next of them stands nowhere yet
@@ -22,9 +21,6 @@ module _ {C : Type 0} where
       let one : ◌≡◌ {A = ℕ} (one_if (eqb (get_or ws i w).seat w.seat)) 1 = ap one_if (eq-eqb (get_or ws i w).seat w.seat (ap (λ v. v.seat) (sym is))) in
       omega (arith, more, one, once w.seat, times_in-append w.seat lists.lock (take i ws), ap (times w.seat) so_far)
 
-  -- the waiters of a variable's list have seats, and so have those of them whom a signal takes
+  -- the waiters of a variable's list have seats
   pub have_seats_at : (lock : List (Waiter C)) (cvs : List (ArrayVec (Waiter C))) (k : ℕ) (d : ArrayVec (Waiter C)) → IsOrderly (shape lock cvs) → k < 4 → HaveSeats (get_or cvs k d).items
   have_seats_at lock cvs k d orderly low = rw (← list_at lock cvs k d orderly low) (below_in (shape lock cvs) (Cv k) orderly low)
-
-  pub have_signaled : (ws : List (Waiter C)) → HaveSeats ws → HaveSeats (signaled_of ws)
-  have_signaled ws low seat high = omega (arith, times_signaled ws seat, low seat high)

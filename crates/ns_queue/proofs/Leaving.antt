@@ -1,16 +1,16 @@
 -- What is left of a list whose taken waiters are taken out one by one.
-use Rattle.std.proofs.Common.{◌≡◌, ◌≢◌, ℕ, ◌+◌, ◌-◌, ◌≤◌, ◌<◌, inl, inr, Bool, not, ◌&&◌, List, [], ◌∷◌, length, drop, filter, get_or, refl, ap, sym, ◌∙◌, arith}
+use Rattle.std.proofs.Common.{◌≡◌, ◌≢◌, ℕ, ◌+◌, ◌-◌, ◌≤◌, ◌<◌, inl, inr, Bool, not, List, [], ◌∷◌, length, drop, filter, get_or, refl, ap, sym, ◌∙◌, arith}
 use Rattle.std.proofs.lemmas.Bool.{cases_Bool, eq-eqb, ne_eqb}
 use Rattle.ns_queue.specs.declared.waiter.Waiter.{Waiter}
 use Rattle.ns_queue.specs.Scans.{is_eligible, left_of, woken_of}
-use Rattle.ns_queue.specs.Waiters.{reads, seats_of, times_in, without_in, writes}
+use Rattle.ns_queue.specs.Waiters.{seats_of, times_in, without_in, writes}
 use Rattle.ns_queue.proofs.Inside.{times_in-filter}
 use Rattle.ns_queue.proofs.Marking.{drop_step}
-use Rattle.ns_queue.proofs.Seats.{times_in-cons}
+use Rattle.ns_queue.proofs.Seats.{none_without, times_in-cons}
+use Rattle.ns_queue.proofs.Seeking.{goes_along}
 use Rattle.ns_queue.specs.Rings.{IsRow, without_all}
 use Rattle.ns_queue.proofs.Hops.{stands_not}
 use Rattle.ns_queue.proofs.Places.{row_own, row_rest}
-use Rattle.ns_queue.proofs.Ringed.{without_none}
 
 module _ {C : Type 0} where
   -- one seat further
@@ -31,7 +31,7 @@ module _ {C : Type 0} where
       ap (without_in v.seat) (stays_first vs w ws apart.1) ∙ other_stays v.seat w (without_all (seats_of vs) ws) apart.0
 
   first_goes : (w : Waiter C) (ws : List (Waiter C)) → times_in w.seat ws ≡ 0 → without_in w.seat (w ∷ ws) ≡ ws
-  first_goes w ws out = rw (eq-eqb w.seat w.seat refl) (without_none w.seat ws out)
+  first_goes w ws out = rw (eq-eqb w.seat w.seat refl) (none_without w.seat ws out)
 
   -- the first goes after others did
   goes_last : (vs : List (Waiter C)) (w : Waiter C) (ws left : List (Waiter C)) → times_in w.seat vs ≡ 0 → times_in w.seat left ≡ 0 → without_all (seats_of vs) ws ≡ left → without_in w.seat (without_all (seats_of vs) (w ∷ ws)) ≡ left
@@ -49,15 +49,12 @@ module _ {C : Type 0} where
       ]
 
   module _ (meets : C → Bool) where
-    abbrev along : Waiter C → Bool
-    along v = reads v && is_eligible meets v
-
     times_woken : (s : ℕ) (ws : List (Waiter C)) → times_in s (woken_of meets ws) ≤ times_in s ws
     times_woken s [] = omega arith
     times_woken s (w ∷ ws) = elim (cases_Bool (is_eligible meets w)) [
       | inl goes ↦ elim (cases_Bool (writes w)) [
         | inl alone ↦ rw (goes, alone) (omega (arith, times_in-cons s w ws, times_in-cons s w []))
-        | inr reader ↦ rw (goes, reader) (omega (arith, times_in-cons s w ws, times_in-cons s w (filter along ws), times_in-filter along ws s))
+        | inr reader ↦ rw (goes, reader) (omega (arith, times_in-cons s w ws, times_in-cons s w (filter (goes_along meets) ws), times_in-filter (goes_along meets) ws s))
       ]
       | inr stays ↦ rw stays (omega (arith, times_in-cons s w ws, times_woken s ws))
     ]
@@ -69,8 +66,8 @@ module _ {C : Type 0} where
         elim (cases_Bool (is_eligible meets w)) [
           | inl goes ↦ elim (cases_Bool (writes w)) [
             | inl alone ↦ rw (goes, alone) (first_goes w ws own)
-            | inr reader ↦ rw (goes, reader) (goes_last (filter along ws) w ws (filter (λ v. not (along v)) ws) (omega (arith, times_in-filter along ws w.seat, own)) (omega (arith, times_in-filter (λ v. not (along v)) ws w.seat, own))
-                (filter_leaves along ws (row_rest w ws row)))
+            | inr reader ↦ rw (goes, reader) (goes_last (filter (goes_along meets) ws) w ws (filter (λ v. not (goes_along meets v)) ws) (omega (arith, times_in-filter (goes_along meets) ws w.seat, own)) (omega (arith, times_in-filter (λ v. not (goes_along meets v)) ws w.seat, own))
+                (filter_leaves (goes_along meets) ws (row_rest w ws row)))
           ]
           | inr stays ↦ rw stays (stays_first (woken_of meets ws) w ws (omega (arith, times_woken w.seat ws, own)) ∙ ap (λ vs. w ∷ vs) (woken_leave ws (row_rest w ws row)))
         ]
@@ -81,7 +78,7 @@ module _ {C : Type 0} where
     times_left (w ∷ ws) seat = elim (cases_Bool (is_eligible meets w)) [
       | inl goes ↦ elim (cases_Bool (writes w)) [
         | inl alone ↦ rw (goes, alone) (omega (arith, times_in-cons seat w ws))
-        | inr reader ↦ rw (goes, reader) (omega (arith, times_in-cons seat w ws, times_in-filter (λ v. not (along v)) ws seat))
+        | inr reader ↦ rw (goes, reader) (omega (arith, times_in-cons seat w ws, times_in-filter (λ v. not (goes_along meets v)) ws seat))
       ]
       | inr stays ↦ rw stays (omega (arith, times_in-cons seat w ws, times_in-cons seat w (left_of meets ws), times_left ws seat))
     ]

@@ -4,10 +4,11 @@ use Rattle.std.proofs.Common.{Fits, w64}
 use Rattle.std.proofs.Math.Nat.{mul-le-mul_right}
 use Rattle.std.proofs.lemmas.List.Sums.{sum_by-set, get_or-le-sum_by}
 use Rattle.std.proofs.lemmas.Bool.{ne_eqb, eq-eqb, cases_eq}
+use Rattle.ns_model.specs.Tallies.{one_if}
 use Rattle.ns_queue.specs.declared.waiter.Waiter.{Waiter}
 use Rattle.ns_queue.specs.Waiters.{times_in}
 use Rattle.ns_queue.specs.Queues.{Lists, IsOrderly, times}
-use Rattle.ns_queue.proofs.Seats.{one_if, room_for}
+use Rattle.ns_queue.proofs.Seats.{room_for}
 
 module _ {C : Type 0} where
   -- one more waiter

@@ -1,15 +1,14 @@
 -- One of the five lists: read back, changed, and left by a seat.
-use Rattle.std.proofs.Common.{◌≡◌, ◌≢◌, ℕ, zero, suc, ◌+◌, ◌≤◌, ◌<◌, inl, inr, cond, eqb, List, [], ◌∷◌, length, get_or, set, map, refl, ap, arith}
+use Rattle.std.proofs.Common.{◌≡◌, ◌≢◌, ℕ, zero, suc, ◌+◌, ◌≤◌, ◌<◌, List, [], ◌∷◌, length, get_or, set, map, refl, ap, arith}
 use Rattle.std.specs.List.{sum_by}
 use Rattle.std.proofs.lemmas.List.{length-set, get_or-set_same, get_or-set_other}
 use Rattle.std.proofs.lemmas.List.Sums.{sum_by-cons, get_or-le-sum_by}
-use Rattle.std.proofs.lemmas.Bool.{ne_eqb, eq-eqb, cases_eq}
 use Rattle.ns_queue.specs.declared.waiter.Waiter.{Waiter}
 use Rattle.ns_queue.specs.declared.waiter.Which.{Which}
 use Rattle.ns_queue.specs.declared.waiter.Which.TheVariants.{Lock, Cv}
 use Rattle.ns_queue.specs.Waiters.{times_in, without_in, HaveSeats}
 use Rattle.ns_queue.specs.Queues.{Lists, IsList, IsOrderly, times, waiters_of, with_waiters, without}
-use Rattle.ns_queue.proofs.Seats.{times_in-cons}
+use Rattle.ns_queue.proofs.Seats.{none_without}
 use Rattle.ns_queue.proofs.Orders.{times_set, lock_times, cv_times}
 
 module _ {C : Type 0} where
@@ -51,16 +50,6 @@ module _ {C : Type 0} where
   below_in lists which orderly is seat high = omega (arith, times_at_most lists which seat orderly.four is, orderly.below seat high)
 
   -- ---- a seat that stands in one of them is taken out of that one alone
-
-  -- a list without one who doesn't stand in it
-  pub none_without : (seat : ℕ) (ws : List (Waiter C)) → times_in seat ws ≡ 0 → without_in seat ws ≡ ws
-  none_without seat [] none = refl
-  none_without seat (w ∷ ws) none =
-      let sum = times_in-cons seat w ws in
-      elim (cases_eq w.seat seat) [
-        | inl same ↦ let one : ◌≡◌ {A = ℕ} (cond (eqb w.seat seat) 1 0) 1 = rw (eq-eqb w.seat seat same) refl in absurd (omega (arith, sum, one, none))
-        | inr other ↦ rw (ne_eqb w.seat seat other) (ap (λ vs. w ∷ vs) (none_without seat ws (omega (arith, sum, none))))
-      ]
 
   lists_without : (seat : ℕ) (lists : List (List (Waiter C))) → sum_by (times_in seat) lists ≡ 0 → map (without_in seat) lists ≡ lists
   lists_without seat [] none = refl

@@ -1,11 +1,11 @@
 -- A place in a list: those in front of it, and those from it on.
-use Rattle.std.proofs.Common.{◌≡◌, ℕ, ◌+◌, ◌≤◌, ◌<◌, inl, inr, eqb, not, List, [], ◌∷◌, ◌++◌, None, Some, refl, ap, sym, ◌∙◌, length, subst, arith, append_assoc, get_or, take, length-append}
+use Rattle.std.proofs.Common.{◌≡◌, ℕ, ◌+◌, ◌<◌, inl, inr, not, List, [], ◌∷◌, ◌++◌, None, Some, refl, ap, sym, ◌∙◌, length, subst, arith, append_assoc, length-append}
 use Rattle.std.proofs.lemmas.Bool.{ne_eqb, eq-eqb, cases_eq}
 use Rattle.std.proofs.lemmas.List.{append-nil}
-use Rattle.std.proofs.lemmas.List.Sums.{sum_by_more_le}
+use Rattle.ns_model.specs.Tallies.{one_if}
 use Rattle.ns_queue.specs.declared.waiter.Waiter.{Waiter}
 use Rattle.ns_queue.specs.Waiters.{is_of, times_in, without_in}
-use Rattle.ns_queue.proofs.Seats.{few, one_if, times_in-cons, times_in-append}
+use Rattle.ns_queue.proofs.Seats.{few, own_times, times_in-cons, times_in-append}
 use Rattle.ns_queue.proofs.Inside.{times_in-filter}
 use Rattle.ns_queue.specs.Rings.{ahead, behind, from, first_seat, seated, IsRow}
 use Rattle.ns_queue.proofs.Hops.{seated_rest, stands_not}
@@ -62,9 +62,6 @@ module _ {C : Type 0} where
   pub own : (ys : List (Waiter C)) → (from (first_seat 64 ys) ys ≡ ys) × (ahead (first_seat 64 ys) ys ≡ [])
   own [] = (refl, refl)
   own (y ∷ ys) = rw (eq-eqb y.seat y.seat refl) (refl, refl)
-
-  pub own_times : (w : Waiter C) (ws : List (Waiter C)) → times_in w.seat (w ∷ ws) ≡ 1 + times_in w.seat ws
-  own_times w ws = let one = ap one_if (eq-eqb w.seat w.seat refl) in omega (arith, times_in-cons w.seat w ws, one)
 
   pub first_out : (xs ys : List (Waiter C)) → IsRow (xs ++ ys) → times_in (first_seat 64 ys) xs ≡ 0
   first_out xs [] row = omega (arith, row.below 64 (omega arith), times_in-append 64 xs [])
@@ -161,13 +158,6 @@ module _ {C : Type 0} where
   pub ahead_few : (s : ℕ) (ws : List (Waiter C)) (w : Waiter C) → IsRow ws → seated s ws ≡ Some w → length (ahead s ws) < 64
   ahead_few s ws w row is =
       let all = ap length (found s ws w is).is in omega (arith, all, length-append (ahead s ws) (w ∷ behind s ws), few 64 ws row.once row.below)
-
-  -- the next of those put behind the others stands nowhere yet
-  pub next_free : (ws now vs : List (Waiter C)) (i : ℕ) (w : Waiter C) → ((seat : ℕ) → times_in seat vs + times_in seat ws ≤ 1) → i < length vs → w ≡ get_or vs i w → now ≡ ws ++ take i vs → times_in w.seat now ≡ 0
-  next_free ws now vs i w once within is so_far =
-      let more : times_in w.seat (take i vs) + one_if (eqb (get_or vs i w).seat w.seat) ≤ times_in w.seat vs = sum_by_more_le (λ v. one_if (eqb v.seat w.seat)) vs i w within in
-      let one : ◌≡◌ {A = ℕ} (one_if (eqb (get_or vs i w).seat w.seat)) 1 = ap one_if (eq-eqb (get_or vs i w).seat w.seat (ap (λ v. v.seat) (sym is))) in
-      omega (arith, more, one, once w.seat, times_in-append w.seat ws (take i vs), ap (times_in w.seat) so_far)
 
   -- who stands at a place doesn't stand in front of it
   pub ahead_free : (s : ℕ) (ws : List (Waiter C)) (w : Waiter C) → IsRow ws → seated s ws ≡ Some w → (w.seat < 64) × (times_in w.seat (ahead s ws) ≡ 0)

@@ -5,12 +5,12 @@ use Rattle.std.proofs.lemmas.Bool.{cases_Bool}
 use Rattle.std.proofs.lemmas.List.{append-nil, length-append, length-drop, take-append-drop}
 use Rattle.ns_queue.specs.declared.waiter.Waiter.{Waiter}
 use Rattle.ns_queue.specs.Scans.{is_eligible, is_alike, tests_of, woken_of}
-use Rattle.ns_queue.specs.Marks.{asked_for, asking, in_front, needs, stage_next, tests_from, tests_seeking}
+use Rattle.ns_queue.specs.Stages.{asked_for, asking, in_front, needs, stage_next, tests_from, tests_seeking}
 use Rattle.ns_queue.specs.Waiters.{reads, seats_of, writes}
 use Rattle.ns_queue.proofs.Asking.{Enters, Knows, asking_most, knows_asked, knows_entered, met_entered, taken_asked}
 use Rattle.ns_queue.proofs.RunCounts.{tests_is}
 use Rattle.ns_queue.proofs.Seats.{few}
-use Rattle.ns_queue.proofs.Seeking.{all_sought, few_sought, front_most, nobody_taken, tests_found}
+use Rattle.ns_queue.proofs.Seeking.{all_sought, few_sought, front_most, goes_along, nobody_taken, tests_found}
 use Rattle.ns_queue.specs.Rings.{behind, from, first_seat, seated, IsRow}
 use Rattle.ns_queue.specs.Runs.{sought_seat}
 use Rattle.ns_queue.proofs.Places.{cut_at, found, from_none, row_at, stepped}
@@ -82,10 +82,6 @@ module _ {C : Type 0} (same : C → C → Bool) (meets : C → Bool) where
   reading_entered w ws first truth first' truth' (inl e) = rw (e.0, e.1, e.2) (count_alike (reads w) truth w.cond first (λ b. tests_reading first b ws) e.0)
   reading_entered w ws first truth first' truth' (inr e) = rw (e.0, e.1, e.2) (count_start (reads w) w.cond (λ b. tests_reading w.cond b ws))
 
-  -- whether a reader that was taken takes this one along
-  abbrev goes_along : Waiter C → Bool
-  goes_along v = reads v && is_eligible meets v
-
   -- what is left from the first who is taken on
   sought_from : (s : ℕ) (ws : List (Waiter C)) → IsRow ws → s ≡ sought_seat meets ws → drop (in_front meets ws) ws ≡ from s ws
   sought_from s ws row is =
@@ -95,7 +91,7 @@ module _ {C : Type 0} (same : C → C → Bool) (meets : C → Bool) where
 
   record Woken (w : Waiter C) (vs ws : List (Waiter C)) : Type 0 where
     goes : is_eligible meets w ≡ true
-    woken : woken_of meets ws ≡ w ∷ cond (writes w) [] (filter goes_along vs)
+    woken : woken_of meets ws ≡ w ∷ cond (writes w) [] (filter (goes_along meets) vs)
 
   woken_cut : (ws : List (Waiter C)) (w : Waiter C) (vs : List (Waiter C)) → drop (in_front meets ws) ws ≡ w ∷ vs → Woken w vs ws
   woken_cut [] w vs e = absurd (cc)
@@ -119,25 +115,25 @@ module _ {C : Type 0} (same : C → C → Bool) (meets : C → Bool) where
 
   -- those taken so far, the tests so far, and the rest
   pub record Reads (first : Option C) (truth : Option Bool) (at tests : ℕ) (woken : List ℕ) (ws : List (Waiter C)) : Type 0 where
-    pub taken : woken ++ seats_of (filter goes_along (from at ws)) ≡ seats_of (woken_of meets ws)
+    pub taken : woken ++ seats_of (filter (goes_along meets) (from at ws)) ≡ seats_of (woken_of meets ws)
     pub counted : tests + tests_reading first (is_some truth) (from at ws) ≡ tests_of same meets ws
     pub known : Knows same meets first truth
     pub few : tests + length (from at ws) ≤ length ws
     pub some : length woken + length (from at ws) ≤ length ws
 
-  filter_yes : (w : Waiter C) (ws : List (Waiter C)) → goes_along w ≡ true → filter goes_along (w ∷ ws) ≡ w ∷ filter goes_along ws
+  filter_yes : (w : Waiter C) (ws : List (Waiter C)) → goes_along meets w ≡ true → filter (goes_along meets) (w ∷ ws) ≡ w ∷ filter (goes_along meets) ws
   filter_yes w ws goes = rw goes refl
 
-  filter_no : (w : Waiter C) (ws : List (Waiter C)) → goes_along w ≡ false → filter goes_along (w ∷ ws) ≡ filter goes_along ws
+  filter_no : (w : Waiter C) (ws : List (Waiter C)) → goes_along meets w ≡ false → filter (goes_along meets) (w ∷ ws) ≡ filter (goes_along meets) ws
   filter_no w ws stays = rw stays refl
 
-  woken_on : (b : Bool) (at : ℕ) (woken woken' : List ℕ) (w : Waiter C) (old rest ws : List (Waiter C)) → b ≡ goes_along w → w.seat ≡ at → old ≡ w ∷ rest → woken' ≡ cond b (woken ++ at ∷ []) woken →
-      woken ++ seats_of (filter goes_along old) ≡ seats_of (woken_of meets ws) → woken' ++ seats_of (filter goes_along rest) ≡ seats_of (woken_of meets ws)
+  woken_on : (b : Bool) (at : ℕ) (woken woken' : List ℕ) (w : Waiter C) (old rest ws : List (Waiter C)) → b ≡ goes_along meets w → w.seat ≡ at → old ≡ w ∷ rest → woken' ≡ cond b (woken ++ at ∷ []) woken →
+      woken ++ seats_of (filter (goes_along meets) old) ≡ seats_of (woken_of meets ws) → woken' ++ seats_of (filter (goes_along meets) rest) ≡ seats_of (woken_of meets ws)
   woken_on true at woken woken' w old rest ws told here cut got before =
-      let more = ap (λ vs. seats_of (filter goes_along vs)) cut ∙ ap seats_of (filter_yes w rest (sym told)) in
-      rw got (append_assoc woken (at ∷ []) (seats_of (filter goes_along rest)) ∙ ap (λ k. woken ++ k ∷ seats_of (filter goes_along rest)) (sym here) ∙ ap (λ vs. woken ++ vs) (sym more) ∙ before)
+      let more = ap (λ vs. seats_of (filter (goes_along meets) vs)) cut ∙ ap seats_of (filter_yes w rest (sym told)) in
+      rw got (append_assoc woken (at ∷ []) (seats_of (filter (goes_along meets) rest)) ∙ ap (λ k. woken ++ k ∷ seats_of (filter (goes_along meets) rest)) (sym here) ∙ ap (λ vs. woken ++ vs) (sym more) ∙ before)
   woken_on false at woken woken' w old rest ws told here cut got before =
-      let more = ap (λ vs. seats_of (filter goes_along vs)) cut ∙ ap seats_of (filter_no w rest (sym told)) in
+      let more = ap (λ vs. seats_of (filter (goes_along meets) vs)) cut ∙ ap seats_of (filter_no w rest (sym told)) in
       rw got (ap (λ vs. woken ++ vs) (sym more) ∙ before)
 
   some_on : (b : Bool) (at : ℕ) (woken woken' : List ℕ) → woken' ≡ cond b (woken ++ at ∷ []) woken → length woken' ≤ length woken + 1
@@ -158,14 +154,14 @@ module _ {C : Type 0} (same : C → C → Bool) (meets : C → Bool) where
   reads_end first truth at tests woken ws none h =
       let nothing = (from_none at ws none).0 in
       let over = ap (tests_reading first (is_some truth)) nothing in (
-        sym (append-nil woken) ∙ ap (λ vs. woken ++ seats_of (filter goes_along vs)) (sym nothing) ∙ h.taken,
+        sym (append-nil woken) ∙ ap (λ vs. woken ++ seats_of (filter (goes_along meets) vs)) (sym nothing) ∙ h.taken,
         omega (arith, over, h.counted),
       )
 
   record First (s tests : ℕ) (ws : List (Waiter C)) (w : Waiter C) : Type 0 where
     here : w.seat ≡ s
     goes : is_eligible meets w ≡ true
-    woken : woken_of meets ws ≡ w ∷ cond (writes w) [] (filter goes_along (behind s ws))
+    woken : woken_of meets ws ≡ w ∷ cond (writes w) [] (filter (goes_along meets) (behind s ws))
     alone : writes w ≡ true → tests ≡ tests_of same meets ws
     reader : writes w ≡ false → tests + tests_reading w.cond true (behind s ws) ≡ tests_of same meets ws
     few : tests + length (behind s ws) ≤ length ws
@@ -215,7 +211,7 @@ module _ {C : Type 0} (same : C → C → Bool) (meets : C → Bool) where
         let on = (stepped s ws w n row stands next).behind_is in
         let taken = rw reader at f.woken in
         record {
-          taken = rw (got, ← on) (ap (λ k. k ∷ seats_of (filter goes_along (behind s ws))) (sym f.here) ∙ sym (ap seats_of taken));
+          taken = rw (got, ← on) (ap (λ k. k ∷ seats_of (filter (goes_along meets) (behind s ws))) (sym f.here) ∙ sym (ap seats_of taken));
           counted = rw (begins, ← on) (f.reader reader);
           known = rw begins (sym f.goes);
           few = rw (← on) f.few;
@@ -229,7 +225,7 @@ module _ {C : Type 0} (same : C → C → Bool) (meets : C → Bool) where
         let s = stepped at ws w n row stands next in
         let known = knows_entered same meets w.cond first truth first' truth' enters h.known in
         let met = met_entered same meets agree w.cond first truth first' truth' enters in
-        let goes : taken ≡ goes_along w = told ∙ ap (λ t. reads w && unwrap_or t true) asked ∙ taken_asked same meets (reads w) first' truth' known ∙ ap (λ b. reads w && b) (sym met) in
+        let goes : taken ≡ goes_along meets w = told ∙ ap (λ t. reads w && unwrap_or t true) asked ∙ taken_asked same meets (reads w) first' truth' known ∙ ap (λ b. reads w && b) (sym met) in
         let size = ap length s.from_is in
         let cut = ap (tests_reading first (is_some truth)) s.from_is in
         let step = reading_entered w (from n ws) first truth first' truth' enters in

@@ -3,14 +3,15 @@ use Rattle.std.proofs.Common.{◌≡◌, ℕ, zero, suc, ◌+◌, ◌*◌, ◌^�
 use Rattle.std.proofs.Math.Nat.{mul-le-mul_right}
 use Rattle.std.specs.List.{count_by, list_any}
 use Rattle.std.specs.Option.{option_map}
-use Rattle.std.proofs.lemmas.Bool.{ne_eqb, eq-eqb, cases_eq, cases_lt, lt-ltb}
+use Rattle.std.proofs.lemmas.Bool.{ne_eqb, eq-eqb, cases_eq, cases_lt}
 use Rattle.std.proofs.lemmas.List.{append-nil, get_or-set_same, get_or-set_other, get_or_default}
 use Rattle.std.proofs.lemmas.List.Sums.{sum_by-cons, sum_by-append}
+use Rattle.ns_model.specs.Tallies.{one_if}
 use Rattle.ns_queue.specs.declared.waiter.Waiter.{Waiter}
 use Rattle.ns_queue.specs.declared.counts.Counts.{Counts}
 use Rattle.ns_queue.specs.Waiters.{times_in, without_in, HaveSeats, has_condition, is_long}
 use Rattle.ns_queue.specs.Rings.{Hops, first_seat, last_seat, seated, gather, ahead, behind, IsRow, Holds, DoCount, counts_of, counts_more, counts_less, writes_plainly}
-use Rattle.ns_queue.proofs.Seats.{one_if, times_in-cons, times_in-append, room_for}
+use Rattle.ns_queue.proofs.Seats.{none_without, room_for, some_more, times_in-cons, times_in-append}
 use Rattle.ns_queue.proofs.Hops.{Spread, stands_not, linked, joined, seated_none, seated_other, seated_here, gather_is, first_hop, last_hop, rest_hops, hop_back, Parted, part}
 
 -- where an entry lies, in bytes
@@ -38,10 +39,6 @@ none_in_row : {A : Type 0} (n s : ℕ) (o : Option A) → o ≡ None → get_or 
 none_in_row zero s o is = refl
 none_in_row (suc n) zero o is = is
 none_in_row (suc n) (suc s) o is = none_in_row n s o is
-
-some_more : (b : Bool) (n : ℕ) → nat_lt 0 (one_if b + n) ≡ (b || nat_lt 0 n)
-some_more true n = lt-ltb 0 _ (omega arith)
-some_more false n = ap (nat_lt 0) (omega arith)
 
 module _ {C : Type 0} where
   -- some are counted just where there is one
@@ -197,12 +194,8 @@ module _ {C : Type 0} where
         counted = ap (λ k. counts_less k w) h.counted ∙ counted_less xs ys w;
       }
 
-  pub without_none : (s : ℕ) (ws : List (Waiter C)) → times_in s ws ≡ 0 → without_in s ws ≡ ws
-  without_none s [] out = refl
-  without_none s (w ∷ ws) out = let apart = stands_not s w ws out in rw (ne_eqb w.seat s (λ e. apart.0 (sym e))) (ap (λ vs. w ∷ vs) (without_none s ws apart.1))
-
   pub without_among : (xs ys : List (Waiter C)) (w : Waiter C) → times_in w.seat xs ≡ 0 → times_in w.seat ys ≡ 0 → without_in w.seat (xs ++ w ∷ ys) ≡ xs ++ ys
-  without_among [] ys w out out' = rw (eq-eqb w.seat w.seat refl) (without_none w.seat ys out')
+  without_among [] ys w out out' = rw (eq-eqb w.seat w.seat refl) (none_without w.seat ys out')
   without_among (v ∷ xs) ys w out out' = let apart = stands_not w.seat v xs out in rw (ne_eqb v.seat w.seat (λ e. apart.0 (sym e))) (ap (λ vs. v ∷ vs) (without_among xs ys w apart.1 out'))
 
   -- ---- at a seat

@@ -5,8 +5,8 @@ use Rattle.std.proofs.lemmas.List.Sums.{sum_by-append, sum_by-cons, count_by-le-
 use Rattle.ns_queue.specs.declared.waiter.Waiter.{Waiter}
 use Rattle.ns_queue.specs.Waiters.{reads, writes}
 use Rattle.ns_queue.specs.Scans.{is_eligible, is_alike, Asked, asked_of, goes_on, started, ended, runs_after, runs_of, tests_of}
-use Rattle.ns_queue.specs.Marks.{Ended, Reading, Seeking, Stage, needs, stage_after, tests_from}
-use Rattle.ns_queue.proofs.Seats.{one_if}
+use Rattle.ns_queue.specs.Stages.{Ended, Reading, Seeking, Stage, needs, stage_after, tests_from}
+use Rattle.ns_model.specs.Tallies.{one_if}
 
 module _ {C : Type 0} where
   abbrev asks : List (Asked C) → Bool

@@ -1,15 +1,12 @@
 -- How often a seat stands in lists, and how many waiters a list can have.
-use Rattle.std.proofs.Common.{◌≡◌, ◌≢◌, ◌↔◌, ℕ, zero, suc, ◌+◌, ◌≤◌, ◌<◌, inl, inr, Bool, false, IsTrue, cond, eqb, ltb, List, [], ◌∷◌, ◌++◌, length, get_or, take, refl, ap, sym, ◌∙◌, subst, arith}
+use Rattle.std.proofs.Common.{◌≡◌, ◌≢◌, ◌↔◌, ℕ, zero, suc, ◌+◌, ◌≤◌, ◌<◌, inl, inr, Bool, true, false, ◌||◌, IsTrue, eqb, ltb, nat_lt, List, [], ◌∷◌, ◌++◌, length, get_or, take, refl, ap, sym, ◌∙◌, subst, arith}
 use Rattle.std.specs.List.{count_by}
 use Rattle.std.proofs.lemmas.List.{length-map, length-take-le, map_more, take_all}
 use Rattle.std.proofs.lemmas.List.Sums.{sum_by-cons, sum_by-append, sum_by_more_le, count_by_more_no}
 use Rattle.std.proofs.lemmas.Bool.{ne_eqb, eq-eqb, cases_eq, cases_lt, lt-ltb, le-ltb}
+use Rattle.ns_model.specs.Tallies.{one_if}
 use Rattle.ns_queue.specs.declared.waiter.Waiter.{Waiter}
-use Rattle.ns_queue.specs.Waiters.{is_of, seats_of, times_in}
-
--- 1 where it is true, else 0
-abbrev pub one_if : Bool → ℕ
-one_if b = cond b 1 0
+use Rattle.ns_queue.specs.Waiters.{is_of, seats_of, times_in, without_in}
 
 low_none_at : (s : ℕ) → one_if (ltb s 0) ≡ 0
 low_none_at s = rw (le-ltb s 0 (omega arith)) refl
@@ -24,6 +21,11 @@ low_here s n =
       ]
     ]
 
+-- one more, or none, and others
+pub some_more : (b : Bool) (n : ℕ) → nat_lt 0 (one_if b + n) ≡ (b || nat_lt 0 n)
+some_more true n = lt-ltb 0 _ (omega arith)
+some_more false n = ap (nat_lt 0) (omega arith)
+
 module _ {C : Type 0} where
   pub times_in-cons : (seat : ℕ) (w : Waiter C) (ws : List (Waiter C)) → times_in seat (w ∷ ws) ≡ one_if (eqb w.seat seat) + times_in seat ws
   times_in-cons seat w ws = sum_by-cons (λ v. one_if (eqb v.seat seat)) w ws
@@ -33,6 +35,20 @@ module _ {C : Type 0} where
 
   pub times_in_push : (ws : List (Waiter C)) (w : Waiter C) (seat : ℕ) → times_in seat (ws ++ w ∷ []) ≡ times_in seat ws + one_if (eqb w.seat seat)
   times_in_push ws w seat = omega (arith, times_in-append seat ws (w ∷ []), times_in-cons seat w [])
+
+  -- the first waiter's seat stands there once more than behind it
+  pub own_times : (w : Waiter C) (ws : List (Waiter C)) → times_in w.seat (w ∷ ws) ≡ 1 + times_in w.seat ws
+  own_times w ws = let one = ap one_if (eq-eqb w.seat w.seat refl) in omega (arith, times_in-cons w.seat w ws, one)
+
+  -- a list without one who doesn't stand in it
+  pub none_without : (seat : ℕ) (ws : List (Waiter C)) → times_in seat ws ≡ 0 → without_in seat ws ≡ ws
+  none_without seat [] none = refl
+  none_without seat (w ∷ ws) none =
+      let sum = times_in-cons seat w ws in
+      elim (cases_eq w.seat seat) [
+        | inl same ↦ let one = ap one_if (eq-eqb w.seat seat same) in absurd (omega (arith, sum, one, none))
+        | inr other ↦ rw (ne_eqb w.seat seat other) (ap (λ vs. w ∷ vs) (none_without seat ws (omega (arith, sum, none))))
+      ]
 
   -- ---- a pass along a list that looks for a seat
 

@@ -2,9 +2,10 @@
 use Rattle.std.proofs.Common.{◌≡◌, ℕ, zero, suc, ◌+◌, ◌≤◌, ◌<◌, inl, inr, Bool, true, false, cond, List, [], ◌∷◌, length, get_or, take, drop, Option, None, Some, is_some, IfSome, refl, ap, sym, ◌∙◌, arith, not, ◌&&◌, ◌||◌}
 use Rattle.std.proofs.lemmas.Bool.{cases_Bool}
 use Rattle.ns_queue.specs.declared.waiter.Waiter.{Waiter}
+use Rattle.ns_model.specs.Tallies.{one_if}
+use Rattle.ns_queue.specs.Waiters.{reads}
 use Rattle.ns_queue.specs.Scans.{is_eligible, is_satisfied, is_alike, woken_of}
-use Rattle.ns_queue.specs.Rings.{one_for}
-use Rattle.ns_queue.specs.Marks.{Seeking, Stage, in_front, needs, stage_after, stage_next, tests_from, tests_seeking}
+use Rattle.ns_queue.specs.Stages.{Seeking, Stage, in_front, needs, stage_after, stage_next, tests_from, tests_seeking}
 
 pub at_most_one : (b : Bool) → cond b 1 0 ≤ 1
 at_most_one true = omega arith
@@ -14,6 +15,10 @@ few_taken : {A : Type 0} (n : ℕ) (xs : List A) → length (take n xs) ≤ n
 few_taken zero xs = omega arith
 few_taken (suc n) [] = omega arith
 few_taken (suc n) (x ∷ xs) = omega (arith, few_taken n xs)
+
+-- whether a waiter goes along with a reader that was taken in front of it
+abbrev pub goes_along : {C : Type 0} → (C → Bool) → Waiter C → Bool
+goes_along meets v = reads v && is_eligible meets v
 
 module _ {C : Type 0} (same : C → C → Bool) (meets : C → Bool) where
   -- the condition, if there is one, is false
@@ -30,8 +35,8 @@ module _ {C : Type 0} (same : C → C → Bool) (meets : C → Bool) where
   answered o tested answer value new told is = ap (is_satisfied meets) (sym new) ∙ sym told ∙ is
 
   -- and how many tests that takes
-  pub counted : (o tested : Option C) (tests : ℕ) → tested ≡ o → tests ≡ one_for (is_some tested) → tests ≡ one_for (is_some o)
-  counted o tested tests new is = is ∙ ap (λ p. one_for (is_some p)) new
+  pub counted : (o tested : Option C) (tests : ℕ) → tested ≡ o → tests ≡ one_if (is_some tested) → tests ≡ one_if (is_some o)
+  counted o tested tests new is = is ∙ ap (λ p. one_if (is_some p)) new
 
   pub unmet_of : (o : Option C) → is_satisfied meets o ≡ false → Unmet o
   unmet_of None stays = tt

@@ -1,18 +1,18 @@
 -- What a wake takes of a list, and what it leaves there.
-use Rattle.std.proofs.Common.{◌≡◌, ℕ, zero, suc, ◌+◌, ◌<◌, Bool, true, false, ◌||◌, inl, inr, eqb, nat_lt, List, [], ◌∷◌, length, get_or, take, ap, sym, ◌∙◌, arith, ◌≤◌, refl}
+use Rattle.std.proofs.Common.{◌≡◌, ℕ, zero, suc, ◌+◌, ◌<◌, Bool, true, false, ◌||◌, inl, inr, eqb, nat_lt, List, [], ◌∷◌, length, get_or, take, ap, sym, ◌∙◌, arith, ◌≤◌}
 use Rattle.std.proofs.Math.Bool.{or_comm}
 use Rattle.std.proofs.lemmas.Bool.{ltb-true, lt-ltb, ne_eqb, eq-eqb, cases_eq, cases_lt, le-ltb}
 use Rattle.std.proofs.lemmas.List.{take_more}
 use Rattle.ns_model.specs.declared.seats.Seats.{Seats}
 use Rattle.ns_model.specs.Seats.{is_in}
 use Rattle.ns_model.proofs.Sets.{same_seats, none_in, in_more}
-use Rattle.ns_model.specs.Tallies.{Every}
+use Rattle.ns_model.specs.Tallies.{Every, one_if}
 use Rattle.ns_queue.specs.declared.waiter.Waiter.{Waiter}
 use Rattle.ns_queue.specs.declared.signal.Wanted.TheVariants.{Anybody}
 use Rattle.ns_queue.specs.Waiters.{times_in, seats_of, HaveSeats}
 use Rattle.ns_queue.specs.Signals.{signaled_of, unsignaled_of, taken_set}
 use Rattle.ns_queue.specs.Marks.{marked, unmarked, signal_marks}
-use Rattle.ns_queue.proofs.Seats.{one_if, times_in-cons, times_in_push}
+use Rattle.ns_queue.proofs.Seats.{some_more, times_in-cons, times_in_push}
 use Rattle.ns_queue.proofs.Meaning.{signal_takes, signal_leaves}
 
 module _ {C : Type 0} where
@@ -58,10 +58,6 @@ module _ {C : Type 0} (P : Waiter C → Type 0) where
 
 -- ---- the set of those taken
 
-some_more : (b : Bool) (n : ℕ) → nat_lt 0 (one_if b + n) ≡ (b || nat_lt 0 n)
-some_more true n = lt-ltb 0 _ (omega arith)
-some_more false n = ap (nat_lt 0) (omega arith)
-
 same_either : (a b : ℕ) → eqb a b ≡ eqb b a
 same_either a b = elim (cases_eq a b) [ inl e ↦ eq-eqb a b e ∙ sym (eq-eqb b a (sym e)) | inr ne ↦ ne_eqb a b ne ∙ sym (ne_eqb b a (λ e. ne (sym e))) ]
 
@@ -82,10 +78,6 @@ module _ {C : Type 0} where
   -- who is in the set stands in the list
   pub in_stands : (ws : List (Waiter C)) (seat : ℕ) → is_in (taken_set ws) seat ≡ true → 1 ≤ times_in seat ws
   in_stands ws seat is = ltb-true 0 (times_in seat ws) (sym (in_taken ws seat) ∙ is)
-
-  -- the first waiter's seat stands there once more than behind it
-  pub first_once : (w : Waiter C) (ws : List (Waiter C)) → times_in w.seat (w ∷ ws) ≡ 1 + times_in w.seat ws
-  first_once w ws = let one : ◌≡◌ {A = ℕ} (one_if (eqb w.seat w.seat)) 1 = ap one_if (eq-eqb w.seat w.seat refl) in omega (arith, times_in-cons w.seat w ws, one)
 
   stands_at : (ws : List (Waiter C)) (i : ℕ) (w : Waiter C) → i < length ws → w ≡ get_or ws i w → 0 < times_in w.seat ws
   stands_at [] i w within is = absurd (omega (arith, within))

@@ -16,8 +16,8 @@ use Rattle.ns_queue.specs.declared.waiter.Waiter.{Waiter}
 use Rattle.ns_queue.specs.Waiters.{times_in, seats_of, reads, writes, HaveSeats}
 use Rattle.ns_queue.specs.Signals.{readers_and_a_writer, signaled_of, taken_set}
 use Rattle.ns_queue.specs.Wakes.{WaitFor, AreWaiting}
-use Rattle.ns_queue.proofs.Seats.{times_in-cons}
-use Rattle.ns_queue.proofs.Taken.{first_once, in_list, not_in_list, in_stands, once_signaled, below_signaled, every_signaled}
+use Rattle.ns_queue.proofs.Seats.{own_times, times_in-cons}
+use Rattle.ns_queue.proofs.Taken.{in_list, not_in_list, in_stands, once_signaled, below_signaled, every_signaled}
 
 -- ---- tests of seats
 
@@ -99,10 +99,10 @@ module _ {C : Type 0} where
   waits_as_any writes k (Left j mode) e = absurd (cc)
 
   first_apart : (w : Waiter C) (ws : List (Waiter C)) → times_in w.seat (w ∷ ws) ≤ 1 → (seat : ℕ) → eqb w.seat seat ≡ true → is_in (taken_set ws) seat ≡ false
-  first_apart w ws once seat e = not_in_list ws seat (subst (λ s. times_in s ws ≡ 0) (eqb-true w.seat seat e) (omega (arith, first_once w ws, once)))
+  first_apart w ws once seat e = not_in_list ws seat (subst (λ s. times_in s ws ≡ 0) (eqb-true w.seat seat e) (omega (arith, own_times w ws, once)))
 
   first_low : (w : Waiter C) (ws : List (Waiter C)) → HaveSeats (w ∷ ws) → w.seat < 64
-  first_low w ws below = elim (cases_lt w.seat 64) [ inl low ↦ low | inr high ↦ absurd (omega (arith, first_once w ws, below w.seat high)) ]
+  first_low w ws below = elim (cases_lt w.seat 64) [ inl low ↦ low | inr high ↦ absurd (omega (arith, own_times w ws, below w.seat high)) ]
 
 module _ {C : Type 0} (k : ℕ) (phases : ℕ → Phase C) where
   -- a seat that stands in the list waits

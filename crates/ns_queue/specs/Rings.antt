@@ -1,5 +1,6 @@
 -- A list of waiters by links: each waiter lies in the entry of its seat, and links go from place to place and back.
 use Rattle.std.specs.Prelude.{◌≡◌, ℕ, zero, suc, ◌+◌, ◌-◌, ◌≤◌, ◌==◌, ◌&&◌, not, Bool, List, [], ◌∷◌, Option, None, Some, if◌then◌else◌, length, count_by, slice_index, slice_index_or}
+use Rattle.ns_model.specs.Tallies.{one_if}
 use Rattle.ns_queue.specs.declared.waiter.Waiter.{Waiter}
 use Rattle.ns_queue.specs.declared.counts.Counts.{Counts}
 use Rattle.ns_queue.specs.Waiters.{times_in, without_in, HaveSeats, has_condition, writes, is_long}
@@ -76,17 +77,13 @@ writes_plainly w = writes w && not (has_condition w)
 abbrev pub counts_of : {C : Type 0} → List (Waiter C) → Counts
 counts_of ws = record { len = length ws; conditional = count_by has_condition ws; plain_writers = count_by writes_plainly ws; long = count_by is_long ws }
 
--- 1 where it is true, else 0
-abbrev pub one_for : Bool → ℕ
-one_for is = if is then 1 else 0
-
 -- the counts with one waiter more
 abbrev pub counts_more : {C : Type 0} → Counts → Waiter C → Counts
-counts_more c w = record { len = c.len + 1; conditional = c.conditional + one_for (has_condition w); plain_writers = c.plain_writers + one_for (writes_plainly w); long = c.long + one_for (is_long w) }
+counts_more c w = record { len = c.len + 1; conditional = c.conditional + one_if (has_condition w); plain_writers = c.plain_writers + one_if (writes_plainly w); long = c.long + one_if (is_long w) }
 
 -- the counts with one waiter less
 abbrev pub counts_less : {C : Type 0} → Counts → Waiter C → Counts
-counts_less c w = record { len = c.len - 1; conditional = c.conditional - one_for (has_condition w); plain_writers = c.plain_writers - one_for (writes_plainly w); long = c.long - one_for (is_long w) }
+counts_less c w = record { len = c.len - 1; conditional = c.conditional - one_if (has_condition w); plain_writers = c.plain_writers - one_if (writes_plainly w); long = c.long - one_if (is_long w) }
 
 -- no kind has more than there are
 pub record AreCounts (c : Counts) : Type 0 where
@@ -97,9 +94,9 @@ pub record AreCounts (c : Counts) : Type 0 where
 -- the counts count the waiter
 pub record DoCount {C : Type 0} (c : Counts) (w : Waiter C) : Type 0 where
   pub one : 1 ≤ c.len
-  pub conditional : one_for (has_condition w) ≤ c.conditional
-  pub plain_writers : one_for (writes_plainly w) ≤ c.plain_writers
-  pub long : one_for (is_long w) ≤ c.long
+  pub conditional : one_if (has_condition w) ≤ c.conditional
+  pub plain_writers : one_if (writes_plainly w) ≤ c.plain_writers
+  pub long : one_if (is_long w) ≤ c.long
 
 -- the entries, links and counts hold this list
 pub record Holds {C : Type 0} (held : List (Option (Waiter C))) (next prev : List ℕ) (counts : Counts) (ws : List (Waiter C)) : Type 0 where

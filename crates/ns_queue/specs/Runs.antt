@@ -3,7 +3,7 @@ use Rattle.std.specs.Prelude.{◌≡◌, ◌<◌, ℕ, Bool, false, List, [], �
 use Rattle.ns_queue.specs.declared.waiter.Waiter.{Waiter}
 use Rattle.ns_queue.specs.Waiters.{times_in, without_in}
 use Rattle.ns_queue.specs.Scans.{is_alike}
-use Rattle.ns_queue.specs.Marks.{in_front}
+use Rattle.ns_queue.specs.Stages.{in_front}
 use Rattle.ns_queue.specs.Rings.{IsRow, ahead, behind, first_seat, from, last_seat}
 
 -- the place of a run's first, or that behind the list where there is no run

@@ -1,9 +1,10 @@
-//! Whether conditions are declared the same, and whether one is true.
+//! Whether a waiter's condition is declared the same as another, whether a waiter goes on with a run,
+//! whether a condition is true, and how many tests that takes.
 
 ghost use Rattle.std.specs.Prelude.{◌≡◌, is_some};
 ghost use Rattle.std.specs.Option.{option_copied};
+ghost use Rattle.ns_model.specs.Tallies.{one_if};
 ghost use Rattle.ns_queue.specs.Scans.{is_alike, is_satisfied};
-ghost use Rattle.ns_queue.specs.Rings.{one_for};
 ghost use Rattle.ns_queue.specs.Runs.{joins};
 
 use crate::room::Queueable;
@@ -47,7 +48,7 @@ pub(crate) fn is_met<C: Queueable<N>, const N: usize>(first: Option<&C>, row: &[
 
 /// How many tests it takes to learn whether the condition is met: one, if there is one.
 pub(crate) fn tests_for<C>(cond: Option<&C>) -> u32
-    ensures { result ≡ one_for (is_some (option_copied cond.entry)) }
+    ensures { result ≡ one_if (is_some (option_copied cond.entry)) }
 {
     if cond.is_some() { 1 } else { 0 }
 }

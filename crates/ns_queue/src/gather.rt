@@ -24,7 +24,7 @@ pub(crate) fn gathered<C: Queueable<N>, const N: usize>(
 }
 
 /// The waiters, front first, in the form in which they are shown.
-pub(crate) fn shown_all<C: Queueable<N>, const N: usize>(ring: &Ring<C, N>) -> ArrayVec<Shown, 64>
+pub(crate) fn shown_ring<C: Queueable<N>, const N: usize>(ring: &Ring<C, N>) -> ArrayVec<Shown, 64>
     ensures { result.items ≡ map shown_of ring.now }
 {
     let mut all = ArrayVec::new();

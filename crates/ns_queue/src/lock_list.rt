@@ -1,18 +1,18 @@
 //! The lock list: waiters in a row of links, with links from the first of each run to its last.
 
-ghost use Rattle.std.specs.Prelude.{◌≡◌, ◌<◌, ◌+◌, ◌≤◌, ◌↔◌, ◌&&◌, ◌∷◌, ◌++◌, not, [], IsTrue, None, length, map};
+ghost use Rattle.std.specs.Prelude.{◌≡◌, ◌<◌, ◌≤◌, ◌↔◌, ◌&&◌, ◌∷◌, ◌++◌, not, [], IsTrue, None, length, map};
 ghost use Rattle.std.specs.Bool.{OnFalse};
 ghost use Rattle.std.specs.List.{list_any};
-ghost use Rattle.ns_queue.specs.Marks.{tests_seeking};
+ghost use Rattle.ns_queue.specs.Stages.{tests_seeking};
 ghost use Rattle.ns_queue.specs.Scans.{left_of, runs_of, tests_of, woken_of};
 ghost use Rattle.ns_queue.specs.Waiters.{has_condition, is_long, seats_of, shown_of, times_in, without_in, writes};
 ghost use Rattle.ns_queue.specs.Rings.{IsRow, without_all};
 ghost use Rattle.ns_queue.specs.Runs.{head_of, last_run, place_of, sought_seat};
 
 use crate::alike::{is_met, joins, tests_for};
-use crate::gather::{gathered, shown_all};
+use crate::gather::{gathered, shown_ring};
 use crate::remake::{mend, remake};
-use crate::ring::{END, Ring};
+use crate::ring::{END, Ring, take_out};
 use crate::room::Queueable;
 use crate::scan::{Scan, Sought, choose};
 use crate::waiter::{Shown, Waiter};
@@ -43,19 +43,6 @@ impl<C: Condition<N>, const N: usize> Model for LockList<C, N> {
     ghost view = { λ r. r.ring };
 
     ghost invariant = { λ r. IsRuns C.means.same r.heads r.lasts r.ring };
-}
-
-/// Takes these seats out, the last of them first. The others stay as they are.
-fn take_out<C: Queueable<N>, const N: usize>(ring: &mut Ring<C, N>, seats: &[u8])
-    ensures { ring.new ≡ without_all seats.now ring.old }
-{
-    let mut left = seats.len();
-    while left > 0 {
-        left -= 1;
-        if ring.holds(seats[left]) {
-            ring.remove(seats[left]);
-        }
-    }
 }
 
 impl<C: Queueable<N>, const N: usize> LockList<C, N> {
@@ -107,7 +94,7 @@ impl<C: Queueable<N>, const N: usize> LockList<C, N> {
     pub fn shown(&self) -> ArrayVec<Shown, 64>
         ensures shown { result.items ≡ map shown_of self.now }
     {
-        shown_all(&self.ring)
+        shown_ring(&self.ring)
     }
 
     /// The same list once more.
@@ -217,8 +204,8 @@ impl<C: Queueable<N>, const N: usize> LockList<C, N> {
     }
 
     /// Takes these seats out. The others stay as they are. Where more than one goes, the runs of
-    /// those who stay are made anew once, from the front to the end: no link to a first stands
-    /// before, so nothing stops that.
+    /// those who stay are made anew once. The links to firsts are cleared before, so that `remake`
+    /// nowhere finds one that was a first, and goes to the end.
     fn remove_all(&mut self, seats: &[u8])
         ensures { self.new ≡ without_all seats.now self.old }
     {

@@ -71,7 +71,7 @@ impl<C: Queueable<N>, const N: usize> Queues<C, N> {
     {
         match list {
             Which::Lock => self.lock.shown(),
-            Which::Cv(k) => shown_all(self.cvs[k as usize].as_slice()),
+            Which::Cv(k) => shown_slice(self.cvs[k as usize].as_slice()),
         }
     }
 
@@ -233,7 +233,7 @@ pub(crate) fn copied<C: Queueable<N>, const N: usize>(
 }
 
 /// Waiters in the form in which they are shown.
-fn shown_all<C: Queueable<N>, const N: usize>(waiters: &[Waiter<C>]) -> ArrayVec<Shown, 64>
+fn shown_slice<C: Queueable<N>, const N: usize>(waiters: &[Waiter<C>]) -> ArrayVec<Shown, 64>
     requires { length waiters.now ≤ 64 }
     ensures { result.items ≡ map shown_of waiters.now }
 {

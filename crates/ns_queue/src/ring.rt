@@ -1,8 +1,8 @@
 //! Waiters by their seats, with links to both neighbours.
 
-ghost use Rattle.std.specs.Prelude.{◌≡◌, ◌<◌, ◌+◌, ◌↔◌, ◌∷◌, ◌++◌, [], IsTrue, List, None, slice_index, slice_set};
+ghost use Rattle.std.specs.Prelude.{◌≡◌, ◌<◌, ◌↔◌, ◌∷◌, ◌++◌, [], IsTrue, slice_set};
 ghost use Rattle.std.specs.Option.{option_copied};
-ghost use Rattle.ns_queue.specs.Rings.{IsRow, ahead, behind, counts_of, first_seat, last_seat, seated};
+ghost use Rattle.ns_queue.specs.Rings.{IsRow, ahead, behind, counts_of, first_seat, last_seat, seated, without_all};
 ghost use Rattle.ns_queue.specs.Waiters.{times_in, without_in};
 
 use crate::counts::{Counts, with_one, without_one};
@@ -175,5 +175,18 @@ impl<C: Queueable<N>, const N: usize> Ring<C, N> {
         self.counts = without_one(self.counts, waiter);
         join(&mut self.next, &mut self.prev, before, behind);
         self.held[seat as usize] = None;
+    }
+}
+
+/// Takes these seats out, the last of them first. The others stay as they are.
+pub(crate) fn take_out<C: Queueable<N>, const N: usize>(ring: &mut Ring<C, N>, seats: &[u8])
+    ensures { ring.new ≡ without_all seats.now ring.old }
+{
+    let mut left = seats.len();
+    while left > 0 {
+        left -= 1;
+        if ring.holds(seats[left]) {
+            ring.remove(seats[left]);
+        }
     }
 }

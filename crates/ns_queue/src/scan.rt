@@ -3,7 +3,7 @@
 ghost use Rattle.std.specs.Prelude.{◌≡◌, ◌<◌, ◌&&◌, ◌++◌, ◌∷◌, [], None, if◌then◌else◌, true, unwrap_or, ◌≤◌, length};
 ghost use Rattle.std.specs.Option.{option_copied};
 ghost use Rattle.arrayvec.specs.ArrayVec.{array_vec_len};
-ghost use Rattle.ns_queue.specs.Marks.{asked_for, asking, tests_seeking};
+ghost use Rattle.ns_queue.specs.Stages.{asked_for, asking, tests_seeking};
 ghost use Rattle.ns_queue.specs.Queues.{with_waiters};
 ghost use Rattle.ns_queue.specs.Scans.{tests_of, woken_of, left_of, runs_of};
 ghost use Rattle.ns_queue.specs.Waiters.{reads, seats_of};

@@ -21,7 +21,7 @@ use Rattle.ns_queue.specs.Waiters.{seats_of, times_in, without_in}
 use Rattle.ns_queue.specs.Scans.{woken_of, left_of}
 use Rattle.ns_queue.specs.Signals.{taken_set}
 use Rattle.ns_queue.specs.Wakes.{AreWaiting, woken_phases}
-use Rattle.ns_queue.proofs.Parts.{none_without}
+use Rattle.ns_queue.proofs.Seats.{none_without}
 use Rattle.ns_queue.proofs.Taken.{times_signaled, every_signaled, every_unsignaled}
 use Rattle.ns_queue.proofs.Wakes.{signal_legal, broadcast_legal}
 use Rattle.ns_word.specs.declared.word.Word.{Word}

@@ -6,7 +6,8 @@ use Rattle.ns_model.specs.declared.event.Mode.{Mode}
 use Rattle.ns_queue.specs.declared.waiter.Waiter.{Waiter}
 use Rattle.ns_queue.specs.Waiters.{is_long, seats_of, times_in, without_in, reads, writes, has_condition}
 use Rattle.ns_queue.specs.Scans.{is_satisfied, is_eligible, woken_of, left_of}
-use Rattle.ns_queue.proofs.Seats.{one_if, times_in-cons, times_in-append}
+use Rattle.ns_model.specs.Tallies.{one_if}
+use Rattle.ns_queue.proofs.Seats.{times_in-cons, times_in-append}
 use Rattle.ns_word.specs.Lists.{has_some, has_eligible, bits_of, times_among, queued}
 
 -- whether a list has somebody, by its length

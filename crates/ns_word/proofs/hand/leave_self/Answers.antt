@@ -6,7 +6,8 @@ use Rattle.ns_queue.specs.declared.waiter.Which.{Which}
 use Rattle.ns_queue.specs.declared.waiter.Which.TheVariants.{Lock, Cv}
 use Rattle.ns_queue.specs.Queues.{Lists, IsList, IsOrderly, times, waiters_of, with_waiters, without}
 use Rattle.ns_queue.specs.Waiters.{times_in, without_in}
-use Rattle.ns_queue.proofs.Parts.{none_without, removed_of, times_at_most}
+use Rattle.ns_queue.proofs.Parts.{removed_of, times_at_most}
+use Rattle.ns_queue.proofs.Seats.{none_without}
 use Rattle.ns_word.proofs.hand.leave_self.Goals as goal
 
 module _ {C : Type 0} (lists : Lists C) (which : Which) (seat : ℕ) where

@@ -1,10 +1,10 @@
 use Rattle.std.proofs.Common.{sym}
 use Rattle.ns_queue.specs.Waiters.{times_in}
 use Rattle.ns_queue.proofs.Inside.{told_no}
-use Rattle.ns_queue.proofs.Ringed.{without_none}
+use Rattle.ns_queue.proofs.Seats.{none_without}
 use Rattle.ns_queue.proofs.lock_list.LockList.remove.Goals as goal
 
 pub returns-then-not-holds-clause-removed : goal.returns-then-not-holds-clause-removed
 returns-then-not-holds-clause-removed g c =
     let out = told_no c.holds.result (times_in c.args.seat c.self.inside.ring) c.if-not-holds.true c.holds.ensures.stands.1 in
-    rw (← c.self.view_is) (sym (without_none c.args.seat c.self.inside.ring out))
+    rw (← c.self.view_is) (sym (none_without c.args.seat c.self.inside.ring out))

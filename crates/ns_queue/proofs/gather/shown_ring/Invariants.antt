@@ -1,7 +1,7 @@
 use Rattle.std.proofs.Common.{◌≡◌, length, map}
 use Rattle.ns_queue.specs.Waiters.{shown_of}
 use Rattle.ns_queue.specs.Rings.{ahead, from}
-use Rattle.ns_queue.proofs.gather.shown_all.Given as goal
+use Rattle.ns_queue.proofs.gather.shown_ring.Given as goal
 
 -- those so far
 abbrev pub invariant-loop-waiter : goal.invariant-loop-waiter

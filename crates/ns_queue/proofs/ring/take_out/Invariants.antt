@@ -1,6 +1,6 @@
 use Rattle.std.proofs.Common.{◌≡◌, ◌≤◌, drop, length}
 use Rattle.ns_queue.specs.Rings.{without_all}
-use Rattle.ns_queue.proofs.lock_list.take_out.Given as goal
+use Rattle.ns_queue.proofs.ring.take_out.Given as goal
 
 -- those from here on are out
 abbrev pub invariant-loop-left : goal.invariant-loop-left

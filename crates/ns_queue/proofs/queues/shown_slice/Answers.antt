@@ -2,7 +2,7 @@ use Rattle.std.proofs.Common.{◌≡◌, ◌++◌, ◌∷◌, [], length, map, t
 use Rattle.std.proofs.Math.Seq.{take-length}
 use Rattle.std.proofs.lemmas.List.{take_more, map-append, length-map}
 use Rattle.ns_queue.specs.Waiters.{shown_of}
-use Rattle.ns_queue.proofs.queues.shown_all.Goals as goal
+use Rattle.ns_queue.proofs.queues.shown_slice.Goals as goal
 
 pub push-requires : goal.push-requires
 push-requires g c =

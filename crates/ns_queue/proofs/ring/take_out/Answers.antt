@@ -2,14 +2,14 @@ use Rattle.std.proofs.Common.{slice_index, sym, ◌-◌, arith}
 use Rattle.ns_queue.specs.Waiters.{times_in}
 use Rattle.ns_queue.proofs.Inside.{told_no}
 use Rattle.ns_queue.proofs.Leaving.{all_on}
-use Rattle.ns_queue.proofs.Ringed.{without_none}
-use Rattle.ns_queue.proofs.lock_list.take_out.Goals as goal
+use Rattle.ns_queue.proofs.Seats.{none_without}
+use Rattle.ns_queue.proofs.ring.take_out.Goals as goal
 
 pub loop-left-preserved : goal.loop-left-preserved
 loop-left-preserved g c =
     let seat = slice_index c.args.seats.now (c.loop-left.left - 1) in
     let none = told_no c.holds.result (times_in seat c.loop-left.ring) c.if-holds.false c.holds.ensures.stands.1 in
     record {
-      out = all_on c.args.seats.now c.loop-left.left c.loop-left.ring c.loop-left.ring c.args.ring.now c.loop-left-test.true c.loop-left.invariant.within (sym (without_none seat c.loop-left.ring none)) c.loop-left.invariant.out;
+      out = all_on c.args.seats.now c.loop-left.left c.loop-left.ring c.loop-left.ring c.args.ring.now c.loop-left-test.true c.loop-left.invariant.within (sym (none_without seat c.loop-left.ring none)) c.loop-left.invariant.out;
       within = omega (arith, c.loop-left.invariant.within);
     }

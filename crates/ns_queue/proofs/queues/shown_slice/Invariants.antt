@@ -1,6 +1,6 @@
 use Rattle.std.proofs.Common.{◌≡◌, take, map}
 use Rattle.ns_queue.specs.Waiters.{shown_of}
-use Rattle.ns_queue.proofs.queues.shown_all.Given as goal
+use Rattle.ns_queue.proofs.queues.shown_slice.Given as goal
 
 abbrev pub invariant-loop-waiter : goal.invariant-loop-waiter
 invariant-loop-waiter g l = l.all.items ≡ map shown_of (take l.waiter-index l.waiters)

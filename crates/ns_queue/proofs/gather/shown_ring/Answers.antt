@@ -3,7 +3,7 @@ use Rattle.std.proofs.lemmas.List.{length-map, map-append}
 use Rattle.ns_queue.specs.Waiters.{shown_of}
 use Rattle.ns_queue.specs.Rings.{ahead}
 use Rattle.ns_queue.proofs.Places.{ahead_few, from_none, own, seated_stands, smaller, stepped}
-use Rattle.ns_queue.proofs.gather.shown_all.Goals as goal
+use Rattle.ns_queue.proofs.gather.shown_ring.Goals as goal
 
 pub loop-waiter-init : goal.loop-waiter-init
 loop-waiter-init g c = rw (c.new-all.ensures, c.front-at.ensures.place) (ap (map shown_of) (sym (own c.args.ring.now).1))
