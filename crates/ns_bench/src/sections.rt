@@ -8,6 +8,7 @@ use crate::steps::{LONG, SHORT, Steps};
 use std::sync::Wait;
 
 /// Adds 1 to the cell.
+#[inline(always)]
 pub fn add_one<R: Wait>(rt: &R, monitor: &OneCell, seat: OneSeat) -> OneSeat
     requires { seat.monitor ≡ monitor.now }
     ensures { result.monitor ≡ monitor.now }
@@ -19,6 +20,7 @@ pub fn add_one<R: Wait>(rt: &R, monitor: &OneCell, seat: OneSeat) -> OneSeat
 }
 
 /// Reads the cell.
+#[inline(always)]
 pub fn read_one<R: Wait>(rt: &R, monitor: &OneCell, seat: OneSeat) -> (OneSeat, u64)
     requires { seat.monitor ≡ monitor.now }
     ensures { result.0.monitor ≡ monitor.now }

@@ -10,7 +10,8 @@ use Rattle.ns_gate.proofs.Keeps.{none_takes, hand_of, its_fit, between, lawful_b
 use Rattle.ns_gate.proofs.Findings.{meant_by, walk_is}
 use Rattle.ns_model.specs.declared.event.Exit.TheVariants as TheExit
 use Rattle.ns_word.proofs.Acts.{act_fits, view_fits}
-use Rattle.ns_word.proofs.Codes.{decoded, encoded}
+use Rattle.ns_word.proofs.Codes.{decoded}
+use Rattle.ns_word.specs.Encoded.{encoded}
 use Rattle.ns_word.proofs.Numbers.{split_at}
 use lib.ListN.{get_elem?}
 use mathlib.Core.Option.{some, none}

@@ -1,20 +1,21 @@
 -- Those whom a signal or a broadcast takes: where they may go, how they come back, and to whom a wake is owed.
-use Rattle.std.proofs.Common.{◌≡◌, ℕ, ◌+◌, ◌≤◌, ◌<◌, ◌↔◌, Bool, true, false, not, ◌&&◌, inl, inr, IsTrue, cond, eqb, List, [], ◌∷◌, ◌++◌, append-nil, if◌then◌else◌, Option, None, Some, length, get_or, drop, map, refl, ap, sym, ◌∙◌, subst, arith}
+use Rattle.std.proofs.Common.{◌≡◌, ℕ, ◌+◌, ◌≤◌, ◌<◌, ◌↔◌, Bool, true, false, not, ◌&&◌, inl, inr, IsTrue, eqb, List, [], ◌∷◌, ◌++◌, append-nil, if◌then◌else◌, Option, None, Some, length, get_or, drop, map, refl, ap, sym, ◌∙◌, subst, arith}
 use Rattle.std.specs.Bool.{OnFalse, OnTrue}
 use Rattle.std.specs.List.{sum_by}
 use Rattle.std.specs.Int.{bit_at}
 use Rattle.std.proofs.lemmas.Bool.{cases_eq, eq-eqb, ne_eqb}
-use Rattle.std.proofs.lemmas.List.{set-get_or}
 use Rattle.std.proofs.lemmas.List.Elements.{filter-append}
 use Rattle.std.proofs.lemmas.List.Sums.{sum_by-cons}
 use Rattle.ns_model.proofs.Sets.{in_more, none_in}
 use Rattle.ns_queue.specs.Signals.{taken_set}
 use Rattle.ns_queue.specs.declared.waiter.Which.TheVariants.{Cv, Lock}
-use Rattle.ns_queue.specs.Waiters.{is_of, without_in}
+use Rattle.ns_queue.specs.Queues.{cvs_without}
+use Rattle.ns_queue.specs.Waiters.{is_of, outside, without_in}
 use Rattle.ns_queue.proofs.Inside.{told_no}
 use Rattle.ns_queue.proofs.Marking.{drop_step}
-use Rattle.ns_queue.proofs.Parts.{below_in, times_with}
-use Rattle.ns_queue.proofs.Seats.{none_without, times_in-cons}
+use Rattle.ns_queue.proofs.Outside.{gone_those, same_each}
+use Rattle.ns_queue.proofs.Parts.{below_in, once_in}
+use Rattle.ns_queue.proofs.Seats.{none_without, own_times, times_in-cons}
 use Rattle.ns_queue.proofs.Taken.{times_signaled}
 use Rattle.ns_word.proofs.Ranges.{lists_orderly}
 use Rattle.ns_gate.specs.Prelude.{SeatOf, the, Carries, Performed, change_found, moves, seats_of, Act, Found, Walk, Truths, Lists, Waiter, HaveSeats, IsOrderly, bits_of, times, times_in, waiters_of, with_waiters, without, Part, SeatView, has_queues, has_some, is_held, kept_by, moved_to, taken_by, lists_left, lists_woken, owed_woken, taken_from, turned_to, without_each, woken_nobody, ReturnQueues, WakeWaiters, Woke, Waking, Broadcasting, Signaling, Word}
@@ -33,14 +34,20 @@ module _ {C : Type 0} where
   pub have_seats : (waking : Waking) (k : ℕ) (lists : Lists C) → IsOrderly lists → k < 4 → HaveSeats (taken_from waking k lists)
   have_seats waking k lists orderly low seat high = omega (arith, parted waking (waiters_of lists (Cv k)) seat, below_in lists (Cv k) orderly low seat high)
 
-  -- and are in none of the lists that are left
-  pub apart : (waking : Waking) (k : ℕ) (lists : Lists C) → IsOrderly lists → k < 4 → (seat : ℕ) → times_in seat (taken_from waking k lists) + times seat (lists_left waking k lists) ≤ 1
-  apart waking k lists orderly low seat =
-      omega (arith, parted waking (waiters_of lists (Cv k)) seat, times_with lists (Cv k) (kept_by waking (waiters_of lists (Cv k))) seat orderly.four low, orderly.once seat)
+  part : (waking : Waking) (k : ℕ) (lists : Lists C) (seat : ℕ) → times_in seat (taken_from waking k lists) ≤ times_in seat (waiters_of lists (Cv k))
+  part waking k lists seat = omega (arith, parted waking (waiters_of lists (Cv k)) seat)
+
+  -- each is there once
+  there_once : (waking : Waking) (k : ℕ) (lists : Lists C) → IsOrderly lists → k < 4 → (seat : ℕ) → times_in seat (taken_from waking k lists) ≤ 1
+  there_once waking k lists orderly low seat = omega (arith, part waking k lists seat, once_in lists (Cv k) orderly low seat)
+
+  -- and is in none of the lists that are left
+  apart : (waking : Waking) (k : ℕ) (lists : Lists C) → IsOrderly lists → k < 4 → (seat : ℕ) → 1 ≤ times_in seat (taken_from waking k lists) → times seat (lists_left waking k lists) ≡ 0
+  apart waking k lists orderly low seat here = gone_those lists k (taken_from waking k lists) orderly low (part waking k lists) seat here
 
   -- so they may be put at the back of the lock list
-  pub may_move : (waking : Waking) (k : ℕ) (lists old : Lists C) (taken : List (Waiter C)) → IsOrderly lists → k < 4 → taken ≡ taken_from waking k lists → old ≡ lists_left waking k lists → HaveSeats taken × ((seat : ℕ) → times_in seat taken + times seat old ≤ 1)
-  may_move waking k lists old taken orderly low is was = rw (is, was) (have_seats waking k lists orderly low, apart waking k lists orderly low)
+  pub may_move : (waking : Waking) (k : ℕ) (lists old : Lists C) (taken : List (Waiter C)) → IsOrderly lists → k < 4 → taken ≡ taken_from waking k lists → old ≡ lists_left waking k lists → HaveSeats taken × (((seat : ℕ) → times_in seat taken ≤ 1) × ((seat : ℕ) → 1 ≤ times_in seat taken → times seat old ≡ 0))
+  may_move waking k lists old taken orderly low is was = rw (is, was) (have_seats waking k lists orderly low, (there_once waking k lists orderly low, apart waking k lists orderly low))
 
   -- ---- how they come back
 
@@ -70,24 +77,24 @@ module _ {C : Type 0} where
       rw (filter-append (λ v. not (is_of w.seat v)) lists.lock (w ∷ ws), eq-eqb w.seat w.seat refl, none_without w.seat lists.lock (omega (arith, free)), none_without w.seat ws none, lists_same w.seat lists.cvs (omega (arith, free))) refl
 
   -- Those who stand in none of the lists are put at the back of the lock's and taken out again: the lists are as they were.
-  pub back_again : (lists : Lists C) (ws : List (Waiter C)) → ((seat : ℕ) → times_in seat ws + times seat lists ≤ 1) → without_each ws (moved_to true ws lists) ≡ lists
-  back_again lists [] once = rw append-nil refl
-  back_again lists (w ∷ ws) once =
-      let here : ◌≡◌ {A = ℕ} (cond (eqb w.seat w.seat) 1 0) 1 = rw (eq-eqb w.seat w.seat refl) refl in
-      let alone : times_in w.seat ws ≡ 0 = omega (arith, here, times_in-cons w.seat w ws, once w.seat) in
-      let free : times w.seat lists ≡ 0 = omega (arith, here, times_in-cons w.seat w ws, once w.seat) in
-      ap (without_each ws) (first_out lists w ws alone free) ∙ back_again lists ws (λ seat. omega (arith, times_in-cons seat w ws, once seat))
+  pub back_again : (lists : Lists C) (ws : List (Waiter C)) → ((seat : ℕ) → times_in seat ws ≤ 1) → ((seat : ℕ) → 1 ≤ times_in seat ws → times seat lists ≡ 0) → without_each ws (moved_to true ws lists) ≡ lists
+  back_again lists [] once free = rw append-nil refl
+  back_again lists (w ∷ ws) once free =
+      let own = own_times w ws in
+      let alone : times_in w.seat ws ≡ 0 = omega (arith, own, once w.seat) in
+      ap (without_each ws) (first_out lists w ws alone (free w.seat (omega (arith, own)))) ∙ back_again lists ws (λ seat. omega (arith, times_in-cons seat w ws, once seat)) (λ seat here. free seat (omega (arith, times_in-cons seat w ws, here)))
 
   -- where the lists are turned to a held lock, they may be put there
-  pub may_turn : (waking : Waking) (k : ℕ) (held : Bool) (lists old : Lists C) (taken : List (Waiter C)) → IsOrderly lists → k < 4 → taken ≡ taken_from waking k lists → old ≡ lists_woken waking k (not held) lists → HaveSeats taken × (held ≡ true → (seat : ℕ) → times_in seat taken + times seat old ≤ 1)
-  may_turn waking k true lists old taken orderly low is was = let m = may_move waking k lists old taken orderly low is was in (m.0, λ held. m.1)
-  may_turn waking k false lists old taken orderly low is was = (rw is (have_seats waking k lists orderly low), λ held. absurd (cc))
+  pub may_turn : (waking : Waking) (k : ℕ) (held : Bool) (lists old : Lists C) (taken : List (Waiter C)) → IsOrderly lists → k < 4 → taken ≡ taken_from waking k lists → old ≡ lists_woken waking k (not held) lists →
+      HaveSeats taken × ((held ≡ true → (seat : ℕ) → times_in seat taken ≤ 1) × (held ≡ true → (seat : ℕ) → 1 ≤ times_in seat taken → times seat old ≡ 0))
+  may_turn waking k true lists old taken orderly low is was = let m = may_move waking k lists old taken orderly low is was in (m.0, ((λ held. m.1.0), (λ held. m.1.1)))
+  may_turn waking k false lists old taken orderly low is was = (rw is (have_seats waking k lists orderly low), ((λ held. absurd (cc)), (λ held. absurd (cc))))
 
   -- turned, they are as for the other truth of it
   pub turned_over : (waking : Waking) (k : ℕ) (held : Bool) (lists old : Lists C) (taken : List (Waiter C)) → IsOrderly lists → k < 4 → taken ≡ taken_from waking k lists → old ≡ lists_woken waking k (not held) lists → turned_to held taken old ≡ lists_woken waking k held lists
   turned_over waking k true lists old taken orderly low is was = λ i. moved_to true (is i) (was i)
   turned_over waking k false lists old taken orderly low is was =
-      (λ i. without_each (is i) (was i)) ∙ back_again (lists_left waking k lists) (taken_from waking k lists) (apart waking k lists orderly low)
+      (λ i. without_each (is i) (was i)) ∙ back_again (lists_left waking k lists) (taken_from waking k lists) (there_once waking k lists orderly low) (apart waking k lists orderly low)
 
   -- ---- where nobody waits for the variable
 
@@ -104,16 +111,15 @@ module _ {C : Type 0} where
 
   -- it takes nobody, and the lists stay as they stood, whether the lock is held or not
   pub takes_nobody : (waking : Waking) (k : ℕ) (lists : Lists C) → waiters_of lists (Cv k) ≡ [] → (taken_from waking k lists ≡ []) × (lists_left waking k lists ≡ lists)
-  takes_nobody waking k lists none = (taken waking (waiters_of lists (Cv k)) none, (λ i. with_waiters lists (Cv k) (kept waking (waiters_of lists (Cv k)) none i)) ∙ (λ i. record { lock = lists.lock; cvs = set-get_or lists.cvs k [] i })) where
+  takes_nobody waking k lists none = (taken waking (waiters_of lists (Cv k)) none, (λ i. cvs_without (taken_set (taken waking (waiters_of lists (Cv k)) none i)) lists) ∙ (λ i. record { lock = lists.lock; cvs = same i })) where
     taken : (waking : Waking) (ws : List (Waiter C)) → ws ≡ [] → taken_by waking ws ≡ []
     taken Signaling [] is = refl
     taken Broadcasting [] is = refl
     taken waking (w ∷ ws) is = absurd (cc)
 
-    kept : (waking : Waking) (ws : List (Waiter C)) → ws ≡ [] → kept_by waking ws ≡ ws
-    kept Signaling [] is = refl
-    kept Broadcasting [] is = refl
-    kept waking (w ∷ ws) is = absurd (cc)
+    -- an empty set takes nobody out
+    same : map (outside (taken_set {C = C} [])) lists.cvs ≡ lists.cvs
+    same = same_each (taken_set {C = C} []) lists.cvs (λ seat is. let both = sym (none_in seat) ∙ is in absurd (cc))
 
   -- those whom it takes are moved nowhere
   pub moves_nobody : (waking : Waking) (k : ℕ) (held : Bool) (lists : Lists C) → waiters_of lists (Cv k) ≡ [] → lists_woken waking k held lists ≡ lists

@@ -3,19 +3,20 @@ use Rattle.std.specs.Prelude.{ℕ, Bool, false, if◌then◌else◌, List, [], �
 use Rattle.ns_gate.specs.declared.queues.Turned.{Turned}
 use Rattle.ns_queue.specs.declared.waiter.Waiter.{Waiter}
 use Rattle.ns_queue.specs.declared.waiter.Which.TheVariants.{Cv}
-use Rattle.ns_queue.specs.Queues.{Lists, waiters_of, with_waiters, without}
+use Rattle.ns_queue.specs.Queues.{Lists, cvs_without, waiters_of, without}
+use Rattle.ns_queue.specs.Signals.{taken_set}
 use Rattle.ns_queue.specs.Waiters.{seats_of}
 use Rattle.ns_word.specs.Lists.{bits_of, has_some}
 use Rattle.ns_word.specs.declared.act.Waking.{Waking}
-use Rattle.ns_word.specs.Steps.{kept_by, moved_to, taken_by}
+use Rattle.ns_word.specs.Steps.{moved_to, taken_by}
 
 -- those whom it takes out of the list of its variable, where the lists stand so
 abbrev pub taken_from : {C : Type 0} → Waking → ℕ → Lists C → List (Waiter C)
 taken_from waking k lists = taken_by waking (waiters_of lists (Cv k))
 
--- the lists once they are out of it
+-- the lists once they are out of it, and out of those of all other variables
 abbrev pub lists_left : {C : Type 0} → Waking → ℕ → Lists C → Lists C
-lists_left waking k lists = with_waiters lists (Cv k) (kept_by waking (waiters_of lists (Cv k)))
+lists_left waking k lists = cvs_without (taken_set (taken_from waking k lists)) lists
 
 -- the lists that are put back: where the lock is held, those who were taken are at the back of its list; else they are in none
 abbrev pub lists_woken : {C : Type 0} → Waking → ℕ → Bool → Lists C → Lists C

@@ -13,10 +13,11 @@ use ns_model::condition::Condition;
 use ns_queue::queues::Queues;
 use ns_seats::saying::load_saying;
 use ns_word::act::{Act, Found};
-use ns_word::codec::{encode, unpacked};
+use ns_word::codec::unpacked;
+use ns_word::number::LockWord;
 use ns_word::wait::Aim;
 use ns_word::walk::Walk;
-use ns_word::word::{Arrival, Releasing, Word};
+use ns_word::word::{Arrival, Releasing};
 use std::alloc::{AllocError, Global};
 use std::marker::Model;
 
@@ -42,15 +43,15 @@ impl<C: Condition<N>, const N: usize> Model for Gate<C, N> {
 
 /// What an exchange of the word last seen came to, where the word's number was this.
 #[inline(always)]
-pub(crate) fn came_to(found: u64, last: Word) -> Result<(), Word>
+pub(crate) fn came_to(found: u64, last: LockWord) -> Result<(), LockWord>
     requires { IsPackable (word_of found) }
     ensures word { IfErr result IsPackable }
     ensures tried { (made : Found) → tried_for made result ≡ exchanged found last made }
 {
-    if found == encode(last) {
+    if found == last.number() {
         Ok(())
     } else {
-        Err(unpacked(found))
+        Err(LockWord::of(found))
     }
 }
 
@@ -165,9 +166,9 @@ impl<C: Condition<N>, const N: usize> Gate<C, N> {
     pub(crate) fn exchange(
         &self,
         seat: &mut GateSeat<C, N>,
-        last: Word,
-        new: Word,
-    ) -> Result<(), Word>
+        last: LockWord,
+        new: LockWord,
+    ) -> Result<(), LockWord>
         requires of { seat.old.table_id ≡ self.now }
         requires last { IsPackable last }
         requires may { MayExchange C.means last new seat.old.me }
@@ -176,8 +177,8 @@ impl<C: Condition<N>, const N: usize> Gate<C, N> {
         ensures did { (act : Act C) → CanStep C.means None act seat.old.me → Performed C.means None act (tried_for (made_by C.means act (the seat.old.me.0)) result) seat.old.me seat.new.me }
     {
         let shared = &self.table.shared;
-        let content = encode(last);
-        let found = shared.compare_exchange::<Go<C, N>>(seat, 0, content, encode(new));
+        let content = last.number();
+        let found = shared.compare_exchange::<Go<C, N>>(seat, 0, content, new.number());
         came_to(found, last)
     }
 
@@ -187,14 +188,14 @@ impl<C: Condition<N>, const N: usize> Gate<C, N> {
     /// Needs a seat of this gate, whose call wants that next, or whose last call is over and which may
     /// begin this one. As in each function, what begins is for the proof alone.
     #[inline(always)]
-    pub fn load(&self, seat: &mut GateSeat<C, N>, begins: Option<Walk<C>>) -> Word
+    pub fn load(&self, seat: &mut GateSeat<C, N>, begins: Option<Walk<C>>) -> LockWord
         requires of { seat.old.table_id ≡ self.now }
         requires can { CanStep C.means begins Act.LoadWord seat.old.me }
         ensures seat { seat.new.table_id ≡ seat.old.table_id }
         ensures word { IsPackable result }
         ensures did { Performed C.means begins Act.LoadWord (Found.Saw result) seat.old.me seat.new.me }
     {
-        unpacked(self.load_at(seat, begins, 0))
+        LockWord::of(self.load_at(seat, begins, 0))
     }
 
     /// Acquires the lock for this, where its word is still the one last seen; else tells the word.
@@ -207,8 +208,8 @@ impl<C: Condition<N>, const N: usize> Gate<C, N> {
         seat: &mut GateSeat<C, N>,
         aim: Aim<C>,
         arrival: Arrival,
-        last: Word,
-    ) -> Result<(), Word>
+        last: LockWord,
+    ) -> Result<(), LockWord>
         requires of { seat.old.table_id ≡ self.now }
         requires last { IsPackable last }
         requires can { CanStep C.means None (Act.Acquire aim arrival last) seat.old.me }
@@ -228,8 +229,8 @@ impl<C: Condition<N>, const N: usize> Gate<C, N> {
         &self,
         seat: &mut GateSeat<C, N>,
         releasing: Releasing,
-        last: Word,
-    ) -> Result<(), Word>
+        last: LockWord,
+    ) -> Result<(), LockWord>
         requires of { seat.old.table_id ≡ self.now }
         requires last { IsPackable last }
         requires can { CanStep C.means None (Act.Release releasing last) seat.old.me }

@@ -1,13 +1,14 @@
 //! One function for every act that a seat's call wants, for whoever runs walks as values.
 
-ghost use Rattle.std.specs.Prelude.{◌≡◌};
-ghost use Rattle.ns_gate.specs.Prelude.{IsOnWord, IsTurned, Needs, CanStep, Performed, act_returning, tried_for};
+ghost use Rattle.std.specs.Prelude.{◌≡◌, IfErr};
+ghost use Rattle.ns_gate.specs.Prelude.{IsPackable, IsOnWord, IsTurned, Needs, CanStep, Performed, act_returning, tried_for};
 
 use crate::gate::{Gate, GateSeat};
 use crate::queues::{Returning, Turned};
 use ns_env::limits::Cause;
 use ns_model::condition::Condition;
 use ns_word::act::{Act, Found};
+use ns_word::number::LockWord;
 use ns_word::walk::Walk;
 use ns_word::word::Word;
 
@@ -31,12 +32,13 @@ pub struct Beside<const N: usize> {
 }
 
 /// What an exchange came to, as the machine says it, where this is found if it is made.
-fn found_by(tries: Result<(), Word>, made: Found) -> Found
+fn found_by(tries: Result<(), LockWord>, made: Found) -> Found
+    requires { IfErr tries IsPackable }
     ensures { result ≡ tried_for made tries }
 {
     match tries {
         Ok(()) => made,
-        Err(word) => Found::Saw(word),
+        Err(word) => Found::Saw(word.parts()),
     }
 }
 
@@ -61,7 +63,7 @@ impl<C: Condition<N>, const N: usize> Gate<C, N> {
         ensures did { Performed C.means begins act result seat.old.me seat.new.me }
     {
         match act {
-            Act::LoadWord => Found::Saw(self.load(seat, begins)),
+            Act::LoadWord => Found::Saw(self.load(seat, begins).parts()),
             Act::LoadCell(i) => Found::Cell(self.load_cell(seat, begins, i)),
             Act::JudgeQuiet(i) => {
                 let mut row = beside.row;
@@ -111,16 +113,21 @@ impl<C: Condition<N>, const N: usize> Gate<C, N> {
     {
         match act {
             Act::Acquire(aim, arrival, last) => {
+                let last = LockWord::new(last);
+                let tries = self.exchange_to_acquire(seat, aim, arrival, last);
+                found_by(tries, Found::Made)
+            }
+            Act::TakeQueues(taking, last) => {
                 found_by(
-                    self.exchange_to_acquire(seat, aim, arrival, last),
+                    self.exchange_to_take(seat, taking, LockWord::new(last)),
                     Found::Made,
                 )
             }
-            Act::TakeQueues(taking, last) => {
-                found_by(self.exchange_to_take(seat, taking, last), Found::Made)
-            }
             Act::Release(releasing, last) => {
-                found_by(self.exchange_to_release(seat, releasing, last), Found::Made)
+                found_by(
+                    self.exchange_to_release(seat, releasing, LockWord::new(last)),
+                    Found::Made,
+                )
             }
             Act::ReturnQueues(change, last) => {
                 self.put_back(seat, Returning::Changed(change), last, beside)
@@ -149,6 +156,7 @@ impl<C: Condition<N>, const N: usize> Gate<C, N> {
         ensures seat { seat.new.table_id ≡ seat.old.table_id }
         ensures did { Performed C.means None (act_returning returning last) result seat.old.me seat.new.me }
     {
+        let last = LockWord::new(last);
         let tries = self.exchange_to_return(seat, returning, last, beside.turned);
         found_by(tries, beside.finds)
     }

@@ -10,8 +10,9 @@ use ns_queue::scan::Scan;
 use ns_queue::waiter::Which;
 use ns_word::act::{Act, Change};
 use ns_word::hand::{bits, leave_self, queue_self, scan_and_queue};
+use ns_word::number::LockWord;
 use ns_word::wait::Wait;
-use ns_word::word::{Arrival, Bits, Releasing, Taking, Word};
+use ns_word::word::{Arrival, Bits, Releasing, Taking};
 use std::alloc::AllocError;
 
 /// What the queues are put back for.
@@ -48,7 +49,7 @@ pub struct Turned {
 impl<C> Returning<C> {
     /// The word after the queues were put back for this.
     #[inline(always)]
-    fn word(&self, last: Word, turned: Turned) -> Word
+    fn word(&self, last: LockWord, turned: Turned) -> LockWord
         ensures { result ≡ word_returning self.now turned.some turned.bits last }
     {
         match self {
@@ -72,8 +73,8 @@ impl<C: Condition<N>, const N: usize> Gate<C, N> {
         &self,
         seat: &mut GateSeat<C, N>,
         taking: Taking,
-        last: Word,
-    ) -> Result<(), Word>
+        last: LockWord,
+    ) -> Result<(), LockWord>
         requires of { seat.old.table_id ≡ self.now }
         requires last { IsPackable last }
         requires can { CanStep C.means None (Act.TakeQueues taking last) seat.old.me }
@@ -95,9 +96,9 @@ impl<C: Condition<N>, const N: usize> Gate<C, N> {
         &self,
         seat: &mut GateSeat<C, N>,
         returning: Returning<C>,
-        last: Word,
+        last: LockWord,
         turned: Turned,
-    ) -> Result<(), Word>
+    ) -> Result<(), LockWord>
         requires of { seat.old.table_id ≡ self.now }
         requires last { IsPackable last }
         requires can { CanStep C.means None (act_returning returning last) seat.old.me }

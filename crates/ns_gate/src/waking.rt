@@ -1,11 +1,11 @@
 //! What a signal or a broadcast does to the waiter queues in a hand.
 //!
-//! Those whom it takes out of the list of its variable go to the back of the lock list where the
+//! Those whom it takes out of the list of its variable, and of those of others, go to the back of the lock list where the
 //! lock word is held, and are owed a wake where it is free. The queues are put back by an exchange
 //! of the lock word, which fails where another step came between, and the word that is found may
 //! differ in whether it is held. So they are kept apart, and the queues in hand are turned then.
 
-ghost use Rattle.std.specs.Prelude.{◌≡◌, ℕ, ◌+◌, ◌<◌, ◌≤◌, ◌&&◌, not, true, false};
+ghost use Rattle.std.specs.Prelude.{◌≡◌, ℕ, ◌<◌, ◌≤◌, ◌&&◌, not, true, false};
 ghost use Rattle.ns_gate.specs.Prelude.{Carries, HasUnchangedQueues, HaveSeats, IsOrderly, bits_of, has_some, lists_woken, moved_to, taken_from, the, times, times_in, turned_to, waiters_of, woken_nobody, without_each};
 ghost use Rattle.ns_queue.specs.declared.waiter.Which.TheVariants.{Cv};
 
@@ -29,7 +29,7 @@ fn has_waiters<C: Queueable<N>, const N: usize>(queues: &Queues<C, N>, k: u8) ->
     queues.waiting_set(k).0 != 0
 }
 
-/// Takes those out of the list of the variable whom the call wakes, and answers them in order.
+/// Takes those out of the lists of the variables whom the call wakes, and answers them in order.
 ///
 /// Needs a number below 4.
 fn take_waiters<C: Queueable<N>, const N: usize>(
@@ -50,14 +50,16 @@ fn take_waiters<C: Queueable<N>, const N: usize>(
 
 /// Puts those who were taken at the back of the lock list, if the lock is held.
 ///
-/// Needs each of their seats to be below 64, and none to stand twice among them and the lists.
+/// Needs each of their seats to be below 64 and to stand in no list, and none to stand twice among
+/// them.
 fn move_if<C: Queueable<N>, const N: usize>(
     queues: &mut Queues<C, N>,
     taken: &[Waiter<C>],
     held: bool,
 )
     requires below { HaveSeats taken.now }
-    requires once { (seat : ℕ) → times_in seat taken.now + times seat queues.old ≤ 1 }
+    requires once { (seat : ℕ) → times_in seat taken.now ≤ 1 }
+    requires free { (seat : ℕ) → 1 ≤ times_in seat taken.now → times seat queues.old ≡ 0 }
     ensures { queues.new ≡ moved_to held taken.now queues.old }
 {
     if held {
@@ -77,11 +79,12 @@ fn take_back<C: Queueable<N>, const N: usize>(queues: &mut Queues<C, N>, taken: 
 /// Puts those who were taken at the back of the lock list, if the lock is held now, and else takes
 /// them out of it again.
 ///
-/// Needs each of their seats to be below 64, and none to stand twice among them and the lists where
-/// it puts them there.
+/// Needs each of their seats to be below 64, and, where it puts them there, to stand in no list, and
+/// none to stand twice among them.
 fn turn<C: Queueable<N>, const N: usize>(queues: &mut Queues<C, N>, taken: &[Waiter<C>], held: bool)
     requires below { HaveSeats taken.now }
-    requires once { held ≡ true → (seat : ℕ) → times_in seat taken.now + times seat queues.old ≤ 1 }
+    requires once { held ≡ true → (seat : ℕ) → times_in seat taken.now ≤ 1 }
+    requires free { held ≡ true → (seat : ℕ) → 1 ≤ times_in seat taken.now → times seat queues.old ≡ 0 }
     ensures { queues.new ≡ turned_to held taken.now queues.old }
 {
     if held {
@@ -129,7 +132,7 @@ impl<C: Condition<N>, const N: usize> Gate<C, N> {
         })
     }
 
-    /// Takes those out of the list of the variable whom the call wakes, and puts them at the back of
+    /// Takes those out of the lists of the variables whom the call wakes, and puts them at the back of
     /// the lock list if the lock is held. Answers them in order, to be kept until the queues are
     /// back, and what the hand has made of the queues.
     ///

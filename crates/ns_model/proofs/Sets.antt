@@ -1,9 +1,10 @@
 -- Sets of seats, seat by seat.
-use Rattle.std.proofs.Common.{◌≡◌, ◌≢◌, ℕ, ◌<◌, ◌^◌, true, false, ◌||◌, inl, inr, eqb, List, [], ◌∷◌, refl, ap, sym, ◌∙◌, arith, bit_or}
-use Rattle.std.specs.Int.{bit_at}
+use Rattle.std.proofs.Common.{◌≡◌, ◌≢◌, ℕ, ◌<◌, ◌*◌, ◌^◌, ◌%◌, Bool, true, false, ◌||◌, inl, inr, eqb, List, [], ◌∷◌, refl, ap, sym, ◌∙◌, arith, bit_or}
+use mir.Val.{bits}
+use Rattle.std.specs.Int.{Width, bit_at}
 use Rattle.std.specs.List.{list_any}
 use Rattle.std.proofs.lemmas.Bool.{cases_eq, ne_eqb, eq-eqb}
-use Rattle.std.proofs.lemmas.Nat.Bits.{bit_at_or, bit_at-zero, bit_at-lt, bit_at-pow_same, bit_at-pow_other, same_from_bits}
+use Rattle.std.proofs.lemmas.Nat.Bits.{bit_at_or, bit_at-zero, bit_at-lt, bit_at-pow_same, bit_at-pow_other, bit_at_set_same, bit_at_set_other, same_from_bits}
 use Rattle.ns_model.specs.declared.seats.Seats.{Seats}
 use Rattle.ns_model.specs.Seats.{is_in, seats_in}
 
@@ -41,3 +42,18 @@ in_more n seats seat = elim (cases_eq n seat) [
 pub in_seats : (seats : List ℕ) (seat : ℕ) → is_in (seats_in seats) seat ≡ list_any (λ n. eqb n seat) seats
 in_seats [] seat = none_in seat
 in_seats (n ∷ seats) seat = in_more n seats seat ∙ ap (λ rest. eqb n seat || rest) (in_seats seats seat)
+
+or_true : (b : Bool) → (b || true) ≡ true
+or_true true = refl
+or_true false = refl
+
+or_false : (b : Bool) → (b || false) ≡ b
+or_false true = refl
+or_false false = refl
+
+-- a number with one bit set, bit by bit
+pub bit_set : (w : Width) (s k n : ℕ) → k < bits w → eqb (bit_at (bit_or s (1 * 2 ^ k % 2 ^ bits w)) n) 1 ≡ (eqb (bit_at s n) 1 || eqb n k)
+bit_set w s k n within = elim (cases_eq n k) [
+  | inl e ↦ rw (e, bit_at_set_same w s k within, eq-eqb k k refl, or_true) refl
+  | inr ne ↦ rw (bit_at_set_other w s k within n ne, ne_eqb n k ne, or_false) refl
+]

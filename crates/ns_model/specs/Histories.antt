@@ -1,13 +1,13 @@
 -- Which histories are legal, and what they leave.
 use Rattle.std.specs.Prelude.{ℕ, ◌<◌, Bool, ◌==◌, if◌then◌else◌, List, [], ◌∷◌, filter, replicate}
 use Rattle.ns_model.specs.declared.event.Event.{Event}
-use Rattle.ns_model.specs.declared.event.Event.TheVariants.{Section, Signal, Broadcast, Leave}
+use Rattle.ns_model.specs.declared.event.Event.TheVariants.{Section, Signal, Broadcast, Leave, LeaveAny}
 use Rattle.ns_model.specs.declared.phase.Phase.{Phase}
 use Rattle.ns_model.specs.declared.phase.Phase.TheVariants.{Idle}
 use Rattle.ns_model.specs.Seats.{is_in}
 use Rattle.ns_model.specs.Phases.{woken_phase, left_phase}
 use Rattle.ns_model.specs.Sections.{IsLegalSection, phase_after}
-use Rattle.ns_model.specs.Wakes.{IsLegalSignal, IsLegalBroadcast, IsLegalLeave}
+use Rattle.ns_model.specs.Wakes.{IsLegalSignal, IsLegalBroadcast, IsLegalLeave, IsLegalLeaveAny}
 
 -- what a history leaves: the row, and each seat's phase
 pub record Standing (C : Type 0) : Type 0 where
@@ -28,6 +28,7 @@ who_of (Section who mode entry before after exit) = who
 who_of (Signal who k woken) = who
 who_of (Broadcast who k woken) = who
 who_of (Leave who k) = who
+who_of (LeaveAny who cvs) = who
 
 -- the event is legal where the events before it have left this standing
 abbrev pub IsLegalEvent : {C : Type 0} {N : ℕ} → (C → List ℕ → Bool) → Standing C → Event C N → Type 0
@@ -35,6 +36,7 @@ IsLegalEvent holds now (Section who mode entry before after exit) = (who < 64) �
 IsLegalEvent holds now (Signal who k woken) = (who < 64) × IsLegalSignal k woken now.phases
 IsLegalEvent holds now (Broadcast who k woken) = (who < 64) × IsLegalBroadcast k woken now.phases
 IsLegalEvent holds now (Leave who k) = (who < 64) × IsLegalLeave k (now.phases who)
+IsLegalEvent holds now (LeaveAny who cvs) = (who < 64) × IsLegalLeaveAny cvs (now.phases who)
 
 -- what the event leaves of the row
 abbrev pub row_next : {C : Type 0} {N : ℕ} → List ℕ → Event C N → List ℕ
@@ -42,13 +44,15 @@ row_next row (Section who mode entry before after exit) = after
 row_next row (Signal who k woken) = row
 row_next row (Broadcast who k woken) = row
 row_next row (Leave who k) = row
+row_next row (LeaveAny who cvs) = row
 
 -- what the event leaves of a seat's phase
 abbrev pub phase_next : {C : Type 0} {N : ℕ} → ℕ → Phase C → Event C N → Phase C
 phase_next seat phase (Section who mode entry before after exit) = if who == seat then phase_after mode exit else phase
-phase_next seat phase (Signal who k woken) = if is_in woken seat then woken_phase phase else phase
-phase_next seat phase (Broadcast who k woken) = if is_in woken seat then woken_phase phase else phase
+phase_next seat phase (Signal who k woken) = if is_in woken seat then woken_phase k phase else phase
+phase_next seat phase (Broadcast who k woken) = if is_in woken seat then woken_phase k phase else phase
 phase_next seat phase (Leave who k) = if who == seat then left_phase phase else phase
+phase_next seat phase (LeaveAny who cvs) = if who == seat then left_phase phase else phase
 
 -- what the event leaves of a standing
 abbrev pub standing_next : {C : Type 0} {N : ℕ} → Standing C → Event C N → Standing C

@@ -1,5 +1,6 @@
 pub mod Beginnings
 pub mod Counted
+pub mod Cvs
 pub mod Environments
 pub mod Histories
 pub mod Lines

@@ -1,13 +1,15 @@
 -- Which sections are legal.
-use Rattle.std.specs.Prelude.{◌≡◌, ℕ, Bool, true, false, List}
+use Rattle.std.specs.Prelude.{◌≡◌, ℕ, Bool, true, false, List, None, Some}
+use Rattle.ns_model.specs.Cvs.{is_just}
+use Rattle.ns_model.specs.declared.cvs.Variables.TheVariants.{Only, Any}
 use Rattle.ns_model.specs.declared.event.Mode.{Mode}
 use Rattle.ns_model.specs.declared.event.Mode.TheVariants.{Write, Read}
 use Rattle.ns_model.specs.declared.event.Answer.{Answer}
 use Rattle.ns_model.specs.declared.event.Answer.TheVariants.{Met, TimedOut, Canceled}
 use Rattle.ns_model.specs.declared.event.Entry.{Entry}
-use Rattle.ns_model.specs.declared.event.Entry.TheVariants.{Plain, Waited, AfterCv}
+use Rattle.ns_model.specs.declared.event.Entry.TheVariants.{Plain, Waited, AfterCv, AfterAny}
 use Rattle.ns_model.specs.declared.event.Exit.{Exit}
-use Rattle.ns_model.specs.declared.event.Exit.TheVariants.{CondWait, CvWait}
+use Rattle.ns_model.specs.declared.event.Exit.TheVariants.{CondWait, CvWait, AnyWait}
 use Rattle.ns_model.specs.declared.event.Exit.TheVariants as TheExit
 use Rattle.ns_model.specs.declared.phase.Phase.{Phase}
 use Rattle.ns_model.specs.declared.phase.Phase.TheVariants.{Idle, Cond, Waiting, Woken, Left}
@@ -26,7 +28,9 @@ abbrev pub EntryFits : {C : Type 0} → (C → List ℕ → Bool) → List ℕ �
 EntryFits holds before mode Plain Idle = Unit {0}
 EntryFits holds before mode (Waited c answer) (Cond d m) = (m ≡ mode) × (holds c before ≡ is_met answer) × (holds d before ≡ is_met answer)
 EntryFits holds before mode (AfterCv k answer) (Woken j m) = (m ≡ mode) × (j ≡ k) × (is_met answer ≡ true)
-EntryFits holds before mode (AfterCv k answer) (Left j m) = (m ≡ mode) × (j ≡ k) × (is_met answer ≡ false)
+EntryFits holds before mode (AfterCv k answer) (Left variables m) = (m ≡ mode) × (is_just variables k ≡ true) × (is_met answer ≡ false)
+EntryFits holds before mode (AfterAny (Some k)) (Woken j m) = (m ≡ mode) × (j ≡ k)
+EntryFits holds before mode (AfterAny None) (Left variables m) = m ≡ mode
 EntryFits holds before mode _ _ = ⊥
 
 -- a wait for a condition begins where it is false
@@ -34,6 +38,7 @@ abbrev pub ExitFits : {C : Type 0} → (C → List ℕ → Bool) → List ℕ �
 ExitFits holds after TheExit.Plain = Unit {0}
 ExitFits holds after (CondWait c) = holds c after ≡ false
 ExitFits holds after (CvWait k) = Unit {0}
+ExitFits holds after (AnyWait cvs) = Unit {0}
 
 -- a reader changes nothing
 abbrev pub ModeFits : Mode → List ℕ → List ℕ → Type 0
@@ -51,4 +56,5 @@ pub record IsLegalSection {C : Type 0} (holds : C → List ℕ → Bool) (row : 
 abbrev pub phase_after : {C : Type 0} → Mode → Exit C → Phase C
 phase_after mode TheExit.Plain = Idle
 phase_after mode (CondWait c) = Cond c mode
-phase_after mode (CvWait k) = Waiting k mode
+phase_after mode (CvWait k) = Waiting (Only k) mode
+phase_after mode (AnyWait cvs) = Waiting (Any cvs) mode

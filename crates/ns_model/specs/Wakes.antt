@@ -1,5 +1,7 @@
 -- Which wakes are legal.
 use Rattle.std.specs.Prelude.{◌≡◌, ℕ, min, Bool, true, false, not, ◌&&◌, ◌⊎◌}
+use Rattle.ns_model.specs.Cvs.{is_just, is_set}
+use Rattle.ns_model.specs.declared.cvs.Cvs.{Cvs}
 use Rattle.ns_model.specs.declared.phase.Phase.{Phase}
 use Rattle.ns_model.specs.declared.phase.Phase.TheVariants.{Waiting}
 use Rattle.ns_model.specs.declared.seats.Seats.{Seats}
@@ -33,7 +35,12 @@ pub record IsLegalBroadcast {C : Type 0} (k : ℕ) (woken : Seats) (phases : ℕ
   pub no_stranger : woken_strangers k woken phases ≡ 0
   pub nobody_left : left_waiting k woken phases ≡ 0
 
--- Only one that waits for k leaves it.
+-- Only one that waits for k and no other leaves it.
 abbrev pub IsLegalLeave : {C : Type 0} → ℕ → Phase C → Type 0
-IsLegalLeave k (Waiting j mode) = j ≡ k
+IsLegalLeave k (Waiting variables mode) = is_just variables k ≡ true
 IsLegalLeave k _ = ⊥
+
+-- Only one that waits for these and no others leaves them.
+abbrev pub IsLegalLeaveAny : {C : Type 0} → Cvs → Phase C → Type 0
+IsLegalLeaveAny cvs (Waiting variables mode) = is_set variables cvs ≡ true
+IsLegalLeaveAny cvs _ = ⊥

@@ -1,5 +1,6 @@
 //! What happens to the lock, as events.
 
+use crate::cvs::Cvs;
 use crate::seats::Seats;
 
 /// How a section holds the lock: alone, or beside other readers.
@@ -23,8 +24,8 @@ pub enum Answer {
     Canceled,
 }
 
-/// How a section began: by acquiring the lock, or as the return from a wait for a condition or
-/// for a condition variable.
+/// How a section began: by acquiring the lock, or as the return from a wait for a condition, for a
+/// condition variable, or for any of several.
 #[derive(Clone, Copy, Debug)]
 pub enum Entry<C> {
     /// By a call that locks.
@@ -33,9 +34,13 @@ pub enum Entry<C> {
     Waited(C, Answer),
     /// As the return from a wait for the condition variable, with its answer.
     AfterCv(u8, Answer),
+    /// As the return from a wait for any of several condition variables: the one that woke it, or none
+    /// where the wait was left.
+    AfterAny(Option<u8>),
 }
 
-/// How a section ended: by a release, or by a wait for a condition or for a condition variable.
+/// How a section ended: by a release, or by a wait for a condition, for a condition variable, or for
+/// any of several.
 #[derive(Clone, Copy, Debug)]
 pub enum Exit<C> {
     /// By a release.
@@ -44,11 +49,14 @@ pub enum Exit<C> {
     CondWait(C),
     /// By a wait for the condition variable.
     CvWait(u8),
+    /// By a wait for any of the condition variables of the set.
+    AnyWait(Cvs),
 }
 
 /// One event, with the seat of its caller: a whole section with the row before and after it, a
 /// signal or a broadcast of a condition variable with the seats that it woke, or a wait for a
-/// condition variable that was left for its deadline or its note.
+/// condition variable that was left for its deadline or its note, or one for any of several that was
+/// left for what else it waited for.
 #[derive(Clone, Copy)]
 pub enum Event<C, const N: usize> {
     /// A whole section.
@@ -76,5 +84,10 @@ pub enum Event<C, const N: usize> {
     Leave {
         who: u8,
         k: u8,
+    },
+    /// A wait for any of the condition variables of the set was left.
+    LeaveAny {
+        who: u8,
+        cvs: Cvs,
     },
 }

@@ -7,7 +7,7 @@ use crate::condition::Condition;
 use crate::event::Event;
 use crate::phase::Phase;
 use crate::sections::{entry_fits, exit_fits, mode_fits, phase_after};
-use crate::wakes::{broadcast_fits, leave_fits, signal_fits};
+use crate::wakes::{broadcast_fits, leave_any_fits, leave_fits, signal_fits};
 
 /// What the event leaves of a seat's phase.
 pub(crate) fn phase_next<C: Copy, const N: usize>(
@@ -31,21 +31,23 @@ pub(crate) fn phase_next<C: Copy, const N: usize>(
                 phase
             }
         }
-        Event::Signal { woken, .. } => {
+        Event::Signal { k, woken, .. } => {
             if woken.contains(seat) {
-                phase.woken()
+                phase.woken(*k)
             } else {
                 phase
             }
         }
-        Event::Broadcast { woken, .. } => {
+        Event::Broadcast { k, woken, .. } => {
             if woken.contains(seat) {
-                phase.woken()
+                phase.woken(*k)
             } else {
                 phase
             }
         }
-        Event::Leave { who, .. } => { if *who == seat { phase.left() } else { phase } }
+        Event::Leave { who, .. } | Event::LeaveAny { who, .. } => {
+            if *who == seat { phase.left() } else { phase }
+        }
     }
 }
 
@@ -103,6 +105,7 @@ fn event_fits<C: Condition<N>, const N: usize>(past: &[Event<C, N>], event: &Eve
         Event::Signal { who, k, woken } => *who < 64 && signal_fits(*k, *woken, past),
         Event::Broadcast { who, k, woken } => *who < 64 && broadcast_fits(*k, *woken, past),
         Event::Leave { who, k } => *who < 64 && leave_fits(*k, phase_of(past, *who)),
+        Event::LeaveAny { who, cvs } => *who < 64 && leave_any_fits(*cvs, phase_of(past, *who)),
     }
 }
 

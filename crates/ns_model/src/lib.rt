@@ -39,6 +39,7 @@
 #![tactic(auto)]
 
 pub mod condition;
+pub mod cvs;
 pub mod environment;
 pub mod event;
 pub mod history;

@@ -3,24 +3,25 @@
 ghost use Rattle.std.specs.Prelude.{◌≡◌};
 ghost use Rattle.ns_model.specs.Phases.{is_write, is_waiting, is_waiting_as, woken_phase, left_phase};
 
+use crate::cvs::Variables;
 use crate::event::Mode;
 
 /// Where a seat stands between its sections: it owes nothing, or it is on its way back from a
-/// wait, in the mode that it waits in. A wait for a condition has the condition; a wait for a
-/// condition variable has the variable's number, and goes from `Waiting` to `Woken` by a signal
-/// or a broadcast, or to `Left` by its deadline or its note.
+/// wait, in the mode that it waits in. A wait for a condition has the condition; a wait for
+/// condition variables tells which they are, and goes from `Waiting` to `Woken` by a signal or a
+/// broadcast of one of them, or to `Left` by its deadline, its note, or what else it waited for.
 #[derive(Clone, Copy, Debug)]
 pub enum Phase<C> {
     /// It owes nothing.
     Idle,
     /// It waits for the condition.
     Cond(C, Mode),
-    /// It waits for the condition variable.
-    Waiting(u8, Mode),
+    /// It waits for the condition variables.
+    Waiting(Variables, Mode),
     /// It was woken from the condition variable.
     Woken(u8, Mode),
-    /// It has left the condition variable.
-    Left(u8, Mode),
+    /// It has left the condition variables.
+    Left(Variables, Mode),
 }
 
 impl Mode {
@@ -41,7 +42,7 @@ impl<C: Copy> Phase<C> {
         ensures { result ≡ is_waiting k self.now }
     {
         match self {
-            Phase::Waiting(j, _) => *j == k,
+            Phase::Waiting(variables, _) => variables.has(k),
             _ => false,
         }
     }
@@ -51,17 +52,17 @@ impl<C: Copy> Phase<C> {
         ensures { result ≡ is_waiting_as writes k self.now }
     {
         match self {
-            Phase::Waiting(j, mode) => *j == k && writes == mode.is_write(),
+            Phase::Waiting(variables, mode) => variables.has(k) && writes == mode.is_write(),
             _ => false,
         }
     }
 
-    /// The phase after a wake.
-    pub(crate) fn woken(self) -> Phase<C>
-        ensures { result ≡ woken_phase self }
+    /// The phase after a wake of the variable.
+    pub(crate) fn woken(self, k: u8) -> Phase<C>
+        ensures { result ≡ woken_phase k self }
     {
         match self {
-            Phase::Waiting(k, mode) => Phase::Woken(k, mode),
+            Phase::Waiting(_, mode) => Phase::Woken(k, mode),
             other => other,
         }
     }
@@ -71,7 +72,7 @@ impl<C: Copy> Phase<C> {
         ensures { result ≡ left_phase self }
     {
         match self {
-            Phase::Waiting(k, mode) => Phase::Left(k, mode),
+            Phase::Waiting(variables, mode) => Phase::Left(variables, mode),
             other => other,
         }
     }

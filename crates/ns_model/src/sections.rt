@@ -5,6 +5,7 @@ ghost use Rattle.std.specs.Prelude.{◌≡◌, ◌↔◌, IsTrue};
 ghost use Rattle.ns_model.specs.Sections.{EntryFits, ExitFits, ModeFits, phase_after};
 
 use crate::condition::Condition;
+use crate::cvs::Variables;
 use crate::event::{Answer, Entry, Exit, Mode};
 use crate::phase::Phase;
 
@@ -27,9 +28,11 @@ pub(crate) fn entry_fits<C: Condition<N>, const N: usize>(
         (Entry::AfterCv(k, answer), Phase::Woken(j, m)) => {
             *m == mode && j == k && *answer == Answer::Met
         }
-        (Entry::AfterCv(k, answer), Phase::Left(j, m)) => {
-            *m == mode && j == k && *answer != Answer::Met
+        (Entry::AfterCv(k, answer), Phase::Left(variables, m)) => {
+            *m == mode && variables.is_just(*k) && *answer != Answer::Met
         }
+        (Entry::AfterAny(Some(k)), Phase::Woken(j, m)) => *m == mode && j == k,
+        (Entry::AfterAny(None), Phase::Left(_, m)) => *m == mode,
         _ => false,
     }
 }
@@ -41,7 +44,7 @@ pub(crate) fn exit_fits<C: Condition<N>, const N: usize>(after: &[u64; N], exit:
     match exit {
         Exit::Plain => true,
         Exit::CondWait(c) => !c.test(after),
-        Exit::CvWait(_) => true,
+        Exit::CvWait(_) | Exit::AnyWait(_) => true,
     }
 }
 
@@ -62,6 +65,7 @@ pub(crate) fn phase_after<C: Copy>(mode: Mode, exit: Exit<C>) -> Phase<C>
     match exit {
         Exit::Plain => Phase::Idle,
         Exit::CondWait(c) => Phase::Cond(c, mode),
-        Exit::CvWait(k) => Phase::Waiting(k, mode),
+        Exit::CvWait(k) => Phase::Waiting(Variables::Only(k), mode),
+        Exit::AnyWait(cvs) => Phase::Waiting(Variables::Any(cvs), mode),
     }
 }

@@ -4,8 +4,9 @@ ghost use Rattle.std.specs.Prelude.{◌≡◌, ◌<◌, ◌↔◌, IsTrue};
 ghost use Rattle.ns_model.specs.Counted.{is_counted};
 ghost use Rattle.ns_model.specs.Phases.{count_seats};
 ghost use Rattle.ns_model.specs.Histories.{standing_after};
-ghost use Rattle.ns_model.specs.Wakes.{IsLegalSignal, IsLegalBroadcast, IsLegalLeave};
+ghost use Rattle.ns_model.specs.Wakes.{IsLegalSignal, IsLegalBroadcast, IsLegalLeave, IsLegalLeaveAny};
 
+use crate::cvs::Cvs;
 use crate::event::Event;
 use crate::history::phase_of;
 use crate::phase::Phase;
@@ -84,7 +85,17 @@ pub(crate) fn leave_fits<C: Copy>(k: u8, phase: Phase<C>) -> bool
     ensures { IsTrue result ↔ IsLegalLeave k phase }
 {
     match phase {
-        Phase::Waiting(j, _) => j == k,
+        Phase::Waiting(variables, _) => variables.is_just(k),
+        _ => false,
+    }
+}
+
+/// Whether one in this phase may leave the variables of the set.
+pub(crate) fn leave_any_fits<C: Copy>(cvs: Cvs, phase: Phase<C>) -> bool
+    ensures { IsTrue result ↔ IsLegalLeaveAny cvs phase }
+{
+    match phase {
+        Phase::Waiting(variables, _) => variables.is_set(cvs),
         _ => false,
     }
 }

@@ -37,8 +37,8 @@ module _ {C : Type 0} {N : ℕ} (truths : Truths C) where
   -- ---- calls that go at once
 
   -- one that has gone so is over, or has acquired
-  pub went_so : (first walk : Walk C) (left : Option ℕ) (now : SeatOf C N) → walk ≡ first → left ≡ None → WentAtOnce truths walk left now → HasReached truths (asked_of first) (gone_to N first) now
-  went_so first walk left now is none went = (subst (λ (x : Walk C × Option ℕ). WentAtOnce truths x.0 x.1 now) (λ i. (is i, none i)) went).1
+  pub went_so : (first walk : Walk C) (left : Option Word) (now : SeatOf C N) → walk ≡ first → left ≡ None → WentAtOnce truths walk left now → HasReached truths (asked_of first) (gone_to N first) now
+  went_so first walk left now is none went = (subst (λ (x : Walk C × Option Word). WentAtOnce truths x.0 x.1 now) (λ i. (is i, none i)) went).1
 
   -- ---- tries
 

@@ -2,7 +2,7 @@
 use Rattle.std.proofs.Common.{◌≡◌, ℕ, ◌<◌, Bool, true, false, cond, List, [], ◌++◌, append-nil, ◌∷◌, Option, None, Some, refl, ap, sym, ◌∙◌, subst}
 use Rattle.ns_gate.proofs.Calls.{begins, can_go, goes, goes_on, since}
 use Rattle.ns_gate.proofs.Findings.{does}
-use Rattle.ns_gate.specs.Prelude.{SeatOf, HasSince, IsAtPlace, IsAtRest, HasReached, OwesBelow, GateView, rest_of, rest, the, act_returning, carried_by, Carries, found_returned, lists_returned, some_returned, CanStep, HasStepped, IsOwedNext, Performed, standing_after, view_in, woken_of, seats_of, row_in, SectionFits, changed, meets_at, moves, Change, Bits, Request, Held, Queue, Leave, QueueToWait, Truths, Event, Lists, asked_of, IsPackable, number_of, word_of, owes_more, bits_of, has_some, Effect, LockState, Part, part_of, Told, got_of, has_queues, want_of, release_has_queues, scan_place, word_taken, Act, LoadWord, LoadFlag, PayWake, TakeQueues, Acquire, Release, ReturnQueues, ReleaseReturning, WaitReturning, Found, Saw, Made, Flag, Paid, AcquireLoad, ReleaseLoad, ScanCells, ScanAndRelease, SignalLoad, SeatView, ForLock, ForWait, LeaveLoad, Load, InQueuing, InLeaving, On, Idle, Walk, InTry, InAcquire, InRelease, InCells, InWait, InSignal, InShow, ReturnShown, Taking, ToChange, ToQueue, Word}
+use Rattle.ns_gate.specs.Prelude.{SeatOf, HasSince, IsAtPlace, IsAtRest, HasReached, OwesBelow, GateView, rest_of, rest, the, act_returning, carried_by, Carries, found_returned, lists_returned, some_returned, CanStep, HasStepped, IsOwedNext, Performed, standing_after, view_in, woken_of, seats_of, row_in, SectionFits, changed, meets_at, moves, Change, Bits, Request, Held, Queue, Leave, QueueToWait, Truths, Event, Lists, asked_of, IsPackable, owes_more, bits_of, has_some, Effect, LockState, Part, part_of, Told, got_of, has_queues, want_of, release_has_queues, scan_place, word_taken, Act, LoadWord, LoadFlag, PayWake, TakeQueues, Acquire, Release, ReturnQueues, ReleaseReturning, WaitReturning, Found, Saw, Made, Flag, Paid, AcquireLoad, ReleaseLoad, ScanCells, ScanAndRelease, SignalLoad, SeatView, ForLock, ForWait, LeaveLoad, Load, InQueuing, InLeaving, On, Idle, Walk, InTry, InAcquire, InRelease, InCells, InWait, InSignal, InShow, ReturnShown, Taking, ToChange, ToQueue, Word}
 use Rattle.ns_gate.specs.declared.queues.Returning.{Returning}
 use Rattle.ns_gate.specs.declared.queues.Returning.TheVariants.{Changed, Released, Waited}
 use Rattle.ns_gate.specs.declared.queues.Turned.{Turned}
@@ -12,7 +12,6 @@ use Rattle.ns_word.proofs.Acts.{view_fits}
 use Rattle.ns_monitor.specs.declared.going.Going.{Going}
 use Rattle.ns_monitor.specs.declared.going.Going.TheVariants.{Acquiring, Leaving, Changing}
 use Rattle.ns_monitor.specs.Prelude.{Decides, HasInHand, HasTakenAt, IsNumberOf, MayGoAlone, OwesTheWoken, Pays, PutsBack, Sleeps, found_back, going_act, going_at, going_of, gone_to, may_go, returning_at, returning_of, scanning_at, taken_at, taking_at, taking_for}
-use Rattle.ns_word.proofs.Codes.{decoded}
 
 -- a word that was taken has a number, if the word before has
 pub taken_packs : (taking : Taking) (word : Word) → IsPackable word → IsPackable (word_taken taking word)
@@ -23,10 +22,6 @@ taken_packs (ToQueue mode arrival) word p = record { few = p.few; alone = p.alon
 taken_tells : (taking : Taking) (word : Word) → (word_taken taking word).cond ≡ word.cond
 taken_tells ToChange word = refl
 taken_tells (ToQueue mode arrival) word = refl
-
--- a word is the one of its number
-pub same_word : (word : Word) (number : ℕ) → number ≡ number_of word → word ≡ word_of number
-same_word word number is = sym (decoded word) ∙ ap word_of (sym is)
 
 -- what a call was told of its word
 pub may_by : {C : Type 0} (going : Going C) (walk : Walk C) (word : Word) (told b : Bool) → going ≡ going_of walk → told ≡ may_go going word → told ≡ b → (may_go going word ≡ b) × (may_go (going_of walk) word ≡ b)

@@ -2,6 +2,7 @@
 use Rattle.std.specs.Prelude.{◌≡◌, ℕ, Bool, true, not, List, [], ◌∷◌, ◌++◌, Option, None, Some}
 use Rattle.atomic_table.specs.Seated.{TableId}
 use Rattle.ns_model.specs.declared.event.Event.{Event}
+use Rattle.ns_model.specs.declared.event.Exit.TheVariants as TheExit
 use Rattle.ns_model.specs.declared.event.Mode.{Mode}
 use Rattle.ns_model.specs.Beginnings.{BeginsWith}
 use Rattle.ns_model.specs.Histories.{own as own_of, row_after}
@@ -9,9 +10,11 @@ use Rattle.ns_model.specs.Truths.{Truths}
 use Rattle.ns_word.specs.declared.view.Held.{Held}
 use Rattle.ns_word.specs.declared.walk.Walk.{Walk}
 use Rattle.ns_word.specs.Lawful.{IsLawful}
-use Rattle.ns_word.specs.Steps.{LockState}
+use Rattle.ns_word.specs.declared.word.Releasing.{Releasing}
+use Rattle.ns_word.specs.Steps.{LockState, section_of}
 use Rattle.ns_word.specs.Words.{is_held}
-use Rattle.ns_word.specs.Meanings.{new_section}
+use Rattle.ns_word.specs.Meanings.{InHand, new_section}
+use Rattle.ns_monitor.specs.Walks.{releasing_by}
 use Rattle.ns_gate.specs.Calls.{SeatOf, IsTrueToHistory}
 use Rattle.ns_gate.specs.Steps.{the}
 use Rattle.ns_queue.specs.Queues.{Lists}
@@ -58,6 +61,11 @@ pub record HasLocked {C : Type 0} {N : ℕ} (truths : Truths C) (call : Walk C) 
   pub grows : Grows truths call old new
   pub mine : new.mine ≡ old.mine
   pub section : new.held ≡ Some (new_section mode (row_after new.seen))
+
+-- The same where the call has ended the section that was in hand: it is committed as it was, as the last of the caller's own events.
+pub record HasUnlocked {C : Type 0} {N : ℕ} (truths : Truths C) (releasing : Releasing) (old new : Known C N) : Type 0 where
+  pub grows : Grows truths (releasing_by releasing) old new
+  pub mine : InHand old.held (λ section. new.mine ≡ old.mine ++ section_of truths.holds old.seat section TheExit.Plain ∷ [])
 
 -- a seat of a new monitor with so many: it has seen and done nothing, and has nothing in hand
 abbrev pub new_seat : {C : Type 0} {N : ℕ} → TableId → ℕ → ℕ → Known C N

@@ -5,6 +5,7 @@ pub mod Prelude
 pub mod Saved
 pub mod Shows
 pub mod Standing
+pub mod Stopped
 pub mod Tests
 pub mod Variables
 pub mod Waits

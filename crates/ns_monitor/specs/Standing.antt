@@ -17,7 +17,7 @@ use Rattle.ns_word.specs.declared.act.Found.{Found}
 use Rattle.ns_monitor.specs.declared.going.Going.{Going}
 use Rattle.ns_monitor.specs.declared.going.Going.TheVariants.{Acquiring, Leaving, Changing}
 use Rattle.ns_word.specs.Asked.{asked_of, request_for}
-use Rattle.ns_word.specs.Codec.{IsPackable, word_of}
+use Rattle.ns_word.specs.Codec.{IsPackable}
 use Rattle.ns_word.specs.Lists.{bits_of}
 use Rattle.ns_word.specs.Waits.{home_of, mode_for}
 use Rattle.ns_word.specs.Walks.{want_of, got_of, has_queues, acquire_by, acquired_for, release_by, scan_place}
@@ -153,9 +153,9 @@ WentOrTook {C} {N} truths walk None me now = MayGoAlone (going_of walk) × HasRe
 WentOrTook truths walk (Some word) me now = HasTakenAt truths walk word me now
 
 -- A call that has begun, and has loaded the word, has gone by it; or it has seen a word with this number last, and stands where its decision leads.
-abbrev pub WentAtOnce : {C : Type 0} {N : ℕ} → Truths C → Walk C → Option ℕ → SeatOf C N → Type 0
+abbrev pub WentAtOnce : {C : Type 0} {N : ℕ} → Truths C → Walk C → Option Word → SeatOf C N → Type 0
 WentAtOnce {C} {N} truths walk None now = MayGoAlone (going_of walk) × HasReached truths (asked_of walk) (gone_to N walk) now
-WentAtOnce {C} {N} truths walk (Some last) now = IsPackable (word_of last) × HasReached truths (asked_of walk) (got_of N walk (Saw (word_of last))) now
+WentAtOnce {C} {N} truths walk (Some last) now = IsPackable last × HasReached truths (asked_of walk) (got_of N walk (Saw last)) now
 
 -- ---- with the queues in hand
 

@@ -1,10 +1,11 @@
 //! An acquire that may have to wait: in the lock list, for its flag.
 
 ghost use Rattle.std.specs.Prelude.{◌≡◌, None};
-ghost use Rattle.ns_gate.specs.Prelude.{IsPackable, word_of, AcquireLoad, Arm, InAcquire, HasSince, IsAtPlace, HasUnchangedQueues, the};
-ghost use Rattle.ns_monitor.specs.Prelude.{AcquiresBy, HasAcquired, IsNumberOf};
+ghost use Rattle.ns_gate.specs.Prelude.{IsPackable, AcquireLoad, Arm, InAcquire, HasSince, IsAtPlace, HasUnchangedQueues, the};
+ghost use Rattle.ns_monitor.specs.Prelude.{AcquiresBy, HasAcquired, HasLocked, HasStopped, IsNumberOf, Known, locking};
 
-use crate::going::Going;
+use crate::caller::{Caller, Renewed};
+use crate::going::{Going, Stopped};
 use crate::monitor::Monitor;
 use ns_gate::gate::GateSeat;
 use ns_gate::queues::{Returning, Turned};
@@ -12,34 +13,39 @@ use ns_model::condition::Condition;
 use ns_model::event::Mode;
 use ns_word::acquire_walk::AcquirePlace;
 use ns_word::act::Change;
-use ns_word::codec::unpacked;
+use ns_word::number::LockWord;
 use ns_word::wait::{Aim, arrival_of};
 use ns_word::walk::Walk;
-use ns_word::word::{Arrival, Word};
+use ns_word::word::Arrival;
 use std::sync::Wait;
 
 impl<C: Condition<N>, const N: usize> Monitor<C, N> {
-    /// Acquires the lock in this mode, by the word last seen, and waits in the lock list as often as it
-    /// has to. It is told the word's number ([`Monitor::go_at_once`]).
+    /// Goes on to acquire the lock for such a section, and waits in the lock list as often as it has to.
     #[cold]
-    pub(crate) fn acquire_by<R: Wait>(
+    pub(crate) fn lock_by<H: Renewed<C, N>, R: Wait>(
         &self,
         rt: &R,
-        seat: &mut GateSeat<C, N>,
-        number: u8,
-        mode: Mode,
-        last: u64,
-    )
-        requires of { seat.old.table_id ≡ self.now }
-        requires number { IsNumberOf number seat.old.me }
-        requires last { IsPackable (word_of last) }
-        requires at { AcquiresBy C.means (Aim.ForLock mode) Arrival.AsFresh (word_of last) seat.old.me }
-        ensures seat { seat.new.table_id ≡ self.now }
-        ensures since { HasSince None (the seat.old.me.0) (the seat.new.me.0) }
-        ensures acquired { HasAcquired C.means (Aim.ForLock mode) seat.new.me }
+        stopped: Stopped<C, N>,
+    ) -> Caller<H, C, N>
+        requires of { stopped.seat.table_id ≡ self.now }
+        requires number { IsNumberOf stopped.number stopped.seat.me }
+        requires last { IsPackable stopped.last }
+        requires at { AcquiresBy C.means (Aim.ForLock H.mode) Arrival.AsFresh stopped.last stopped.seat.me }
+        ensures { (old : Known C N) → HasStopped (locking H.mode) old stopped.seat.table_id stopped.number stopped.last stopped.seat.me → HasLocked C.means (locking H.mode) H.mode old result }
     {
+        let Stopped {
+            mut seat,
+            number,
+            last,
+        } = stopped;
+        let mode = H::mode();
         let aim = Aim::ForLock(mode);
-        self.acquire_on(rt, seat, number, aim, Arrival::AsFresh, unpacked(last));
+        self.acquire_on(rt, &mut seat, number, aim, Arrival::AsFresh, last);
+        Caller {
+            seat,
+            number,
+            hand: H::begun(),
+        }
     }
 
     /// Acquires the lock for this, and waits in the lock list as often as it has to.
@@ -70,7 +76,7 @@ impl<C: Condition<N>, const N: usize> Monitor<C, N> {
         number: u8,
         aim: Aim<C>,
         first: Arrival,
-        last: Word,
+        last: LockWord,
     )
         requires of { seat.old.table_id ≡ self.now }
         requires number { IsNumberOf number seat.old.me }
@@ -103,7 +109,7 @@ impl<C: Condition<N>, const N: usize> Monitor<C, N> {
         number: u8,
         aim: Aim<C>,
         arrival: Arrival,
-        word: Word,
+        word: LockWord,
     ) -> Arrival
         requires of { seat.old.table_id ≡ self.now }
         requires number { IsNumberOf number seat.old.me }
@@ -118,7 +124,7 @@ impl<C: Condition<N>, const N: usize> Monitor<C, N> {
         self.gate.arm_flag(seat, number);
         let bits = self.gate.queue_in_hand(seat, number, mode, arrival);
         let returning = Returning::Changed(Change::QueueSelf(mode, arrival));
-        let place = Walk::InAcquire(aim, AcquirePlace::Queue(arrival, word));
+        let place = Walk::InAcquire(aim, AcquirePlace::Queue(arrival, word.parts()));
         let turned = Turned { some: false, bits };
         self.put_back(rt, seat, returning, place, word, turned);
         let tries = arrival.tries();

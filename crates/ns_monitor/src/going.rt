@@ -7,10 +7,10 @@ ghost use Rattle.ns_monitor.specs.Prelude.{Decides, WentAtOnce, going_act, going
 use crate::monitor::Monitor;
 use ns_gate::gate::GateSeat;
 use ns_model::condition::Condition;
-use ns_word::codec::encode;
+use ns_word::number::LockWord;
 use ns_word::wait::Aim;
 use ns_word::walk::Walk;
-use ns_word::word::{Arrival, Releasing, Taking, Word};
+use ns_word::word::{Arrival, Releasing, Taking};
 use std::alloc::AllocError;
 
 /// What a call would do without the waiter queues, where the lock word lets it.
@@ -22,6 +22,20 @@ pub enum Going<C> {
     Leaving(Releasing),
     /// Nothing: it has to change the lists.
     Changing,
+}
+
+/// A call that could not go at once, in the middle of it: its seat, that seat's number, and the lock
+/// word that it saw last. With this it goes on in a function that may wait.
+///
+/// What goes at once is no such function: each call of one costs a look at whether it was cut short.
+#[derive(Drop)]
+pub(crate) struct Stopped<C: Condition<N>, const N: usize> {
+    /// The seat.
+    pub(crate) seat: GateSeat<C, N>,
+    /// The seat's number.
+    pub(crate) number: u8,
+    /// The lock word seen last.
+    pub(crate) last: LockWord,
 }
 
 impl<C: Copy> Clone for Going<C> {
@@ -37,7 +51,7 @@ impl<C: Copy> Clone for Going<C> {
 impl<C: Copy> Going<C> {
     /// Whether this word lets it.
     #[inline(always)]
-    pub fn may_go(self, word: Word) -> bool
+    pub fn may_go(self, word: LockWord) -> bool
         ensures { result ≡ may_go self word }
     {
         match self {
@@ -66,8 +80,8 @@ impl<C: Condition<N>, const N: usize> Monitor<C, N> {
         &self,
         seat: &mut GateSeat<C, N>,
         going: Going<C>,
-        last: Word,
-    ) -> Result<(), Word>
+        last: LockWord,
+    ) -> Result<(), LockWord>
         requires of { seat.old.table_id ≡ self.now }
         requires last { IsPackable last }
         requires may { may_go going last ≡ true }
@@ -86,16 +100,15 @@ impl<C: Condition<N>, const N: usize> Monitor<C, N> {
     }
 
     /// Begins a call that loads the word first, and goes by one exchange where the word lets it and no
-    /// other step comes between. Else answers the number of the word that it saw last, with which a
-    /// call goes on that may have to wait: parts of a word that a call may be passed are kept in memory
-    /// by its caller, which this way would pay for.
+    /// other step comes between. Else answers the word that it saw last, with which a call goes on that
+    /// may have to wait.
     #[inline(always)]
     pub(crate) fn go_at_once(
         &self,
         seat: &mut GateSeat<C, N>,
         going: Going<C>,
         walk: Walk<C>,
-    ) -> Option<u64>
+    ) -> Option<LockWord>
         requires of { seat.old.table_id ≡ self.now }
         requires rest { IsAtRest C.means seat.old.me }
         requires decides { Decides walk }
@@ -107,13 +120,12 @@ impl<C: Condition<N>, const N: usize> Monitor<C, N> {
         ensures went { WentAtOnce C.means walk result seat.new.me }
     {
         let word = self.gate.load(seat, Some(walk));
-        let last = encode(word);
         if !going.may_go(word) {
-            return Some(last);
+            return Some(word);
         }
         match self.exchange_to_go(seat, going, word) {
             Ok(()) => None,
-            Err(other) => Some(encode(other)),
+            Err(other) => Some(other),
         }
     }
 }

@@ -14,8 +14,8 @@ use ns_gate::gate::GateSeat;
 use ns_gate::queues::{Returning, Turned};
 use ns_model::condition::Condition;
 use ns_word::act::Found;
+use ns_word::number::LockWord;
 use ns_word::walk::Walk;
-use ns_word::word::Word;
 use std::sync::Wait;
 
 impl<C: Condition<N>, const N: usize> Monitor<C, N> {
@@ -28,8 +28,8 @@ impl<C: Condition<N>, const N: usize> Monitor<C, N> {
         seat: &mut GateSeat<C, N>,
         going: Going<C>,
         _walk: Walk<C>,
-        first: Word,
-    ) -> Option<Word>
+        first: LockWord,
+    ) -> Option<LockWord>
         requires of { seat.old.table_id ≡ self.now }
         requires decides { Decides _walk }
         requires going { going ≡ going_of _walk }
@@ -48,7 +48,7 @@ impl<C: Condition<N>, const N: usize> Monitor<C, N> {
                     Ok(()) => return None,
                     Err(other) => word = other,
                 }
-            } else if word.spin {
+            } else if word.spin() {
                 backoff.snooze();
                 word = self.gate.load(seat, None);
             } else {
@@ -62,7 +62,12 @@ impl<C: Condition<N>, const N: usize> Monitor<C, N> {
     }
 
     /// Takes the queues, for a call that has to change the lists. Answers the word then.
-    pub(crate) fn take<R: Wait>(&self, rt: &R, seat: &mut GateSeat<C, N>, _walk: Walk<C>) -> Word
+    pub(crate) fn take<R: Wait>(
+        &self,
+        rt: &R,
+        seat: &mut GateSeat<C, N>,
+        _walk: Walk<C>,
+    ) -> LockWord
         requires of { seat.old.table_id ≡ self.now }
         requires decides { Decides _walk }
         requires going { going_of _walk ≡ Changing }
@@ -84,7 +89,7 @@ impl<C: Condition<N>, const N: usize> Monitor<C, N> {
         rt: &R,
         seat: &mut GateSeat<C, N>,
         walk: Walk<C>,
-    ) -> Word
+    ) -> LockWord
         requires of { seat.old.table_id ≡ self.now }
         requires rest { IsAtRest C.means seat.old.me }
         requires decides { Decides walk }
@@ -110,7 +115,7 @@ impl<C: Condition<N>, const N: usize> Monitor<C, N> {
         seat: &mut GateSeat<C, N>,
         returning: Returning<C>,
         _walk: Walk<C>,
-        first: Word,
+        first: LockWord,
         turned: Turned,
     )
         requires of { seat.old.table_id ≡ self.now }

@@ -3,10 +3,10 @@
 ghost use Rattle.std.specs.Prelude.{◌≡◌, ◌<◌, ◌≤◌, ◌++◌, [], ◌∷◌, if◌then◌else◌, None, Some, true, All, IfErr, IfOk, OnOk, length, slice_index, slice_set};
 ghost use Rattle.ns_model.specs.declared.event.Exit.TheVariants as TheExit;
 ghost use Rattle.ns_gate.specs.Prelude.{Read, Write, TryLock, Busy, Succeeded, QuietWriter, Reader, Writer, InHand, HasMode, section_of, mode_released, HasAnswered, HasSince, IsAtRest, RefusesGate, ShareTheLock, the};
-ghost use Rattle.ns_monitor.specs.Prelude.{AreNew, AreOfOneHistory, EndsAs, Grows, HasLearned, HasLocked, HasSeenMore, IsNumberOf, IsQuietFor, getting, judging, known_of, locking, releasing_by, setting, trying};
+ghost use Rattle.ns_monitor.specs.Prelude.{AcquiresBy, AreNew, AreOfOneHistory, EndsAs, Grows, HasLearned, HasLocked, HasSeenMore, HasStopped, HasUnlocked, IsNumberOf, IsQuietFor, ReleasesBy, getting, judging, known_of, locking, releasing_by, setting, trying};
 
 use crate::caller::{Caller, Free, Hand, ReadHeld, Renewed, Seat, Section, WriteHeld};
-use crate::going::Going;
+use crate::going::{Going, Stopped};
 use crate::room::Gated;
 use crate::{Closed, Fault};
 use ns_gate::gate::{Gate, GateSeat};
@@ -35,7 +35,10 @@ impl<C: Condition<N>, const N: usize> Model for Monitor<C, N> {
 }
 
 /// A seat of a monitor.
-fn seated<C: Gated<N>, const N: usize>(seat: GateSeat<C, N>, number: u8) -> Seat<C, N>
+pub(crate) fn seated<C: Condition<N>, const N: usize>(
+    seat: GateSeat<C, N>,
+    number: u8,
+) -> Seat<C, N>
     requires { IsAtRest C.means seat.me × IsNumberOf number seat.me × ((the seat.me.0).at.held ≡ None) }
     ensures { result ≡ known_of seat.table_id seat.me }
 {
@@ -142,11 +145,15 @@ impl<C: Gated<N>, const N: usize> Monitor<C, N> {
         self.try_lock_as(seat)
     }
 
-    /// Acquires the lock for such a section, and waits as long as it has to.
+    /// Begins to acquire the lock for such a section, and does it at once where the word lets it.
     #[inline(always)]
-    fn lock_as<H: Renewed<C, N>, R: Wait>(&self, rt: &R, seat: Seat<C, N>) -> Caller<H, C, N>
+    fn begin_lock<H: Renewed<C, N>>(
+        &self,
+        seat: Seat<C, N>,
+    ) -> Result<Caller<H, C, N>, Stopped<C, N>>
         requires { seat.monitor ≡ self.now }
-        ensures { HasLocked C.means (locking H.mode) H.mode seat result }
+        ensures locked { IfOk result (λ held. HasLocked C.means (locking H.mode) H.mode seat held) }
+        ensures stopped { IfErr result (λ s. (s.seat.table_id ≡ self.now) × HasStopped (locking H.mode) seat s.seat.table_id s.number s.last s.seat.me × AcquiresBy C.means (Aim.ForLock H.mode) Arrival.AsFresh s.last s.seat.me) }
     {
         let Caller {
             mut seat,
@@ -156,13 +163,12 @@ impl<C: Gated<N>, const N: usize> Monitor<C, N> {
         let mode = H::mode();
         let going = Going::Acquiring(Aim::ForLock(mode), Arrival::AsFresh);
         match self.go_at_once(&mut seat, going, Walk::lock(mode)) {
-            None => (),
-            Some(last) => self.acquire_by(rt, &mut seat, number, mode, last),
-        }
-        Caller {
-            seat,
-            number,
-            hand: H::begun(),
+            None => Ok(Caller {
+                seat,
+                number,
+                hand: H::begun(),
+            }),
+            Some(last) => Err(Stopped { seat, number, last }),
         }
     }
 
@@ -173,7 +179,10 @@ impl<C: Gated<N>, const N: usize> Monitor<C, N> {
         requires { seat.monitor ≡ self.now }
         ensures { HasLocked C.means (locking Write) Write seat result }
     {
-        self.lock_as(rt, seat)
+        match self.begin_lock(seat) {
+            Ok(held) => held,
+            Err(stopped) => self.lock_by(rt, stopped),
+        }
     }
 
     /// Acquires the lock to read, beside other readers, and waits as long as it has to. The section
@@ -183,7 +192,10 @@ impl<C: Gated<N>, const N: usize> Monitor<C, N> {
         requires { seat.monitor ≡ self.now }
         ensures { HasLocked C.means (locking Read) Read seat result }
     {
-        self.lock_as(rt, seat)
+        match self.begin_lock(seat) {
+            Ok(held) => held,
+            Err(stopped) => self.lock_by(rt, stopped),
+        }
     }
 
     /// The value of a cell of the section's row.
@@ -299,19 +311,19 @@ impl<C: Gated<N>, const N: usize> Monitor<C, N> {
         self.meet_as(first, second)
     }
 
-    /// Ends a section: it is committed as it is, and the caller's events have it as their last.
+    /// Begins to release the section in hand, and does it at once where the word lets it: the section is
+    /// committed as it is then, and the caller's events have it as their last.
     #[inline(always)]
-    fn unlock_as<H: Section<C, N> + Drop, R: Wait>(
+    fn begin_unlock<H: Section<C, N> + Drop>(
         &self,
-        rt: &R,
         held: Caller<H, C, N>,
         releasing: Releasing,
-    ) -> Seat<C, N>
+    ) -> Result<Seat<C, N>, Stopped<C, N>>
         requires of { held.monitor ≡ self.now }
         requires mode { mode_released releasing ≡ H.mode }
         requires quiet { IsQuietFor C.means releasing held.held }
-        ensures grows { Grows C.means (releasing_by releasing) held result }
-        ensures mine { InHand held.held (λ section. result.mine ≡ held.mine ++ section_of C.means.holds held.seat section TheExit.Plain ∷ []) }
+        ensures released { IfOk result (λ seat. HasUnlocked C.means releasing held seat) }
+        ensures stopped { IfErr result (λ s. (s.seat.table_id ≡ self.now) × HasStopped (releasing_by releasing) held s.seat.table_id s.number s.last s.seat.me × ReleasesBy C.means releasing s.last s.seat.me) }
     {
         let Caller {
             mut seat,
@@ -320,10 +332,9 @@ impl<C: Gated<N>, const N: usize> Monitor<C, N> {
         } = held;
         let going = Going::Leaving(releasing);
         match self.go_at_once(&mut seat, going, Walk::release(releasing)) {
-            None => (),
-            Some(last) => self.release_by(rt, &mut seat, releasing, last),
+            None => Ok(seated(seat, number)),
+            Some(last) => Err(Stopped { seat, number, last }),
         }
-        seated(seat, number)
     }
 
     /// Ends a write section: it is committed as it is, and the caller's events have it as their last.
@@ -337,7 +348,10 @@ impl<C: Gated<N>, const N: usize> Monitor<C, N> {
         ensures grows { Grows C.means (releasing_by Writer) held result }
         ensures mine { InHand held.held (λ section. result.mine ≡ held.mine ++ section_of C.means.holds held.seat section TheExit.Plain ∷ []) }
     {
-        self.unlock_as(rt, held, Releasing::Writer)
+        match self.begin_unlock(held, Releasing::Writer) {
+            Ok(seat) => seat,
+            Err(stopped) => self.unlock_by(rt, stopped, Releasing::Writer),
+        }
     }
 
     /// Ends a read section: it is committed, and the caller's events have it as their last.
@@ -349,7 +363,10 @@ impl<C: Gated<N>, const N: usize> Monitor<C, N> {
         ensures grows { Grows C.means (releasing_by Reader) held result }
         ensures mine { InHand held.held (λ section. result.mine ≡ held.mine ++ section_of C.means.holds held.seat section TheExit.Plain ∷ []) }
     {
-        self.unlock_as(rt, held, Releasing::Reader)
+        match self.begin_unlock(held, Releasing::Reader) {
+            Ok(seat) => seat,
+            Err(stopped) => self.unlock_by(rt, stopped, Releasing::Reader),
+        }
     }
 
     /// Ends a write section that can't have made a false condition true: it is committed as it is, as
@@ -362,7 +379,10 @@ impl<C: Gated<N>, const N: usize> Monitor<C, N> {
         ensures grows { Grows C.means (releasing_by QuietWriter) held result }
         ensures mine { InHand held.held (λ section. result.mine ≡ held.mine ++ section_of C.means.holds held.seat section TheExit.Plain ∷ []) }
     {
-        self.unlock_as(rt, held, Releasing::QuietWriter)
+        match self.begin_unlock(held, Releasing::QuietWriter) {
+            Ok(seat) => seat,
+            Err(stopped) => self.unlock_by(rt, stopped, Releasing::QuietWriter),
+        }
     }
 
     /// Ends the monitor, and tells the cells as they stand, and whether the lock is free. Where it

@@ -1,45 +1,48 @@
 //! A release, and the scan of the lock list where somebody may have to be woken.
 
 ghost use Rattle.std.specs.Prelude.{◌≡◌, None};
-ghost use Rattle.ns_gate.specs.Prelude.{IsPackable, word_of, bits_of, Succeeded, InRelease, HasAnswered, HasSince, IsAtPlace, HasUnchangedQueues, the};
+ghost use Rattle.ns_gate.specs.Prelude.{IsPackable, bits_of, Succeeded, InRelease, HasAnswered, HasSince, IsAtPlace, HasUnchangedQueues, the};
 ghost use Rattle.ns_word.specs.declared.request.Request.TheVariants as TheRequest;
-ghost use Rattle.ns_monitor.specs.Prelude.{ReleasesBy, scanning_at};
+ghost use Rattle.ns_monitor.specs.Prelude.{HasStopped, HasUnlocked, IsNumberOf, Known, ReleasesBy, releasing_by, scanning_at};
 
-use crate::going::Going;
-use crate::monitor::Monitor;
+use crate::caller::Seat;
+use crate::going::{Going, Stopped};
+use crate::monitor::{Monitor, seated};
 use ns_gate::gate::GateSeat;
 use ns_gate::queues::{Returning, Turned};
 use ns_model::condition::Condition;
-use ns_word::codec::unpacked;
+use ns_word::number::LockWord;
 use ns_word::release_walk::ReleasePlace;
 use ns_word::walk::Walk;
-use ns_word::word::{Releasing, Word};
+use ns_word::word::Releasing;
 use std::sync::Wait;
 
 impl<C: Condition<N>, const N: usize> Monitor<C, N> {
-    /// Releases the section in hand by the word last seen, and wakes those waiters who can go on.
-    ///
-    /// It is told the word's number ([`Monitor::go_at_once`]).
+    /// Goes on to release the section in hand, and wakes those waiters who can go on.
     #[cold]
-    pub(crate) fn release_by<R: Wait>(
+    pub(crate) fn unlock_by<R: Wait>(
         &self,
         rt: &R,
-        seat: &mut GateSeat<C, N>,
+        stopped: Stopped<C, N>,
         releasing: Releasing,
-        last: u64,
-    )
-        requires of { seat.old.table_id ≡ self.now }
-        requires last { IsPackable (word_of last) }
-        requires at { ReleasesBy C.means releasing (word_of last) seat.old.me }
-        ensures seat { seat.new.table_id ≡ self.now }
-        ensures since { HasSince None (the seat.old.me.0) (the seat.new.me.0) }
-        ensures released { HasAnswered C.means (TheRequest.Release releasing) Succeeded seat.new.me }
+    ) -> Seat<C, N>
+        requires of { stopped.seat.table_id ≡ self.now }
+        requires number { IsNumberOf stopped.number stopped.seat.me }
+        requires last { IsPackable stopped.last }
+        requires at { ReleasesBy C.means releasing stopped.last stopped.seat.me }
+        ensures { (old : Known C N) → HasStopped (releasing_by releasing) old stopped.seat.table_id stopped.number stopped.last stopped.seat.me → HasUnlocked C.means releasing old result }
     {
+        let Stopped {
+            mut seat,
+            number,
+            last,
+        } = stopped;
         let going = Going::Leaving(releasing);
         let place = Walk::InRelease(releasing, ReleasePlace::ReleaseLoad);
-        if let Some(word) = self.go_or_take(rt, seat, going, place, unpacked(last)) {
-            self.scan_and_release(rt, seat, releasing, word);
+        if let Some(word) = self.go_or_take(rt, &mut seat, going, place, last) {
+            self.scan_and_release(rt, &mut seat, releasing, word);
         }
+        seated(seat, number)
     }
 
     /// Scans the lock list in hand at the section's row, puts it back and releases, and pays the wakes
@@ -49,7 +52,7 @@ impl<C: Condition<N>, const N: usize> Monitor<C, N> {
         rt: &R,
         seat: &mut GateSeat<C, N>,
         releasing: Releasing,
-        word: Word,
+        word: LockWord,
     )
         requires of { seat.old.table_id ≡ self.now }
         requires word { IsPackable word }
@@ -60,13 +63,14 @@ impl<C: Condition<N>, const N: usize> Monitor<C, N> {
         ensures since { HasSince None (the seat.old.me.0) (the seat.new.me.0) }
         ensures released { HasAnswered C.means (TheRequest.Release releasing) Succeeded seat.new.me }
     {
+        let parts = word.parts();
         let mut row = [0; N];
-        let place = Walk::InRelease(releasing, ReleasePlace::ScanCells(word, 0));
-        self.load_to_scan(seat, word.cond, place, &mut row);
+        let place = Walk::InRelease(releasing, ReleasePlace::ScanCells(parts, 0));
+        self.load_to_scan(seat, parts.cond, place, &mut row);
         let (scan, bits) = self.gate.scan_in_hand(seat, &row);
         let some = !scan.woken.is_empty();
         let returning = Returning::Released(releasing);
-        let place = Walk::InRelease(releasing, ReleasePlace::ScanAndRelease(word));
+        let place = Walk::InRelease(releasing, ReleasePlace::ScanAndRelease(parts));
         self.put_back(rt, seat, returning, place, word, Turned { some, bits });
         let place = Walk::InRelease(releasing, ReleasePlace::Pay);
         self.pay(seat, place, &scan.woken, 0);

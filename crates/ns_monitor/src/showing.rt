@@ -15,6 +15,7 @@ use ns_gate::showing::ShownLists;
 use ns_model::condition::Condition;
 use ns_queue::waiter::Shown;
 use ns_word::act::Change;
+use ns_word::number::LockWord;
 use ns_word::show_walk::ShowPlace;
 use ns_word::walk::Walk;
 use ns_word::word::{Taking, Word};
@@ -33,7 +34,7 @@ pub struct DebugState {
 
 impl<C: Condition<N>, const N: usize> Monitor<C, N> {
     /// Begins to show, and takes the queues. Answers the word that the exchange compared.
-    fn take_to_show<R: Wait>(&self, rt: &R, seat: &mut GateSeat<C, N>) -> Word
+    fn take_to_show<R: Wait>(&self, rt: &R, seat: &mut GateSeat<C, N>) -> LockWord
         requires of { seat.old.table_id ≡ self.now }
         requires rest { IsAtRest C.means seat.old.me }
         ensures seat { seat.new.table_id ≡ self.now }
@@ -46,7 +47,7 @@ impl<C: Condition<N>, const N: usize> Monitor<C, N> {
         let backoff = Backoff::new();
         let mut word = self.gate.load(seat, Some(Walk::show()));
         for _ in rt.forever() {
-            if word.spin {
+            if word.spin() {
                 backoff.snooze();
                 word = self.gate.load(seat, None);
             } else {
@@ -82,11 +83,12 @@ impl<C: Gated<N>, const N: usize> Monitor<C, N> {
         let word = self.take_to_show(rt, seat);
         let (lists, bits) = self.gate.show_in_hand(seat);
         let taken = word.taken(Taking::ToChange);
-        let place = Walk::InShow(ShowPlace::ReturnShown(taken));
+        let place = Walk::InShow(ShowPlace::ReturnShown(taken.parts()));
         let returning = Returning::Changed(Change::Nothing);
         let turned = Turned { some: false, bits };
         self.put_back(rt, seat, returning, place, taken, turned);
         let ShownLists { lock, cvs } = lists;
+        let word = word.parts();
         DebugState { word, lock, cvs }
     }
 }

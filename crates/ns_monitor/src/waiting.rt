@@ -12,6 +12,7 @@ use ns_gate::queues::{Returning, Turned};
 use ns_model::condition::Condition;
 use ns_note::pause::Pause;
 use ns_word::act::Change;
+use ns_word::number::LockWord;
 use ns_word::wait::{
     Aim, LeavePlace, Outcome, QueuePlace, Subject, Wait as Waiting, WaitPlace, arrival_of,
 };
@@ -64,7 +65,7 @@ impl<C: Condition<N>, const N: usize> Monitor<C, N> {
         number: u8,
         wait: Waiting<C>,
         again: bool,
-        word: Word,
+        word: LockWord,
         row: &mut [u64; N],
     )
         requires of { seat.old.table_id ≡ self.now }
@@ -77,9 +78,10 @@ impl<C: Condition<N>, const N: usize> Monitor<C, N> {
         ensures waits { IsAtPlace C.means (InWait wait AwaitWakeInWait) seat.new.me }
     {
         self.gate.arm_flag(seat, number);
-        let loads = QueuePlace::LoadToScan(word, 0);
+        let parts = word.parts();
+        let loads = QueuePlace::LoadToScan(parts, 0);
         let place = Walk::InWait(wait, WaitPlace::InQueuing(again, loads));
-        self.load_to_scan(seat, lacks_row(wait.on, word), place, row);
+        self.load_to_scan(seat, lacks_row(wait.on, parts), place, row);
         let (scan, bits) = self
             .gate
             .scan_and_queue_in_hand(seat, row, number, wait, again);
@@ -87,7 +89,7 @@ impl<C: Condition<N>, const N: usize> Monitor<C, N> {
         let returning = Returning::Waited(wait, again);
         let place = Walk::InWait(
             wait,
-            WaitPlace::InQueuing(again, QueuePlace::QueueToWait(word)),
+            WaitPlace::InQueuing(again, QueuePlace::QueueToWait(parts)),
         );
         self.put_back(rt, seat, returning, place, word, Turned { some, bits });
         let place = Walk::InWait(wait, WaitPlace::PayInWait);
@@ -118,7 +120,10 @@ impl<C: Condition<N>, const N: usize> Monitor<C, N> {
         let home = wait.on.home();
         let (stood, bits) = self.gate.leave_in_hand(seat, number, home);
         let returning = Returning::Changed(Change::LeaveSelf(home));
-        let place = Walk::InWait(wait, WaitPlace::InLeaving(cause, LeavePlace::Leave(word)));
+        let place = Walk::InWait(
+            wait,
+            WaitPlace::InLeaving(cause, LeavePlace::Leave(word.parts())),
+        );
         self.put_back(
             rt,
             seat,

@@ -15,13 +15,13 @@ use ns_model::condition::Condition;
 use ns_queue::signal::seats;
 use ns_queue::waiter::Waiter;
 use ns_word::act::{Change, Waking};
+use ns_word::number::LockWord;
 use ns_word::signal_walk::SignalPlace;
 use ns_word::walk::Walk;
-use ns_word::word::Word;
 use std::sync::Wait;
 
 /// Whether the lock is held by one of two words and free by the other.
-fn is_held_by_one(word: Word, other: Word) -> bool
+fn is_held_by_one(word: LockWord, other: LockWord) -> bool
     ensures { result ≡ is_held_by_one word other }
 {
     if other.is_held() {
@@ -41,7 +41,7 @@ impl<C: Condition<N>, const N: usize> Monitor<C, N> {
         seat: &mut GateSeat<C, N>,
         waking: Waking,
         k: u8,
-        first: Word,
+        first: LockWord,
         taken: &[Waiter<C>],
         made: Turned,
     ) -> bool
@@ -82,7 +82,7 @@ impl<C: Condition<N>, const N: usize> Monitor<C, N> {
         seat: &mut GateSeat<C, N>,
         waking: Waking,
         k: u8,
-        word: Word,
+        word: LockWord,
     )
         requires of { seat.old.table_id ≡ self.now }
         requires variable { k < 4 }

@@ -1,9 +1,11 @@
 -- The lists as the fields hold them.
-use Rattle.std.proofs.Common.{◌≡◌, ℕ, zero, suc, ◌+◌, ◌≤◌, ◌<◌, Bool, true, false, IsTrue, not, cond, eqb, List, [], ◌∷◌, ◌++◌, length, get_or, take, drop, set, map, refl, ap, sym, ◌∙◌, arith}
+use Rattle.std.proofs.Common.{◌≡◌, ℕ, zero, suc, ◌+◌, ◌≤◌, ◌<◌, inl, inr, Bool, true, false, IsTrue, not, cond, eqb, subst, List, [], ◌∷◌, ◌++◌, length, get_or, take, drop, set, map, refl, ap, sym, ◌∙◌, arith}
 use Rattle.std.specs.Bool.{OnFalse}
 use Rattle.std.specs.List.{filter, sum_by}
+use Rattle.std.proofs.lemmas.Bool.{cases_eq}
+use Rattle.ns_model.specs.Tallies.{one_if}
 use Rattle.std.proofs.lemmas.List.{length-set, length-map, map-set, get_or-map}
-use Rattle.std.proofs.lemmas.List.Sums.{get_or-le-sum_by, sum_by-cons, sum_by_more}
+use Rattle.std.proofs.lemmas.List.Sums.{get_or-le-sum_by, sum_by_more}
 use Rattle.std.proofs.lemmas.List.Edits.{map_over_more}
 use Rattle.arrayvec.specs.ArrayVec.{ArrayVec}
 use Rattle.ns_queue.specs.declared.waiter.Waiter.{Waiter}
@@ -11,7 +13,8 @@ use Rattle.ns_queue.specs.declared.waiter.Which.TheVariants.{Cv}
 use Rattle.ns_queue.specs.Waiters.{times_in, without_in}
 use Rattle.ns_queue.specs.Queues.{Lists, IsOrderly, times, with_waiters, waiters_of}
 use Rattle.ns_queue.proofs.Seats.{times_in-cons, times_in_push}
-use Rattle.ns_queue.proofs.Orders.{orderly_more, orderly_less, times_set, cv_times, part_has_room}
+use Rattle.ns_queue.proofs.Orders.{beside, orderly_more, orderly_less, times_set, cv_times, part_has_room}
+use Rattle.ns_queue.proofs.Parts.{once_in, read_apart, read_back}
 
 -- what a test told
 pub told_yes : (b : Bool) (n : ℕ) → b ≡ true → (IsTrue b → 0 < n) → 0 < n
@@ -48,18 +51,18 @@ module _ {C : Type 0} where
   pub list_has_room : (lock : List (Waiter C)) (cvs : List (ArrayVec (Waiter C))) (k : ℕ) (d : ArrayVec (Waiter C)) (w : Waiter C) →
       IsOrderly (shape lock cvs) → k < 4 → w.seat < 64 → times w.seat (shape lock cvs) ≡ 0 → length (get_or cvs k d).items < 64
   list_has_room lock cvs k d w orderly within low free =
-      let room = part_has_room (shape lock cvs) (waiters_of (shape lock cvs) (Cv k)) w orderly (λ seat. cv_times (shape lock cvs) k seat (omega (arith, orderly.four))) low free in
+      let room = part_has_room (shape lock cvs) (waiters_of (shape lock cvs) (Cv k)) w orderly (once_in (shape lock cvs) (Cv k) orderly within) (λ seat. cv_times (shape lock cvs) k seat (omega (arith, orderly.four))) low free in
       omega (arith, room, ap length (list_at lock cvs k d orderly within))
 
   pub lock_pushed : (lock lock' : List (Waiter C)) (cvs : List (ArrayVec (Waiter C))) (w : Waiter C) → IsOrderly (shape lock cvs) → w.seat < 64 → times w.seat (shape lock cvs) ≡ 0 →
       lock' ≡ lock ++ w ∷ [] → IsOrderly (shape lock' cvs)
   lock_pushed lock lock' cvs w orderly low free is =
-      rw is (orderly_more (shape lock cvs) (shape (lock ++ w ∷ []) cvs) w orderly low free orderly.four (λ seat. omega (arith, times_in_push lock w seat)))
+      rw is (orderly_more (shape lock cvs) (shape (lock ++ w ∷ []) cvs) w orderly low free orderly.four (λ seat k within. omega (arith, times_in_push lock w seat)) (λ seat. omega (arith, times_in_push lock w seat)))
 
   pub lock_fronted : (lock lock' : List (Waiter C)) (cvs : List (ArrayVec (Waiter C))) (w : Waiter C) → IsOrderly (shape lock cvs) → w.seat < 64 → times w.seat (shape lock cvs) ≡ 0 →
       lock' ≡ w ∷ lock → IsOrderly (shape lock' cvs)
   lock_fronted lock lock' cvs w orderly low free is =
-      rw is (orderly_more (shape lock cvs) (shape (w ∷ lock) cvs) w orderly low free orderly.four (λ seat. omega (arith, times_in-cons seat w lock)))
+      rw is (orderly_more (shape lock cvs) (shape (w ∷ lock) cvs) w orderly low free orderly.four (λ seat k within. omega (arith, times_in-cons seat w lock)) (λ seat. omega (arith, times_in-cons seat w lock)))
 
   -- a list of a variable, changed
   put_times : (lock : List (Waiter C)) (cvs : List (ArrayVec (Waiter C))) (k : ℕ) (d v : ArrayVec (Waiter C)) → IsOrderly (shape lock cvs) → k < 4 → (seat : ℕ) →
@@ -70,21 +73,29 @@ module _ {C : Type 0} where
   put_four : (lock : List (Waiter C)) (cvs : List (ArrayVec (Waiter C))) (k : ℕ) (v : ArrayVec (Waiter C)) → IsOrderly (shape lock cvs) → length (map (λ (u : ArrayVec (Waiter C)). u.items) (set cvs k v)) ≡ 4
   put_four lock cvs k v orderly = rw (length-map, length-set) (four_lists lock cvs orderly)
 
+  -- how often a seat stands beside the lock's list then
+  put_beside : (lock : List (Waiter C)) (cvs : List (ArrayVec (Waiter C))) (k : ℕ) (d v : ArrayVec (Waiter C)) (n seat : ℕ) → IsOrderly (shape lock cvs) → k < 4 → times_in seat v.items ≤ times_in seat (get_or cvs k d).items + n → (j : ℕ) → j < 4 →
+      beside (shape lock (set cvs k v)) seat j ≤ beside (shape lock cvs) seat j + n
+  put_beside lock cvs k d v n seat orderly low more j within =
+      let put = list_put lock cvs k v in
+      let there : (j : ℕ) → beside (shape lock (set cvs k v)) seat j ≡ beside (with_waiters (shape lock cvs) (Cv k) v.items) seat j = λ j. ap (λ (lists : Lists C). beside lists seat j) put in
+      elim (cases_eq j k) [
+        | inl e ↦ (let P : ℕ → Type 0 = λ i. beside (shape lock (set cvs k v)) seat i ≤ beside (shape lock cvs) seat i + n in subst P (sym e)
+            (omega (arith, there k, more, ap (times_in seat) (read_back (shape lock cvs) (Cv k) v.items orderly.four low), ap (times_in seat) (list_at lock cvs k d orderly low))))
+        | inr ne ↦ omega (arith, there j, ap (times_in seat) (read_apart (shape lock cvs) k j v.items ne))
+      ]
+
   pub list_pushed : (lock : List (Waiter C)) (cvs : List (ArrayVec (Waiter C))) (k : ℕ) (d v : ArrayVec (Waiter C)) (w : Waiter C) → IsOrderly (shape lock cvs) → k < 4 → w.seat < 64 →
       times w.seat (shape lock cvs) ≡ 0 → v.items ≡ (get_or cvs k d).items ++ w ∷ [] → IsOrderly (shape lock (set cvs k v))
   list_pushed lock cvs k d v w orderly within low free is =
+      let more : (seat : ℕ) → times_in seat v.items ≡ times_in seat (get_or cvs k d).items + one_if (eqb w.seat seat) = λ seat. ap (times_in seat) is ∙ times_in_push (get_or cvs k d).items w seat in
       orderly_more (shape lock cvs) (shape lock (set cvs k v)) w orderly low free (put_four lock cvs k v orderly)
-      (λ seat. omega (arith, put_times lock cvs k d v orderly within seat, ap (times_in seat) is, times_in_push (get_or cvs k d).items w seat))
-
-  pub list_lessened : (lock : List (Waiter C)) (cvs : List (ArrayVec (Waiter C))) (k : ℕ) (d v : ArrayVec (Waiter C)) → IsOrderly (shape lock cvs) → k < 4 →
-      ((seat : ℕ) → times_in seat v.items ≤ times_in seat (get_or cvs k d).items) → IsOrderly (shape lock (set cvs k v))
-  list_lessened lock cvs k d v orderly within less =
-      orderly_less (shape lock cvs) (shape lock (set cvs k v)) orderly (put_four lock cvs k v orderly)
-      (λ seat. omega (arith, put_times lock cvs k d v orderly within seat, less seat))
+      (λ seat. put_beside lock cvs k d v (one_if (eqb w.seat seat)) seat orderly within (omega (arith, more seat)))
+      (λ seat. omega (arith, put_times lock cvs k d v orderly within seat, more seat))
 
   pub lock_lessened : (lock lock' : List (Waiter C)) (cvs : List (ArrayVec (Waiter C))) → IsOrderly (shape lock cvs) →
       ((seat : ℕ) → times_in seat lock' ≤ times_in seat lock) → IsOrderly (shape lock' cvs)
-  lock_lessened lock lock' cvs orderly less = orderly_less (shape lock cvs) (shape lock' cvs) orderly orderly.four (λ seat. omega (arith, less seat))
+  lock_lessened lock lock' cvs orderly less = orderly_less (shape lock cvs) (shape lock' cvs) orderly orderly.four (λ seat k within. omega (arith, less seat)) (λ seat. omega (arith, less seat))
 
   -- the same lists once more
   pub again : (lock lock' : List (Waiter C)) (cvs : List (ArrayVec (Waiter C))) (p q r s a b c d : ArrayVec (Waiter C)) → IsOrderly (shape lock cvs) → lock' ≡ lock →
@@ -130,17 +141,6 @@ module _ {C : Type 0} where
       elim (p w) as (λ b. times_in seat (cond b (w ∷ filter p ws) (filter p ws)) ≤ times_in seat (w ∷ ws))
       [ true ↦ omega (arith, times_in-cons seat w ws, times_in-cons seat w (filter p ws), times_in-filter p ws seat) | false ↦ omega (arith, times_in-cons seat w ws, times_in-filter p ws seat) ]
 
-  sums_without : (out : ℕ) (vs : List (List (Waiter C))) (seat : ℕ) → sum_by (times_in seat) (map (without_in out) vs) ≤ sum_by (times_in seat) vs
-  sums_without out [] seat = omega arith
-  sums_without out (v ∷ vs) seat =
-      omega (arith, sum_by-cons (times_in seat) v vs, sum_by-cons (times_in seat) (without_in out v) (map (without_in out) vs), sums_without out vs seat, times_in-filter (λ w. not (eqb w.seat out)) v seat)
-
   -- a seat taken out of the lock list
   pub lock_left : (lock lock' : List (Waiter C)) (cvs : List (ArrayVec (Waiter C))) (out : ℕ) → IsOrderly (shape lock cvs) → lock' ≡ without_in out lock → IsOrderly (shape lock' cvs)
   lock_left lock lock' cvs out orderly is = lock_lessened lock lock' cvs orderly (λ seat. rw is (times_in-filter (λ w. not (eqb w.seat out)) lock seat))
-
-  pub removed : (lock lock' : List (Waiter C)) (cvs cvs' : List (ArrayVec (Waiter C))) (out : ℕ) → IsOrderly (shape lock cvs) → lock' ≡ without_in out lock →
-      map (λ u. u.items) cvs' ≡ map (without_in out) (map (λ u. u.items) cvs) → IsOrderly (shape lock' cvs')
-  removed lock lock' cvs cvs' out orderly is are =
-      orderly_less (shape lock cvs) (shape lock' cvs') orderly (rw (are, length-map) orderly.four)
-      (λ seat. omega (arith, ap (times_in seat) is, ap (sum_by (times_in seat)) are, times_in-filter (λ w. not (eqb w.seat out)) lock seat, sums_without out (map (λ u. u.items) cvs) seat))

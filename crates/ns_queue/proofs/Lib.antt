@@ -5,6 +5,7 @@ pub mod Marking
 pub mod Meaning
 pub mod RunCounts
 pub mod Orders
+pub mod Outside
 pub mod Parts
 pub mod Seats
 pub mod Seeking

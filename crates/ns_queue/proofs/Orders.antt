@@ -1,5 +1,5 @@
 -- What changes one list keeps the lists orderly.
-use Rattle.std.proofs.Common.{◌≡◌, ℕ, ◌+◌, ◌*◌, ◌^◌, ◌≤◌, ◌<◌, inl, inr, eqb, List, [], length, get_or, set, refl, subst, arith}
+use Rattle.std.proofs.Common.{◌≡◌, ℕ, zero, suc, ◌+◌, ◌*◌, ◌^◌, ◌≤◌, ◌<◌, inl, inr, eqb, List, [], ◌∷◌, length, get_or, set, refl, subst, arith}
 use Rattle.std.proofs.Common.{Fits, w64}
 use Rattle.std.proofs.Math.Nat.{mul-le-mul_right}
 use Rattle.std.proofs.lemmas.List.Sums.{sum_by-set, get_or-le-sum_by}
@@ -7,27 +7,48 @@ use Rattle.std.proofs.lemmas.Bool.{ne_eqb, eq-eqb, cases_eq}
 use Rattle.ns_model.specs.Tallies.{one_if}
 use Rattle.ns_queue.specs.declared.waiter.Waiter.{Waiter}
 use Rattle.ns_queue.specs.Waiters.{times_in}
-use Rattle.ns_queue.specs.Queues.{Lists, IsOrderly, times}
+use Rattle.ns_queue.specs.declared.waiter.Which.TheVariants.{Cv}
+use Rattle.ns_queue.specs.Queues.{Lists, IsOrderly, times, waiters_of}
 use Rattle.ns_queue.proofs.Seats.{room_for}
 
 module _ {C : Type 0} where
-  -- one more waiter
+  -- how often a seat stands in the lock's list and in that of a variable
+  abbrev pub beside : Lists C → ℕ → ℕ → ℕ
+  beside lists seat k = times_in seat lists.lock + times_in seat (waiters_of lists (Cv k))
+
+  pub beside_most : (lists : Lists C) (seat k : ℕ) → length lists.cvs ≡ 4 → k < 4 → beside lists seat k ≤ times seat lists
+  beside_most lists seat k four low = omega (arith, get_or-le-sum_by (times_in seat) lists.cvs k [] (omega (arith, four, low)))
+
+  -- nobody stands anywhere
+  pub orderly_fresh : IsOrderly {C = C} (record { lock = []; cvs = [] ∷ [] ∷ [] ∷ [] ∷ [] })
+  orderly_fresh = record { four = refl; once = once; below = λ seat high. omega arith } where
+    fresh : Lists C
+    fresh = record { lock = []; cvs = [] ∷ [] ∷ [] ∷ [] ∷ [] }
+
+    once : (seat k : ℕ) → k < 4 → beside fresh seat k ≤ 1
+    once seat zero low = omega arith
+    once seat (suc zero) low = omega arith
+    once seat (suc (suc zero)) low = omega arith
+    once seat (suc (suc (suc zero))) low = omega arith
+    once seat (suc (suc (suc (suc k)))) low = absurd (omega (arith, low))
+
+  -- one more waiter, who stood nowhere
   pub orderly_more : (old new : Lists C) (w : Waiter C) → IsOrderly old → w.seat < 64 → times w.seat old ≡ 0 → length new.cvs ≡ 4 →
-      ((seat : ℕ) → times seat new ≡ times seat old + one_if (eqb w.seat seat)) → IsOrderly new
-  orderly_more old new w orderly low free four more = record {
+      ((seat k : ℕ) → k < 4 → beside new seat k ≤ beside old seat k + one_if (eqb w.seat seat)) → ((seat : ℕ) → times seat new ≤ times seat old + one_if (eqb w.seat seat)) → IsOrderly new
+  orderly_more old new w orderly low free four part more = record {
     four = four;
-    once = λ seat. elim (cases_eq w.seat seat) [
-      | inl e ↦ (let P : ℕ → Type 0 = λ s. times s new ≤ 1 in subst P e (let one : one_if (eqb w.seat w.seat) ≡ 1 = rw (eq-eqb w.seat w.seat refl) refl in omega (arith, more w.seat, free, one)))
-      | inr ne ↦ (let no : one_if (eqb w.seat seat) ≡ 0 = rw (ne_eqb w.seat seat ne) refl in omega (arith, more seat, orderly.once seat, no))
+    once = λ seat k within. elim (cases_eq w.seat seat) [
+      | inl e ↦ (let P : ℕ → Type 0 = λ s. beside new s k ≤ 1 in subst P e (let one : one_if (eqb w.seat w.seat) ≡ 1 = rw (eq-eqb w.seat w.seat refl) refl in let most = beside_most old w.seat k orderly.four within in omega (arith, part w.seat k within, free, one, most)))
+      | inr ne ↦ (let no : one_if (eqb w.seat seat) ≡ 0 = rw (ne_eqb w.seat seat ne) refl in omega (arith, part seat k within, orderly.once seat k within, no))
     ];
     below = λ seat high. let no : one_if (eqb w.seat seat) ≡ 0 = rw (ne_eqb w.seat seat (λ e. omega arith)) refl in omega (arith, more seat, orderly.below seat high, no);
   }
 
   -- no seat more often
-  pub orderly_less : (old new : Lists C) → IsOrderly old → length new.cvs ≡ 4 → ((seat : ℕ) → times seat new ≤ times seat old) → IsOrderly new
-  orderly_less old new orderly four less = record {
+  pub orderly_less : (old new : Lists C) → IsOrderly old → length new.cvs ≡ 4 → ((seat k : ℕ) → k < 4 → beside new seat k ≤ beside old seat k) → ((seat : ℕ) → times seat new ≤ times seat old) → IsOrderly new
+  orderly_less old new orderly four part less = record {
     four = four;
-    once = λ seat. omega (arith, less seat, orderly.once seat);
+    once = λ seat k within. omega (arith, part seat k within, orderly.once seat k within);
     below = λ seat high. omega (arith, less seat, orderly.below seat high);
   }
 
@@ -43,10 +64,10 @@ module _ {C : Type 0} where
   cv_times lists k seat within = omega (arith, get_or-le-sum_by (times_in seat) lists.cvs k [] within)
 
   -- any list has room for one that stands in none
-  pub part_has_room : (lists : Lists C) (ws : List (Waiter C)) (w : Waiter C) → IsOrderly lists → ((seat : ℕ) → times_in seat ws ≤ times seat lists) →
+  pub part_has_room : (lists : Lists C) (ws : List (Waiter C)) (w : Waiter C) → IsOrderly lists → ((seat : ℕ) → times_in seat ws ≤ 1) → ((seat : ℕ) → times_in seat ws ≤ times seat lists) →
       w.seat < 64 → times w.seat lists ≡ 0 → length ws < 64
-  part_has_room lists ws w orderly part low free =
-      room_for 64 ws w (λ seat. omega (arith, part seat, orderly.once seat)) (λ seat high. omega (arith, part seat, orderly.below seat high)) low (omega (arith, part w.seat, free))
+  part_has_room lists ws w orderly once part low free =
+      room_for 64 ws w once (λ seat high. omega (arith, part seat, orderly.below seat high)) low (omega (arith, part w.seat, free))
 
 -- where the lists of the variables lie, in bytes
 pub offset_fits : (k size : ℕ) → k < 4 → size < 2 ^ 60 → Fits w64 (k * size)

@@ -43,13 +43,24 @@ module _ {C : Type 0} where
 
   -- in each of orderly lists a seat stands at most once
   pub once_in : (lists : Lists C) (which : Which) → IsOrderly lists → IsList which → (seat : ℕ) → times_in seat (waiters_of lists which) ≤ 1
-  once_in lists which orderly is seat = omega (arith, times_at_most lists which seat orderly.four is, orderly.once seat)
+  once_in lists Lock orderly is seat = omega (arith, orderly.once seat 0 (omega arith))
+  once_in lists (Cv k) orderly is seat = omega (arith, orderly.once seat k is)
 
   -- and only seats below 64 do
   pub below_in : (lists : Lists C) (which : Which) → IsOrderly lists → IsList which → HaveSeats (waiters_of lists which)
   below_in lists which orderly is seat high = omega (arith, times_at_most lists which seat orderly.four is, orderly.below seat high)
 
-  -- ---- a seat that stands in one of them is taken out of that one alone
+  -- ---- a seat that stands in one of them alone is taken out of that one
+
+  none_in_each : (seat : ℕ) (lists : List (List (Waiter C))) → ((k : ℕ) → k < length lists → times_in seat (get_or lists k []) ≡ 0) → sum_by (times_in seat) lists ≡ 0
+  none_in_each seat [] none = refl
+  none_in_each seat (ws ∷ lists) none = omega (arith, sum_by-cons (times_in seat) ws lists, none 0 (omega arith), none_in_each seat lists (λ k low. none (suc k) (omega (arith, low))))
+
+  -- one who stands in the lock's list stands in no other
+  pub lock_alone : (lists : Lists C) (seat : ℕ) → IsOrderly lists → 0 < times_in seat lists.lock → times seat lists ≤ 1
+  lock_alone lists seat orderly here =
+      let none = none_in_each seat lists.cvs (λ k low. let within : k < 4 = omega (arith, low, orderly.four) in omega (arith, here, orderly.once seat k within)) in
+      omega (arith, none, orderly.once seat 0 (omega arith))
 
   lists_without : (seat : ℕ) (lists : List (List (Waiter C))) → sum_by (times_in seat) lists ≡ 0 → map (without_in seat) lists ≡ lists
   lists_without seat [] none = refl
@@ -70,11 +81,11 @@ module _ {C : Type 0} where
       (ap (λ (vs : List (List (Waiter C))). ws ∷ vs) (one_without seat k lists (omega arith) (omega (arith, sum, most)) here))
 
   -- the lists without a seat differ in the list that it stood in
-  pub removed_of : (lists : Lists C) (which : Which) (seat : ℕ) → IsOrderly lists → IsList which → 0 < times_in seat (waiters_of lists which) →
+  pub removed_of : (lists : Lists C) (which : Which) (seat : ℕ) → IsOrderly lists → times seat lists ≤ 1 → IsList which → 0 < times_in seat (waiters_of lists which) →
       without seat lists ≡ with_waiters lists which (without_in seat (waiters_of lists which))
-  removed_of lists Lock seat orderly is here =
-      rw (lists_without seat lists.cvs (omega (arith, orderly.once seat, here))) refl
-  removed_of lists (Cv k) seat orderly is here =
+  removed_of lists Lock seat orderly alone is here =
+      rw (lists_without seat lists.cvs (omega (arith, alone, here))) refl
+  removed_of lists (Cv k) seat orderly alone is here =
       let within : k < length lists.cvs = omega (arith, orderly.four, is) in
       let part = get_or-le-sum_by (times_in seat) lists.cvs k [] within in
-      rw (none_without seat lists.lock (omega (arith, orderly.once seat, here, part)), one_without seat k lists.cvs within (omega (arith, orderly.once seat)) here) refl
+      rw (none_without seat lists.lock (omega (arith, alone, here, part)), one_without seat k lists.cvs within (omega (arith, alone)) here) refl

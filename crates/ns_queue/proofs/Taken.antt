@@ -16,7 +16,7 @@ use Rattle.ns_queue.proofs.Seats.{some_more, times_in-cons, times_in_push}
 use Rattle.ns_queue.proofs.Meaning.{signal_takes, signal_leaves}
 
 module _ {C : Type 0} where
-  times_parted : (ms : List Bool) (ws : List (Waiter C)) (seat : ℕ) → times_in seat (marked ms ws) + times_in seat (unmarked ms ws) ≡ times_in seat ws
+  pub times_parted : (ms : List Bool) (ws : List (Waiter C)) (seat : ℕ) → times_in seat (marked ms ws) + times_in seat (unmarked ms ws) ≡ times_in seat ws
   times_parted [] ws seat = omega arith
   times_parted (m ∷ ms) [] seat = omega arith
   times_parted (true ∷ ms) (w ∷ ws) seat = omega (arith, times_in-cons seat w ws, times_in-cons seat w (marked ms ws), times_parted ms ws seat)

@@ -3,6 +3,8 @@ use Rattle.std.proofs.Common.{◌≡◌, ℕ, ◌+◌, ◌≤◌, ◌<◌, min, 
 use Rattle.std.specs.Bool.{beq}
 use Rattle.std.specs.List.{filter}
 use Rattle.std.proofs.lemmas.Bool.{cases_eq, cases_lt, eq-eqb, eqb-true, ne_eqb}
+use Rattle.ns_model.specs.Cvs.{has}
+use Rattle.ns_model.specs.declared.cvs.Variables.TheVariants.{Only}
 use Rattle.ns_model.specs.declared.event.Mode.{Mode}
 use Rattle.ns_model.specs.declared.phase.Phase.{Phase}
 use Rattle.ns_model.specs.declared.phase.Phase.TheVariants.{Idle, Cond, Waiting, Woken, Left}
@@ -92,7 +94,7 @@ module _ {C : Type 0} where
 
 module _ {C : Type 0} where
   waits_as_any : (writes : Bool) (k : ℕ) (phase : Phase C) → is_waiting_as writes k phase ≡ true → is_waiting k phase ≡ true
-  waits_as_any writes k (Waiting j mode) e = and_first (eqb j k) _ e
+  waits_as_any writes k (Waiting variables mode) e = and_first (has variables k) _ e
   waits_as_any writes k Idle e = absurd (cc)
   waits_as_any writes k (Cond c mode) e = absurd (cc)
   waits_as_any writes k (Woken j mode) e = absurd (cc)
@@ -106,10 +108,10 @@ module _ {C : Type 0} where
 
 module _ {C : Type 0} (k : ℕ) (phases : ℕ → Phase C) where
   -- a seat that stands in the list waits
-  pub stands_waiting : (ws : List (Waiter C)) (seat : ℕ) → WaitFor k phases ws → 1 ≤ times_in seat ws → (mode : Mode) × (phases seat ≡ Waiting k mode)
+  pub stands_waiting : (ws : List (Waiter C)) (seat : ℕ) → WaitFor k phases ws → 1 ≤ times_in seat ws → (mode : Mode) × (phases seat ≡ Waiting (Only k) mode)
   stands_waiting [] seat own here = absurd (omega (arith, here))
   stands_waiting (w ∷ ws) seat own here = elim (cases_eq w.seat seat) [
-    | inl e ↦ (w.mode, subst (λ s. phases s ≡ Waiting k w.mode) e own.0)
+    | inl e ↦ (w.mode, subst (λ s. phases s ≡ Waiting (Only k) w.mode) e own.0)
     | inr ne ↦ stands_waiting ws seat own.1 (let no : ◌≡◌ {A = ℕ} (one_if (eqb w.seat seat)) 0 = ap one_if (ne_eqb w.seat seat ne) in omega (arith, here, no, times_in-cons seat w ws))
   ]
 
@@ -117,7 +119,7 @@ module _ {C : Type 0} (k : ℕ) (phases : ℕ → Phase C) where
   pub stands_waits : (ws : List (Waiter C)) (seat : ℕ) → WaitFor k phases ws → 1 ≤ times_in seat ws → is_waiting k (phases seat) ≡ true
   stands_waits ws seat own here = let waits = stands_waiting ws seat own here in rw waits.1 (eq-eqb k k refl)
 
-  waits_as : (kind : Bool) (w : Waiter C) → phases w.seat ≡ Waiting k w.mode → is_waiting_as kind k (phases w.seat) ≡ beq kind (writes w)
+  waits_as : (kind : Bool) (w : Waiter C) → phases w.seat ≡ Waiting (Only k) w.mode → is_waiting_as kind k (phases w.seat) ≡ beq kind (writes w)
   waits_as kind w e = rw (e, eq-eqb k k refl) refl
 
   -- those of a list who wait to write, or to read
@@ -146,7 +148,7 @@ module _ {C : Type 0} (k : ℕ) (phases : ℕ → Phase C) where
   pub signal_legal : (ws : List (Waiter C)) → AreWaiting k phases ws → IsLegalSignal k (taken_set (signaled_of ws)) phases
   signal_legal ws are =
       let taken = signaled_of ws in
-      let own = every_signaled (λ w. phases w.seat ≡ Waiting k w.mode) ws are.own in
+      let own = every_signaled (λ w. phases w.seat ≡ Waiting (Only k) w.mode) ws are.own in
       let once = once_signaled ws are.once in
       let below = below_signaled ws are.below in
       record {

@@ -3,7 +3,8 @@ use Rattle.std.specs.Prelude.{◌≡◌, ℕ, ◌+◌, ◌<◌, ◌≤◌, List,
 use Rattle.ns_queue.specs.declared.waiter.Waiter.{Waiter}
 use Rattle.ns_queue.specs.declared.waiter.Which.{Which}
 use Rattle.ns_queue.specs.declared.waiter.Which.TheVariants.{Lock, Cv}
-use Rattle.ns_queue.specs.Waiters.{times_in, without_in}
+use Rattle.ns_model.specs.declared.seats.Seats.{Seats}
+use Rattle.ns_queue.specs.Waiters.{outside, times_in, without_in}
 
 -- the list of the lock, front first, and those of the condition variables, by their numbers
 pub record Lists (C : Type 0) : Type 0 where
@@ -33,8 +34,12 @@ times seat lists = times_in seat lists.lock + sum_by (times_in seat) lists.cvs
 abbrev pub without : {C : Type 0} → ℕ → Lists C → Lists C
 without seat lists = record { lock = without_in seat lists.lock; cvs = map (without_in seat) lists.cvs }
 
--- there are four variables, no seat stands in the lists twice, and each that does is below 64
+-- the lists, those of variables without the seats of a set
+abbrev pub cvs_without : {C : Type 0} → Seats → Lists C → Lists C
+cvs_without set lists = record { lock = lists.lock; cvs = map (outside set) lists.cvs }
+
+-- There are four variables. A seat stands once in the list of the lock, or once in any of those of variables; and each that stands somewhere is below 64.
 pub record IsOrderly {C : Type 0} (lists : Lists C) : Type 0 where
   pub four : length lists.cvs ≡ 4
-  pub once : (seat : ℕ) → times seat lists ≤ 1
+  pub once : (seat k : ℕ) → k < 4 → times_in seat lists.lock + times_in seat (waiters_of lists (Cv k)) ≤ 1
   pub below : (seat : ℕ) → 64 ≤ seat → times seat lists ≡ 0

@@ -1,6 +1,8 @@
 -- Waiters, one by one and in a list.
 use Rattle.std.specs.Prelude.{◌≡◌, ◌≤◌, ℕ, ◌==◌, Bool, not, List, map, count_by, filter, is_some}
 use Rattle.ns_model.specs.Phases.{is_write}
+use Rattle.ns_model.specs.Seats.{is_in}
+use Rattle.ns_model.specs.declared.seats.Seats.{Seats}
 use Rattle.ns_queue.specs.declared.waiter.Waiter.{Waiter}
 use Rattle.ns_queue.specs.declared.waiter.Shown.{Shown}
 
@@ -43,3 +45,7 @@ without_in seat ws = filter (λ w. not (is_of seat w)) ws
 -- each waiter of the list has a number below 64
 abbrev pub HaveSeats : {C : Type 0} → List (Waiter C) → Type 0
 HaveSeats ws = (seat : ℕ) → 64 ≤ seat → times_in seat ws ≡ 0
+
+-- those of the waiters whose seats aren't of the set
+abbrev pub outside : {C : Type 0} → Seats → List (Waiter C) → List (Waiter C)
+outside set ws = filter (λ w. not (is_in set w.seat)) ws

@@ -1,5 +1,6 @@
 -- The list of a variable beside the phases of the seats.
 use Rattle.std.specs.Prelude.{◌≡◌, ◌≤◌, ℕ, true, List, if◌then◌else◌}
+use Rattle.ns_model.specs.declared.cvs.Variables.TheVariants.{Only}
 use Rattle.ns_model.specs.declared.phase.Phase.{Phase}
 use Rattle.ns_model.specs.declared.phase.Phase.TheVariants.{Waiting}
 use Rattle.ns_model.specs.declared.seats.Seats.{Seats}
@@ -9,9 +10,9 @@ use Rattle.ns_model.specs.Tallies.{Every}
 use Rattle.ns_queue.specs.declared.waiter.Waiter.{Waiter}
 use Rattle.ns_queue.specs.Waiters.{times_in, HaveSeats}
 
--- each waiter's phase is that it waits for the variable k in the waiter's mode
+-- each waiter's phase is that it waits for the variable k alone, in the waiter's mode
 abbrev pub WaitFor : {C : Type 0} → ℕ → (ℕ → Phase C) → List (Waiter C) → Type 0
-WaitFor k phases ws = Every (λ w. phases w.seat ≡ Waiting k w.mode) ws
+WaitFor k phases ws = Every (λ w. phases w.seat ≡ Waiting (Only k) w.mode) ws
 
 -- The waiters are just the seats whose phase is that they wait for the variable k, each of them once and in its mode.
 pub record AreWaiting {C : Type 0} (k : ℕ) (phases : ℕ → Phase C) (ws : List (Waiter C)) : Type 0 where
@@ -20,6 +21,6 @@ pub record AreWaiting {C : Type 0} (k : ℕ) (phases : ℕ → Phase C) (ws : Li
   pub all : (seat : ℕ) → is_waiting k (phases seat) ≡ true → 1 ≤ times_in seat ws
   pub below : HaveSeats ws
 
--- the phases after a wake of these seats
-abbrev pub woken_phases : {C : Type 0} → Seats → (ℕ → Phase C) → ℕ → Phase C
-woken_phases woken phases seat = if is_in woken seat then woken_phase (phases seat) else phases seat
+-- the phases after a wake of these seats, by the variable k
+abbrev pub woken_phases : {C : Type 0} → ℕ → Seats → (ℕ → Phase C) → ℕ → Phase C
+woken_phases k woken phases seat = if is_in woken seat then woken_phase k (phases seat) else phases seat

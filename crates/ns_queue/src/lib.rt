@@ -1,5 +1,6 @@
 //! The waiter lists of a lock: one list for the lock itself, front first, and four for its condition
-//! variables. A seat stands in at most one of them, once, so each has at most 64 waiters.
+//! variables. A seat stands in the lock's once, or once in any of the others, so each has at most 64
+//! waiters.
 //!
 //! The lists are plain data: nothing here waits, wakes or takes memory. [`queues::Queues`] keeps
 //! them, [`queues::Queues::scan`] decides whom a release of the lock wakes, and

@@ -4,17 +4,18 @@ ghost use Rattle.std.specs.Prelude.{◌≡◌, ◌<◌, ℕ, ◌+◌, ◌≤◌,
 ghost use Rattle.std.specs.Bool.{OnFalse, OnTrue};
 ghost use Rattle.std.specs.List.{list_any};
 ghost use Rattle.ns_queue.specs.Queues.{IsList, IsOrderly, times, waiters_of, with_waiters, without};
-ghost use Rattle.ns_queue.specs.Waiters.{HaveSeats, has_condition, is_long, shown_of, times_in, without_in, writes};
+ghost use Rattle.ns_queue.specs.Waiters.{HaveSeats, has_condition, is_long, outside, shown_of, times_in, writes};
 
 use crate::lock_list::LockList;
 use crate::room::Queueable;
 use crate::waiter::{LONG_TRIES, Shown, Waiter, Which};
 use arrayvec::ArrayVec;
 use ns_model::condition::Condition;
+use ns_model::seats::Seats;
 use std::marker::Model;
 
 /// The waiter lists of a lock. To its callers this is five lists: the lock's, and one for each of four condition
-/// variables. A seat stands in at most one of them, once.
+/// variables. A seat stands in the lock's once, or once in any of the others.
 #[derive(Drop)]
 pub struct Queues<C: Condition<N>, const N: usize> {
     pub(crate) lock: LockList<C, N>,
@@ -134,10 +135,12 @@ impl<C: Queueable<N>, const N: usize> Queues<C, N> {
 
     /// Puts these waiters at the back of the lock list, in order; the others stay as they are.
     ///
-    /// Needs each of their seats to be below 64, and none to stand twice among them and the lists.
+    /// Needs each of their seats to be below 64 and to stand in no list, and none to stand twice among
+    /// them.
     pub fn append(&mut self, waiters: &[Waiter<C>])
         requires below { HaveSeats waiters.now }
-        requires once { (seat : ℕ) → times_in seat waiters.now + times seat self.old ≤ 1 }
+        requires once { (seat : ℕ) → times_in seat waiters.now ≤ 1 }
+        requires free { (seat : ℕ) → 1 ≤ times_in seat waiters.now → times seat self.old ≡ 0 }
         ensures { self.new ≡ with_waiters self.old Which.Lock (self.old.lock ++ waiters.now) }
     {
         for waiter in waiters {
@@ -156,21 +159,21 @@ impl<C: Queueable<N>, const N: usize> Queues<C, N> {
         self.lock.push_front(waiter);
     }
 
-    /// Takes the seat out of the list that it stands in, and answers whether it stood in one. The
+    /// Takes the seat out of each list that it stands in, and answers whether it stood in one. The
     /// others stay as they are.
     pub fn remove(&mut self, seat: u8) -> bool
         ensures stood { IsTrue result ↔ (0 < times seat self.old) }
         ensures removed { OnTrue result (self.new ≡ without seat self.old) }
         ensures absent { OnFalse result (self.new ≡ self.old) }
     {
-        // It stands in one list at most, so where it stood in the lock's no other is looked at.
+        // Who stands in the lock's list stands in no other, so then no other is looked at.
         if self.lock.remove(seat) {
             return true;
         }
         if !stands_in_any(&self.cvs, seat) {
             return false;
         }
-        drop_from_all(&mut self.cvs, seat);
+        drop_from_all(&mut self.cvs, Seats::none().with(seat));
         true
     }
 
@@ -187,22 +190,24 @@ impl<C: Queueable<N>, const N: usize> Queues<C, N> {
     }
 }
 
-/// Takes the seat out of the list.
-fn drop_seat<C: Queueable<N>, const N: usize>(waiters: &mut ArrayVec<Waiter<C>, 64>, seat: u8)
-    ensures { waiters.new.items ≡ without_in seat waiters.old.items }
+/// Takes those of the set out of the list.
+fn drop_those<C: Queueable<N>, const N: usize>(waiters: &mut ArrayVec<Waiter<C>, 64>, set: Seats)
+    requires { HaveSeats waiters.old.items }
+    ensures { waiters.new.items ≡ outside set waiters.old.items }
 {
-    let kept = keep_others(waiters.as_mut_slice(), seat);
+    let kept = keep_outside(waiters.as_mut_slice(), set);
     waiters.truncate(kept);
 }
 
 /// Moves those of other seats to the front, in order, and counts them. A condition may be large, so
 /// those in front of the first that goes aren't copied.
-fn keep_others<C: Queueable<N>, const N: usize>(waiters: &mut [Waiter<C>], seat: u8) -> usize
-    ensures { take result waiters.new ≡ without_in seat waiters.old }
+fn keep_outside<C: Queueable<N>, const N: usize>(waiters: &mut [Waiter<C>], set: Seats) -> usize
+    requires { HaveSeats waiters.old }
+    ensures { take result waiters.new ≡ outside set waiters.old }
 {
     let mut kept = 0;
     for i in 0..waiters.len() {
-        if waiters[i].seat != seat {
+        if !set.contains(waiters[i].seat) {
             if kept != i {
                 waiters[kept] = waiters[i];
             }
@@ -212,12 +217,16 @@ fn keep_others<C: Queueable<N>, const N: usize>(waiters: &mut [Waiter<C>], seat:
     kept
 }
 
-/// Takes the seat out of each of the lists.
-fn drop_from_all<C: Queueable<N>, const N: usize>(lists: &mut [ArrayVec<Waiter<C>, 64>], seat: u8)
-    ensures { map (λ v. v.items) lists.new ≡ map (without_in seat) (map (λ v. v.items) lists.old) }
+/// Takes those of the set out of each of the lists.
+pub(crate) fn drop_from_all<C: Queueable<N>, const N: usize>(
+    lists: &mut [ArrayVec<Waiter<C>, 64>],
+    set: Seats,
+)
+    requires { (seat : ℕ) → 64 ≤ seat → sum_by (times_in seat) (map (λ v. v.items) lists.old) ≡ 0 }
+    ensures { map (λ v. v.items) lists.new ≡ map (outside set) (map (λ v. v.items) lists.old) }
 {
     for list in lists.iter_mut() {
-        drop_seat(list, seat);
+        drop_those(list, set);
     }
 }
 

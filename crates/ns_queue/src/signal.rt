@@ -2,13 +2,13 @@
 
 ghost use Rattle.std.specs.Prelude.{◌≡◌, ◌<◌, ◌≤◌, [], length};
 ghost use Rattle.ns_queue.specs.Marks.{is_wanted, signal_marks, wanted_after};
-ghost use Rattle.ns_queue.specs.Queues.{IsOrderly, waiters_of, with_waiters};
-ghost use Rattle.ns_queue.specs.Signals.{signaled_of, taken_set, unsignaled_of};
+ghost use Rattle.ns_queue.specs.Queues.{IsOrderly, waiters_of, cvs_without};
+ghost use Rattle.ns_queue.specs.Signals.{signaled_of, taken_set};
 ghost use Rattle.ns_queue.specs.Waiters.{HaveSeats, seats_of};
 ghost use Rattle.ns_queue.specs.declared.signal.Wanted.TheVariants.{Anybody};
 
-use crate::marks::{drop_marked, marked};
-use crate::queues::{Queues, copied};
+use crate::marks::marked;
+use crate::queues::{Queues, copied, drop_from_all};
 use crate::room::Queueable;
 use crate::waiter::{Waiter, Which};
 use arrayvec::ArrayVec;
@@ -67,19 +67,6 @@ fn marks_of<C: Queueable<N>, const N: usize>(waiters: &[Waiter<C>]) -> ArrayVec<
     marks
 }
 
-/// Takes those out of the list whom a signal wakes.
-fn signal_list<C: Queueable<N>, const N: usize>(
-    waiters: &mut ArrayVec<Waiter<C>, 64>,
-) -> ArrayVec<Waiter<C>, 64>
-    ensures taken { result.items ≡ signaled_of waiters.old.items }
-    ensures left { waiters.new.items ≡ unsignaled_of waiters.old.items }
-{
-    let marks = marks_of(waiters.as_slice());
-    let taken = marked(waiters.as_slice(), marks.as_slice());
-    drop_marked(waiters, marks.as_slice());
-    taken
-}
-
 /// Those of the list whom a signal wakes, in order.
 fn signaled<C: Queueable<N>, const N: usize>(
     waiters: &ArrayVec<Waiter<C>, 64>,
@@ -119,35 +106,36 @@ pub fn taken_set<C: Queueable<N>, const N: usize>(taken: &[Waiter<C>]) -> Seats
 }
 
 impl<C: Queueable<N>, const N: usize> Queues<C, N> {
-    /// Takes those out of the list of the variable whom a signal wakes, and answers them in order:
-    /// the first waiter, and if that one reads, every other reader and the first writer too. Of an
-    /// empty list it takes nobody. The others stay, in order, and so do the other lists.
+    /// Takes those out of the lists of the variables whom a signal of this one wakes, and answers them
+    /// in order: the first waiter of its list, and if that one reads, every other reader and the first
+    /// writer too. Of an empty list it takes nobody. The others stay, in order, and so does the lock
+    /// list.
     ///
     /// Needs a number below 4.
     pub fn take_signal(&mut self, k: u8) -> ArrayVec<Waiter<C>, 64>
         requires { k < 4 }
         ensures taken { result.items ≡ signaled_of (waiters_of self.old (Which.Cv k)) }
-        ensures left { self.new ≡ with_waiters self.old (Which.Cv k) (unsignaled_of (waiters_of self.old (Which.Cv k))) }
+        ensures left { self.new ≡ cvs_without (taken_set (signaled_of (waiters_of self.old (Which.Cv k)))) self.old }
         ensures orderly { IsOrderly self.old }
     {
-        let queue = &mut self.cvs[k as usize];
-        signal_list(queue)
+        let taken = signaled(&self.cvs[k as usize]);
+        drop_from_all(&mut self.cvs, taken_set(taken.as_slice()));
+        taken
     }
 
-    /// Takes everybody out of the list of the variable, and answers them in order. The other lists
-    /// stay as they are.
+    /// Takes everybody who waits for the variable out of the lists of the variables, and answers them
+    /// in order. The others stay, in order, and so does the lock list.
     ///
     /// Needs a number below 4.
     pub fn take_all(&mut self, k: u8) -> ArrayVec<Waiter<C>, 64>
         requires { k < 4 }
         ensures taken { result.items ≡ waiters_of self.old (Which.Cv k) }
-        ensures left { self.new ≡ with_waiters self.old (Which.Cv k) [] }
+        ensures left { self.new ≡ cvs_without (taken_set (waiters_of self.old (Which.Cv k))) self.old }
         ensures orderly { IsOrderly self.old }
     {
-        let queue = &mut self.cvs[k as usize];
-        let taken = copied(queue);
-        queue.clear();
-        taken
+        let all = copied(&self.cvs[k as usize]);
+        drop_from_all(&mut self.cvs, taken_set(all.as_slice()));
+        all
     }
 
     /// The set of the seats whom a signal of the variable would take, with the lists left as they are.
@@ -157,8 +145,7 @@ impl<C: Queueable<N>, const N: usize> Queues<C, N> {
         requires { k < 4 }
         ensures { result ≡ taken_set (signaled_of (waiters_of self.now (Which.Cv k))) }
     {
-        let taken = signaled(&self.cvs[k as usize]);
-        taken_set(taken.as_slice())
+        taken_set(signaled(&self.cvs[k as usize]).as_slice())
     }
 
     /// The set of the seats whom a broadcast of the variable would take, which is everybody who waits

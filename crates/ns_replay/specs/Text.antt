@@ -6,12 +6,13 @@ use Rattle.ns_model.specs.declared.event.Mode.TheVariants as mode
 use Rattle.ns_model.specs.declared.event.Answer.{Answer}
 use Rattle.ns_model.specs.declared.event.Answer.TheVariants.{Met, TimedOut, Canceled}
 use Rattle.ns_model.specs.declared.event.Entry.{Entry}
-use Rattle.ns_model.specs.declared.event.Entry.TheVariants.{Plain, Waited, AfterCv}
+use Rattle.ns_model.specs.declared.cvs.Cvs.{Cvs}
+use Rattle.ns_model.specs.declared.event.Entry.TheVariants.{Plain, Waited, AfterCv, AfterAny}
 use Rattle.ns_model.specs.declared.event.Exit.{Exit}
-use Rattle.ns_model.specs.declared.event.Exit.TheVariants.{CondWait, CvWait}
+use Rattle.ns_model.specs.declared.event.Exit.TheVariants.{CondWait, CvWait, AnyWait}
 use Rattle.ns_model.specs.declared.event.Exit.TheVariants as TheExit
 use Rattle.ns_model.specs.declared.event.Event.{Event}
-use Rattle.ns_model.specs.declared.event.Event.TheVariants.{Section, Signal, Broadcast, Leave}
+use Rattle.ns_model.specs.declared.event.Event.TheVariants.{Section, Signal, Broadcast, Leave, LeaveAny}
 use Rattle.ns_model.specs.declared.seats.Seats.{Seats}
 use Rattle.ns_model.specs.Seats.{is_in}
 use Rattle.ns_queue.specs.declared.waiter.Shown.{Shown}
@@ -143,12 +144,8 @@ abbrev pub entry_text : Entry ScriptCondition → List ℕ
 entry_text Plain = codes "plain"
 entry_text (Waited condition answer) = codes "waited:" ++ condition_text condition ++ codes ":" ++ answer_text answer
 entry_text (AfterCv k answer) = codes "aftercv:" ++ decimal k ++ codes ":" ++ answer_text answer
-
--- how a section ended
-abbrev pub exit_text : Exit ScriptCondition → List ℕ
-exit_text TheExit.Plain = codes "plain"
-exit_text (CondWait condition) = codes "cond:" ++ condition_text condition
-exit_text (CvWait k) = codes "cv:" ++ decimal k
+entry_text (AfterAny (Some k)) = codes "afterany:" ++ decimal k
+entry_text (AfterAny None) = codes "afterany:-"
 
 -- a seat of a set, after a comma if it is not the first
 abbrev pub seat_text : Bool → Bool → ℕ → List ℕ
@@ -167,6 +164,17 @@ seats_below n seats = filter (is_in seats) (range_with_len 0 n)
 abbrev pub seats_text : Seats → List ℕ
 seats_text seats = some_numbers_text (seats_below 64 seats)
 
+-- the condition variables of a set, as seats with their numbers are written
+abbrev pub cvs_text : Cvs → List ℕ
+cvs_text cvs = seats_text (record { 0 = cvs.0 })
+
+-- how a section ended
+abbrev pub exit_text : Exit ScriptCondition → List ℕ
+exit_text TheExit.Plain = codes "plain"
+exit_text (CondWait condition) = codes "cond:" ++ condition_text condition
+exit_text (CvWait k) = codes "cv:" ++ decimal k
+exit_text (AnyWait cvs) = codes "any:" ++ cvs_text cvs
+
 -- a section without its rows
 abbrev pub section_text : ℕ → Mode → Entry ScriptCondition → Exit ScriptCondition → List ℕ
 section_text who mode entry exit = codes "section " ++ decimal who ++ codes " " ++ mode_text mode ++ codes " " ++ entry_text entry ++ codes " " ++ exit_text exit
@@ -181,6 +189,7 @@ event_words (Section who mode entry before after exit) = section_text who mode e
 event_words (Signal who k woken) = codes "signal " ++ decimal who ++ codes " " ++ decimal k ++ codes " " ++ seats_text woken
 event_words (Broadcast who k woken) = codes "broadcast " ++ decimal who ++ codes " " ++ decimal k ++ codes " " ++ seats_text woken
 event_words (Leave who k) = codes "leave " ++ decimal who ++ codes " " ++ decimal k
+event_words (LeaveAny who cvs) = codes "leaveany " ++ decimal who ++ codes " " ++ cvs_text cvs
 
 -- the line of an event
 abbrev pub event_text : Event ScriptCondition 8 → List ℕ

@@ -5,11 +5,12 @@
 
 ghost use Rattle.std.specs.Prelude.{◌≡◌, ◌≤◌, ◌<◌, ◌++◌, ◌||◌, map, flat_map, string_bytes, OnOk, IfOk};
 ghost use Rattle.ns_model.specs.Seats.{is_in};
-ghost use Rattle.ns_replay.specs.Text.{truth_text, expiry_text, refusal_text, reply_text, is_release, tests_text, line_text, lines_text, finished_calls, left_text, lefts_text, row_text, after_comma, numbers_text, mode_text, answer_text, entry_text, exit_text, section_text, rows_text, seat_text, seats_text, event_words, event_text, events_text, history_text, bit_text, bits_text, word_text, waiter_text, queue_text, variable_text, variables_text, wake_text, wakes_text, lock_text, state_text};
+ghost use Rattle.ns_replay.specs.Text.{truth_text, expiry_text, refusal_text, reply_text, is_release, tests_text, line_text, lines_text, finished_calls, left_text, lefts_text, row_text, after_comma, numbers_text, mode_text, answer_text, entry_text, exit_text, section_text, rows_text, seat_text, seats_text, cvs_text, event_words, event_text, events_text, history_text, bit_text, bits_text, word_text, waiter_text, queue_text, variable_text, variables_text, wake_text, wakes_text, lock_text, state_text};
 
 use crate::condition::ScriptCondition;
 use arrayvec::ArrayVec;
 use ns_counters::counter::CounterFault;
+use ns_model::cvs::Cvs;
 use ns_model::event::{Answer, Entry, Event, Exit, Mode};
 use ns_model::seats::Seats;
 use ns_queue::waiter::Shown;
@@ -236,17 +237,8 @@ fn push_entry(out: &mut String, entry: Entry<ScriptCondition>) -> Result<(), All
             write!(out, "aftercv:{k}:")?;
             push_answer(out, answer)
         }
-    }
-}
-
-/// How a section ended.
-fn push_exit(out: &mut String, exit: Exit<ScriptCondition>) -> Result<(), AllocError>
-    ensures { OnOk result (string_bytes out.new ≡ string_bytes out.old ++ exit_text exit) }
-{
-    match exit {
-        Exit::Plain => out.push_str("plain"),
-        Exit::CondWait(condition) => write!(out, "cond:{condition}"),
-        Exit::CvWait(k) => write!(out, "cv:{k}"),
+        Entry::AfterAny(Some(k)) => write!(out, "afterany:{k}"),
+        Entry::AfterAny(None) => out.push_str("afterany:-"),
     }
 }
 
@@ -276,6 +268,28 @@ fn push_seats(out: &mut String, seats: Seats) -> Result<(), AllocError>
         any = push_seat(out, seats, seat, any)?;
     }
     if any { Ok(()) } else { out.push_str("-") }
+}
+
+/// The condition variables of a set with commas, or a dash for none.
+fn push_cvs(out: &mut String, cvs: Cvs) -> Result<(), AllocError>
+    ensures { OnOk result (string_bytes out.new ≡ string_bytes out.old ++ cvs_text cvs) }
+{
+    push_seats(out, Seats(u64::from(cvs.0)))
+}
+
+/// How a section ended.
+fn push_exit(out: &mut String, exit: Exit<ScriptCondition>) -> Result<(), AllocError>
+    ensures { OnOk result (string_bytes out.new ≡ string_bytes out.old ++ exit_text exit) }
+{
+    match exit {
+        Exit::Plain => out.push_str("plain"),
+        Exit::CondWait(condition) => write!(out, "cond:{condition}"),
+        Exit::CvWait(k) => write!(out, "cv:{k}"),
+        Exit::AnyWait(cvs) => {
+            out.push_str("any:")?;
+            push_cvs(out, cvs)
+        }
+    }
 }
 
 /// The words of a section.
@@ -331,6 +345,10 @@ fn push_event_words(out: &mut String, event: &Event<ScriptCondition, 8>) -> Resu
             push_seats(out, *woken)
         }
         Event::Leave { who, k } => write!(out, "leave {who} {k}"),
+        Event::LeaveAny { who, cvs } => {
+            write!(out, "leaveany {who} ")?;
+            push_cvs(out, *cvs)
+        }
     }
 }
 

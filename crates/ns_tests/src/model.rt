@@ -4,6 +4,7 @@ ghost use Rattle.std.specs.Prelude.{◌≡◌, nat_le, ◌==◌, slice_index, fa
 ghost use Rattle.ns_model.specs.Truths.{truths};
 
 use ns_model::condition::Condition;
+use ns_model::cvs::Cvs;
 use ns_model::event::{Answer, Entry, Event, Exit, Mode};
 use ns_model::history::{legal, phase_of, row_after};
 use ns_model::phase::Phase;
@@ -278,4 +279,81 @@ fn only_one_that_waits_leaves(rt: HostRuntime) {
     assert!(rt; !legal(&other), "it waits for another variable");
     let nobody: [Happening; 1] = [Event::Leave { who: 1, k: 0 }];
     assert!(rt; !legal(&nobody), "nobody waits");
+}
+
+/// A section of seat 0 that waits for any of these variables.
+fn waits_for_any(cvs: Cvs) -> Happening {
+    section(
+        0,
+        Mode::Write,
+        Entry::Plain,
+        ZEROS,
+        ZEROS,
+        Exit::AnyWait(cvs),
+    )
+}
+
+/// The section that it comes back with.
+fn comes_back(by: Option<u8>) -> Happening {
+    section(
+        0,
+        Mode::Write,
+        Entry::AfterAny(by),
+        ZEROS,
+        ZEROS,
+        Exit::Plain,
+    )
+}
+
+/// A signal by seat 1 that wakes these seats.
+fn signals(k: u8, seats: &[u8]) -> Happening {
+    Event::Signal {
+        who: 1,
+        k,
+        woken: woken(seats),
+    }
+}
+
+#[test]
+fn a_wait_for_any_is_woken_by_one_of_its_variables(rt: HostRuntime) {
+    let waits = waits_for_any(Cvs::none().with(0).with(2));
+    let table: [(u8, Option<u8>, bool); 5] = [
+        (0, Some(0), true),
+        (2, Some(2), true),
+        (2, Some(0), false),
+        (1, Some(1), false),
+        (2, None, false),
+    ];
+    for (k, by, expected) in table.iter() {
+        let three = [waits, signals(*k, &[0]), comes_back(*by)];
+        assert_eq!(rt; legal(&three), *expected, "{by:?} after a signal of {k}");
+    }
+    let unseen = [waits, signals(2, &[])];
+    assert!(rt; !legal(&unseen), "a signal sees who waits for others too");
+    let once = [waits, signals(2, &[0]), signals(0, &[])];
+    assert!(rt; legal(&once), "who was woken waits for no other");
+    let twice = [waits, signals(2, &[0]), signals(0, &[0])];
+    assert!(rt; !legal(&twice));
+}
+
+#[test]
+fn a_wait_for_any_is_left_for_all_its_variables(rt: HostRuntime) {
+    let both = Cvs::none().with(0).with(2);
+    let first = Cvs::none().with(0);
+    let table: [(Cvs, Cvs, bool); 4] = [
+        (both, both, true),
+        (both, first, false),
+        (first, both, false),
+        (first, first, true),
+    ];
+    for (waited, cvs, expected) in table.iter() {
+        let left = Event::LeaveAny { who: 0, cvs: *cvs };
+        let three = [waits_for_any(*waited), left, comes_back(None)];
+        assert_eq!(rt; legal(&three), *expected, "{cvs:?} left of {waited:?}");
+    }
+    let one = Event::Leave { who: 0, k: 0 };
+    let of_two = [waits_for_any(both), one];
+    assert!(rt; !legal(&of_two), "it waits for another too");
+    let of_one = [waits_for_any(first), one];
+    assert!(rt; legal(&of_one), "a set of one is that one");
 }

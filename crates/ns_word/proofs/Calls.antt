@@ -1,14 +1,20 @@
 -- What a call owes once it is over, whom it wakes, and when it looks and acquires as woken.
 use Rattle.std.specs.Prelude.{slice_get}
-use Rattle.std.proofs.Common.{◌≡◌, ◌⊎◌, inl, inr, ℕ, ◌-◌, ◌<◌, Bool, true, false, not, cond, eqb, ltb, ◌+◌, suc, take, drop, List, [], ◌∷◌, length, None, Some, refl, ap, sym, ◌∙◌, subst, eqb-true}
+use Rattle.std.proofs.Common.{◌≡◌, ◌⊎◌, inl, inr, ℕ, ◌-◌, ◌≤◌, ◌<◌, arith, Bool, true, false, not, cond, eqb, ltb, ◌+◌, suc, take, drop, List, [], ◌∷◌, length, None, Some, refl, ap, sym, ◌∙◌, subst, eqb-true}
 use Rattle.ns_model.specs.Histories.{standing_after}
 use Rattle.ns_model.specs.Sections.{is_met}
 use Rattle.ns_model.specs.Truths.{Truths}
 use Rattle.ns_model.specs.declared.event.Answer.TheVariants.{Met}
 use Rattle.ns_model.specs.declared.event.Event.{Event}
 use Rattle.ns_model.specs.declared.event.Mode.{Mode}
-use Rattle.ns_queue.proofs.Parts.{read_back}
-use Rattle.ns_queue.specs.Queues.{Lists, waiters_of, with_waiters}
+use Rattle.ns_queue.proofs.Outside.{broadcast_outside, signal_outside}
+use Rattle.ns_queue.proofs.Parts.{times_at_most}
+use Rattle.ns_queue.specs.Signals.{taken_set}
+use Rattle.ns_queue.specs.Waiters.{outside, times_in}
+use Rattle.std.proofs.lemmas.List.{get_or-map}
+use Rattle.ns_word.proofs.Ranges.{stands_once}
+use Rattle.ns_word.specs.declared.act.Waking.TheVariants.{Broadcasting, Signaling}
+use Rattle.ns_queue.specs.Queues.{Lists, cvs_without, times, waiters_of}
 use Rattle.ns_queue.specs.declared.waiter.Waiter.{Waiter}
 use Rattle.ns_queue.specs.declared.waiter.Which.TheVariants.{Cv}
 use Rattle.ns_word.proofs.Answers.{acquire_looks_not, cells_look_not, judge_looks_not, leaver_looks_not, look_of_act, release_looks_not, signal_looks_not, show_looks_not, try_looks_not}
@@ -82,6 +88,10 @@ over_owes_nothing truths seats h s at view lawful here over =
 -- ---- whom a call wakes
 
 module _ (C : Type 0) (N : ℕ) (truths : Truths C) (seat : ℕ) (waking : Waking) (k : ℕ) where
+  -- there are four variables, and no seat stands in the lists twice
+  abbrev IsWhole : Lists C → Type 0
+  IsWhole lists = (length lists.cvs ≡ 4) × ((seat : ℕ) → times seat lists ≤ 1)
+
   -- what a step of such a call commits, and what it leaves of the lists
   abbrev WakesBy : Part C N → Part C N → List (Event C N) → Type 0
   WakesBy old new commits =
@@ -93,12 +103,18 @@ module _ (C : Type 0) (N : ℕ) (truths : Truths C) (seat : ℕ) (waking : Wakin
   moved_reads true taken lists = refl
   moved_reads false taken lists = refl
 
-  kept_there : (last : Word) (lists : Lists C) → k < 4 → length lists.cvs ≡ 4 → waiters_of (changed seat (WakeWaiters waking k) last lists) (Cv k) ≡ kept_by waking (waiters_of lists (Cv k))
-  kept_there last lists below four =
-      moved_reads (is_held last) (taken_by waking (waiters_of lists (Cv k))) (with_waiters lists (Cv k) (kept_by waking (waiters_of lists (Cv k))))
-      ∙ read_back lists (Cv k) (kept_by waking (waiters_of lists (Cv k))) four below
+  -- those who are left stay there
+  left_there : (waking : Waking) (ws : List (Waiter C)) → ((seat : ℕ) → times_in seat ws ≤ 1) → outside (taken_set (taken_by waking ws)) ws ≡ kept_by waking ws
+  left_there Signaling ws once = signal_outside ws once
+  left_there Broadcasting ws once = broadcast_outside ws
 
-  wakes_at : (place : SignalPlace) (found : Found) (old new : Part C N) (commits : List (Event C N)) → k < 4 → length old.lists.cvs ≡ 4 → Effect truths seat (want_signaling waking k place) old found new commits → WakesBy old new commits
+  kept_there : (last : Word) (lists : Lists C) → k < 4 → IsWhole lists → waiters_of (changed seat (WakeWaiters waking k) last lists) (Cv k) ≡ kept_by waking (waiters_of lists (Cv k))
+  kept_there last lists below whole =
+      let taken = taken_by waking (waiters_of lists (Cv k)) in
+      moved_reads (is_held last) taken (cvs_without (taken_set taken) lists)
+      ∙ get_or-map (outside (taken_set taken)) lists.cvs k [] [] (omega (arith, below, whole.0)) ∙ left_there waking (waiters_of lists (Cv k)) (λ seat. omega (arith, times_at_most lists (Cv k) seat whole.0 below, whole.1 seat))
+
+  wakes_at : (place : SignalPlace) (found : Found) (old new : Part C N) (commits : List (Event C N)) → k < 4 → IsWhole old.lists → Effect truths seat (want_signaling waking k place) old found new commits → WakesBy old new commits
   wakes_at SignalLoad (Saw word) old new commits below four e = inl (e.2, ap (λ p. p.lists) e.1)
   wakes_at (TakeToWake last) (Saw word) old new commits below four e = inl (e.3, ap (λ p. p.lists) e.2)
   wakes_at (TakeToWake last) Made old new commits below four e = inl (e.3, ap (λ p. p.lists) e.2)
@@ -121,7 +137,7 @@ module _ (C : Type 0) (N : ℕ) (truths : Truths C) (seat : ℕ) (waking : Wakin
   cells_ask_not (QuietCells judging i) e = judge_asks_not judging e
   cells_ask_not (QuietLast judging i) e = judge_asks_not judging e
 
-  wakes_by : (walk : Walk C) (found : Found) (old new : Part C N) (commits : List (Event C N)) → asked_of walk ≡ Wake waking k → PlaceFits truths (Some walk) old.held → length old.lists.cvs ≡ 4 → Effect truths seat (want_of walk) old found new commits → WakesBy old new commits
+  wakes_by : (walk : Walk C) (found : Found) (old new : Part C N) (commits : List (Event C N)) → asked_of walk ≡ Wake waking k → PlaceFits truths (Some walk) old.held → IsWhole old.lists → Effect truths seat (want_of walk) old found new commits → WakesBy old new commits
   wakes_by (InTry mode place) found old new commits asked fits four e = absurd (cc)
   wakes_by (InAcquire (ForLock mode) place) found old new commits asked fits four e = absurd (cc)
   wakes_by (InAcquire (ForWait wait outcome) place) found old new commits asked fits four e = absurd (cc)
@@ -138,7 +154,7 @@ pub wakes_by_rule : {C : Type 0} {N : ℕ} (truths : Truths C) (seats : ℕ) (h 
     WakesBy C N truths view.seat waking k (part_of old view.held view.owed) (part_of new step.held step.owed) commits
 wakes_by_rule {C} {N} truths seats h old new view found commits waking k step lawful asked =
     let fits = (each_parts truths seats (standing_after h) old.row step.front view step.back (subst (λ vs. EachFits truths seats (standing_after h) old.row vs) step.was lawful.one_history.each)).1 in
-    wakes_by C N truths view.seat waking k step.walk found (part_of old view.held view.owed) (part_of new step.held step.owed) commits asked (subst (λ w. PlaceFits truths w view.held) step.walks fits.place) lawful.waiters_placed.four step.effect
+    wakes_by C N truths view.seat waking k step.walk found (part_of old view.held view.owed) (part_of new step.held step.owed) commits asked (subst (λ w. PlaceFits truths w view.held) step.walks fits.place) (lawful.waiters_placed.four, stands_once truths seats h old lawful.waiters_placed lawful.one_history.each) step.effect
 
 -- ---- looks
 

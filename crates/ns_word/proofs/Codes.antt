@@ -1,10 +1,10 @@
 -- A word and its number: each gives the other back.
-use Rattle.std.proofs.Common.{◌≡◌, ℕ, ◌/◌, ◌%◌, ◌<◌, ◌≤◌, Bool, true, false, ◌==◌, ◌⊎◌, inl, inr, refl, ap, arith}
-use Rattle.std.proofs.lemmas.Bool.Decides.{nat_tests}
+use Rattle.std.proofs.Common.{◌≡◌, ℕ, ◌/◌, ◌%◌, ◌≤◌, Bool, true, false, ◌==◌, ◌⊎◌, inl, inr, refl, ap, arith}
 use Rattle.ns_word.specs.declared.word.Word.{Word}
 use Rattle.ns_word.specs.Codec.{bit, number_of, word_of, IsPackable}
+use Rattle.ns_word.specs.Encoded.{encoded}
 
-bit_few : (b : Bool) → bit b ≤ 1
+pub bit_few : (b : Bool) → bit b ≤ 1
 bit_few true = omega arith
 bit_few false = omega arith
 
@@ -12,12 +12,6 @@ bit_few false = omega arith
 told : (b : Bool) (n : ℕ) → n % 2 ≡ bit b → (n % 2 == 1) ≡ b
 told true n e = rw e refl
 told false n e = rw e refl
-
--- and a number's last digit is that of its bit
-digit : (n : ℕ) → bit (n % 2 == 1) ≡ n % 2
-digit n = last (n % 2) (omega arith) where
-  last : (d : ℕ) → d < 2 → bit (d == 1) ≡ d
-  last d few = grind (arith, nat_tests)
 
 pub decoded : (w : Word) → word_of (number_of w) ≡ w
 unfolding word_of
@@ -45,19 +39,6 @@ decoded w =
   where
     readers : (w : Word) (n : ℕ) → n ≡ number_of w → bit w.write ≤ 1 → bit w.spin ≤ 1 → bit w.waiting ≤ 1 → bit w.desig ≤ 1 → bit w.cond ≤ 1 → bit w.writer_waits ≤ 1 → bit w.all_false ≤ 1 → bit w.long ≤ 1 → n / 256 ≡ w.readers
     readers w n is a b c d e f g l = omega arith
-
-pub encoded : (bits : ℕ) → number_of (word_of bits) ≡ bits
-unfolding word_of
-encoded bits =
-    let a = digit (bits / 1) in
-    let b = digit (bits / 2) in
-    let c = digit (bits / 4) in
-    let d = digit (bits / 8) in
-    let e = digit (bits / 16) in
-    let f = digit (bits / 32) in
-    let g = digit (bits / 64) in
-    let l = digit (bits / 128) in
-    omega (arith, a, b, c, d, e, f, g, l)
 
 -- a number that is not refused is its word's
 pub read_back : (bits : ℕ) (w : Word) → w ≡ word_of bits → bits / 256 ≤ 64 → ((w.write ≡ true) × (bits / 256 ≤ 0)) ⊎ (w.write ≡ false) →

@@ -1,6 +1,6 @@
 -- A step keeps the law: which kind of step it is, by the place in the walk and what was found.
 use Rattle.std.proofs.Common.{◌≡◌, ◌⊎◌, inl, inr, ℕ, ◌+◌, ◌<◌, ◌≤◌, Bool, true, false, not, cond, eqb, ltb, ◌&&◌, ◌||◌, List, [], ◌∷◌, ◌++◌, length, Option, None, Some, is_some, slice_set, refl, ap, sym, ◌∙◌, subst, arith, eq-eqb}
-use Rattle.std.proofs.lemmas.Bool.{ltb-true, ltb-false, both_ways}
+use Rattle.std.proofs.lemmas.Bool.{eqb-true, ltb-true, ltb-false, both_ways}
 use Rattle.std.proofs.lemmas.List.{append-nil, set-get_or}
 use Rattle.ns_model.specs.declared.event.Mode.{Mode}
 use Rattle.ns_model.specs.declared.event.Mode.TheVariants.{Write, Read}
@@ -9,18 +9,22 @@ use Rattle.ns_model.specs.declared.event.Exit.TheVariants.{Plain, CondWait, CvWa
 use Rattle.ns_model.specs.declared.event.Event.{Event}
 use Rattle.ns_model.specs.declared.event.Event.TheVariants as TheEvent
 use Rattle.ns_model.specs.declared.phase.Phase.{Phase}
-use Rattle.ns_model.specs.declared.phase.Phase.TheVariants.{Cond, Waiting}
+use Rattle.ns_model.specs.declared.cvs.Variables.{Variables}
+use Rattle.ns_model.specs.declared.cvs.Variables.TheVariants.{Only}
+use Rattle.ns_model.specs.declared.phase.Phase.TheVariants.{Cond, Waiting, Woken}
 use Rattle.ns_model.specs.Histories.{standing_after, standing_next, IsLegalEvent, who_of}
 use Rattle.ns_model.specs.Tallies.{Every}
 use Rattle.ns_model.proofs.Tallies.{every_parts, every_join}
 use Rattle.ns_queue.specs.declared.waiter.Waiter.{Waiter}
 use Rattle.ns_queue.specs.declared.waiter.Which.{Which}
 use Rattle.ns_queue.specs.declared.waiter.Which.TheVariants.{Lock, Cv}
-use Rattle.ns_queue.specs.Queues.{Lists, IsList, waiters_of, with_waiters}
-use Rattle.ns_queue.specs.Waiters.{seats_of, times_in, without_in}
+use Rattle.ns_queue.specs.Queues.{Lists, IsList, IsOrderly, cvs_without, times, waiters_of, with_waiters, without}
+use Rattle.ns_queue.specs.Waiters.{outside, seats_of, times_in, without_in}
 use Rattle.ns_queue.specs.Scans.{woken_of, left_of}
 use Rattle.ns_queue.specs.Signals.{taken_set}
 use Rattle.ns_queue.specs.Wakes.{AreWaiting, woken_phases}
+use Rattle.ns_queue.proofs.Outside.{broadcast_outside, signal_outside, taken_alone}
+use Rattle.ns_queue.proofs.Parts.{once_in, removed_of}
 use Rattle.ns_queue.proofs.Seats.{none_without}
 use Rattle.ns_queue.proofs.Taken.{times_signaled, every_signaled, every_unsignaled}
 use Rattle.ns_queue.proofs.Wakes.{signal_legal, broadcast_legal}
@@ -80,7 +84,7 @@ use Rattle.ns_word.proofs.Knows.{nothing_called, rests as known_rests, takes as 
 use Rattle.ns_word.proofs.Views.{view_of, each_parts}
 use Rattle.ns_word.proofs.Variables.{are_waiting}
 use Rattle.ns_word.proofs.Owns.{long_eligible}
-use Rattle.ns_word.proofs.Ranges.{lists_orderly}
+use Rattle.ns_word.proofs.Ranges.{lists_orderly, stands_once}
 use Rattle.ns_word.proofs.Safes.{section, same_section}
 use Rattle.ns_word.proofs.Seen.{packable, found_fits, seen_next}
 use Rattle.ns_word.proofs.Keeps.{Same, Stays, none_of, rests, acquires, stores, releases, takes, arms, enqueues, withdraws, returns, leaves as leaves_variable, scans, waits, waits_on, waits_for, wakes, sees, wakes_waiters}
@@ -134,6 +138,22 @@ parts_of : {C : Type 0} (waking : Waking) (ws : List (Waiter C)) (seat : ℕ) �
 parts_of Signaling ws seat = times_signaled ws seat
 parts_of Broadcasting ws seat = omega arith
 
+-- where nobody stands in the lists twice, one that leaves is out of its own list alone
+left_alone : {C : Type 0} (who : ℕ) (lists : Lists C) (which : Which) (b : Bool) → IsOrderly lists → times who lists ≤ 1 → IsList which → ltb 0 (times_in who (waiters_of lists which)) ≡ b →
+    cond (ltb 0 (times_in who (waiters_of lists which))) (without who lists) lists ≡ with_waiters lists which (without_in who (waiters_of lists which))
+left_alone who lists which true orderly alone is stands = rw stands (removed_of lists which who orderly alone is (ltb-true 0 (times_in who (waiters_of lists which)) stands))
+left_alone who lists which false orderly alone is stands = let absent = ltb-false 0 (times_in who (waiters_of lists which)) stands in rw stands (sym (same_lists who lists which orderly.four is (omega (arith, absent))))
+
+-- and those whom a wake takes are out of their list alone
+woken_alone : {C : Type 0} (waking : Waking) (k : ℕ) (lists : Lists C) → IsOrderly lists → ((seat : ℕ) → times seat lists ≤ 1) → k < 4 →
+    cvs_without (taken_set (taken_by waking (waiters_of lists (Cv k)))) lists ≡ with_waiters lists (Cv k) (kept_by waking (waiters_of lists (Cv k)))
+woken_alone {C = C} waking k lists orderly alone low =
+    let ws = waiters_of lists (Cv k) in
+    taken_alone lists k (taken_by waking ws) (kept_by waking ws) orderly.four low alone (λ seat. omega (arith, parts_of waking ws seat)) (left waking ws (once_in lists (Cv k) orderly low)) where
+      left : (waking : Waking) (ws : List (Waiter C)) → ((seat : ℕ) → times_in seat ws ≤ 1) → outside (taken_set (taken_by waking ws)) ws ≡ kept_by waking ws
+      left Signaling ws once = signal_outside ws once
+      left Broadcasting ws once = broadcast_outside ws
+
 -- those whom a call that wakes owes wakes were not taken from the lock list
 from_by : (C : Type 0) (waking : Waking) (k : ℕ) (owes : Bool) (owed : List ℕ) → owes ≡ has_some owed → (calls_from_lock {C = C} (walk_after (pay_woken waking k owes)) ≡ false) ⊎ (owed ≡ [])
 from_by C waking k true owed e = inl refl
@@ -163,13 +183,13 @@ way_seen walk aim tries v none e = go (eqb v 0) refl where
   go false z = absurd (not_way (was_woken walk) (awaits walk) (eqb v 0) none z e)
 
 -- the phase of a wait whose flag was seen cleared: one for a variable has been woken, if it waits no more
-seen_phase : {C : Type 0} (on : Subject C) (mode : Mode) (flag : ℕ) (ph : Phase C) → ((k : ℕ) (m : Mode) → ph ≡ Waiting k m → ⊥) → IsExpected (expected_for on mode) ph → ph ≡ phase_kept on mode (woken_by on flag)
+seen_phase : {C : Type 0} (on : Subject C) (mode : Mode) (flag : ℕ) (ph : Phase C) → ((vs : Variables) (m : Mode) → ph ≡ Waiting vs m → ⊥) → IsExpected (expected_for on mode) ph → ph ≡ phase_kept on mode (woken_by on flag)
 seen_phase (OnCondition c) mode flag ph waits is = is
-seen_phase (OnVariable k) mode flag ph waits (inl is) = absurd (waits k mode is)
-seen_phase (OnVariable k) mode flag ph waits (inr is) = is
+seen_phase (OnVariable k) mode flag ph waits (inl is) = absurd (waits (Only k) mode is)
+seen_phase (OnVariable k) mode flag ph waits (inr by) = by.2 ∙ ap (λ j. Woken j mode) (sym (eqb-true k by.0 by.1))
 
 -- and so of one that was about to leave
-taken_phase : {C : Type 0} (on : Subject C) (mode : Mode) (cause : Cause) (flag : ℕ) (ph : Phase C) → ((k : ℕ) (m : Mode) → ph ≡ Waiting k m → ⊥) → IsExpected (expected_for on mode) ph → ph ≡ phase_kept on mode (outcome_taken on cause flag)
+taken_phase : {C : Type 0} (on : Subject C) (mode : Mode) (cause : Cause) (flag : ℕ) (ph : Phase C) → ((vs : Variables) (m : Mode) → ph ≡ Waiting vs m → ⊥) → IsExpected (expected_for on mode) ph → ph ≡ phase_kept on mode (outcome_taken on cause flag)
 taken_phase (OnCondition c) mode cause flag ph waits is = is
 taken_phase (OnVariable k) mode cause flag ph waits is = seen_phase (OnVariable k) mode flag ph waits is
 
@@ -236,7 +256,7 @@ module _ {C : Type 0} {N : ℕ} (truths : Truths C) (seats : ℕ) (h : List (Eve
   -- a seat looks at its flag: cleared, it goes on to acquire, as woken where it was taken from the lock list; else where it waits on
   checks : (walk : Walk C) (aim : Aim C) (tries : ℕ) (other : Next C) (v : ℕ) (b : Bool) (part next : Part C N) (commits : List (Event C N)) → eqb v 1 ≡ b → v ≡ part.flags who → next ≡ part → commits ≡ [] → part.held ≡ None →
       pays (Some walk) ≡ false → has_queues (Some walk) ≡ false → was_woken (Some walk) ≡ false → is_queuing (Some walk) ≡ false →
-      ((ph : Phase C) → ((k : ℕ) (mode : Mode) → ph ≡ Waiting k mode → ⊥) → IsExpected (phase_by (Some walk)) ph → ph ≡ phase_for aim) → AimFits aim → Leads truths (Some walk) (walk_after other) part.held →
+      ((ph : Phase C) → ((vs : Variables) (mode : Mode) → ph ≡ Waiting vs mode → ⊥) → IsExpected (phase_by (Some walk)) ph → ph ≡ phase_for aim) → AimFits aim → Leads truths (Some walk) (walk_after other) part.held →
       Groups truths seats h (at part (Some walk)) → Kept commits next (walk_after (cond b other (On (InAcquire aim (AcquireLoad (arrival_of tries v))))))
   checks walk aim tries other v true part next commits z same e f none pay s w q phase given leads p = finds walk (walk_after other) part next commits e f pay leads p
   checks walk aim tries other v false part next commits z same e f none pay s w q phase given leads p =
@@ -353,7 +373,7 @@ module _ {C : Type 0} {N : ℕ} (truths : Truths C) (seats : ℕ) (h : List (Eve
       moved (walk_after (pay_waiting wait owes)) (put_back wait false part part.word) next (section_of truths.holds who (section mode held.entry held.before held.row) (CvWait k) ∷ []) commits
       (e.4 ∙ ap (put_back wait false part) e.3) (said_of held mode (CvWait k) commits e.2 e.7)
       (waits_for truths seats h front who (Some walk) (walk_after (pay_waiting wait owes)) back (releasing_of mode) mode k part.word part.row part.lists part.flags held.entry held.before held.row part.owed few may.unmet (may.settled refl)
-      (left_mode mode) (subst (λ x. IsExpected x (Waiting k mode)) (sym to.7) (inl refl)) (to.0 refl may.unmet) refl (to.1 ∙ e.5) to.6 refl to.2 refl to.3 refl to.4 to.5 (λ flag n. refl) (in_its_mode walk part held mode e.1 e.2 p))
+      (left_mode mode) (subst (λ x. IsExpected x (Waiting (Only k) mode)) (sym to.7) (inl refl)) (to.0 refl may.unmet) refl (to.1 ∙ e.5) to.6 refl to.2 refl to.3 refl to.4 to.5 (λ flag n. refl) (in_its_mode walk part held mode e.1 e.2 p))
   queued_up mode (OnVariable k) limits true last owes tests part next commits few e p =
       let wait : Wait C = record { mode = mode; on = OnVariable k; limits = limits } in
       let walk = InWait wait (InQueuing true (QueueToWait last)) in
@@ -377,7 +397,7 @@ module _ {C : Type 0} {N : ℕ} (truths : Truths C) (seats : ℕ) (h : List (Eve
   wake_legal Signaling k ws low are = (low, signal_legal k (standing_after h).phases ws are)
   wake_legal Broadcasting k ws low are = (low, broadcast_legal k (standing_after h).phases ws are)
 
-  wake_leaves : (waking : Waking) (k : ℕ) (took : List (Waiter C)) → standing_next {N = N} (standing_after h) (wake_of who waking k took) ≡ record { row = (standing_after h).row; phases = woken_phases (taken_set took) (standing_after h).phases }
+  wake_leaves : (waking : Waking) (k : ℕ) (took : List (Waiter C)) → standing_next {N = N} (standing_after h) (wake_of who waking k took) ≡ record { row = (standing_after h).row; phases = woken_phases k (taken_set took) (standing_after h).phases }
   wake_leaves Signaling k took = refl
   wake_leaves Broadcasting k took = refl
 
@@ -424,7 +444,9 @@ module _ {C : Type 0} {N : ℕ} (truths : Truths C) (seats : ℕ) (h : List (Eve
       let same = subst (λ word. (change_found who change word part.lists ≡ Woke owes) × (next ≡ record part { word = word_returned (moves change word part.lists) (bits_of (changed who change word part.lists).lock) word; lists = changed who change word part.lists; owed = owed_after change word part.lists part.owed })) e.1 (e.0, e.2) in
       moved (walk_after (pay_woken waking k owes)) (record part { word = word_returned (moves change part.word part.lists) (bits_of (changed who change part.word part.lists).lock) part.word; lists = changed who change part.word part.lists; owed = owed_after change part.word part.lists part.owed }) next
       (wake_of who waking k took ∷ []) commits same.1 e.3
-      (woken_at waking k last owes part (is_held part.word) (has_some took) few refl refl (ap owes_in same.0) p)
+      (subst (λ (put : Lists C). Kept (wake_of who waking k took ∷ []) (record part { word = word_returned (moves change part.word part.lists) (bits_of (moved_to (is_held part.word) took put).lock) part.word; lists = moved_to (is_held part.word) took put; owed = owed_after change part.word part.lists part.owed }) (walk_after (pay_woken waking k owes)))
+      (sym (woken_alone waking k part.lists (lists_orderly truths seats h (at part (Some (InSignal waking k (WakeAndReturn last)))) p.placed p.safe.one_history.each few) (stands_once truths seats h (at part (Some (InSignal waking k (WakeAndReturn last)))) p.placed p.safe.one_history.each) (place (InSignal waking k (WakeAndReturn last)) part p).1))
+      (woken_at waking k last owes part (is_held part.word) (has_some took) few refl refl (ap owes_in same.0) p))
 
   by_wait : (wait : Wait C) (at_place : WaitPlace) (found : Found) (part next : Part C N) (commits : List (Event C N)) → seats ≤ 64 → 0 < N →
       Effect truths who (want_waiting wait at_place) part found next commits → Groups truths seats h (at part (Some (InWait wait at_place))) → Kept commits next (walk_after (got_waiting N wait at_place found))
@@ -479,7 +501,9 @@ module _ {C : Type 0} {N : ℕ} (truths : Truths C) (seats : ℕ) (h : List (Eve
   -- it leaves
   by_wait wait (InLeaving cause (Leave last)) (Left stood) part next commits few some e p =
       let here = place (InWait wait (InLeaving cause (Leave last))) part p in
-      withdrawn wait.mode wait.on wait.limits cause last stood part next commits (ap stood_in e.0) e.1 e.2 e.3 here.0.0 here.1 here.0.2 few p
+      let whole = at part (Some (InWait wait (InLeaving cause (Leave last)))) in
+      let alone = left_alone who part.lists (home_of wait.on) stood (lists_orderly truths seats h whole p.placed p.safe.one_history.each few) (stands_once truths seats h whole p.placed p.safe.one_history.each who) (is_list wait.on here.0.2) (ap stood_in e.0) in
+      withdrawn wait.mode wait.on wait.limits cause last stood part next commits (ap stood_in e.0) e.1 (e.2 ∙ ap (λ (lists : Lists C). record part { word = word_returned false (bits_of lists.lock) last; lists = lists }) alone) e.3 here.0.0 here.1 here.0.2 few p
   by_wait wait (InLeaving cause (Leave last)) Made part next commits few some e p = let never : Left (ltb 0 (times_in who (waiters_of part.lists (home_of wait.on)))) ≡ Made = e.0 in absurd (cc)
   by_wait wait (InLeaving cause (Leave last)) (Woke owes) part next commits few some e p = let never : Left (ltb 0 (times_in who (waiters_of part.lists (home_of wait.on)))) ≡ Woke owes = e.0 in absurd (cc)
   by_wait wait _ _ part next commits few some e p = absurd e

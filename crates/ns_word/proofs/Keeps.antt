@@ -8,6 +8,8 @@ use Rattle.ns_model.specs.declared.event.Exit.TheVariants.{Plain, CondWait, CvWa
 use Rattle.ns_model.specs.declared.event.Event.{Event}
 use Rattle.ns_model.specs.declared.event.Event.TheVariants.{Leave}
 use Rattle.ns_model.specs.declared.phase.Phase.{Phase}
+use Rattle.ns_model.specs.declared.cvs.Variables.{Variables}
+use Rattle.ns_model.specs.declared.cvs.Variables.TheVariants.{Only}
 use Rattle.ns_model.specs.declared.phase.Phase.TheVariants.{Idle, Cond, Waiting, Left}
 use Rattle.ns_model.specs.Phases.{woken_phase, left_phase}
 use Rattle.ns_model.specs.Seats.{is_in}
@@ -25,6 +27,8 @@ use Rattle.ns_queue.specs.Scans.{woken_of, left_of}
 use Rattle.ns_queue.specs.Signals.{taken_set}
 use Rattle.ns_queue.specs.Wakes.{woken_phases}
 use Rattle.ns_queue.proofs.Seats.{times_in-cons, times_in-append}
+use Rattle.ns_queue.proofs.Taken.{in_stands}
+use Rattle.ns_queue.proofs.Wakes.{stands_waits}
 use Rattle.ns_queue.proofs.Parts.{four_kept, times_with, times_at_most}
 use Rattle.ns_word.specs.declared.word.Word.{Word}
 use Rattle.ns_word.specs.declared.word.Releasing.{Releasing}
@@ -49,7 +53,8 @@ use Rattle.ns_word.proofs.Knows.{is_loud, due_flag, nothing_called, rests as kno
 use Rattle.ns_word.proofs.Views.{view_of, apart_parts, each_parts, called_most, walk_here}
 use Rattle.ns_word.proofs.Waits.{not_due, cleared, placed_here, rested, armed, taken, entered, withdraws as withdrawn, woke, seen}
 use Rattle.ns_word.proofs.Owns.{own_stays, own_same, nowhere, own_queued, own_scanned, own_waited, own_without, own_moved}
-use Rattle.ns_word.proofs.Variables.{one_of, tell_same, tell_moves, tell_enters, tell_leaves, tell_lists, tell_taken}
+use Rattle.ns_word.proofs.Ranges.{stands_once}
+use Rattle.ns_word.proofs.Variables.{one_of, tell_same, tell_moves, tell_enters, tell_leaves, tell_lists, tell_taken, waits_of}
 use Rattle.ns_word.proofs.Scans.{times_queued, times_seats, times_scan, times_without, times_others, filter_eligible, queued_eligible}
 use Rattle.ns_word.proofs.Homes.{at_home, away, back_home}
 use Rattle.ns_word.proofs.Safes.{section, SameSection, same_section, unchanged, unchanged_by, woken, left_variable, acquired_write, acquired_read, stored, released, dropped, left_by}
@@ -165,8 +170,8 @@ module _ {C : Type 0} {N : ℕ} (truths : Truths C) (seats : ℕ) (h : List (Eve
   stands_not : (word : Word) (row : List ℕ) (lists : Lists C) (flags : ℕ → ℕ) (held : Option (Held C N)) (owed : List ℕ) → awaits walk ≡ false → Groups truths seats h (st walk word row lists flags held owed) → times who lists ≡ 0
   stands_not word row lists flags held owed a p = nowhere front who walk held owed walk' held owed back lists flags (others word row held owed p.safe) (not_due walk (flags who) a) p.placed
 
-  waits_not : (lists : Lists C) (views : List (SeatView C N)) → length lists.cvs ≡ 4 → times who lists ≡ 0 → VariablesTell (standing_after h).phases lists views → (k : ℕ) (mode : Mode) → (standing_after h).phases who ≡ Waiting k mode → ⊥
-  waits_not lists views four none p k mode e = let stood = p.all k who mode e in let most = times_at_most lists (Cv k) who four stood.0 in absurd (omega (arith, stood.1, most, none))
+  waits_not : (lists : Lists C) (views : List (SeatView C N)) → length lists.cvs ≡ 4 → times who lists ≡ 0 → VariablesTell (standing_after h).phases lists views → (vs : Variables) (mode : Mode) → (standing_after h).phases who ≡ Waiting vs mode → ⊥
+  waits_not lists views four none p vs mode e = let one = p.some vs who mode e in let stood = p.all vs one.0 who mode e one.1 in let most = times_at_most lists (Cv one.0) who four stood.0 in absurd (omega (arith, stood.1, most, none))
 
   lock_nowhere : (lists : Lists C) → times who lists ≡ 0 → times_in who lists.lock ≡ 0
   lock_nowhere lists none = omega (arith, none)
@@ -247,7 +252,7 @@ module _ {C : Type 0} {N : ℕ} (truths : Truths C) (seats : ℕ) (h : List (Eve
   left_there : (k seat : ℕ) → who ≢ seat → (standing_after (h ++ Leave who k ∷ [])).phases seat ≡ (standing_after h).phases seat
   left_there k seat ne = ap (λ (s : Standing C). s.phases seat) (standing_from-append (first_standing N) h (Leave who k ∷ [])) ∙ ap (λ b. cond b (left_phase ((standing_after h).phases seat)) ((standing_after h).phases seat)) (ne_eqb who seat ne)
 
-  left_here : (k : ℕ) (mode : Mode) → (standing_after h).phases who ≡ Waiting k mode → (standing_after (h ++ Leave who k ∷ [])).phases who ≡ Left k mode
+  left_here : (k : ℕ) (mode : Mode) → (standing_after h).phases who ≡ Waiting (Only k) mode → (standing_after (h ++ Leave who k ∷ [])).phases who ≡ Left (Only k) mode
   left_here k mode was = ap (λ (s : Standing C). s.phases who) (standing_from-append (first_standing N) h (Leave who k ∷ [])) ∙ ap (λ b. cond b (left_phase ((standing_after h).phases who)) ((standing_after h).phases who)) (eq-eqb who who refl) ∙ ap left_phase was
 
   -- a release without a scan
@@ -383,7 +388,7 @@ module _ {C : Type 0} {N : ℕ} (truths : Truths C) (seats : ℕ) (h : List (Eve
 
   -- a seat that leaves takes itself out of the list of its variable, and commits that
   pub leaves : (k : ℕ) (mode : Mode) (word : Word) (row : List ℕ) (lists : Lists C) (flags : ℕ → ℕ) (owed : List ℕ) → seats ≤ 64 → k < 4 → pays walk ≡ false → 1 ≤ times_in who (waiters_of lists (Cv k)) → waits_in walk ≡ Some (record { mode = mode; on = Some (OnVariable k); tries = 0 }) →
-      PlaceFits {C = C} {N = N} truths walk' None → pays walk' ≡ pays walk → has_queues walk ≡ true → has_queues walk' ≡ false → has_armed walk' ≡ false → is_queuing walk ≡ false → is_queuing walk' ≡ false → awaits walk' ≡ false → is_on_way walk 1 0 ≡ false → IsExpected (phase_by walk') (Left k mode) →
+      PlaceFits {C = C} {N = N} truths walk' None → pays walk' ≡ pays walk → has_queues walk ≡ true → has_queues walk' ≡ false → has_armed walk' ≡ false → is_queuing walk ≡ false → is_queuing walk' ≡ false → awaits walk' ≡ false → is_on_way walk 1 0 ≡ false → IsExpected (phase_by walk') (Left (Only k) mode) →
       let lists' = with_waiters lists (Cv k) (without_in who (waiters_of lists (Cv k))) in
       Groups truths seats h (st walk word row lists flags None owed) → Groups truths seats (h ++ Leave who k ∷ []) (st walk' (word_returned false (bits_of lists.lock) word) row lists' flags None owed)
   leaves k mode word row lists flags owed few low idle stood wait place pay s s' set' q q' a' o phase p =
@@ -400,7 +405,7 @@ module _ {C : Type 0} {N : ℕ} (truths : Truths C) (seats : ℕ) (h : List (Eve
       let unowed : called_to who (front ++ view_of who walk None owed ∷ back) ≡ 0 = let less = called_most who (front ++ view_of who walk None owed ∷ back) in omega (arith, here, most, stood, within, less) in
       let waiter = one_of (VariableWaiterFits (standing_after h).phases (front ++ view_of who walk None owed ∷ back) k) who waiting stood (p.told.own k low) in
       let same_mode : waiter.0.mode ≡ mode = sym (ap stance_mode waiter.2.stands) ∙ ap (λ seat. stance_mode (waits_in (walk_at seat (front ++ view_of who walk None owed ∷ back)))) waiter.1 ∙ ap (λ w. stance_mode (waits_in w)) (walk_here front (view_of who walk None owed) back apart) ∙ ap stance_mode wait in
-      let was : (standing_after h).phases who ≡ Waiting k mode = subst (λ seat. (standing_after h).phases seat ≡ Waiting k waiter.0.mode) waiter.1 waiter.2.waits ∙ ap (Waiting k) same_mode in
+      let was : (standing_after h).phases who ≡ Waiting (Only k) mode = subst (λ seat. (standing_after h).phases seat ≡ Waiting (Only k) waiter.0.mode) waiter.1 waiter.2.waits ∙ ap (Waiting (Only k)) same_mode in
       let row_same : (standing_after (h ++ Leave who k ∷ [])).row ≡ (standing_after h).row = ap (λ (s : Standing C). s.row) (standing_from-append (first_standing N) h (Leave who k ∷ [])) in
       record {
         safe = left_variable truths seats h front who walk owed walk' owed back k mode word (word_returned false (bits_of lists.lock) word) row few was phase refl refl place (fit.owes ∙ sym pay) p.safe;
@@ -409,7 +414,7 @@ module _ {C : Type 0} {N : ℕ} (truths : Truths C) (seats : ℕ) (h : List (Eve
             (omega (arith, times_with lists (Cv k) (without_in who waiting) who four low, gone)) (λ seat ne. let same = times_others seat who waiting ne in omega (arith, times_with lists (Cv k) (without_in who waiting) seat four low, same)) (λ some. a') (λ z. absurd (omega (arith, stood, z))) p.placed;
         own = own_stays front who walk None owed walk' None owed back lists.lock (let other = times_with lists (Cv k) (without_in who waiting) who four low in omega (arith, other, gone, here, most, stood, within)) p.own;
         told = tell_leaves front who walk None owed walk' None owed back (standing_after h).phases (standing_after (h ++ Leave who k ∷ [])).phases lists k four low (omega (arith, here, most)) stood
-            (left_there k) (λ j m e. let now_is : Left k mode ≡ Waiting j m = sym (left_here k mode was) ∙ e in absurd (cc)) p.told;
+            (left_there k) (λ j m e. let now_is : Left (Only k) mode ≡ Waiting j m = sym (left_here k mode was) ∙ e in absurd (cc)) p.told;
         known = subst (λ r. Known truths.holds (word_returned false (bits_of lists.lock) word) r lists.lock flags (front ++ view_of who walk' None owed ∷ back)) (sym row_same)
             (known_withdraws truths.holds front who walk None owed walk' None owed back word (standing_after h).row lists.lock lists.lock flags apart (calls word row None owed idle p.safe) s q q'
             (λ f. absurd (both_ways (is_on_way walk 1 0) o (subst (λ n. is_on_way walk 1 n ≡ true) unowed (subst (λ n. is_on_way walk n (called_to who (front ++ view_of who walk None owed ∷ back)) ≡ true) flag f))))
@@ -456,7 +461,7 @@ module _ {C : Type 0} {N : ℕ} (truths : Truths C) (seats : ℕ) (h : List (Eve
   pub queues_scanned : (releasing : Releasing) (mode : Mode) (c : C) (again : Bool) (h' : List (Event C N)) (word : Word) (row : List ℕ) (lists : Lists C) (flags : ℕ → ℕ) (held : Option (Held C N)) (owed : List ℕ) →
       let meets : C → Bool = meets_at truths row in let took = seats_of (woken_of meets lists.lock) in let lock' = queued who mode (Some c) 0 again (left_of meets lists.lock) in let word' = word_released_returning releasing (has_some (woken_of meets lists.lock)) (bits_of lock') word in
       truths.holds c row ≡ false → row ≡ (standing_after h').row → Safe truths seats h' word' row (front ++ view_of who walk' None took ∷ back) →
-      ((seat : ℕ) → who ≢ seat → (standing_after h').phases seat ≡ (standing_after h).phases seat) → ((k : ℕ) (m : Mode) → (standing_after h').phases who ≡ Waiting k m → ⊥) →
+      ((seat : ℕ) → who ≢ seat → (standing_after h').phases seat ≡ (standing_after h).phases seat) → ((vs : Variables) (m : Mode) → (standing_after h').phases who ≡ Waiting vs m → ⊥) →
       pays walk ≡ false → calls_from_lock walk' ≡ true → has_queues walk ≡ true → has_queues walk' ≡ false → awaits walk ≡ false → waits_in walk' ≡ Some (record { mode = mode; on = Some (OnCondition c); tries = 0 }) → has_armed walk ≡ true → has_armed walk' ≡ false → is_queuing walk' ≡ false → NoWay walk →
       Groups truths seats h (st walk word row lists flags held owed) → Groups truths seats h' (st walk' word' row (with_lock lists lock') flags None took)
   queues_scanned releasing mode c again h' word row lists flags held owed unmet now safe there idles idle from s s' a a' set set' q' o p =
@@ -526,7 +531,7 @@ module _ {C : Type 0} {N : ℕ} (truths : Truths C) (seats : ℕ) (h : List (Eve
   pub waits_for : (releasing : Releasing) (mode : Mode) (j : ℕ) (word : Word) (row : List ℕ) (lists : Lists C) (flags : ℕ → ℕ) (entry : Opening C) (before cells : List ℕ) (owed : List ℕ) → seats ≤ 64 → j < 4 → IsSettledBy truths.holds before entry →
       let meets : C → Bool = meets_at truths row in let stay = with_lock lists (left_of meets lists.lock) in
       let lists' = with_waiters stay (Cv j) (waiters_of lists (Cv j) ++ record { seat = who; mode = mode; cond = None; tries = 0 } ∷ []) in
-      mode_released releasing ≡ mode → IsExpected (phase_by walk') (Waiting j mode) →
+      mode_released releasing ≡ mode → IsExpected (phase_by walk') (Waiting (Only j) mode) →
       PlaceFits {C = C} {N = N} truths walk' None → pays walk ≡ false → pays walk' ≡ has_some (seats_of (woken_of meets lists.lock)) → calls_from_lock walk' ≡ true → has_queues walk ≡ true → has_queues walk' ≡ false → awaits walk ≡ false → waits_in walk' ≡ Some (record { mode = mode; on = Some (OnVariable j); tries = 0 }) → has_armed walk ≡ true → has_armed walk' ≡ false → is_queuing walk' ≡ false → NoWay walk →
       Groups truths seats h (st walk word row lists flags (Some (section mode entry before cells)) owed) →
       Groups truths seats (h ++ section_of truths.holds who (section mode entry before cells) (CvWait j) ∷ [])
@@ -577,7 +582,7 @@ module _ {C : Type 0} {N : ℕ} (truths : Truths C) (seats : ℕ) (h : List (Eve
   -- a seat sees its flag cleared: it stands nowhere then, and so has been woken if it waits for a variable
   pub sees : (word : Word) (row : List ℕ) (lists : Lists C) (flags : ℕ → ℕ) (owed : List ℕ) → flags who ≢ 1 → pays walk ≡ false →
       PlaceFits {C = C} {N = N} truths walk' None → pays walk' ≡ pays walk → has_queues walk' ≡ has_queues walk → awaits walk' ≡ false → waits_in walk' ≡ None → has_armed walk' ≡ false → is_queuing walk' ≡ is_queuing walk → (is_on_way walk (flags who) 0 ≡ true → is_on_way walk' (flags who) 0 ≡ true) →
-      ((ph : Phase C) → ((k : ℕ) (mode : Mode) → ph ≡ Waiting k mode → ⊥) → IsExpected (phase_by walk) ph → IsExpected (phase_by walk') ph) →
+      ((ph : Phase C) → ((vs : Variables) (mode : Mode) → ph ≡ Waiting vs mode → ⊥) → IsExpected (phase_by walk) ph → IsExpected (phase_by walk') ph) →
       Groups truths seats h (st walk word row lists flags None owed) → Groups truths seats h (st walk' word row lists flags None owed)
   sees word row lists flags owed clear idle place pay spin a' gone set' q o phase p =
       let fit = fits word row None owed p.safe in
@@ -595,7 +600,7 @@ module _ {C : Type 0} {N : ℕ} (truths : Truths C) (seats : ℕ) (h : List (Eve
 
   -- A call takes waiters from the list of a variable and puts the queues back: they are owed wakes, or stand at the back of the lock list, if the lock is held. What it takes, and that its event is legal, is told.
   pub wakes_waiters : (e : Event C N) (k : ℕ) (took left : List (Waiter C)) (word : Word) (row : List ℕ) (lists : Lists C) (flags : ℕ → ℕ) (held : Option (Held C N)) (owed owed' : List ℕ) (lock' : List (Waiter C)) (moved : Bool) → seats ≤ 64 → k < 4 → who_of e ≡ who →
-      IsLegalEvent truths.holds (standing_after h) e → standing_next (standing_after h) e ≡ record { row = (standing_after h).row; phases = woken_phases (taken_set took) (standing_after h).phases } →
+      IsLegalEvent truths.holds (standing_after h) e → standing_next (standing_after h) e ≡ record { row = (standing_after h).row; phases = woken_phases k (taken_set took) (standing_after h).phases } →
       ((seat : ℕ) → times_in seat took + times_in seat left ≡ times_in seat (waiters_of lists (Cv k))) →
       Every (VariableWaiterFits (standing_after h).phases (front ++ view_of who walk held owed ∷ back) k) took → Every (VariableWaiterFits (standing_after h).phases (front ++ view_of who walk held owed ∷ back) k) left →
       IsOrderly lists → pays walk ≡ false →
@@ -613,7 +618,7 @@ module _ {C : Type 0} {N : ℕ} (truths : Truths C) (seats : ℕ) (h : List (Eve
       let lists' = with_lock put lock' in
       let word' = word_returned moved (bits_of lock') word in
       let standing : standing_after (h ++ e ∷ []) ≡ standing_next (standing_after h) e = standing_from-append (first_standing N) h (e ∷ []) in
-      let phases : (standing_after (h ++ e ∷ [])).phases ≡ woken_phases (taken_set took) (standing_after h).phases = ap (λ (x : Standing C). x.phases) (standing ∙ after_it) in
+      let phases : (standing_after (h ++ e ∷ [])).phases ≡ woken_phases k (taken_set took) (standing_after h).phases = ap (λ (x : Standing C). x.phases) (standing ∙ after_it) in
       let row_same : (standing_after (h ++ e ∷ [])).row ≡ (standing_after h).row = ap (λ (x : Standing C). x.row) (standing ∙ after_it) in
       let no_calls : (seat : ℕ) → ◌≡◌ {A = ℕ} (cond (calls_from_lock walk') (times_among seat owed') 0) (cond (calls_from_lock walk) (times_among seat owed) 0) = λ seat. elim from [
         | inl other ↦ ap (λ b. cond b (times_among seat owed') 0) other ∙ sym (nothing_called walk owed seat owing)
@@ -632,10 +637,10 @@ module _ {C : Type 0} {N : ℕ} (truths : Truths C) (seats : ℕ) (h : List (Eve
             omega (arith, at_cv, at_lock, sum, same, due_now)
       ] in
       record {
-        safe = woken truths seats h front who walk owed walk' owed' back e word word' row held by legal (ap (λ (x : Standing C). x.row) after_it)
+        safe = woken truths seats h front who walk owed walk' owed' back e k word word' row held by legal (ap (λ (x : Standing C). x.row) after_it)
             (λ seat. elim (bool_cases (is_in (taken_set took) seat)) [
-              | inl in_it ↦ inr (ap (λ (x : Standing C). x.phases seat) after_it ∙ ap (λ b. cond b (woken_phase ((standing_after h).phases seat)) ((standing_after h).phases seat)) in_it)
-              | inr out_of_it ↦ inl (ap (λ (x : Standing C). x.phases seat) after_it ∙ ap (λ b. cond b (woken_phase ((standing_after h).phases seat)) ((standing_after h).phases seat)) out_of_it)
+              | inl in_it ↦ inr (stands_waits k (standing_after h).phases took seat (waits_of (standing_after h).phases (front ++ view_of who walk held owed ∷ back) k took takes) (in_stands took seat in_it), ap (λ (x : Standing C). x.phases seat) after_it ∙ ap (λ b. cond b (woken_phase k ((standing_after h).phases seat)) ((standing_after h).phases seat)) in_it)
+              | inr out_of_it ↦ inl (ap (λ (x : Standing C). x.phases seat) after_it ∙ ap (λ b. cond b (woken_phase k ((standing_after h).phases seat)) ((standing_after h).phases seat)) out_of_it)
             ])
             refl refl place (sym pay) ((same_section walk walk' held stays).fits (standing_after h) row who) p.safe;
         homed = back_home front who walk held owed walk' held owed' back word word' lists.lock lock' refl refl s s' p.homed;
@@ -646,7 +651,7 @@ module _ {C : Type 0} {N : ℕ} (truths : Truths C) (seats : ℕ) (h : List (Eve
           | inr owe ↦ subst (λ ws. WaitersOwn ws (front ++ view_of who walk' held owed' ∷ back)) (sym owe.1) (own_same front who walk held owed walk' held owed' back lists.lock apart (a' ∙ sym a) p.own)
         ];
         told = subst (λ ph. VariablesTell ph lists' (front ++ view_of who walk' held owed' ∷ back)) (sym phases)
-            (tell_taken front who walk held owed walk' held owed' back (standing_after h).phases lists lists' k took left orderly low none refl parts takes keeps p.told);
+            (tell_taken front who walk held owed walk' held owed' back (standing_after h).phases lists lists' k took left orderly (stands_once truths seats h (st walk word row lists flags held owed) p.placed p.safe.one_history.each) low none refl parts takes keeps p.told);
         known = subst (λ r. Known truths.holds word' r lock' flags (front ++ view_of who walk' held owed' ∷ back)) (sym row_same) (elim ways [
           | inl move ↦ subst (λ b. Known truths.holds (word_returned b (bits_of lock') word) (standing_after h).row lock' flags (front ++ view_of who walk' held owed' ∷ back)) (sym move.0)
               (subst (λ ws. Known truths.holds (word_returned true (bits_of ws) word) (standing_after h).row ws flags (front ++ view_of who walk' held owed' ∷ back)) (sym move.3)

@@ -19,6 +19,7 @@ pub mod Made
 pub mod Numbers
 pub mod Owns
 pub mod Phases
+pub mod Puts
 pub mod Ranges
 pub mod Safes
 pub mod Same

@@ -10,6 +10,7 @@ use Rattle.ns_queue.specs.declared.waiter.Which.{Which}
 use Rattle.ns_queue.specs.declared.waiter.Which.TheVariants.{Lock}
 use Rattle.ns_queue.specs.Queues.{Lists, IsList, IsOrderly, times, waiters_of}
 use Rattle.ns_queue.specs.Waiters.{times_in}
+use Rattle.ns_queue.proofs.Orders.{beside_most}
 use Rattle.ns_queue.proofs.Parts.{times_at_most}
 use Rattle.ns_queue.proofs.Seats.{times_in-cons, few, room_for}
 use Rattle.ns_word.specs.declared.view.SeatView.{SeatView}
@@ -90,7 +91,7 @@ module _ {C : Type 0} {N : ℕ} (truths : Truths C) (seats : ℕ) (h : List (Eve
 
   -- so the lists are as they are kept
   pub lists_orderly : seats ≤ 64 → IsOrderly s.lists
-  lists_orderly few = record { four = placed.four; once = stands_once; below = λ seat high. stands_below seat (omega (arith, few, high)) }
+  lists_orderly few = record { four = placed.four; once = λ seat k low. omega (arith, beside_most s.lists seat k placed.four low, stands_once seat); below = λ seat high. stands_below seat (omega (arith, few, high)) }
 
   -- a seat that a view owes a wake is one
   pub owed_below : (front : List (SeatView C N)) (view : SeatView C N) (back : List (SeatView C N)) → s.views ≡ front ++ view ∷ back → (seat : ℕ) → 1 ≤ times_among seat view.owed → seat < seats

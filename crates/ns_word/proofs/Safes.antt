@@ -1,5 +1,5 @@
 -- What the steps leave of the sections.
-use Rattle.std.proofs.Common.{◌≡◌, ◌≢◌, ℕ, ◌+◌, ◌-◌, ◌<◌, ◌≤◌, Bool, true, false, cond, ◌⊎◌, inl, inr, List, [], ◌∷◌, ◌++◌, length, Option, None, Some, slice_set, refl, ap, sym, ◌∙◌, subst, arith, eq-eqb}
+use Rattle.std.proofs.Common.{◌≡◌, ◌≢◌, ℕ, ◌+◌, ◌-◌, ◌<◌, ◌≤◌, Bool, true, false, cond, inl, inr, List, [], ◌∷◌, ◌++◌, length, Option, None, Some, slice_set, refl, ap, sym, ◌∙◌, subst, arith, eq-eqb}
 use Rattle.std.proofs.lemmas.List.{length-set}
 use Rattle.std.proofs.lemmas.Bool.{ne_eqb, both_ways}
 use Rattle.ns_model.specs.declared.event.Mode.{Mode}
@@ -10,7 +10,8 @@ use Rattle.ns_model.specs.declared.event.Event.{Event}
 use Rattle.ns_model.specs.declared.event.Event.TheVariants.{Leave}
 use Rattle.ns_model.specs.declared.phase.Phase.{Phase}
 use Rattle.ns_model.specs.declared.phase.Phase.TheVariants.{Waiting, Left}
-use Rattle.ns_model.specs.Phases.{woken_phase, left_phase}
+use Rattle.ns_model.specs.Phases.{left_phase}
+use Rattle.ns_model.specs.declared.cvs.Variables.TheVariants.{Only}
 use Rattle.ns_model.specs.Wakes.{IsLegalLeave}
 use Rattle.ns_model.specs.Sections.{is_met, ModeFits, EntryFits, ExitFits, phase_after}
 use Rattle.ns_model.specs.Histories.{Standing, first_standing, standing_after, standing_next, IsLegal, IsLegalEvent, IsBySeats, who_of}
@@ -34,7 +35,7 @@ use Rattle.ns_word.specs.Steps.{entry_of, section_of}
 use Rattle.ns_word.specs.Places.{IsSettledBy, PlaceFits}
 use Rattle.ns_word.specs.Lawful.{HeldFits, SectionFits, IsExpected, phase_before}
 use Rattle.ns_word.proofs.Groups.{Safe}
-use Rattle.ns_word.proofs.Views.{view_of, writers_at, readers_at, apart_parts, apart_moves, each_parts, each_join, each_moves, each_woken}
+use Rattle.ns_word.proofs.Views.{view_of, writers_at, readers_at, apart_parts, apart_moves, each_parts, each_join, each_moves, each_woken, IsWokenBy}
 
 pub by_seats_more : {C : Type 0} {N : ℕ} (seats : ℕ) (h : List (Event C N)) (e : Event C N) → IsBySeats seats h → who_of e < seats → IsBySeats seats (h ++ e ∷ [])
 by_seats_more seats [] e p q = (q, tt)
@@ -68,15 +69,15 @@ entry_fits holds before mode Locked settled = tt
 entry_fits holds before mode (CameBack (OnCondition c) (Woken by)) settled = (refl, settled, settled)
 entry_fits holds before mode (CameBack (OnCondition c) (Ended cause)) settled = (refl, met_of (holds c before) cause, met_of (holds c before) cause)
 entry_fits holds before mode (CameBack (OnVariable k) (Woken by)) settled = (refl, refl, refl)
-entry_fits holds before mode (CameBack (OnVariable k) (Ended Expired)) settled = (refl, refl, refl)
-entry_fits holds before mode (CameBack (OnVariable k) (Ended Notified)) settled = (refl, refl, refl)
+entry_fits holds before mode (CameBack (OnVariable k) (Ended Expired)) settled = (refl, eq-eqb k k refl, refl)
+entry_fits holds before mode (CameBack (OnVariable k) (Ended Notified)) settled = (refl, eq-eqb k k refl, refl)
 
 -- a wake leaves all views as they are
-pub after_wake : {C : Type 0} {N : ℕ} (truths : Truths C) (seats : ℕ) (h : List (Event C N)) (e : Event C N) (word : Word) (row : List ℕ) (views : List (SeatView C N)) → who_of e < seats → IsLegalEvent truths.holds (standing_after h) e →
+pub after_wake : {C : Type 0} {N : ℕ} (truths : Truths C) (seats : ℕ) (h : List (Event C N)) (e : Event C N) (k : ℕ) (word : Word) (row : List ℕ) (views : List (SeatView C N)) → who_of e < seats → IsLegalEvent truths.holds (standing_after h) e →
     (standing_next (standing_after h) e).row ≡ (standing_after h).row →
-    ((seat : ℕ) → ((standing_next (standing_after h) e).phases seat ≡ (standing_after h).phases seat) ⊎ ((standing_next (standing_after h) e).phases seat ≡ woken_phase ((standing_after h).phases seat))) →
+    ((seat : ℕ) → IsWokenBy k ((standing_after h).phases seat) ((standing_next (standing_after h) e).phases seat)) →
     Safe truths seats h word row views → Safe truths seats (h ++ e ∷ []) word row views
-after_wake {C} {N} truths seats h e word row views low legal same phases p =
+after_wake {C} {N} truths seats h e k word row views low legal same phases p =
     let next = standing_next (standing_after h) e in
     let after : standing_after (h ++ e ∷ []) ≡ next = standing_from-append (first_standing N) h (e ∷ []) in
     let stays : (standing_after (h ++ e ∷ [])).row ≡ (standing_after h).row = ap (λ s. s.row) after ∙ same in
@@ -86,7 +87,7 @@ after_wake {C} {N} truths seats h e word row views low legal same phases p =
       one_history = record {
         legal = legal_append truths.holds (first_standing N) h (e ∷ []) p.one_history.legal (legal, tt);
         by_seats = by_seats_more seats h e p.one_history.by_seats low;
-        each = rw after (each_woken truths seats (standing_after h) next row views phases same p.one_history.each);
+        each = rw after (each_woken truths seats k (standing_after h) next row views phases same p.one_history.each);
         free = λ f. p.one_history.free f ∙ sym stays;
         cells = p.one_history.cells;
         cells_after = ap length stays ∙ p.one_history.cells_after;
@@ -130,21 +131,21 @@ module _ {C : Type 0} {N : ℕ} (truths : Truths C) (seats : ℕ) (h : List (Eve
         unchanged_by word word' row held held' same_write same_readers place owes same.writing same.reading (same.fits (standing_after h) row who) p
 
     -- a wake of those who wait for a variable: beside its event, the seat's place changes, and what it owes
-    pub woken : (e : Event C N) (word word' : Word) (row : List ℕ) (held : Option (Held C N)) → who_of e ≡ who → IsLegalEvent truths.holds (standing_after h) e →
+    pub woken : (e : Event C N) (k : ℕ) (word word' : Word) (row : List ℕ) (held : Option (Held C N)) → who_of e ≡ who → IsLegalEvent truths.holds (standing_after h) e →
         (standing_next (standing_after h) e).row ≡ (standing_after h).row →
-        ((seat : ℕ) → ((standing_next (standing_after h) e).phases seat ≡ (standing_after h).phases seat) ⊎ ((standing_next (standing_after h) e).phases seat ≡ woken_phase ((standing_after h).phases seat))) →
+        ((seat : ℕ) → IsWokenBy k ((standing_after h).phases seat) ((standing_next (standing_after h) e).phases seat)) →
         word'.write ≡ word.write → word'.readers ≡ word.readers →
         PlaceFits truths walk' held → has_some owed' ≡ pays walk' →
         (SectionFits (standing_after h) row who walk held → SectionFits (standing_after h) row who walk' held) →
         Safe truths seats h word row (front ++ view_of who walk held owed ∷ back) →
         Safe truths seats (h ++ e ∷ []) word' row (front ++ view_of who walk' held owed' ∷ back)
-    woken e word word' row held by legal same phases same_write same_readers place owes fits p =
+    woken e k word word' row held by legal same phases same_write same_readers place owes fits p =
         let moved = unchanged_by word word' row held held same_write same_readers place owes refl refl fits p in
         let here = (each_parts truths seats (standing_after h) row front (view_of who walk held owed) back p.one_history.each).1 in
-        after_wake truths seats h e word' row (front ++ view_of who walk' held owed' ∷ back) (subst (λ seat. seat < seats) (sym by) here.in_range) legal same phases moved
+        after_wake truths seats h e k word' row (front ++ view_of who walk' held owed' ∷ back) (subst (λ seat. seat < seats) (sym by) here.in_range) legal same phases moved
 
     -- a wait for a variable takes itself out of its list
-    pub left_variable : (k : ℕ) (mode : Mode) (word word' : Word) (row : List ℕ) → seats ≤ 64 → (standing_after h).phases who ≡ Waiting k mode → IsExpected (phase_by walk') (Left k mode) →
+    pub left_variable : (k : ℕ) (mode : Mode) (word word' : Word) (row : List ℕ) → seats ≤ 64 → (standing_after h).phases who ≡ Waiting (Only k) mode → IsExpected (phase_by walk') (Left (Only k) mode) →
         word'.write ≡ word.write → word'.readers ≡ word.readers →
         PlaceFits {C = C} {N = N} truths walk' None → has_some owed' ≡ pays walk' →
         Safe truths seats h word row (front ++ view_of who walk None owed ∷ back) →
@@ -159,12 +160,12 @@ module _ {C : Type 0} {N : ℕ} (truths : Truths C) (seats : ℕ) (h : List (Eve
         let parts = each_parts truths seats now row front view back p.one_history.each in
         let apart = apart_parts front view back p.apart in
         let others : (seat : ℕ) → seat ≢ who → next.phases seat ≡ now.phases seat = λ seat ne. rw (ne_eqb who seat (λ f. ne (sym f))) refl in
-        let here : next.phases who ≡ Left k mode = rw (eq-eqb who who refl) (ap left_phase phase) in
+        let here : next.phases who ≡ Left (Only k) mode = rw (eq-eqb who who refl) (ap left_phase phase) in
         record {
           one_writer = record { bit = writers_at front view' back ∙ sym (writers_at front view back) ∙ p.one_writer.bit ∙ ap (λ b. cond b 1 0) (sym same_write); alone = λ f. readers_at front view' back ∙ sym (readers_at front view back) ∙ p.one_writer.alone (sym same_write ∙ f) };
           count = same_readers ∙ p.count ∙ readers_at front view back ∙ sym (readers_at front view' back);
           one_history = record {
-            legal = legal_append truths.holds (first_standing N) h (e ∷ []) p.one_history.legal ((omega (arith, few, parts.1.in_range), subst (λ ph. IsLegalLeave k ph) (sym phase) refl), tt);
+            legal = legal_append truths.holds (first_standing N) h (e ∷ []) p.one_history.legal ((omega (arith, few, parts.1.in_range), subst (λ ph. IsLegalLeave k ph) (sym phase) (eq-eqb k k refl)), tt);
             by_seats = by_seats_more seats h e p.one_history.by_seats parts.1.in_range;
             each = rw left (each_join truths seats next row front view' back
                 (each_moves truths seats now next row row who front apart.0 others (inl (refl, refl)) parts.0)

@@ -7,7 +7,8 @@ use Rattle.ns_model.specs.Truths.{Truths}
 use Rattle.ns_model.specs.declared.event.Event.{Event}
 use Rattle.ns_model.specs.declared.event.Mode.{Mode}
 use Rattle.ns_queue.proofs.Parts.{read_back}
-use Rattle.ns_queue.specs.Queues.{Lists, waiters_of, with_waiters}
+use Rattle.ns_queue.specs.Queues.{Lists, cvs_without, waiters_of}
+use Rattle.ns_queue.specs.Signals.{taken_set}
 use Rattle.ns_queue.specs.Scans.{left_of}
 use Rattle.ns_queue.specs.Waiters.{seats_of}
 use Rattle.ns_queue.specs.declared.waiter.Waiter.{Waiter}
@@ -17,7 +18,7 @@ use Rattle.ns_word.specs.Lawful.{EachFits, IsLawful}
 use Rattle.ns_word.specs.Lists.{queued}
 use Rattle.ns_word.specs.Places.{CanWait, IsInRange, IsUnmet, PlaceFits}
 use Rattle.ns_word.specs.Stands.{AreCalled, QueuesFor, WaitsFor, waiter}
-use Rattle.ns_word.specs.Steps.{LockState, Step, Effect, part_of, changed, moved_to, taken_by, kept_by, waits_at, with_lock, meets_at}
+use Rattle.ns_word.specs.Steps.{LockState, Step, Effect, part_of, changed, moved_to, taken_by, waits_at, with_lock, meets_at}
 use Rattle.ns_word.specs.Waits.{mode_for}
 use Rattle.ns_word.specs.Walks.{want_of}
 use Rattle.ns_word.specs.Words.{is_woken, is_held, tries_of}
@@ -58,7 +59,7 @@ module _ (C : Type 0) (N : ℕ) (truths : Truths C) (seat : ℕ) where
       (read_back (with_lock lists (left_of (meets_at truths row) lists.lock)) (Cv k) (waiters_of lists (Cv k) ++ waiter seat mode None 0 ∷ []) four range, refl)
 
   are_called : (waking : Waking) (k : ℕ) (held : Bool) (lists : Lists C) → let taken = taken_by waking (waiters_of lists (Cv k)) in
-      AreCalled held taken lists.lock (moved_to held taken (with_waiters lists (Cv k) (kept_by waking (waiters_of lists (Cv k))))).lock (cond held [] (seats_of taken))
+      AreCalled held taken lists.lock (moved_to held taken (cvs_without (taken_set taken) lists)).lock (cond held [] (seats_of taken))
   are_called waking k true lists = (refl, refl)
   are_called waking k false lists = (refl, refl)
 

@@ -116,7 +116,7 @@ module _ (C : Type 0) (N : ℕ) where
       flag = λ seat. omega arith;
     };
     waiters_own = tt;
-    variables_tell = record { own = λ k low. nobody_waits (VariableWaiterFits (λ seat. Idle) (fresh 0 seats) k) k; all = λ k seat mode e. absurd (cc) };
+    variables_tell = record { own = λ k low. nobody_waits (VariableWaiterFits (λ seat. Idle) (fresh 0 seats) k) k; all = λ vs k seat mode e is. absurd (cc); some = λ vs seat mode e. absurd (cc) };
     desig_on_its_way = λ e. absurd (cc);
     idle_waiters_false = λ e f g. (refl, no_queuers 0 seats);
     all_false_true = λ e. absurd (cc);

@@ -3,6 +3,9 @@ use Rattle.std.proofs.Common.{◌≡◌, ◌≢◌, ℕ, ◌+◌, ◌<◌, ◌�
 use Rattle.std.proofs.lemmas.Bool.{ne_eqb, eqb-true, both_ways, cases_eq}
 use Rattle.ns_model.specs.declared.event.Mode.{Mode}
 use Rattle.ns_model.specs.declared.phase.Phase.{Phase}
+use Rattle.ns_model.specs.Cvs.{has}
+use Rattle.ns_model.specs.declared.cvs.Variables.{Variables}
+use Rattle.ns_model.specs.declared.cvs.Variables.TheVariants.{Only}
 use Rattle.ns_model.specs.declared.phase.Phase.TheVariants.{Idle, Cond, Waiting, Woken, Left}
 use Rattle.ns_model.specs.Phases.{is_waiting, woken_phase}
 use Rattle.ns_model.specs.Seats.{is_in}
@@ -88,11 +91,12 @@ module _ {C : Type 0} {N : ℕ} where
         record {
           own = λ k low. subst (λ ws. Every (VariableWaiterFits phases news k) ws) (sym (at_k k))
               (every_moves phases phases olds news k (CvOf lists k) (λ seat some. elim (cases_eq who seat) [ inl e ↦ (subst (λ s. waits_in (walk_at s news) ≡ waits_in (walk_at s olds)) e (here apart same), refl) | inr ne ↦ (there seat ne, refl) ]) (p.own k low));
-          all = λ k seat mode e. let was = p.all k seat mode e in (was.0, subst (λ ws. 1 ≤ times_in seat ws) (sym (at_k k)) was.1);
+          all = λ vs k seat mode e is. let was = p.all vs k seat mode e is in (was.0, subst (λ ws. 1 ≤ times_in seat ws) (sym (at_k k)) was.1);
+          some = p.some;
         }
 
     -- the seat stands in no variable's list, and waits for none after it either
-    pub tell_moves : (phases phases' : ℕ → Phase C) (lists lists' : Lists C) → length lists.cvs ≡ 4 → lists'.cvs ≡ lists.cvs → times who lists ≡ 0 → ((seat : ℕ) → who ≢ seat → phases' seat ≡ phases seat) → ((k : ℕ) (mode : Mode) → phases' who ≡ Waiting k mode → ⊥) →
+    pub tell_moves : (phases phases' : ℕ → Phase C) (lists lists' : Lists C) → length lists.cvs ≡ 4 → lists'.cvs ≡ lists.cvs → times who lists ≡ 0 → ((seat : ℕ) → who ≢ seat → phases' seat ≡ phases seat) → ((vs : Variables) (mode : Mode) → phases' who ≡ Waiting vs mode → ⊥) →
         VariablesTell phases lists olds → VariablesTell phases' lists' news
     tell_moves phases phases' lists lists' four cvs none others idle p =
         let at_k : (k : ℕ) → CvOf lists' k ≡ CvOf lists k = λ k. ap (λ (c : List (List (Waiter C))). waiters_of (record { lock = lists.lock; cvs = c }) (Cv k)) cvs in
@@ -100,18 +104,23 @@ module _ {C : Type 0} {N : ℕ} where
           own = λ k low. subst (λ ws. Every (VariableWaiterFits phases' news k) ws) (sym (at_k k))
               (every_moves phases phases' olds news k (CvOf lists k)
               (λ seat some. let other : who ≢ seat = λ e. let most = times_at_most lists (Cv k) seat four low in let zero : times seat lists ≡ 0 = subst (λ s. times s lists ≡ 0) e none in absurd (omega (arith, most, zero, some)) in (there seat other, others seat other)) (p.own k low));
-          all = λ k seat mode e. elim (cases_eq who seat) [
-            | inl same ↦ absurd (idle k mode (subst (λ s. phases' s ≡ Waiting k mode) (sym same) e))
-            | inr ne ↦ let was = p.all k seat mode (sym (others seat ne) ∙ e) in (was.0, subst (λ ws. 1 ≤ times_in seat ws) (sym (at_k k)) was.1)
+          all = λ vs k seat mode e is. elim (cases_eq who seat) [
+            | inl same ↦ absurd (idle vs mode (subst (λ s. phases' s ≡ Waiting vs mode) (sym same) e))
+            | inr ne ↦ let was = p.all vs k seat mode (sym (others seat ne) ∙ e) is in (was.0, subst (λ ws. 1 ≤ times_in seat ws) (sym (at_k k)) was.1)
+          ];
+          some = λ vs seat mode e. elim (cases_eq who seat) [
+            | inl same ↦ absurd (idle vs mode (subst (λ s. phases' s ≡ Waiting vs mode) (sym same) e))
+            | inr ne ↦ p.some vs seat mode (sym (others seat ne) ∙ e)
           ];
         }
 
     -- the seat goes to the back of a variable's list
     pub tell_enters : (phases phases' : ℕ → Phase C) (lists lists' : Lists C) (j : ℕ) (mode : Mode) → NoneIs who front → length lists.cvs ≡ 4 → length lists'.cvs ≡ 4 → j < 4 → times who lists ≡ 0 →
         lists'.cvs ≡ (with_waiters lists (Cv j) (CvOf lists j ++ record { seat = who; mode = mode; cond = None; tries = 0 } ∷ [])).cvs →
-        waits_in walk' ≡ Some (record { mode = mode; on = Some (OnVariable j); tries = 0 }) → phases' who ≡ Waiting j mode → ((seat : ℕ) → who ≢ seat → phases' seat ≡ phases seat) →
+        waits_in walk' ≡ Some (record { mode = mode; on = Some (OnVariable j); tries = 0 }) → phases' who ≡ Waiting (Only j) mode → ((seat : ℕ) → who ≢ seat → phases' seat ≡ phases seat) →
         VariablesTell phases lists olds → VariablesTell phases' lists' news
     tell_enters phases phases' lists lists' j mode apart four four' low none cvs stance phase others p =
+        let just : (seat : ℕ) (vs : Variables) (m : Mode) → phases' seat ≡ Waiting vs m → who ≡ seat → vs ≡ Only j = λ seat vs m e same. let is : Waiting vs m ≡ Waiting (Only j) mode = sym e ∙ subst (λ s. phases' s ≡ Waiting (Only j) mode) same phase in cc in
         let w : Waiter C = record { seat = who; mode = mode; cond = None; tries = 0 } in
         let put = with_waiters lists (Cv j) (CvOf lists j ++ w ∷ []) in
         let at_k : (k : ℕ) → CvOf lists' k ≡ CvOf put k = λ k. ap (λ (c : List (List (Waiter C))). waiters_of (record { lock = lists.lock; cvs = c }) (Cv k)) cvs in
@@ -126,14 +135,13 @@ module _ {C : Type 0} {N : ℕ} where
                 (record { stands = ap waits_in (walk_here front (view_of who walk' held' owed') back apart) ∙ stance; waits = phase; plain = refl; untried = refl })))
             | inr ne ↦ subst (λ ws. Every (VariableWaiterFits phases' news k) ws) (sym (at_other k ne)) (moved k few)
           ];
-          all = λ k seat m e. elim (cases_eq who seat) [
+          all = λ vs k seat m e has_k. elim (cases_eq who seat) [
             | inl same ↦
-                let is : Waiting k m ≡ Waiting j mode = sym e ∙ subst (λ s. phases' s ≡ Waiting j mode) same phase in
-                let number : k ≡ j = cc in
+                let number : k ≡ j = sym (eqb-true j k (subst (λ v. has v k ≡ true) (just seat vs m e same) has_k)) in
                 let self : one_if (eqb who seat) ≡ 1 = rw (eq-eqb who seat same) refl in
                 (subst (λ i. i < 4) (sym number) low, subst (λ i. 1 ≤ times_in seat (CvOf lists' i)) (sym number) (subst (λ ws. 1 ≤ times_in seat ws) (sym at_j) (omega (arith, times_in-append seat (CvOf lists j) (w ∷ []), times_in-cons seat w [], self))))
             | inr ne ↦
-                let was = p.all k seat m (sym (others seat ne) ∙ e) in (
+                let was = p.all vs k seat m (sym (others seat ne) ∙ e) has_k in (
                   was.0,
                   elim (cases_eq k j) [
                     | inl number ↦ subst (λ i. 1 ≤ times_in seat (CvOf lists' i)) (sym number) (subst (λ ws. 1 ≤ times_in seat ws) (sym at_j)
@@ -142,11 +150,15 @@ module _ {C : Type 0} {N : ℕ} where
                   ],
                 )
           ];
+          some = λ vs seat m e. elim (cases_eq who seat) [
+            | inl same ↦ (j, subst (λ v. has v j ≡ true) (sym (just seat vs m e same)) (eq-eqb j j refl))
+            | inr ne ↦ p.some vs seat m (sym (others seat ne) ∙ e)
+          ];
         }
 
     -- the seat takes itself out of a variable's list, and waits for none after that
     pub tell_leaves : (phases phases' : ℕ → Phase C) (lists : Lists C) (j : ℕ) → length lists.cvs ≡ 4 → j < 4 → times who lists ≤ 1 → 1 ≤ times_in who (CvOf lists j) →
-        ((seat : ℕ) → who ≢ seat → phases' seat ≡ phases seat) → ((k : ℕ) (mode : Mode) → phases' who ≡ Waiting k mode → ⊥) →
+        ((seat : ℕ) → who ≢ seat → phases' seat ≡ phases seat) → ((vs : Variables) (mode : Mode) → phases' who ≡ Waiting vs mode → ⊥) →
         VariablesTell phases lists olds → VariablesTell phases' (with_waiters lists (Cv j) (without_in who (CvOf lists j))) news
     tell_leaves phases phases' lists j four low once stood others idle p =
         let lists' = with_waiters lists (Cv j) (without_in who (CvOf lists j)) in
@@ -164,10 +176,10 @@ module _ {C : Type 0} {N : ℕ} where
                 (every_moves phases phases' olds news k (CvOf lists k)
                 (λ seat some. let other : who ≢ seat = λ same. let zero : times_in seat (CvOf lists k) ≡ 0 = subst (λ s. times_in s (CvOf lists k) ≡ 0) same (gone k few ne) in absurd (omega (arith, zero, some)) in (there seat other, others seat other)) (p.own k few))
           ];
-          all = λ k seat m e. elim (cases_eq who seat) [
-            | inl same ↦ absurd (idle k m (subst (λ s. phases' s ≡ Waiting k m) (sym same) e))
+          all = λ vs k seat m e is. elim (cases_eq who seat) [
+            | inl same ↦ absurd (idle vs m (subst (λ s. phases' s ≡ Waiting vs m) (sym same) e))
             | inr ne ↦
-                let was = p.all k seat m (sym (others seat ne) ∙ e) in (
+                let was = p.all vs k seat m (sym (others seat ne) ∙ e) is in (
                   was.0,
                   elim (cases_eq k j) [
                     | inl number ↦ subst (λ i. 1 ≤ times_in seat (CvOf lists' i)) (sym number) (subst (λ ws. 1 ≤ times_in seat ws) (sym at_j)
@@ -176,19 +188,23 @@ module _ {C : Type 0} {N : ℕ} where
                   ],
                 )
           ];
+          some = λ vs seat mode e. elim (cases_eq who seat) [
+            | inl same ↦ absurd (idle vs mode (subst (λ s. phases' s ≡ Waiting vs mode) (sym same) e))
+            | inr ne ↦ p.some vs seat mode (sym (others seat ne) ∙ e)
+          ];
         }
 
 -- ---- a call wakes some of a variable's waiters
 
 module _ {C : Type 0} where
   -- a wake makes nobody wait
-  still_waiting : (b : Bool) (phase : Phase C) (k : ℕ) (mode : Mode) → cond b (woken_phase phase) phase ≡ Waiting k mode → (b ≡ false) × (phase ≡ Waiting k mode)
-  still_waiting false phase k mode e = (refl, e)
-  still_waiting true Idle k mode e = absurd (cc)
-  still_waiting true (Cond c m) k mode e = absurd (cc)
-  still_waiting true (Waiting j m) k mode e = absurd (cc)
-  still_waiting true (Woken j m) k mode e = absurd (cc)
-  still_waiting true (Left j m) k mode e = absurd (cc)
+  still_waiting : (b : Bool) (k : ℕ) (phase : Phase C) (vs : Variables) (mode : Mode) → cond b (woken_phase k phase) phase ≡ Waiting vs mode → (b ≡ false) × (phase ≡ Waiting vs mode)
+  still_waiting false k phase vs mode e = (refl, e)
+  still_waiting true k Idle vs mode e = absurd (cc)
+  still_waiting true k (Cond c m) vs mode e = absurd (cc)
+  still_waiting true k (Waiting j m) vs mode e = absurd (cc)
+  still_waiting true k (Woken j m) vs mode e = absurd (cc)
+  still_waiting true k (Left j m) vs mode e = absurd (cc)
 
 module _ {C : Type 0} {N : ℕ} where
   -- other lists
@@ -197,10 +213,11 @@ module _ {C : Type 0} {N : ℕ} where
       let at_k : (k : ℕ) → CvOf lists' k ≡ CvOf lists k = λ k. ap (λ (c : List (List (Waiter C))). waiters_of (record { lock = lists.lock; cvs = c }) (Cv k)) cvs in
       record {
         own = λ k low. subst (λ ws. Every (VariableWaiterFits phases views k) ws) (sym (at_k k)) (p.own k low);
-        all = λ k seat mode e. let was = p.all k seat mode e in (was.0, subst (λ ws. 1 ≤ times_in seat ws) (sym (at_k k)) was.1);
+        all = λ vs k seat mode e is. let was = p.all vs k seat mode e is in (was.0, subst (λ ws. 1 ≤ times_in seat ws) (sym (at_k k)) was.1);
+        some = p.some;
       }
 
-  waits_of : (phases : ℕ → Phase C) (views : List (SeatView C N)) (k : ℕ) (ws : List (Waiter C)) → Every (VariableWaiterFits phases views k) ws → WaitFor k phases ws
+  pub waits_of : (phases : ℕ → Phase C) (views : List (SeatView C N)) (k : ℕ) (ws : List (Waiter C)) → Every (VariableWaiterFits phases views k) ws → WaitFor k phases ws
   waits_of phases views k [] p = tt
   waits_of phases views k (w ∷ ws) p = (p.0.waits, waits_of phases views k ws p.1)
 
@@ -209,48 +226,49 @@ module _ {C : Type 0} {N : ℕ} where
   are_waiting phases lists views k orderly low p = record {
     own = waits_of phases views k (CvOf lists k) (p.own k low);
     once = once_in lists (Cv k) orderly low;
-    all = λ seat e. let mode = waiting_mode (phases seat) k e in (p.all k seat mode.0 mode.1).1;
+    all = λ seat e. let waits = waiting_for (phases seat) k e in (p.all waits.0 k seat waits.1 waits.2 waits.3).1;
     below = below_in lists (Cv k) orderly low;
   } where
-    waiting_mode : (phase : Phase C) (k : ℕ) → is_waiting k phase ≡ true → (mode : Mode) × (phase ≡ Waiting k mode)
-    waiting_mode (Waiting j mode) k e = (mode, ap (λ n. Waiting n mode) (eqb-true j k e))
-    waiting_mode Idle k e = absurd (cc)
-    waiting_mode (Cond c mode) k e = absurd (cc)
-    waiting_mode (Woken j mode) k e = absurd (cc)
-    waiting_mode (Left j mode) k e = absurd (cc)
+    waiting_for : (phase : Phase C) (k : ℕ) → is_waiting k phase ≡ true → (vs : Variables) × (mode : Mode) × (phase ≡ Waiting vs mode) × (has vs k ≡ true)
+    waiting_for (Waiting vs mode) k e = (vs, mode, refl, e)
+    waiting_for Idle k e = absurd (cc)
+    waiting_for (Cond c mode) k e = absurd (cc)
+    waiting_for (Woken j mode) k e = absurd (cc)
+    waiting_for (Left j mode) k e = absurd (cc)
 
   module _ (front : List (SeatView C N)) (who : ℕ) (walk : Option (Walk C)) (held : Option (Held C N)) (owed : List ℕ) (walk' : Option (Walk C)) (held' : Option (Held C N)) (owed' : List ℕ) (back : List (SeatView C N)) where
     -- those who are taken from the list of k are woken, and the others stay
-    pub tell_taken : (phases : ℕ → Phase C) (lists lists' : Lists C) (k : ℕ) (taken kept : List (Waiter C)) → IsOrderly lists → k < 4 → times who lists ≡ 0 →
+    pub tell_taken : (phases : ℕ → Phase C) (lists lists' : Lists C) (k : ℕ) (taken kept : List (Waiter C)) → IsOrderly lists → ((seat : ℕ) → times seat lists ≤ 1) → k < 4 → times who lists ≡ 0 →
         lists'.cvs ≡ (with_waiters lists (Cv k) kept).cvs → ((seat : ℕ) → times_in seat taken + times_in seat kept ≡ times_in seat (CvOf lists k)) →
         Every (VariableWaiterFits phases (front ++ view_of who walk held owed ∷ back) k) taken → Every (VariableWaiterFits phases (front ++ view_of who walk held owed ∷ back) k) kept →
         VariablesTell phases lists (front ++ view_of who walk held owed ∷ back) →
-        VariablesTell (woken_phases (taken_set taken) phases) lists' (front ++ view_of who walk' held' owed' ∷ back)
-    tell_taken phases lists lists' k taken kept orderly low none cvs parts takes keeps p =
+        VariablesTell (woken_phases k (taken_set taken) phases) lists' (front ++ view_of who walk' held' owed' ∷ back)
+    tell_taken phases lists lists' k taken kept orderly most low none cvs parts takes keeps p =
         let four = orderly.four in
         let put = with_waiters lists (Cv k) kept in
         let at_i : (i : ℕ) → CvOf lists' i ≡ CvOf put i = λ i. ap (λ (c : List (List (Waiter C))). waiters_of (record { lock = lists.lock; cvs = c }) (Cv i)) cvs in
         let at_k : CvOf lists' k ≡ kept = at_i k ∙ read_back lists (Cv k) kept four low in
         let at_other : (i : ℕ) → i ≢ k → CvOf lists' i ≡ CvOf lists i = λ i ne. at_i i ∙ read_apart lists k i kept ne in
         let once : (seat : ℕ) → times_in seat (CvOf lists k) ≤ 1 = once_in lists (Cv k) orderly low in
-        let stays : (seat : ℕ) → times_in seat taken ≡ 0 → woken_phases (taken_set taken) phases seat ≡ phases seat = λ seat zero. untaken_stays k phases taken (waits_of phases (front ++ view_of who walk held owed ∷ back) k taken takes) seat zero in
+        let stays : (seat : ℕ) → times_in seat taken ≡ 0 → woken_phases k (taken_set taken) phases seat ≡ phases seat = untaken_stays k phases taken in
         let apart_who : (i : ℕ) → i < 4 → (seat : ℕ) → 1 ≤ times_in seat (CvOf lists i) → who ≢ seat = λ i few seat some e. let most = times_at_most lists (Cv i) seat four few in let zero : times seat lists ≡ 0 = subst (λ s. times s lists ≡ 0) e none in absurd (omega (arith, most, zero, some)) in
         record {
           own = λ i few. elim (cases_eq i k) [
-            | inl e ↦ subst (λ n. Every (VariableWaiterFits (woken_phases (taken_set taken) phases) (front ++ view_of who walk' held' owed' ∷ back) n) (CvOf lists' n)) (sym e)
-                (subst (λ ws. Every (VariableWaiterFits (woken_phases (taken_set taken) phases) (front ++ view_of who walk' held' owed' ∷ back) k) ws) (sym at_k)
-                (every_moves phases (woken_phases (taken_set taken) phases) (front ++ view_of who walk held owed ∷ back) (front ++ view_of who walk' held' owed' ∷ back) k kept
+            | inl e ↦ subst (λ n. Every (VariableWaiterFits (woken_phases k (taken_set taken) phases) (front ++ view_of who walk' held' owed' ∷ back) n) (CvOf lists' n)) (sym e)
+                (subst (λ ws. Every (VariableWaiterFits (woken_phases k (taken_set taken) phases) (front ++ view_of who walk' held' owed' ∷ back) k) ws) (sym at_k)
+                (every_moves phases (woken_phases k (taken_set taken) phases) (front ++ view_of who walk held owed ∷ back) (front ++ view_of who walk' held' owed' ∷ back) k kept
                 (λ seat some. (there front who walk held owed walk' held' owed' back seat (apart_who k low seat (omega (arith, parts seat, some))), stays seat (omega (arith, parts seat, once seat, some)))) keeps))
-            | inr ne ↦ subst (λ ws. Every (VariableWaiterFits (woken_phases (taken_set taken) phases) (front ++ view_of who walk' held' owed' ∷ back) i) ws) (sym (at_other i ne))
-                (every_moves phases (woken_phases (taken_set taken) phases) (front ++ view_of who walk held owed ∷ back) (front ++ view_of who walk' held' owed' ∷ back) i (CvOf lists i)
+            | inr ne ↦ subst (λ ws. Every (VariableWaiterFits (woken_phases k (taken_set taken) phases) (front ++ view_of who walk' held' owed' ∷ back) i) ws) (sym (at_other i ne))
+                (every_moves phases (woken_phases k (taken_set taken) phases) (front ++ view_of who walk held owed ∷ back) (front ++ view_of who walk' held' owed' ∷ back) i (CvOf lists i)
                 (λ seat some. (
                   there front who walk held owed walk' held' owed' back seat (apart_who i few seat some),
-                  stays seat (let sum = parts seat in let alone : times_in seat (CvOf lists k) ≡ 0 = apart_in lists four seat k i low few (λ e. ne (sym e)) (orderly.once seat) some in omega (arith, sum, alone)),
+                  stays seat (let sum = parts seat in let alone : times_in seat (CvOf lists k) ≡ 0 = apart_in lists four seat k i low few (λ e. ne (sym e)) (most seat) some in omega (arith, sum, alone)),
                 )) (p.own i few))
           ];
-          all = λ i seat mode e.
-              let was = still_waiting (is_in (taken_set taken) seat) (phases seat) i mode e in
-              let stood = p.all i seat mode was.1 in (
+          some = λ vs seat mode e. p.some vs seat mode (still_waiting (is_in (taken_set taken) seat) k (phases seat) vs mode e).1;
+          all = λ vs i seat mode e is.
+              let was = still_waiting (is_in (taken_set taken) seat) k (phases seat) vs mode e in
+              let stood = p.all vs i seat mode was.1 is in (
                 stood.0,
                 elim (cases_eq i k) [
                   | inl number ↦ subst (λ n. 1 ≤ times_in seat (CvOf lists' n)) (sym number) (subst (λ ws. 1 ≤ times_in seat ws) (sym at_k)

@@ -1,7 +1,8 @@
 -- A view among the views: what holds of all of them, by the views before it, itself, and those behind it.
 use Rattle.std.proofs.Common.{◌≡◌, ◌≢◌, ℕ, ◌+◌, ◌≤◌, Bool, true, false, not, cond, ◌⊎◌, inl, inr, List, [], ◌∷◌, ◌++◌, Option, None, Some, eqb, refl, ap, sym, ◌∙◌, subst, arith, eq-eqb}
 use Rattle.std.proofs.lemmas.Bool.{ne_eqb}
-use Rattle.ns_model.specs.Phases.{is_write, woken_phase}
+use Rattle.ns_model.specs.Phases.{is_waiting, is_write, woken_phase}
+use Rattle.ns_model.specs.declared.cvs.Variables.TheVariants.{Only}
 use Rattle.ns_model.specs.Histories.{Standing}
 use Rattle.ns_model.specs.Tallies.{one_if}
 use Rattle.ns_model.proofs.Tallies.{total_amid, every_parts, every_join}
@@ -157,67 +158,71 @@ module _ {C : Type 0} {N : ℕ} where
 
 -- ---- what a wake leaves of the phases
 
-module _ {C : Type 0} where
-  -- only one that waits for a variable is woken
-  kept_steady : (on : Subject C) (mode : Mode) (outcome : Outcome) → woken_phase (phase_kept on mode outcome) ≡ phase_kept on mode outcome
-  kept_steady (OnCondition c) mode outcome = refl
-  kept_steady (OnVariable k) mode (TheOutcome.Woken by) = refl
-  kept_steady (OnVariable k) mode (Ended cause) = refl
+-- a phase after a wake by the variable k: it is as it was, or it waited for that and was woken
+abbrev pub IsWokenBy : {C : Type 0} → ℕ → Phase C → Phase C → Type 0
+IsWokenBy k was now = (now ≡ was) ⊎ ((is_waiting k was ≡ true) × (now ≡ woken_phase k was))
 
-  before_steady : (mode : Mode) (entry : Opening C) → woken_phase (phase_before mode entry) ≡ phase_before mode entry
+module _ {C : Type 0} (k : ℕ) where
+  -- only one that waits for a variable is woken
+  kept_steady : (on : Subject C) (mode : Mode) (outcome : Outcome) → woken_phase k (phase_kept on mode outcome) ≡ phase_kept on mode outcome
+  kept_steady (OnCondition c) mode outcome = refl
+  kept_steady (OnVariable j) mode (TheOutcome.Woken by) = refl
+  kept_steady (OnVariable j) mode (Ended cause) = refl
+
+  before_steady : (mode : Mode) (entry : Opening C) → woken_phase k (phase_before mode entry) ≡ phase_before mode entry
   before_steady mode Locked = refl
   before_steady mode (CameBack on outcome) = kept_steady on mode outcome
 
-  for_steady : (aim : Aim C) → woken_phase (phase_for aim) ≡ phase_for aim
+  for_steady : (aim : Aim C) → woken_phase k (phase_for aim) ≡ phase_for aim
   for_steady (ForLock mode) = refl
   for_steady (ForWait wait outcome) = kept_steady wait.on wait.mode outcome
 
-  woken_twice : (phase : Phase C) → woken_phase (woken_phase phase) ≡ woken_phase phase
-  woken_twice Idle = refl
-  woken_twice (Cond c mode) = refl
-  woken_twice (Waiting k mode) = refl
-  woken_twice (Woken k mode) = refl
-  woken_twice (Left k mode) = refl
+  woken_twice : (j : ℕ) (phase : Phase C) → is_waiting j phase ≡ true → woken_phase k (woken_phase j phase) ≡ woken_phase j phase
+  woken_twice j Idle e = refl
+  woken_twice j (Cond c mode) e = refl
+  woken_twice j (Waiting variables mode) e = refl
+  woken_twice j (Woken i mode) e = refl
+  woken_twice j (Left variables mode) e = refl
 
-  either_woken : (b : Bool) (phase now : Phase C) → (b ≡ false → woken_phase phase ≡ phase) → IsEither b phase now → IsEither b phase (woken_phase now)
-  either_woken false phase now steady p = ap woken_phase p ∙ steady refl
-  either_woken true phase now steady (inl e) = inr (ap woken_phase e)
-  either_woken true phase now steady (inr e) = inr (ap woken_phase e ∙ woken_twice phase)
+  either_woken : (b : Bool) (phase now : Phase C) → (b ≡ false → woken_phase k phase ≡ phase) → is_waiting k now ≡ true → IsEither b phase now → IsEither b phase (woken_phase k now)
+  either_woken false phase now steady waits p = ap (woken_phase k) p ∙ steady refl
+  either_woken true phase now steady waits (inl e) = inr (k, sym (ap (is_waiting k) e) ∙ waits, ap (woken_phase k) e)
+  either_woken true phase now steady waits (inr was) = inr (was.0, was.1, ap (woken_phase k) was.2 ∙ woken_twice was.0 phase was.1)
 
-  subject_woken : (on : Subject C) (mode : Mode) (now : Phase C) → IsExpected (expected_for on mode) now → IsExpected (expected_for on mode) (woken_phase now)
-  subject_woken (OnCondition c) mode now p = either_woken false (Cond c mode) now (λ e. refl) p
-  subject_woken (OnVariable k) mode now p = either_woken true (Waiting k mode) now (λ e. absurd (cc)) p
+  subject_woken : (on : Subject C) (mode : Mode) (now : Phase C) → is_waiting k now ≡ true → IsExpected (expected_for on mode) now → IsExpected (expected_for on mode) (woken_phase k now)
+  subject_woken (OnCondition c) mode now waits p = either_woken false (Cond c mode) now (λ e. refl) waits p
+  subject_woken (OnVariable j) mode now waits p = either_woken true (Waiting (Only j) mode) now (λ e. absurd (cc)) waits p
 
-  pub expected_woken : (walk : Option (Walk C)) (now : Phase C) → IsExpected (phase_by walk) now → IsExpected (phase_by walk) (woken_phase now)
-  expected_woken None now p = either_woken false Idle now (λ e. refl) p
-  expected_woken (Some (InTry mode place)) now p = either_woken false Idle now (λ e. refl) p
-  expected_woken (Some (InAcquire aim place)) now p = either_woken false (phase_for aim) now (λ e. for_steady aim) p
-  expected_woken (Some (InRelease releasing place)) now p = either_woken false Idle now (λ e. refl) p
-  expected_woken (Some (InCells place)) now p = either_woken false Idle now (λ e. refl) p
-  expected_woken (Some (InWait wait place)) now p = subject_woken wait.on wait.mode now p
-  expected_woken (Some (InSignal waking k place)) now p = either_woken false Idle now (λ e. refl) p
-  expected_woken (Some (InShow place)) now p = either_woken false Idle now (λ e. refl) p
+  pub expected_woken : (walk : Option (Walk C)) (now : Phase C) → is_waiting k now ≡ true → IsExpected (phase_by walk) now → IsExpected (phase_by walk) (woken_phase k now)
+  expected_woken None now waits p = either_woken false Idle now (λ e. refl) waits p
+  expected_woken (Some (InTry mode place)) now waits p = either_woken false Idle now (λ e. refl) waits p
+  expected_woken (Some (InAcquire aim place)) now waits p = either_woken false (phase_for aim) now (λ e. for_steady aim) waits p
+  expected_woken (Some (InRelease releasing place)) now waits p = either_woken false Idle now (λ e. refl) waits p
+  expected_woken (Some (InCells place)) now waits p = either_woken false Idle now (λ e. refl) waits p
+  expected_woken (Some (InWait wait place)) now waits p = subject_woken wait.on wait.mode now waits p
+  expected_woken (Some (InSignal waking j place)) now waits p = either_woken false Idle now (λ e. refl) waits p
+  expected_woken (Some (InShow place)) now waits p = either_woken false Idle now (λ e. refl) waits p
 
 module _ {C : Type 0} {N : ℕ} (truths : Truths C) (seats : ℕ) where
-  section_woken : (now next : Standing C) (row : List ℕ) (who : ℕ) (walk : Option (Walk C)) (held : Option (Held C N)) →
-      (next.phases who ≡ now.phases who) ⊎ (next.phases who ≡ woken_phase (now.phases who)) → next.row ≡ now.row →
+  section_woken : (k : ℕ) (now next : Standing C) (row : List ℕ) (who : ℕ) (walk : Option (Walk C)) (held : Option (Held C N)) →
+      IsWokenBy k (now.phases who) (next.phases who) → next.row ≡ now.row →
       SectionFits now row who walk held → SectionFits next row who walk held
-  section_woken now next row who walk None (inl e) same p = subst (λ ph. IsExpected (phase_by walk) ph) (sym e) p
-  section_woken now next row who walk None (inr e) same p = subst (λ ph. IsExpected (phase_by walk) ph) (sym e) (expected_woken walk (now.phases who) p)
-  section_woken now next row who walk (Some held) (inl e) same p = record { starts = p.starts ∙ sym same; enters = e ∙ p.enters; cells = p.cells; reads = p.reads }
-  section_woken now next row who walk (Some held) (inr e) same p = record {
+  section_woken k now next row who walk None (inl e) same p = subst (λ ph. IsExpected (phase_by walk) ph) (sym e) p
+  section_woken k now next row who walk None (inr e) same p = subst (λ ph. IsExpected (phase_by walk) ph) (sym e.1) (expected_woken k walk (now.phases who) e.0 p)
+  section_woken k now next row who walk (Some held) (inl e) same p = record { starts = p.starts ∙ sym same; enters = e ∙ p.enters; cells = p.cells; reads = p.reads }
+  section_woken k now next row who walk (Some held) (inr e) same p = record {
     starts = p.starts ∙ sym same;
-    enters = e ∙ ap woken_phase p.enters ∙ before_steady held.mode held.entry;
+    enters = e.1 ∙ ap (woken_phase k) p.enters ∙ before_steady k held.mode held.entry;
     cells = p.cells;
     reads = p.reads;
   }
 
   -- what a wake leaves of the seats: each is as it was, or woken
-  pub each_woken : (now next : Standing C) (row : List ℕ) (views : List (SeatView C N)) →
-      ((seat : ℕ) → (next.phases seat ≡ now.phases seat) ⊎ (next.phases seat ≡ woken_phase (now.phases seat))) → next.row ≡ now.row →
+  pub each_woken : (k : ℕ) (now next : Standing C) (row : List ℕ) (views : List (SeatView C N)) →
+      ((seat : ℕ) → IsWokenBy k (now.phases seat) (next.phases seat)) → next.row ≡ now.row →
       EachFits truths seats now row views → EachFits truths seats next row views
-  each_woken now next row [] phases same p = tt
-  each_woken now next row (u ∷ views) phases same p = (
-    record { in_range = p.0.in_range; place = p.0.place; owes = p.0.owes; section = section_woken now next row u.seat u.walk u.held (phases u.seat) same p.0.section },
-    each_woken now next row views phases same p.1,
+  each_woken k now next row [] phases same p = tt
+  each_woken k now next row (u ∷ views) phases same p = (
+    record { in_range = p.0.in_range; place = p.0.place; owes = p.0.owes; section = section_woken k now next row u.seat u.walk u.held (phases u.seat) same p.0.section },
+    each_woken k now next row views phases same p.1,
   )

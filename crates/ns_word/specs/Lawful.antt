@@ -4,8 +4,11 @@ use Rattle.ns_model.specs.declared.event.Mode.{Mode}
 use Rattle.ns_model.specs.declared.event.Mode.TheVariants.{Read}
 use Rattle.ns_model.specs.declared.event.Event.{Event}
 use Rattle.ns_model.specs.declared.phase.Phase.{Phase}
+use Rattle.ns_model.specs.Cvs.{has}
+use Rattle.ns_model.specs.declared.cvs.Variables.{Variables}
+use Rattle.ns_model.specs.declared.cvs.Variables.TheVariants.{Only}
 use Rattle.ns_model.specs.declared.phase.Phase.TheVariants.{Idle, Waiting}
-use Rattle.ns_model.specs.Phases.{woken_phase}
+use Rattle.ns_model.specs.Phases.{is_waiting, woken_phase}
 use Rattle.ns_model.specs.Tallies.{Every}
 use Rattle.ns_model.specs.Histories.{Standing, IsLegal, IsBySeats, standing_after}
 use Rattle.ns_queue.specs.declared.waiter.Waiter.{Waiter}
@@ -53,10 +56,10 @@ pub record HeldFits {C : Type 0} {N : ℕ} (now : Standing C) (row : List ℕ) (
   pub cells : held.row ≡ row
   pub reads : held.mode ≡ Read → held.row ≡ held.before
 
--- a phase is the expected one, or what a wake makes of that where one may have been woken
+-- a phase is the expected one, or what a wake makes of that, by a variable that it waits for, where one may have been woken
 abbrev pub IsEither : {C : Type 0} → Bool → Phase C → Phase C → Type 0
 IsEither false phase now = now ≡ phase
-IsEither true phase now = (now ≡ phase) ⊎ (now ≡ woken_phase phase)
+IsEither true phase now = (now ≡ phase) ⊎ ((k : ℕ) × (is_waiting k phase ≡ true) × (now ≡ woken_phase k phase))
 
 abbrev pub IsExpected : {C : Type 0} → Expected C → Phase C → Type 0
 IsExpected expected now = IsEither expected.may_be_woken expected.phase now
@@ -136,17 +139,18 @@ WaiterFits views w = lock_stance (waits_in (walk_at w.seat views)) ≡ Some (w.m
 abbrev pub WaitersOwn : {C : Type 0} {N : ℕ} → List (Waiter C) → List (SeatView C N) → Type 0
 WaitersOwn lock views = Every (WaiterFits views) lock
 
--- A waiter of a variable's list is its seat's own, and waits for that variable, by its place and by the history; it has no condition, and no tries.
+-- A waiter of a variable's list is its seat's own, and waits for that variable alone, by its place and by the history; it has no condition, and no tries.
 pub record VariableWaiterFits {C : Type 0} {N : ℕ} (phases : ℕ → Phase C) (views : List (SeatView C N)) (k : ℕ) (w : Waiter C) : Type 0 where
   pub stands : waits_in (walk_at w.seat views) ≡ Some (record { mode = w.mode; on = Some (OnVariable k); tries = 0 })
-  pub waits : phases w.seat ≡ Waiting k w.mode
+  pub waits : phases w.seat ≡ Waiting (Only k) w.mode
   pub plain : w.cond ≡ None
   pub untried : w.tries ≡ 0
 
--- The list of each variable has just the seats that wait for it, by the history, in their modes.
+-- The list of each variable has just the seats that wait for it, by the history, in their modes; and whoever waits waits for some variable.
 pub record VariablesTell {C : Type 0} {N : ℕ} (phases : ℕ → Phase C) (lists : Lists C) (views : List (SeatView C N)) : Type 0 where
   pub own : (k : ℕ) → k < 4 → Every (VariableWaiterFits phases views k) (waiters_of lists (Cv k))
-  pub all : (k seat : ℕ) (mode : Mode) → phases seat ≡ Waiting k mode → (k < 4) × (1 ≤ times_in seat (waiters_of lists (Cv k)))
+  pub all : (variables : Variables) (k seat : ℕ) (mode : Mode) → phases seat ≡ Waiting variables mode → has variables k ≡ true → (k < 4) × (1 ≤ times_in seat (waiters_of lists (Cv k)))
+  pub some : (variables : Variables) (seat : ℕ) (mode : Mode) → phases seat ≡ Waiting variables mode → (k : ℕ) × (has variables k ≡ true)
 
 -- ---- nobody is forgotten
 

@@ -2,6 +2,7 @@ pub mod Answers
 pub mod Asked
 pub mod Begins
 pub mod Codec
+pub mod Encoded
 pub mod Courses
 pub mod Finds
 pub mod Lawful

@@ -15,9 +15,9 @@ use Rattle.ns_model.specs.Truths.{Truths}
 use Rattle.ns_queue.specs.declared.waiter.Waiter.{Waiter}
 use Rattle.ns_queue.specs.declared.waiter.Which.{Which}
 use Rattle.ns_queue.specs.declared.waiter.Which.TheVariants.{Cv}
-use Rattle.ns_queue.specs.Queues.{Lists, waiters_of, with_waiters}
+use Rattle.ns_queue.specs.Queues.{Lists, cvs_without, waiters_of, with_waiters, without}
 use Rattle.ns_queue.specs.Signals.{signaled_of, unsignaled_of, taken_set}
-use Rattle.ns_queue.specs.Waiters.{seats_of, times_in, without_in}
+use Rattle.ns_queue.specs.Waiters.{seats_of, times_in}
 use Rattle.ns_queue.specs.Scans.{woken_of, left_of, tests_of}
 use Rattle.ns_word.specs.declared.word.Word.{Word}
 use Rattle.ns_env.specs.declared.limits.Limits.{Limits}
@@ -146,12 +146,12 @@ kept_by Broadcasting ws = []
 abbrev pub moved_to : {C : Type 0} → Bool → List (Waiter C) → Lists C → Lists C
 moved_to held taken lists = if held then with_lock lists (lists.lock ++ taken) else lists
 
--- the lists that are put back, where this is the word last seen
+-- The lists that are put back, where this is the word last seen: one that leaves is out of all lists, if it still stood in this one; those whom a wake takes are out of all lists of variables.
 abbrev pub changed : {C : Type 0} → ℕ → Change → Word → Lists C → Lists C
 changed seat (QueueSelf mode arrival) last lists = with_lock lists (queued seat mode None (tries_of arrival) (is_woken arrival) lists.lock)
-changed seat (LeaveSelf which) last lists = with_waiters lists which (without_in seat (waiters_of lists which))
+changed seat (LeaveSelf which) last lists = if nat_lt 0 (times_in seat (waiters_of lists which)) then without seat lists else lists
 changed seat (WakeWaiters waking k) last lists =
-    moved_to (is_held last) (taken_by waking (waiters_of lists (Cv k))) (with_waiters lists (Cv k) (kept_by waking (waiters_of lists (Cv k))))
+    moved_to (is_held last) (taken_by waking (waiters_of lists (Cv k))) (cvs_without (taken_set (taken_by waking (waiters_of lists (Cv k)))) lists)
 changed seat Nothing last lists = lists
 
 -- whether somebody is moved to the lock list

@@ -4,6 +4,7 @@ use Rattle.ns_model.specs.declared.event.Mode.{Mode}
 use Rattle.ns_model.specs.declared.event.Answer.{Answer}
 use Rattle.ns_model.specs.declared.event.Answer.TheVariants.{Met, TimedOut, Canceled}
 use Rattle.ns_model.specs.declared.phase.Phase.{Phase}
+use Rattle.ns_model.specs.declared.cvs.Variables.TheVariants.{Only}
 use Rattle.ns_model.specs.declared.phase.Phase.TheVariants.{Idle, Cond, Woken, Left}
 use Rattle.ns_env.specs.declared.limits.Cause.{Cause}
 use Rattle.ns_env.specs.declared.limits.Cause.TheVariants.{Expired, Notified}
@@ -76,7 +77,7 @@ mode_for (ForWait wait outcome) = wait.mode
 abbrev pub phase_kept : {C : Type 0} → Subject C → Mode → Outcome → Phase C
 phase_kept (OnCondition c) mode outcome = Cond c mode
 phase_kept (OnVariable k) mode (TheOutcome.Woken by) = Woken k mode
-phase_kept (OnVariable k) mode (Ended cause) = Left k mode
+phase_kept (OnVariable k) mode (Ended cause) = Left (Only k) mode
 
 -- the phase of a seat that acquires for this
 abbrev pub phase_for : {C : Type 0} → Aim C → Phase C

@@ -3,6 +3,7 @@ use Rattle.std.specs.Prelude.{ℕ, ◌+◌, ◌-◌, nat_lt, Option, None, Some,
 use Rattle.ns_model.specs.declared.event.Mode.{Mode}
 use Rattle.ns_model.specs.declared.event.Answer.TheVariants.{Met}
 use Rattle.ns_model.specs.declared.phase.Phase.{Phase}
+use Rattle.ns_model.specs.declared.cvs.Variables.TheVariants.{Only}
 use Rattle.ns_model.specs.declared.phase.Phase.TheVariants.{Cond, Waiting}
 use Rattle.ns_model.specs.declared.phase.Phase.TheVariants as ThePhase
 use Rattle.ns_word.specs.declared.word.Word.{Word}
@@ -486,7 +487,7 @@ pub record Expected (C : Type 0) : Type 0 where
 
 abbrev pub expected_for : {C : Type 0} → Subject C → Mode → Expected C
 expected_for (OnCondition c) mode = record { phase = Cond c mode; may_be_woken = false }
-expected_for (OnVariable k) mode = record { phase = Waiting k mode; may_be_woken = true }
+expected_for (OnVariable k) mode = record { phase = Waiting (Only k) mode; may_be_woken = true }
 
 abbrev pub phase_by : {C : Type 0} → Option (Walk C) → Expected C
 phase_by (Some (InAcquire aim place)) = record { phase = phase_for aim; may_be_woken = false }

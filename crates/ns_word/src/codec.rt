@@ -8,23 +8,23 @@ ghost use Rattle.ns_word.specs.Codec.{bit, number_of, word_of, is_set, IsPackabl
 
 use crate::word::Word;
 
-const WRITE: u64 = 1;
+pub(crate) const WRITE: u64 = 1;
 
-const SPIN: u64 = 2;
+pub(crate) const SPIN: u64 = 2;
 
-const WAITING: u64 = 4;
+pub(crate) const WAITING: u64 = 4;
 
-const DESIG: u64 = 8;
+pub(crate) const DESIG: u64 = 8;
 
-const COND: u64 = 16;
+pub(crate) const COND: u64 = 16;
 
-const WRITER_WAITS: u64 = 32;
+pub(crate) const WRITER_WAITS: u64 = 32;
 
-const ALL_FALSE: u64 = 64;
+pub(crate) const ALL_FALSE: u64 = 64;
 
-const LONG: u64 = 128;
+pub(crate) const LONG: u64 = 128;
 
-const READER: u64 = 256;
+pub(crate) const READER: u64 = 256;
 
 /// The most readers of a word.
 const MOST_READERS: u64 = 64;
@@ -35,7 +35,7 @@ pub struct BadWord;
 
 /// The value, if the bit is set.
 #[inline(always)]
-fn valued(b: bool, value: u64) -> u64
+pub(crate) fn valued(b: bool, value: u64) -> u64
     requires { value < 256 }
     ensures is { result ≡ value * bit b }
     ensures most { result ≤ value }
@@ -45,7 +45,7 @@ fn valued(b: bool, value: u64) -> u64
 
 /// Whether the bit of this value is set.
 #[inline(always)]
-fn is_set(bits: u64, value: u64) -> bool
+pub(crate) fn is_set(bits: u64, value: u64) -> bool
     requires { 0 < value }
     ensures { result ≡ is_set bits value }
 {

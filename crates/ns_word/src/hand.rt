@@ -1,12 +1,13 @@
 //! What a walk does to the queues in its hand, before it puts them back.
 
 ghost use Rattle.std.specs.Prelude.{◌≡◌, ◌<◌, ◌≤◌, ℕ, true, false, nat_lt, None, Some, [], if◌then◌else◌};
-ghost use Rattle.ns_queue.specs.Queues.{IsList, times, waiters_of, with_waiters};
+ghost use Rattle.ns_queue.specs.Queues.{IsList, cvs_without, times, waiters_of};
+ghost use Rattle.ns_queue.specs.Signals.{taken_set};
 ghost use Rattle.ns_queue.specs.Scans.{woken_of, tests_of};
 ghost use Rattle.ns_queue.specs.Waiters.{seats_of, times_in};
 ghost use Rattle.ns_word.specs.Lists.{bits_of, queued};
 ghost use Rattle.ns_word.specs.Places.{HasList, IsInRange};
-ghost use Rattle.ns_word.specs.Steps.{acquire_hand, release_hand, wait_hand, signal_hand, in_hand, changed, waits_at, waited_in, with_lock, taken_by, kept_by, moved_to};
+ghost use Rattle.ns_word.specs.Steps.{acquire_hand, release_hand, wait_hand, signal_hand, in_hand, changed, waits_at, waited_in, with_lock, taken_by, moved_to};
 ghost use Rattle.ns_word.specs.Walks.{acquire_has_queues, release_has_queues, wait_has_queues, has_queues, has_armed};
 
 use crate::acquire_walk::AcquirePlace;
@@ -73,7 +74,7 @@ pub fn queue_self<C: Queueable<N>, const N: usize>(
     queue(queues, waiter, arrival.is_woken());
 }
 
-/// Takes the seat out of this list, and answers whether it stood there.
+/// Takes the seat out of all lists, if it stands in this one, and answers whether it does.
 pub fn leave_self<C: Queueable<N>, const N: usize>(
     queues: &mut Queues<C, N>,
     seat: u8,
@@ -239,7 +240,7 @@ fn change_waiting<C: Queueable<N>, const N: usize>(
     }
 }
 
-/// Takes those out of the list of the variable whom the call wakes. Where the lock is held they go
+/// Takes those out of the lists of the variables whom the call wakes. Where the lock is held they go
 /// to the back of the lock list, and nobody is owed a wake; else they are, in the order taken.
 pub fn wake_waiters<C: Queueable<N>, const N: usize>(
     queues: &mut Queues<C, N>,
@@ -249,7 +250,7 @@ pub fn wake_waiters<C: Queueable<N>, const N: usize>(
 ) -> ArrayVec<u8, 64>
     requires { k < 4 }
     ensures owed { result.items ≡ (if held then [] else seats_of (taken_by waking (waiters_of queues.old (Which.Cv k)))) }
-    ensures lists { queues.new ≡ moved_to held (taken_by waking (waiters_of queues.old (Which.Cv k))) (with_waiters queues.old (Which.Cv k) (kept_by waking (waiters_of queues.old (Which.Cv k)))) }
+    ensures lists { queues.new ≡ moved_to held (taken_by waking (waiters_of queues.old (Which.Cv k))) (cvs_without (taken_set (taken_by waking (waiters_of queues.old (Which.Cv k)))) queues.old) }
 {
     let taken = match waking {
         Waking::Signaling => queues.take_signal(k),

@@ -35,6 +35,7 @@ pub mod cell_walk;
 pub mod codec;
 pub mod hand;
 pub mod law;
+pub mod number;
 pub mod queue_law;
 pub mod release_walk;
 pub mod request;

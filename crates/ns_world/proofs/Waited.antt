@@ -9,7 +9,8 @@ use Rattle.ns_model.specs.declared.event.Mode.{Mode}
 use Rattle.ns_queue.specs.declared.waiter.Waiter.{Waiter}
 use Rattle.ns_queue.specs.declared.waiter.Which.{Which}
 use Rattle.ns_queue.specs.declared.waiter.Which.TheVariants.{Cv}
-use Rattle.ns_queue.specs.Queues.{Lists, waiters_of, with_waiters}
+use Rattle.ns_queue.specs.Queues.{cvs_without, Lists, waiters_of, with_waiters}
+use Rattle.ns_queue.specs.Signals.{taken_set}
 use Rattle.ns_queue.specs.Waiters.{seats_of, times_in}
 use Rattle.ns_queue.specs.Scans.{woken_of, tests_of}
 use Rattle.ns_word.specs.declared.word.Word.{Word}
@@ -28,7 +29,7 @@ use Rattle.ns_word.specs.declared.act.Found.TheVariants.{Saw, Made, Left, Woke, 
 use Rattle.ns_word.specs.Lists.{has_some, bits_of}
 use Rattle.ns_word.specs.Words.{is_held, releasing_of, word_returned, word_released_returning}
 use Rattle.ns_model.specs.Truths.{Truths}
-use Rattle.ns_word.specs.Steps.{Effect, meets_at, section_of, changed, change_commits, exit_for, kept_by, moved_to, taken_by, waited_in}
+use Rattle.ns_word.specs.Steps.{Effect, meets_at, section_of, changed, change_commits, exit_for, moved_to, taken_by, waited_in}
 use Rattle.ns_word.specs.Places.{CanWait, ChangeFits, IsInRange, IsUnmet}
 use Rattle.ns_word.proofs.Scans.{some_seats}
 use Rattle.ns_world.specs.Performs.{part, Makes}
@@ -66,7 +67,7 @@ module _ {C : Type 0} {N : ℕ} (truths : Truths C) (seat : ℕ) (last word : Wo
   pub woken_back : (waking : Waking) (k : ℕ) (word' : Word) (h' : List (Event C N)) (owed owed' : List ℕ) (held : Option (Held C N)) (queues queues' : Lists C) (is some : Bool) (bits : Bits) →
       last ≡ word → h' ≡ h ++ change_commits seat (WakeWaiters waking k) queues → is ≡ is_held last → some ≡ has_some (waiters_of queues (Cv k)) →
       owed' ≡ (if is then [] else seats_of (taken_by waking (waiters_of queues (Cv k)))) →
-      queues' ≡ moved_to is (taken_by waking (waiters_of queues (Cv k))) (with_waiters queues (Cv k) (kept_by waking (waiters_of queues (Cv k)))) →
+      queues' ≡ moved_to is (taken_by waking (waiters_of queues (Cv k))) (cvs_without (taken_set (taken_by waking (waiters_of queues (Cv k)))) queues) →
       bits ≡ bits_of queues'.lock → word' ≡ word_returned (is && some) bits last →
       Makes truths seat (ReturnQueues (WakeWaiters waking k) last) (part word row queues flags held owed) h (Woke (not is && some)) (part word' row queues' flags held owed') h'
   woken_back waking k word' h' owed owed' held queues queues' is some bits same grows holds stands owes lists tell becomes =

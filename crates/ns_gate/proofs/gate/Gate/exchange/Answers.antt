@@ -4,7 +4,7 @@ use Rattle.ns_gate.proofs.Findings.{found_packs, exchange_told}
 use Rattle.ns_gate.proofs.gate.Gate.exchange.Goals as goal
 
 pub compare_exchange-found-requires : goal.compare_exchange-found-requires
-compare_exchange-found-requires g c = (search rules, search rules, may_exchange _ g.met.C.Condition.has_cells.0 g.met.C.Condition.quiet_keeps _ _ _ _ c.args.last c.args.new _ _ c.requires.may c.encode-content.ensures c.encode.ensures)
+compare_exchange-found-requires g c = (search rules, search rules, may_exchange _ g.met.C.Condition.has_cells.0 g.met.C.Condition.quiet_keeps _ _ _ _ c.args.last c.args.new _ _ c.requires.may c.number-content.ensures c.number.ensures)
 
 pub came_to-requires : goal.came_to-requires
 came_to-requires g c = found_packs _ c.args.last c.args.new _ _ _ c.requires.last c.requires.may c.compare_exchange-found.ensures.2

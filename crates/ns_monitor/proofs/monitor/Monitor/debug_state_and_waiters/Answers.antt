@@ -51,8 +51,8 @@ returns g c = record {
   shows = let t = g.C.Condition.means in let old = c.caller.inside.seat in let took = c.take_to_show-word in let mid = took.new.seat in let show = c.show_in_hand-lists in let new = c.put_back.new.seat in
       let more = (still_since t None _ mid.me show.new.seat.me show.ensures.seat.1 (since_itself (the mid.me.0))) in record {
         lists = (the mid.me.0).stood;
-        stood = subst (λ (k : Known g.row.C.Denot g.row.N). HasStood t took.result (the mid.me.0).stood k (known_of new.table_id new.me)) c.caller.view_is
-            (stood_since t took.result (the mid.me.0).stood (known_of old.table_id old.me) (known_of mid.table_id mid.me) (known_of new.table_id new.me) took.ensures.stood (since_then None _ _ _ more c.put_back.ensures.since).begins);
+        stood = rw c.parts-word.ensures (subst (λ (k : Known g.row.C.Denot g.row.N). HasStood t took.result (the mid.me.0).stood k (known_of new.table_id new.me)) c.caller.view_is
+            (stood_since t took.result (the mid.me.0).stood (known_of old.table_id old.me) (known_of mid.table_id mid.me) (known_of new.table_id new.me) took.ensures.stood (since_then None _ _ _ more c.put_back.ensures.since).begins));
         shows = show.ensures.shows;
       };
 }

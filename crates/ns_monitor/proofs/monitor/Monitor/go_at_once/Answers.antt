@@ -1,8 +1,8 @@
 use Rattle.std.proofs.Common.{◌≡◌, ◌∙◌, refl, subst, sym, arith, None, Some, true, rules}
-use Rattle.ns_gate.specs.Prelude.{TableId, HasSince, IsAtPlace, HasReached, the, CanStep, Performed, asked_of, IsPackable, got_of, Made, Saw, Word}
+use Rattle.ns_gate.specs.Prelude.{TableId, HasSince, IsAtPlace, HasReached, the, CanStep, Performed, asked_of, got_of, Made, Saw}
 use Rattle.ns_gate.proofs.Calls.{since, since_then}
 use Rattle.ns_gate.proofs.Room.{queues_fit}
-use Rattle.ns_monitor.proofs.Standing.{decided, can_go_by, goes_alone, goes_by, loads_first, may_by, misses, same_word}
+use Rattle.ns_monitor.proofs.Standing.{decided, can_go_by, goes_alone, goes_by, loads_first, may_by, misses}
 use Rattle.ns_monitor.specs.Prelude.{going_act, going_at, going_of, may_go}
 use Rattle.ns_monitor.proofs.monitor.Monitor.go_at_once.Given.{Over}
 use Rattle.ns_monitor.proofs.monitor.Monitor.go_at_once.Goals.{After-load-word}
@@ -20,8 +20,7 @@ pub returns-then-not-may_go : goal.returns-then-not-may_go
 returns-then-not-may_go g c = record {
   seat = search rules;
   since = search rules;
-  went = subst (λ (w : Word). IsPackable w × HasReached g.C.Condition.means (asked_of c.args.walk) (got_of g.row.N c.args.walk (Saw w)) c.load-word.new.seat.me) (same_word c.load-word.result c.encode-last.result c.encode-last.ensures)
-      (c.load-word.ensures.word, (first g (goal.at.returns-then-not-may_go g c).After-load-word).0);
+  went = (c.load-word.ensures.word, (first g (goal.at.returns-then-not-may_go g c).After-load-word).0);
 }
 
 pub exchange_to_go-requires : goal.exchange_to_go-requires
@@ -45,6 +44,5 @@ returns-in-Err g c = record {
   since = since_then (Some c.args.walk) _ _ _ (first g (goal.at.returns-in-Err g c).After-load-word).1 (since g.C.Condition.means None (going_act c.args.going c.load-word.result) (Saw c.in-Err.other) c.load-word.new.seat.me c.exchange_to_go.new.seat.me c.in-Err.ensures.did);
   went = let t = g.C.Condition.means in let walk = c.args.walk in let word = c.load-word.result in let other = c.in-Err.other in let me = c.load-word.new.seat.me in let now = c.exchange_to_go.new.seat.me in let is = c.requires.going in
       let may = (may_by c.args.going walk word c.may_go.result true is c.may_go.ensures c.if-not-may_go.false).1 in
-      subst (λ (w : Word). IsPackable w × HasReached t (asked_of walk) (got_of g.row.N walk (Saw w)) now) (same_word other c.encode.result c.encode.ensures)
       (c.in-Err.ensures.word, misses t walk word other me now c.requires.decides may (at g (goal.at.returns-in-Err g c).After-load-word may) (subst (λ x. Performed t None (going_act x word) (Saw other) me now) is c.in-Err.ensures.did));
 }

@@ -39,10 +39,10 @@ loop-preserved-in-Err g c = let t = g.C.Condition.means in let inv = c.loop.inva
 pub load-word-requires : goal.load-word-requires
 load-word-requires g c = let t = g.C.Condition.means in let inv = c.loop.invariant in let walk = c.args._walk in let d = c.requires.decides in
     let may = (may_by c.args.going walk c.loop.word c.may_go.result false c.requires.going c.may_go.ensures c.if-may_go.false).1 in
-    (omega arith, (queues_fit g.row.C g.row.N g.met.C.Condition.has_room g.C.Condition, (omega arith, (◌∙◌ {A = TableId} inv.2 (◌∙◌ {A = TableId} c.requires.of (sym c.self.view_is)), can_load t walk c.loop.seat.me d (decided t walk c.loop.word false true c.loop.seat.me d may c.if-word.true inv.6)))))
+    (omega arith, (queues_fit g.row.C g.row.N g.met.C.Condition.has_room g.C.Condition, (omega arith, (◌∙◌ {A = TableId} inv.2 (◌∙◌ {A = TableId} c.requires.of (sym c.self.view_is)), can_load t walk c.loop.seat.me d (decided t walk c.loop.word false true c.loop.seat.me d may (sym c.spin.ensures ∙ c.if-spin.true) inv.6)))))
 
-pub loop-preserved-then-word : goal.loop-preserved-then-word
-loop-preserved-then-word g c = let t = g.C.Condition.means in let inv = c.loop.invariant in let walk = c.args._walk in let d = c.requires.decides in let me = c.loop.seat.me in let now = c.load-word.new.seat.me in let word = c.load-word.result in
+pub loop-preserved-then-spin : goal.loop-preserved-then-spin
+loop-preserved-then-spin g c = let t = g.C.Condition.means in let inv = c.loop.invariant in let walk = c.args._walk in let d = c.requires.decides in let me = c.loop.seat.me in let now = c.load-word.new.seat.me in let word = c.load-word.result in
     let may = (may_by c.args.going walk c.loop.word c.may_go.result false c.requires.going c.may_go.ensures c.if-may_go.false).1 in
     let did = c.load-word.ensures.did in (
       tt,
@@ -51,13 +51,13 @@ loop-preserved-then-word g c = let t = g.C.Condition.means in let inv = c.loop.i
       c.load-word.ensures.word,
       since_then None _ _ _ inv.4 (since t None LoadWord (Saw word) me now did),
       saw_held t LoadWord word me now did ∙ inv.5,
-      loads t walk word me now d (decided t walk c.loop.word false true me d may c.if-word.true inv.6) did,
+      loads t walk word me now d (decided t walk c.loop.word false true me d may (sym c.spin.ensures ∙ c.if-spin.true) inv.6) did,
     )
 
 pub exchange_to_take-requires : goal.exchange_to_take-requires
 exchange_to_take-requires g c = let t = g.C.Condition.means in let inv = c.loop.invariant in let walk = c.args._walk in let is = c.requires.going in let d = c.requires.decides in
     let may = (may_by c.args.going walk c.loop.word c.may_go.result false is c.may_go.ensures c.if-may_go.false).1 in
-    (omega arith, (queues_fit g.row.C g.row.N g.met.C.Condition.has_room g.C.Condition, (omega arith, (◌∙◌ {A = TableId} inv.2 (◌∙◌ {A = TableId} c.requires.of (sym c.self.view_is)), (inv.3, subst (λ x. CanStep t None (TakeQueues x c.loop.word) c.loop.seat.me) (ap taking_for (sym is) ∙ sym c.taking-taking.ensures) (can_take t walk c.loop.word c.loop.seat.me d (decided t walk c.loop.word false false c.loop.seat.me d may c.if-word.false inv.6)))))))
+    (omega arith, (queues_fit g.row.C g.row.N g.met.C.Condition.has_room g.C.Condition, (omega arith, (◌∙◌ {A = TableId} inv.2 (◌∙◌ {A = TableId} c.requires.of (sym c.self.view_is)), (inv.3, subst (λ x. CanStep t None (TakeQueues x c.loop.word) c.loop.seat.me) (ap taking_for (sym is) ∙ sym c.taking-taking.ensures) (can_take t walk c.loop.word c.loop.seat.me d (decided t walk c.loop.word false false c.loop.seat.me d may (sym c.spin.ensures ∙ c.if-spin.false) inv.6)))))))
 
 pub returns-in-Ok-exchange_to_take : goal.returns-in-Ok-exchange_to_take
 returns-in-Ok-exchange_to_take g c = record {
@@ -67,7 +67,7 @@ returns-in-Ok-exchange_to_take g c = record {
       let may = (may_by c.args.going walk c.loop.word c.may_go.result false is c.may_go.ensures c.if-may_go.false).1 in
       let taking = c.taking-taking.ensures ∙ ap taking_for is in
       subst (λ w. HasTakenAt t walk w c.args.seat.now.me now) (sym (c.taken.ensures ∙ ap (λ x. word_taken x c.loop.word) taking))
-      (took t walk c.loop.word c.args.seat.now.me me now d inv.3 inv.5 (decided t walk c.loop.word false false me d may c.if-word.false inv.6) (subst (λ x. Performed t None (TakeQueues x c.loop.word) Made me now) taking c.in-Ok-exchange_to_take.ensures.did));
+      (took t walk c.loop.word c.args.seat.now.me me now d inv.3 inv.5 (decided t walk c.loop.word false false me d may (sym c.spin.ensures ∙ c.if-spin.false) inv.6) (subst (λ x. Performed t None (TakeQueues x c.loop.word) Made me now) taking c.in-Ok-exchange_to_take.ensures.did));
 }
 
 pub loop-preserved : goal.loop-preserved
@@ -81,5 +81,5 @@ loop-preserved g c = let t = g.C.Condition.means in let inv = c.loop.invariant i
       c.in-Err-exchange_to_take.ensures.word,
       since_then None _ _ _ inv.4 (since t None (TakeQueues c.taking-taking.result c.loop.word) (Saw other) me now did),
       saw_held t (TakeQueues c.taking-taking.result c.loop.word) other me now did ∙ inv.5,
-      misses_taking t walk c.loop.word other me now d (decided t walk c.loop.word false false me d may c.if-word.false inv.6) (subst (λ x. Performed t None (TakeQueues x c.loop.word) (Saw other) me now) taking did),
+      misses_taking t walk c.loop.word other me now d (decided t walk c.loop.word false false me d may (sym c.spin.ensures ∙ c.if-spin.false) inv.6) (subst (λ x. Performed t None (TakeQueues x c.loop.word) (Saw other) me now) taking did),
     )

@@ -27,7 +27,8 @@ pub load_to_scan-requires : goal.load_to_scan-requires
 load_to_scan-requires g c = let t = g.C.Condition.means in let word = c.args.word in let me = c.arm_flag.new.seat.me in let took = c.requires.taken in let is = arms_to_wait t c.args.wait c.args.again word c.args.seat.now.me c.args.seat.now.me me took c.arm_flag.ensures.did in let lock = (the me.0).stood.lock in
     let tells = took.tells ∙ ap (λ (l : Lists g.row.C.Denot). (bits_of l.lock).conditional) (sym is.kept.stood) in
     let has = subst (HasRow c.args.wait.on c.args.row.now) (ap row_in (sym is.kept.held)) c.requires.row in
-    (omega arith, (queues_fit g.row.C g.row.N g.met.C.Condition.has_room g.C.Condition, (omega arith, (omega (arith, g.met.C.Condition.has_cells), (◌∙◌ {A = TableId} c.arm_flag.ensures.seat c.requires.of, (refl, (loads_or_queues t c.args.wait c.args.again word c.lacks_row.result me c.lacks_row.ensures is.at, (is.taken, λ full. scans_at_hand t c.args.wait.on word c.args.row.now (row_in (the me.0).at.held) lock has tells (sym c.lacks_row.ensures ∙ full)))))))))
+    let lacks = rw c.parts-parts.ensures at c.lacks_row.ensures in
+    rw c.parts-parts.ensures (omega arith, (queues_fit g.row.C g.row.N g.met.C.Condition.has_room g.C.Condition, (omega arith, (omega (arith, g.met.C.Condition.has_cells), (◌∙◌ {A = TableId} c.arm_flag.ensures.seat c.requires.of, (refl, (loads_or_queues t c.args.wait c.args.again word c.lacks_row.result me lacks is.at, (is.taken, λ full. scans_at_hand t c.args.wait.on word c.args.row.now (row_in (the me.0).at.held) lock has tells (sym lacks ∙ full)))))))))
 
 pub scan_and_queue_in_hand-scan-requires : goal.scan_and_queue_in_hand-scan-requires
 scan_and_queue_in_hand-scan-requires g c = let after = (goal.at.scan_and_queue_in_hand-scan-requires g c).After-load_to_scan in let is = armed g after in let me = c.load_to_scan.new.seat.me in
@@ -35,12 +36,12 @@ scan_and_queue_in_hand-scan-requires g c = let after = (goal.at.scan_and_queue_i
     (omega arith, (queues_fit g.row.C g.row.N g.met.C.Condition.has_room g.C.Condition, (omega arith, (omega (arith, g.met.C.Condition.has_cells), (◌∙◌ {A = TableId} c.load_to_scan.ensures.seat (sym c.self.view_is), (c.load_to_scan.ensures.ready.taken, (c.requires.range, (c.requires.number.1, subst (λ n. times n (the me.0).stood ≡ 0) (sym (number_is g after)) nowhere))))))))
 
 pub put_back-requires : goal.put_back-requires
-put_back-requires g c = let t = g.C.Condition.means in let scan = c.scan_and_queue_in_hand-scan in let e = scan.ensures in let after = (goal.at.put_back-requires g c).After-load_to_scan in let is = c.load_to_scan.ensures.ready in let me1 = c.load_to_scan.new.seat.me in let walk = InWait c.args.wait (InQueuing c.args.again (QueueToWait c.args.word)) in
+put_back-requires g c = let t = g.C.Condition.means in let scan = c.scan_and_queue_in_hand-scan in let e = scan.ensures in let after = (goal.at.put_back-requires g c).After-load_to_scan in let is = rw c.parts-parts.ensures at c.load_to_scan.ensures.ready in let me1 = c.load_to_scan.new.seat.me in let walk = InWait c.args.wait (InQueuing c.args.again (QueueToWait c.args.word)) in
     let some = ap not c.is_empty-some.ensures ∙ took_some (woken_of (meets_at t c.load_to_scan.new.row) (the me1.0).stood.lock) scan.result.0.woken.items e.woken in
     (omega arith, (queues_fit g.row.C g.row.N g.met.C.Condition.has_room g.C.Condition, (omega arith, (◌∙◌ {A = TableId} e.seat.0 c.load_to_scan.ensures.seat, (tt, (refl, (c.requires.taken.packs, (works t walk me1 scan.new.seat.me is.at refl e.seat.1, hand_scanned t (Waited c.args.wait c.args.again) walk c.load_to_scan.new.row c.args.number _ _ me1 scan.new.seat.me is (number_is g after) e.seat.1 (λ last. e.lists) (λ last. some) (λ last. e.bits)))))))))
 
 pub pay-requires : goal.pay-requires
-pay-requires g c = let t = g.C.Condition.means in let scan = c.scan_and_queue_in_hand-scan in let now = c.put_back.new.seat.me in let walk = InWait c.args.wait (InQueuing c.args.again (QueueToWait c.args.word)) in
+pay-requires g c = let t = g.C.Condition.means in let scan = c.scan_and_queue_in_hand-scan in let now = c.put_back.new.seat.me in let walk = InWait c.args.wait (InQueuing c.args.again (QueueToWait c.parts-parts.result)) in
     let owed = c.put_back.ensures.owes in
     (omega arith, (queues_fit g.row.C g.row.N g.met.C.Condition.has_room g.C.Condition, (omega arith, (c.put_back.ensures.seat, (record { pays = refl; free = refl; more = refl }, (subst (λ ns. HasReached t (Await c.args.wait) (pay_waiting c.args.wait (has_some ns)) now) (sym owed) c.put_back.ensures.returned, owed ∙ sym (woken_is t walk c.load_to_scan.new.row scan.result.0.woken.items c.load_to_scan.new.seat.me scan.new.seat.me c.load_to_scan.ensures.ready scan.ensures.seat.1 scan.ensures.woken)))))))
 

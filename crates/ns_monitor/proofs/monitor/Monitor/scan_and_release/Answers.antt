@@ -11,15 +11,15 @@ use Rattle.ns_monitor.proofs.monitor.Monitor.scan_and_release.Goals as goal
 
 pub load_to_scan-requires : goal.load_to_scan-requires
 load_to_scan-requires g c = let t = g.C.Condition.means in let word = c.args.word in let me = c.args.seat.now.me in
-    (omega arith, (queues_fit g.row.C g.row.N g.met.C.Condition.has_room g.C.Condition, (omega arith, (omega (arith, g.met.C.Condition.has_cells), (c.requires.of, (refl, (subst (λ w. IsAtPlace t w me) (moves_in (λ place. InRelease c.args.releasing place) word.cond (scan_place g.row.N word 0) (ScanAndRelease word)) c.requires.at, (c.requires.taken, λ none. scans_plain t _ (row_in (the me.0).at.held) (the me.0).stood.lock (sym c.requires.tells ∙ none)))))))))
+    rw c.parts-parts.ensures (omega arith, (queues_fit g.row.C g.row.N g.met.C.Condition.has_room g.C.Condition, (omega arith, (omega (arith, g.met.C.Condition.has_cells), (c.requires.of, (refl, (subst (λ w. IsAtPlace t w me) (moves_in (λ place. InRelease c.args.releasing place) word.cond (scan_place g.row.N word 0) (ScanAndRelease word)) c.requires.at, (c.requires.taken, λ none. scans_plain t _ (row_in (the me.0).at.held) (the me.0).stood.lock (sym c.requires.tells ∙ none)))))))))
 
 pub put_back-requires : goal.put_back-requires
-put_back-requires g c = let t = g.C.Condition.means in let scan = c.scan_in_hand-scan in let e = scan.ensures in let is = c.load_to_scan.ensures.ready in let me1 = c.load_to_scan.new.seat.me in let walk = InRelease c.args.releasing (ScanAndRelease c.args.word) in
+put_back-requires g c = let t = g.C.Condition.means in let scan = c.scan_in_hand-scan in let e = scan.ensures in let is = rw c.parts-parts.ensures at c.load_to_scan.ensures.ready in let me1 = c.load_to_scan.new.seat.me in let walk = InRelease c.args.releasing (ScanAndRelease c.args.word) in
     let some = ap not c.is_empty-some.ensures ∙ took_some (woken_of (meets_at t c.load_to_scan.new.row) (the me1.0).stood.lock) scan.result.0.woken.items e.woken in
     (omega arith, (queues_fit g.row.C g.row.N g.met.C.Condition.has_room g.C.Condition, (omega arith, (◌∙◌ {A = TableId} e.seat.0 c.load_to_scan.ensures.seat, (tt, (refl, (c.requires.word, (works t walk me1 scan.new.seat.me is.at refl e.seat.1, hand_scanned t (Released c.args.releasing) walk c.load_to_scan.new.row (the me1.0).at.seat _ _ me1 scan.new.seat.me is refl e.seat.1 (λ last. e.lists) (λ last. some) (λ last. e.bits)))))))))
 
 pub pay-requires : goal.pay-requires
-pay-requires g c = let t = g.C.Condition.means in let scan = c.scan_in_hand-scan in let now = c.put_back.new.seat.me in let walk = InRelease c.args.releasing (ScanAndRelease c.args.word) in
+pay-requires g c = let t = g.C.Condition.means in let scan = c.scan_in_hand-scan in let now = c.put_back.new.seat.me in let walk = InRelease c.args.releasing (ScanAndRelease c.parts-parts.result) in
     let owed = c.put_back.ensures.owes in
     (omega arith, (queues_fit g.row.C g.row.N g.met.C.Condition.has_room g.C.Condition, (omega arith, (c.put_back.ensures.seat, (record { pays = refl; free = refl; more = refl }, (subst (λ ns. HasReached t (TheRequest.Release c.args.releasing) (pay_releasing c.args.releasing (has_some ns)) now) (sym owed) c.put_back.ensures.returned, owed ∙ sym (woken_is t walk c.load_to_scan.new.row scan.result.0.woken.items c.load_to_scan.new.seat.me scan.new.seat.me c.load_to_scan.ensures.ready scan.ensures.seat.1 scan.ensures.woken)))))))
 

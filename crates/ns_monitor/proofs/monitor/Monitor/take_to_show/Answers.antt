@@ -1,4 +1,4 @@
-use Rattle.std.proofs.Common.{◌∙◌, true, false, Some, None, rules}
+use Rattle.std.proofs.Common.{◌∙◌, true, false, Some, None, rules, sym}
 use Rattle.ns_gate.specs.Prelude.{TableId, IsAtPlace, InShow, LoadWord, Made, Saw, TakeQueues, ToChange}
 use Rattle.ns_gate.proofs.Calls.{since, since_then}
 use Rattle.ns_monitor.proofs.Shows.{has_stood, loads_to_show, misses_to_show, shows_by, takes_to_show}
@@ -13,13 +13,13 @@ pub loop-init : goal.loop-init
 loop-init g c = let load = c.load-word in let led = loads_first g.C.Condition.means showing c.show.result load.result c.args.seat.now.me load.new.seat.me c.show.ensures.first c.requires.rest load.ensures.did in
     (tt, tt, load.ensures.seat, load.ensures.word, led.1, led.0)
 
-pub loop-preserved-then-word : goal.loop-preserved-then-word
-loop-preserved-then-word g c = let t = g.C.Condition.means in let inv = c.loop.invariant in let load = c.load-word-then-word in let me = c.loop.seat.me in let now = load.new.seat.me in
-    (tt, tt, ◌∙◌ {A = TableId} load.ensures.seat inv.2, load.ensures.word, since_then (Some showing) _ _ _ inv.4 (since t None LoadWord (Saw load.result) me now load.ensures.did), loads_to_show t load.result me now (shows_by t c.loop.word true me c.if-word.true inv.5) load.ensures.did)
+pub loop-preserved-then-spin : goal.loop-preserved-then-spin
+loop-preserved-then-spin g c = let t = g.C.Condition.means in let inv = c.loop.invariant in let load = c.load-word-then-spin in let me = c.loop.seat.me in let now = load.new.seat.me in
+    (tt, tt, ◌∙◌ {A = TableId} load.ensures.seat inv.2, load.ensures.word, since_then (Some showing) _ _ _ inv.4 (since t None LoadWord (Saw load.result) me now load.ensures.did), loads_to_show t load.result me now (shows_by t c.loop.word true me (sym c.spin.ensures ∙ c.if-spin.true) inv.5) load.ensures.did)
 
 -- nobody has the queues
 free : (g : Over) (c : In-Ok g) → IsAtPlace g.C.Condition.means (InShow (TakeToShow c.loop.word)) c.loop.seat.me
-free g c = shows_by g.C.Condition.means c.loop.word false c.loop.seat.me c.if-word.false c.loop.invariant.5
+free g c = shows_by g.C.Condition.means c.loop.word false c.loop.seat.me (sym c.spin.ensures ∙ c.if-spin.false) c.loop.invariant.5
 
 pub returns-in-Ok : goal.returns-in-Ok
 returns-in-Ok g c = record {
@@ -33,4 +33,4 @@ returns-in-Ok g c = record {
 
 pub loop-preserved : goal.loop-preserved
 loop-preserved g c = let t = g.C.Condition.means in let inv = c.loop.invariant in let tries = c.exchange_to_take in let me = c.loop.seat.me in let now = tries.new.seat.me in let other = c.in-Err.other in
-    (tt, tt, ◌∙◌ {A = TableId} tries.ensures.seat inv.2, c.in-Err.ensures.word, since_then (Some showing) _ _ _ inv.4 (since t None (TakeQueues ToChange c.loop.word) (Saw other) me now c.in-Err.ensures.did), misses_to_show t c.loop.word other me now (shows_by t c.loop.word false me c.if-word.false inv.5) c.in-Err.ensures.did)
+    (tt, tt, ◌∙◌ {A = TableId} tries.ensures.seat inv.2, c.in-Err.ensures.word, since_then (Some showing) _ _ _ inv.4 (since t None (TakeQueues ToChange c.loop.word) (Saw other) me now c.in-Err.ensures.did), misses_to_show t c.loop.word other me now (shows_by t c.loop.word false me (sym c.spin.ensures ∙ c.if-spin.false) inv.5) c.in-Err.ensures.did)

@@ -10,7 +10,7 @@ push_back-requires g c = (
     tt,
     (
       low_at c.args.waiters.now c.loop-waiter.waiter-index c.waiter-item.result c.requires.below c.loop-waiter-test.true c.waiter-item.is,
-      next_free _ c.loop-waiter.self c.args.waiters.now c.loop-waiter.waiter-index c.waiter-item.result c.requires.once c.loop-waiter-test.true c.waiter-item.is c.loop-waiter.invariant,
+      next_free _ c.loop-waiter.self c.args.waiters.now c.loop-waiter.waiter-index c.waiter-item.result c.requires.once c.requires.free c.loop-waiter-test.true c.waiter-item.is c.loop-waiter.invariant,
     ),
   ),
 )

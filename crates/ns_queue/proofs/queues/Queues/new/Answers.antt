@@ -1,4 +1,4 @@
-use Rattle.ns_queue.proofs.Orders.{list_small}
+use Rattle.ns_queue.proofs.Orders.{list_small, orderly_fresh}
 use Rattle.ns_queue.proofs.queues.Queues.new.Goals as goal
 
 pub new-requires-2 : goal.new-requires-2
@@ -12,3 +12,6 @@ new-requires-4 g c = list_small _ g.met.C.Queueable.list_fits
 
 pub new-requires-5 : goal.new-requires-5
 new-requires-5 g c = list_small _ g.met.C.Queueable.list_fits
+
+pub invariant_of-result : goal.invariant_of-result
+invariant_of-result g c = rw (c.new.ensures, c.new-2.ensures, c.new-3.ensures, c.new-4.ensures, c.new-5.ensures) orderly_fresh

@@ -1,19 +1,31 @@
-use Rattle.std.proofs.Common.{refl, arith}
+use Rattle.std.proofs.Common.{refl, arith, not, eqb, map}
+use Rattle.std.specs.List.{sum_by}
+use Rattle.ns_queue.specs.Waiters.{times_in}
 use Rattle.ns_queue.specs.declared.waiter.Which.TheVariants.{Lock}
-use Rattle.ns_queue.proofs.Inside.{lock_left, neither, removed, shape, told_no, told_yes}
-use Rattle.ns_queue.proofs.Parts.{removed_of}
+use Rattle.ns_queue.proofs.Inside.{lock_left, neither, shape, times_in-filter, told_no, told_yes}
+use Rattle.ns_queue.proofs.Orders.{list_small}
+use Rattle.ns_queue.proofs.Outside.{all_below, low_of, orderly_outside}
+use Rattle.ns_queue.proofs.Parts.{lock_alone, removed_of}
 use Rattle.ns_queue.proofs.queues.Queues.remove.Goals as goal
 
 pub invariant_of-self : goal.invariant_of-self
 invariant_of-self g c = lock_left _ _ _ c.args.seat c.self.invariant c.remove.ensures.removed
 
+pub with-requires : goal.with-requires
+with-requires g c =
+    let here = told_yes c.stands_in_any.result _ c.if-not-stands_in_any.false c.stands_in_any.ensures.0 in
+    low_of (sum_by (times_in c.args.seat) (map (λ u. u.items) c.self.inside.cvs)) c.args.seat (all_below c.self.inside.lock c.self.inside.cvs c.self.invariant c.args.seat) here
+
+pub drop_from_all-requires : goal.drop_from_all-requires
+drop_from_all-requires g c = (list_small _ g.met.C.Queueable.list_fits, all_below c.self.inside.lock c.self.inside.cvs c.self.invariant)
+
 pub invariant_of-self-2 : goal.invariant_of-self-2
-invariant_of-self-2 g c = removed _ _ _ _ c.args.seat c.self.invariant c.remove.ensures.removed c.drop_from_all.ensures
+invariant_of-self-2 g c = orderly_outside _ _ _ _ c.with.result c.self.invariant (λ seat. rw c.remove.ensures.removed (times_in-filter (λ w. not (eqb w.seat c.args.seat)) c.self.inside.lock seat)) c.drop_from_all.ensures
 
 pub returns-then-remove-clause-removed : goal.returns-then-remove-clause-removed
 returns-then-remove-clause-removed g c =
     let here = told_yes c.remove.result _ c.if-remove.true c.remove.ensures.stood.0 in
-    rw (← c.self.view_is, c.remove.ensures.removed, removed_of (shape c.self.inside.lock c.self.inside.cvs) Lock c.args.seat c.self.invariant tt here) refl
+    rw (← c.self.view_is, c.remove.ensures.removed, removed_of (shape c.self.inside.lock c.self.inside.cvs) Lock c.args.seat c.self.invariant (lock_alone (shape c.self.inside.lock c.self.inside.cvs) c.args.seat c.self.invariant here) tt here) refl
 
 pub returns-then-not-stands_in_any-clause-stood : goal.returns-then-not-stands_in_any-clause-stood
 returns-then-not-stands_in_any-clause-stood g c =

@@ -10,4 +10,4 @@ offset_bounds-self-inside-k g c = offset_fits c.args.k _ c.requires g.met.C.Queu
 pub taken_set-requires : goal.taken_set-requires
 taken_set-requires g c =
     let low = have_seats_at _ _ c.args.k c.index-self-k.result c.self.invariant c.requires in
-    rw (c.as_slice.ensures.value, c.signaled-taken.ensures) (below_signaled (get_or c.self.inside.cvs c.args.k c.index-self-k.result).items low)
+    rw (c.as_slice.ensures.value, c.signaled.ensures) (below_signaled (get_or c.self.inside.cvs c.args.k c.index-self-k.result).items low)

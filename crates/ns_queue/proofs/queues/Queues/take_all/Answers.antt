@@ -1,20 +1,33 @@
-use Rattle.std.proofs.Common.{ap, arith}
-use Rattle.ns_queue.specs.Waiters.{times_in}
+use Rattle.std.proofs.Common.{ap, arith, sym, ◌∙◌}
+use Rattle.ns_queue.specs.declared.waiter.Which.TheVariants.{Cv}
+use Rattle.ns_queue.specs.Queues.{waiters_of}
+use Rattle.ns_queue.specs.Signals.{taken_set}
+use Rattle.ns_queue.proofs.Appended.{have_seats_at}
 use Rattle.ns_queue.proofs.Orders.{offset_fits, list_small}
-use Rattle.ns_queue.proofs.Inside.{list_put, list_lessened}
+use Rattle.ns_queue.proofs.Inside.{list_at, shape}
+use Rattle.ns_queue.proofs.Outside.{all_below, left_outside, orderly_outside}
 use Rattle.ns_queue.proofs.queues.Queues.take_all.Goals as goal
 
 pub offset_bounds-self-inside-k : goal.offset_bounds-self-inside-k
 offset_bounds-self-inside-k g c = offset_fits c.args.k _ c.requires g.met.C.Queueable.list_fits
 
+pub copied-all-requires : goal.copied-all-requires
+copied-all-requires g c = list_small _ g.met.C.Queueable.list_fits
+
+pub taken_set-requires : goal.taken_set-requires
+taken_set-requires g c = rw (c.as_slice.ensures.value, c.copied-all.ensures) (have_seats_at _ _ c.args.k c.index-self-k.result c.self.invariant c.requires)
+
+pub drop_from_all-requires : goal.drop_from_all-requires
+drop_from_all-requires g c = (list_small _ g.met.C.Queueable.list_fits, all_below c.self.inside.lock c.self.inside.cvs c.self.invariant)
+
 pub invariant_of-self : goal.invariant_of-self
-invariant_of-self g c = list_lessened c.self.inside.lock c.self.inside.cvs c.args.k c.index-self-k.result c.clear.new.self c.self.invariant c.requires (λ seat. omega (arith, ap (times_in seat) c.clear.ensures))
+invariant_of-self g c = orderly_outside c.self.inside.lock c.self.inside.lock c.self.inside.cvs _ c.taken_set.result c.self.invariant (λ seat. omega arith) c.drop_from_all.ensures
+
+pub returns-clause-taken : goal.returns-clause-taken
+returns-clause-taken g c = rw (← c.self.view_is, list_at _ _ c.args.k c.index-self-k.result c.self.invariant c.requires) c.copied-all.ensures
 
 pub returns-clause-left : goal.returns-clause-left
-returns-clause-left g c = rw (← c.self.view_is, ← c.clear.ensures) (list_put _ _ c.args.k _)
-
-pub copied-taken-requires : goal.copied-taken-requires
-copied-taken-requires g c = list_small _ g.met.C.Queueable.list_fits
-
-pub clear-requires : goal.clear-requires
-clear-requires g c = list_small _ g.met.C.Queueable.list_fits
+returns-clause-left g c =
+    let lock = c.self.inside.lock in let cvs = c.self.inside.cvs in let ws = waiters_of (shape lock cvs) (Cv c.args.k) in
+    rw (← c.self.view_is) (left_outside lock cvs _ c.taken_set.result _
+    (c.taken_set.ensures ∙ ap taken_set (c.as_slice.ensures.value ∙ (c.copied-all.ensures ∙ sym (list_at lock cvs c.args.k c.index-self-k.result c.self.invariant c.requires)))) c.drop_from_all.ensures)

@@ -1,0 +1,6 @@
+use Rattle.std.proofs.Common.{ap, ◌∙◌}
+use Rattle.ns_queue.specs.Waiters.{times_in}
+use Rattle.ns_queue.proofs.queues.drop_those.Goals as goal
+
+pub keep_outside-kept-requires : goal.keep_outside-kept-requires
+keep_outside-kept-requires g c = λ seat high. ap (times_in seat) c.as_mut_slice.ensures.value ∙ c.requires seat high

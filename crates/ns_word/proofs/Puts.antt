@@ -1,0 +1,55 @@
+-- One bit of a word's number, or the count of readers, in place of another.
+use Rattle.std.proofs.Common.{◌≡◌, ℕ, ◌+◌, ◌-◌, ◌^◌, ◌<◌, ◌≤◌, ap, ◌∙◌, sym, arith}
+use Rattle.ns_word.specs.Codec.{number_of, word_of}
+use Rattle.ns_word.specs.Encoded.{encoded}
+use Rattle.ns_word.specs.declared.word.Word.{Word}
+use Rattle.ns_word.proofs.Codes.{bit_few, decoded}
+
+-- what is taken from a number and added to it makes the other word's
+pub record Puts (w' : Word) (n old new : ℕ) : Type 0 where
+  pub fits : n - old + new < 2 ^ 64
+  pub is : word_of (n - old + new) ≡ w'
+
+-- the readers of a word whose number fits, and the number of such a word
+readers_few : (w : Word) → number_of w < 2 ^ 64 → w.readers < 2 ^ 56
+readers_few w fits = omega (arith, fits)
+
+number_few : (w : Word) → w.readers < 2 ^ 56 → number_of w < 2 ^ 64
+number_few w few = omega (arith, few, bit_few w.write, bit_few w.spin, bit_few w.waiting, bit_few w.desig, bit_few w.cond, bit_few w.writer_waits, bit_few w.all_false, bit_few w.long)
+
+-- what a word's number has, its number has
+pub has : (w : Word) (n old : ℕ) → word_of n ≡ w → old ≤ number_of w → old ≤ n
+has w n old view less = omega (arith, sym (ap number_of view) ∙ encoded n, less)
+
+pub puts : (w w' : Word) (n old new : ℕ) → word_of n ≡ w → n < 2 ^ 64 → w'.readers ≡ w.readers → old ≤ number_of w → number_of w + new ≡ number_of w' + old → Puts w' n old new
+puts w w' n old new view fits readers less sum =
+    let own : number_of w ≡ n = sym (ap number_of view) ∙ encoded n in
+    let few = readers_few w (rw own fits) in
+    let low = number_few w' (rw readers few) in
+    let made : n - old + new ≡ number_of w' = omega (arith, own, less, sum) in
+    record {
+      fits = rw made low;
+      is = ap word_of made ∙ decoded w';
+    }
+
+-- one reader more
+pub more : (w : Word) (n : ℕ) → word_of n ≡ w → w.readers < 255 → (n + 256 < 2 ^ 64) × (word_of (n + 256) ≡ record w { readers = w.readers + 1 })
+more w n view few =
+    let own : number_of w ≡ n = sym (ap number_of view) ∙ encoded n in
+    let w' : Word = record w { readers = w.readers + 1 } in
+    let low = number_few w (omega (arith, few)) in
+    let high = number_few w' (omega (arith, few)) in
+    let made : n + 256 ≡ number_of w' = omega (arith, own) in
+    (rw made high, ap word_of made ∙ decoded w')
+
+-- one less, where there is one
+pub less : (w : Word) (n : ℕ) → word_of n ≡ w → 0 < w.readers → (256 ≤ n) × (word_of (n - 256) ≡ record w { readers = w.readers - 1 })
+less w n view some =
+    let own : number_of w ≡ n = sym (ap number_of view) ∙ encoded n in
+    let w' : Word = record w { readers = w.readers - 1 } in
+    let made : n - 256 ≡ number_of w' = omega (arith, own, some) in
+    (omega (arith, own, some), ap word_of made ∙ decoded w')
+
+-- and where there is none
+pub none : (w : Word) (n : ℕ) → word_of n ≡ w → w.readers ≡ 0 → word_of n ≡ record w { readers = w.readers - 1 }
+none w n view zero = rw zero (view ∙ ap (λ r. record w { readers = r }) zero)

@@ -1,0 +1,6 @@
+use Rattle.std.proofs.Common.{sym}
+use Rattle.ns_word.specs.Encoded.{encoded}
+use Rattle.ns_word.proofs.number.LockWord.number.Goals as goal
+
+pub returns : goal.returns
+returns c = rw (← c.self.view_is) (sym (encoded c.self.inside.number))

@@ -1,0 +1,7 @@
+use Rattle.std.proofs.Common.{refl}
+use Rattle.ns_word.specs.Codec.{word_of}
+use Rattle.ns_word.proofs.number.LockWord.readers.Goals as goal
+
+pub returns : goal.returns
+unfolding word_of
+returns c = rw (← c.self.view_is) refl

@@ -1,0 +1,21 @@
+use Rattle.std.proofs.Common.{◌<◌, ◌*◌, ◌^◌, rules, refl, ap, ◌∙◌, arith}
+use Rattle.ns_word.specs.Codec.{bit}
+use Rattle.ns_word.proofs.Puts.{Puts, has, puts}
+use Rattle.ns_word.proofs.number.LockWord.with_spin.Goals as goal
+
+pub overflow_sub-number : goal.overflow_sub-number
+overflow_sub-number c =
+    let old = c.valued.ensures.is ∙ ap (λ b. 2 * bit b) c.spin.ensures in
+    has c.args.self c.self.inside.number c.valued.result c.self.view_is (omega (arith, old))
+
+made : (c : goal.After-valued-2) → Puts (record c.args.self { spin = c.args.spin }) c.self.inside.number c.valued.result c.valued-2.result
+made c =
+    let low : c.self.inside.number < 2 ^ 64 = search rules in
+    let old = c.valued.ensures.is ∙ ap (λ b. 2 * bit b) c.spin.ensures in
+    puts c.args.self _ c.self.inside.number c.valued.result c.valued-2.result c.self.view_is low refl (omega (arith, old)) (omega (arith, old, c.valued-2.ensures.is))
+
+pub overflow_add-number : goal.overflow_add-number
+overflow_add-number c = omega (arith, (made c).fits)
+
+pub returns : goal.returns
+returns c = (made c).is
