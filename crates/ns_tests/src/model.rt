@@ -357,3 +357,63 @@ fn a_wait_for_any_is_left_for_all_its_variables(rt: HostRuntime) {
     let of_one = [waits_for_any(first), one];
     assert!(rt; legal(&of_one), "a set of one is that one");
 }
+
+/// The section of seat 0 that begins so.
+fn back_as(mode: Mode, entry: Entry<AtLeast>) -> Happening {
+    section(0, mode, entry, ZEROS, ZEROS, Exit::Plain)
+}
+
+#[test]
+fn a_wait_for_any_comes_back_as_it_ended(rt: HostRuntime) {
+    let both = Cvs::none().with(0).with(2);
+    let left = Event::LeaveAny { who: 0, cvs: both };
+    let signaled = signals(2, &[0]);
+    let by_two = Entry::AfterAny(Some(2));
+    let by_none = Entry::AfterAny(None);
+    let late = Entry::AfterCv(0, Answer::TimedOut);
+    let table: [(Happening, Happening, bool, &str); 8] = [
+        (signaled, back_as(Mode::Write, by_two), true, "woken"),
+        (left, back_as(Mode::Write, by_none), true, "left"),
+        (
+            left,
+            back_as(Mode::Write, by_two),
+            false,
+            "left, and says woken",
+        ),
+        (
+            signals(1, &[]),
+            back_as(Mode::Write, by_none),
+            false,
+            "neither",
+        ),
+        (
+            signaled,
+            back_as(Mode::Read, by_two),
+            false,
+            "woken, as a reader",
+        ),
+        (
+            left,
+            back_as(Mode::Read, by_none),
+            false,
+            "left, as a reader",
+        ),
+        (
+            left,
+            back_as(Mode::Write, late),
+            false,
+            "left, as of one alone",
+        ),
+        (signaled, left, false, "one that was woken doesn't leave"),
+    ];
+    for (then, last, expected, label) in table.iter() {
+        let three = [waits_for_any(both), *then, *last];
+        assert_eq!(rt; legal(&three), *expected, "{label}");
+    }
+    let first = Cvs::none().with(0);
+    let of_one = [
+        waits(0, Mode::Write),
+        Event::LeaveAny { who: 0, cvs: first },
+    ];
+    assert!(rt; legal(&of_one), "one alone is a set of one");
+}
