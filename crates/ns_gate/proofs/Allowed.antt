@@ -3,7 +3,9 @@ use Rattle.std.specs.Prelude.{IsSome}
 use Rattle.std.proofs.Common.{◌≡◌, ◌≢◌, ◌⊎◌, inl, inr, ℕ, suc, ◌+◌, ◌<◌, Bool, true, false, cond, eqb, if◌then◌else◌, List, [], ◌∷◌, length, Option, None, Some, set, get_or, refl, ap, sym, ◌∙◌, subst, arith, eq-eqb, length-set, take, drop, slice_set}
 use Rattle.std.proofs.lemmas.Bool.{ne_eqb, cases_eq}
 use Rattle.std.proofs.lemmas.List.{get_or-set_same, get_or-set_other, set-get_or}
-use Rattle.ns_gate.specs.Prelude.{Me, takes, gives, rest, Valid, homes_after, carried_after, Allows, GateView, Views, Homes, Shows, AtHome, Underlying, IsRuled, Holds, the, IsOne, walk_by, act_by, MayBegin, CanStep, HasStepped, PerformedWith, IsLoad, IsStoreOf, IsExchange, MayLoad, MayStore, MayExchange, carried_by, lists_scanned, next_owed, content_by, word_at, standing_after, Truths, QuietKeeps, Event, Read, Write, Mode, Lists, woken_of, seats_of, view_in, number_of, word_of, found_of, exchanged, scanned, owes_more, row_in, before_in, SectionFits, has_some, bits_of, ActFits, CanLeave, CanWait, HasMode, OwesOne, Part, part_of, Effect, newly_held, section_of, exit_for, changed, moves, owed_after, change_found, change_commits, waited_in, meets_at, flags_with, mode_for, want_of, judge_of, has_queues, word_acquired, word_taken, word_returned, word_released, word_released_returning, releasing_of, LoadWord, Acquire, TakeQueues, ReturnQueues, Release, ReleaseReturning, WaitReturning, LoadCell, JudgeQuiet, JudgeMet, StoreCell, ArmFlag, PayWake, LoadFlag, Act, QueueSelf, LeaveSelf, WakeWaiters, Nothing, Change, Saw, Made, Cell, Quiet, Tested, Flag, Paid, Found, Queue, GetLoad, TryLoad, ScanAndRelease, WakeAndReturn, ReturnShown, Leave, QueueToWait, TestLast, InQueuing, InLeaving, Subject, OnCondition, OnVariable, Held, InTry, InAcquire, InRelease, InCells, InWait, InSignal, InShow, Walk, Arrival, Writer, QuietWriter, Reader, Releasing, ToChange, ToQueue, Taking, Word}
+use Rattle.ns_gate.specs.Prelude.{Owed}
+use Rattle.ns_word.specs.Owed.{called_of}
+use Rattle.ns_gate.specs.Prelude.{Me, takes, gives, rest, Valid, homes_after, carried_after, Allows, GateView, Views, Homes, Shows, AtHome, Underlying, IsRuled, Holds, the, IsOne, walk_by, act_by, MayBegin, CanStep, HasStepped, PerformedWith, IsLoad, IsStoreOf, IsExchange, MayLoad, MayStore, MayExchange, carried_by, lists_scanned, next_owed, content_by, word_at, standing_after, Truths, QuietKeeps, Event, Read, Write, Mode, Lists, woken_of, view_in, number_of, word_of, found_of, exchanged, scanned, owes_more, row_in, before_in, SectionFits, has_some, bits_of, ActFits, CanLeave, CanWait, HasMode, OwesOne, Part, part_of, Effect, newly_held, section_of, exit_for, changed, moves, owed_after, change_found, change_commits, waited_in, meets_at, flags_with, mode_for, want_of, judge_of, has_queues, word_acquired, word_taken, word_returned, word_released, word_released_returning, releasing_of, LoadWord, Acquire, TakeQueues, ReturnQueues, Release, ReleaseReturning, WaitReturning, LoadCell, JudgeQuiet, JudgeMet, StoreCell, ArmFlag, PayWake, LoadFlag, Act, QueueSelf, LeaveSelf, WakeWaiters, Nothing, Change, Saw, Made, Cell, Quiet, Tested, Flag, Paid, Found, Queue, GetLoad, TryLoad, ScanAndRelease, WakeAndReturn, ReturnShown, Leave, QueueToWait, TestLast, InQueuing, InLeaving, Subject, OnCondition, OnVariable, Held, InTry, InAcquire, InRelease, InCells, InWait, InSignal, InShow, Walk, Arrival, Writer, QuietWriter, Reader, Releasing, ToChange, ToQueue, Taking, Word}
 use Rattle.atomic_table.specs.Table.{Act as TableAct, keeps as keeps_slots}
 use Rattle.ns_seats.proofs.Views.{one_is}
 use Rattle.ns_gate.proofs.Keeps.{none_takes, hand_of, its_fit, between, lawful_between, stands_between, walk_in, now, later, did, did_from, ruled}
@@ -109,10 +111,10 @@ returning_has (InTry mode TryLoad) e = absurd (cc)
 returning_has (InCells (GetLoad i)) e = absurd (cc)
 returning_has walk e = absurd (cc)
 
--- who is owed the next wake, where one is owed
-owes_some : (seat_count : ℕ) (owed : List ℕ) → OwesOne seat_count owed → (others : List ℕ) × (owed ≡ next_owed owed ∷ others) × (next_owed owed < seat_count)
+-- the wake that is owed next, where one is owed
+owes_some : (seat_count : ℕ) (owed : List Owed) → OwesOne seat_count owed → (others : List Owed) × (owed ≡ next_owed owed ∷ others) × ((next_owed owed).seat < seat_count)
 owes_some seat_count [] one = absurd one
-owes_some seat_count (woken ∷ others) one = (others, refl, one)
+owes_some seat_count (wake ∷ others) one = (others, refl, one)
 
 module _ {C : Type 0} {N : ℕ} (truths : Truths C) (cells : 0 < N) (quiet : QuietKeeps N truths) (seat_count id : ℕ) (b : Option (Walk C)) where
   abbrev Slots : Type 0
@@ -120,7 +122,7 @@ module _ {C : Type 0} {N : ℕ} (truths : Truths C) (cells : 0 < N) (quiet : Qui
 
   -- the step was this act, found this, and told this content
   abbrev Makes : Act C → Found → ℕ → GateView C N → GateView C N → Type 0
-  Makes act found k v w = (d : HasStepped truths b found v w) × (want_of d.made.step.walk ≡ act) × (k ≡ content_by v.at.seat act d.old)
+  Makes act found k v w = (d : HasStepped truths b found v w) × (want_of d.made.step.walk ≡ act) × (k ≡ content_by v.at act d.old)
 
   -- what is owed of a step that leaves these words, and tells this content
   abbrev Owes : Homes C → Views C N → GateView C N → Slots → List ℕ → Act C → ℕ → Type 0
@@ -178,7 +180,7 @@ module _ {C : Type 0} {N : ℕ} (truths : Truths C) (cells : 0 < N) (quiet : Qui
     shown = ap word_of r.shows.word_is ∙ decoded g.state.word
 
     -- the step, from its effect
-    finish : (act : Act C) → want_of walk ≡ act → (k : ℕ) (found : Found) (part : Part C N) (commits : List (Event C N)) → Effect truths v.at.seat act old found part commits → found_of truths act v.at v.stood k ≡ found → k ≡ content_by v.at.seat act g.state → (words' : List ℕ) → Shows N words' part.word part.row part.flags
+    finish : (act : Act C) → want_of walk ≡ act → (k : ℕ) (found : Found) (part : Part C N) (commits : List (Event C N)) → Effect truths v.at.seat act old found part commits → found_of truths act v.at v.stood k ≡ found → k ≡ content_by v.at act g.state → (words' : List ℕ) → Shows N words' part.word part.row part.flags
         → (a : TableAct (Lists C)) → Valid homes cs a → AtHome part.word.spin part.lists (homes_after homes cs a) → (part.lists ≡ g.state.lists) ⊎ (part.word.spin ≡ false) → carried_after cs a ≡ carried_by act found part.lists cs → Owes homes views v cs words' act k
     finish act wants k found part commits e is tells words' shows a valid home kept carried =
         let e' : Effect truths v.at.seat (want_of walk) old found part commits = subst (λ x. Effect truths v.at.seat x old found part commits) (sym wants) e in
@@ -190,11 +192,11 @@ module _ {C : Type 0} {N : ℕ} (truths : Truths C) (cells : 0 < N) (quiet : Qui
           valid,
           (later truths cells quiet seat_count words homes views g r id v at b may walk walks found part commits e', ruled truths cells quiet seat_count words homes views g r id v at b may walk walks found part commits e' words' (homes_after homes cs a) shows home kept),
           carried ∙ ap (λ x. carried_by act x part.lists cs) (sym is),
-          subst (λ (x : Found). Makes act x k v w) (sym is) (d, ap want_of (walk_is truths b found walk v w d walks) ∙ wants, tells ∙ ap (content_by v.at.seat act) (sym was)),
+          subst (λ (x : Found). Makes act x k v w) (sym is) (d, ap want_of (walk_is truths b found walk v w d walks) ∙ wants, tells ∙ ap (content_by v.at act) (sym was)),
         )
 
     -- nothing changes
-    stays : (act : Act C) → want_of walk ≡ act → (k : ℕ) (found : Found) → Effect truths v.at.seat act old found old [] → found_of truths act v.at v.stood k ≡ found → k ≡ content_by v.at.seat act g.state → cs ≡ carried_by act found g.state.lists cs → (words' : List ℕ) → words' ≡ words → Owes homes views v cs words' act k
+    stays : (act : Act C) → want_of walk ≡ act → (k : ℕ) (found : Found) → Effect truths v.at.seat act old found old [] → found_of truths act v.at v.stood k ≡ found → k ≡ content_by v.at act g.state → cs ≡ carried_by act found g.state.lists cs → (words' : List ℕ) → words' ≡ words → Owes homes views v cs words' act k
     stays act wants k found e is tells carried words' same = finish act wants k found old [] e is tells words' (subst (λ ws. Shows N ws g.state.word g.state.row g.state.flags) (sym same) r.shows) keeps_slots tt r.home (inl refl) carried
 
     -- ---- a load
@@ -224,7 +226,7 @@ module _ {C : Type 0} {N : ℕ} (truths : Truths C) (cells : 0 < N) (quiet : Qui
 
     -- ---- a store
 
-    stores : (content : ℕ) (act : Act C) → IsStoreOf content act → want_of walk ≡ act → Owes homes views v cs (set words (word_at act v) content) act content
+    stores : (content : ℕ) (act : Act C) → IsStoreOf v.at content act → want_of walk ≡ act → Owes homes views v cs (set words (word_at act v) content) act content
     stores content (StoreCell i x) is wants =
         let f = fits (StoreCell i x) wants in
         let h = hand_of (λ (o : Option (Held C N)). HasMode Write o) v.at.held (λ e. e) f.0 in
@@ -237,14 +239,14 @@ module _ {C : Type 0} {N : ℕ} (truths : Truths C) (cells : 0 < N) (quiet : Qui
         subst (λ n. Owes homes views v cs (set words (v.at.seat + (N + 1)) n) ArmFlag n) (sym is)
         (finish ArmFlag wants 1 Made (record old { flags = flags_with g.state.flags v.at.seat 1 }) [] (refl, refl) refl refl (set words (v.at.seat + (N + 1)) 1)
         (shows_flag N words g.state.word g.state.row g.state.flags v.at.seat 1 r.shows (omega (arith, below, few))) keeps_slots tt r.home (inl refl) refl)
-    stores content (PayWake value) is wants =
-        let o = owes_some seat_count v.at.owed (fits (PayWake value) wants) in
+    stores content PayWake is wants =
+        let o = owes_some seat_count v.at.owed (fits PayWake wants) in
         let below = o.2 in
         let few = r.few in
-        let woken = next_owed v.at.owed in
-        subst (λ n. Owes homes views v cs (set words (woken + (N + 1)) n) (PayWake value) n) (sym is)
-        (finish (PayWake value) wants value (Paid (has_some o.0)) (record old { flags = flags_with g.state.flags woken value; owed = o.0 }) [] (woken, o.0, o.1, refl, refl, refl) (ap owes_more o.1) refl (set words (woken + (N + 1)) value)
-        (shows_flag N words g.state.word g.state.row g.state.flags woken value r.shows (omega (arith, below, few))) keeps_slots tt r.home (inl refl) refl)
+        let wake = next_owed v.at.owed in
+        subst (λ n. Owes homes views v cs (set words (wake.seat + (N + 1)) n) PayWake n) (sym is)
+        (finish PayWake wants wake.value (Paid (has_some o.0)) (record old { flags = flags_with g.state.flags wake.seat wake.value; owed = o.0 }) [] (wake, o.0, o.1, refl, refl, refl) (ap owes_more o.1) refl (set words (wake.seat + (N + 1)) wake.value)
+        (shows_flag N words g.state.word g.state.row g.state.flags wake.seat wake.value r.shows (omega (arith, below, few))) keeps_slots tt r.home (inl refl) refl)
     stores content act is wants = absurd is
 
     -- ---- an exchange
@@ -263,7 +265,7 @@ module _ {C : Type 0} {N : ℕ} (truths : Truths C) (cells : 0 < N) (quiet : Qui
 
     -- a compare-exchange of the word last seen
     exchanges : (act : Act C) → want_of walk ≡ act → (last : Word) (made : Found) (part : Part C N) (commits : List (Event C N)) (x y : ℕ) → x ≡ number_of last → y ≡ number_of part.word
-        → number_of g.state.word ≡ content_by v.at.seat act g.state
+        → number_of g.state.word ≡ content_by v.at act g.state
         → ((k : ℕ) → found_of truths act v.at v.stood k ≡ exchanged k last made)
         → ((w : Word) → w ≡ g.state.word → w ≢ last → Effect truths v.at.seat act old (Saw w) old [])
         → ((w : Word) → cs ≡ carried_by act (Saw w) g.state.lists cs)
@@ -284,7 +286,7 @@ module _ {C : Type 0} {N : ℕ} (truths : Truths C) (cells : 0 < N) (quiet : Qui
       k : ℕ
       k = get_or words 0 0
 
-      told : k ≡ content_by v.at.seat act g.state
+      told : k ≡ content_by v.at act g.state
       told = r.shows.word_is ∙ tells
 
     -- the slot stays as it is
@@ -312,9 +314,9 @@ module _ {C : Type 0} {N : ℕ} (truths : Truths C) (cells : 0 < N) (quiet : Qui
     }
 
     -- the queues are put back: what the seat made of what it knows of them is what the machine makes of them
-    puts_back : (act : Act C) → want_of walk ≡ act → (last : Word) (Z : Type 0) (mine theirs : Z) → mine ≡ theirs → (lists : Z → Lists C) (found : Z → Found) (word : Z → Word) (held : Option (Held C N)) (owed : List ℕ) (commits : List (Event C N)) (x y : ℕ) → x ≡ number_of last → y ≡ number_of (word mine)
+    puts_back : (act : Act C) → want_of walk ≡ act → (last : Word) (Z : Type 0) (mine theirs : Z) → mine ≡ theirs → (lists : Z → Lists C) (found : Z → Found) (word : Z → Word) (held : Option (Held C N)) (owed : List Owed) (commits : List (Event C N)) (x y : ℕ) → x ≡ number_of last → y ≡ number_of (word mine)
         → has_queues v.at.walk ≡ true → cs ≡ (0, lists mine) ∷ [] → (word theirs).spin ≡ false
-        → number_of g.state.word ≡ content_by v.at.seat act g.state
+        → number_of g.state.word ≡ content_by v.at act g.state
         → ((k : ℕ) → found_of truths act v.at v.stood k ≡ exchanged k last (found mine))
         → ((w : Word) → w ≡ g.state.word → w ≢ last → Effect truths v.at.seat act old (Saw w) old [])
         → ((w : Word) → cs ≡ carried_by act (Saw w) g.state.lists cs)
@@ -355,12 +357,12 @@ module _ {C : Type 0} {N : ℕ} (truths : Truths C) (cells : 0 < N) (quiet : Qui
     changes_word (ReleaseReturning releasing seen) last new x y is_x is_y has e wants =
         let h = hand_of (CanLeave truths releasing) v.at.held (λ e. e) (fits (ReleaseReturning releasing seen) wants).0 in
         puts_back (ReleaseReturning releasing seen) wants seen (List ℕ × Lists C) (row_in v.at.held, v.stood) (g.state.row, g.state.lists) (λ i. (has_row h.0 h.1 i, stood_is (has refl) i)) (λ z. lists_scanned truths z.0 z.1) (λ z. scanned truths z.0 z.1.lock)
-        (λ z. word_released_returning releasing (has_some (woken_of (meets_at truths z.0) z.1.lock)) (bits_of (lists_scanned truths z.0 z.1).lock) seen) None (seats_of (woken_of (meets_at truths g.state.row) g.state.lists.lock)) (section_of truths.holds v.at.seat h.0 TheExit.Plain ∷ []) x y
+        (λ z. word_released_returning releasing (has_some (woken_of (meets_at truths z.0) z.1.lock)) (bits_of (lists_scanned truths z.0 z.1).lock) seen) None (called_of (woken_of (meets_at truths g.state.row) g.state.lists.lock)) (section_of truths.holds v.at.seat h.0 TheExit.Plain ∷ []) x y
         (is_x ∙ ap number_of (sym e.0)) (is_y ∙ ap number_of e.1.word) (has refl) e.1.carries refl refl (λ k. refl) (λ w s ne. (s, ne, refl, refl)) (λ w. refl) (λ same. (h.0, h.1, h.2.0, same, refl, refl, refl, refl)) refl
     changes_word (WaitReturning wait again seen) last new x y is_x is_y has e wants =
         let h = hand_of (CanWait truths wait again) v.at.held (λ e. e) (fits (WaitReturning wait again seen) wants).0 in
         puts_back (WaitReturning wait again seen) wants seen (List ℕ × Lists C) (row_in v.at.held, v.stood) (g.state.row, g.state.lists) (λ i. (has_row h.0 h.1 i, stood_is (has refl) i)) (λ z. waited_in truths v.at.seat wait again z.0 z.1) (λ z. scanned truths z.0 z.1.lock)
-        (λ z. word_released_returning (releasing_of wait.mode) (has_some (woken_of (meets_at truths z.0) z.1.lock)) (bits_of (waited_in truths v.at.seat wait again z.0 z.1).lock) seen) None (seats_of (woken_of (meets_at truths g.state.row) g.state.lists.lock))
+        (λ z. word_released_returning (releasing_of wait.mode) (has_some (woken_of (meets_at truths z.0) z.1.lock)) (bits_of (waited_in truths v.at.seat wait again z.0 z.1).lock) seen) None (called_of (woken_of (meets_at truths g.state.row) g.state.lists.lock))
         (if again then [] else section_of truths.holds v.at.seat h.0 (exit_for wait.on) ∷ []) x y (is_x ∙ ap number_of (sym e.0)) (is_y ∙ ap number_of e.1.word) (has refl) e.1.carries refl refl (λ k. refl) (λ w s ne. (s, ne, refl, refl)) (λ w. refl) (λ same. (h.0, h.1, h.2.mode, same, refl, refl, refl, refl)) refl
     changes_word act last new x y is_x is_y has e wants = absurd e
 

@@ -1,6 +1,7 @@
 -- A step takes its call on, as its caller follows it.
 use Rattle.std.proofs.Common.{◌≡◌, ℕ, ◌≤◌, true, false, arith, List, [], ◌∷◌, ◌++◌, length, Option, None, Some, refl, ap, sym, ◌∙◌, subst}
 use Rattle.std.proofs.lemmas.List.{append_assoc, append-nil}
+use Rattle.ns_gate.specs.Prelude.{Owed}
 use Rattle.ns_gate.specs.Prelude.{Event, SeatOf, IsTrueToHistory, IsWide, IsAtRest, OwesBelow, HasSince, IsAtPlace, HasReached, GateView, the, IsOne, walk_by, course_by, carried_by, CanStep, HasStepped, Performed, Standing, row_after, standing_after, Truths, asked_of, CallGoes, SectionFits, has_some, Course, PlaceFits, ActFits, OwesOne, part_of, PayWake, Pay, PayTheWoken, PayInWait, InTry, InAcquire, InRelease, InCells, InWait, InSignal, InShow, Told, IsTold, want_of, got_of, walk_after, pays, has_queues, Act, Found, Held, SeatView, On, Idle, Done, Next, Walk}
 use Rattle.ns_gate.proofs.Findings.{fits_now, walk_is}
 use Rattle.ns_model.proofs.Beginnings.{begins_itself, begins_through}
@@ -14,10 +15,10 @@ wide_by now row seat walk None fits a b = tt
 wide_by now row seat walk (Some held) fits a b = (ap length fits.starts ∙ b, ap length fits.cells ∙ a)
 
 -- who is about to pay a wake wants to pay it
-pays_wants : {C : Type 0} (walk : Walk C) → pays (Some walk) ≡ true → (value : ℕ) × (want_of walk ≡ PayWake value)
-pays_wants (InRelease releasing Pay) e = (0, refl)
-pays_wants (InWait wait PayInWait) e = (0, refl)
-pays_wants (InSignal waking k PayTheWoken) e = (2, refl)
+pays_wants : {C : Type 0} (walk : Walk C) → pays (Some walk) ≡ true → want_of walk ≡ PayWake
+pays_wants (InRelease releasing Pay) e = refl
+pays_wants (InWait wait PayInWait) e = refl
+pays_wants (InSignal waking k PayTheWoken) e = refl
 pays_wants (InRelease releasing _) e = absurd (cc)
 pays_wants (InWait wait _) e = absurd (cc)
 pays_wants (InSignal waking k _) e = absurd (cc)
@@ -26,19 +27,19 @@ pays_wants (InAcquire aim place) e = absurd (cc)
 pays_wants (InCells place) e = absurd (cc)
 pays_wants (InShow place) e = absurd (cc)
 
-below_by : (seat_count : ℕ) (owed : List ℕ) → seat_count ≤ 64 → (has_some owed ≡ true → OwesOne seat_count owed) → OwesBelow owed
+below_by : (seat_count : ℕ) (owed : List Owed) → seat_count ≤ 64 → (has_some owed ≡ true → OwesOne seat_count owed) → OwesBelow owed
 below_by seat_count [] few one = tt
-below_by seat_count (woken ∷ others) few one = let below = one refl in omega (arith, few, below)
+below_by seat_count (wake ∷ others) few one = let below = one refl in omega (arith, few, below)
 
 module _ {C : Type 0} {N : ℕ} (truths : Truths C) where
   -- who is owed the next wake is one of the seats
   owes_below : (b : Option (Walk C)) (found : Found) (v w : GateView C N) → HasStepped truths b found v w → OwesBelow w.at.owed
-  owes_below b found v w d = below_by v.seat_count w.at.owed d.few (λ some. at_walk w.at.walk refl (sym d.fits.owes ∙ some)) where
+  owes_below b found v w d = below_by v.seat_count w.at.owed d.few (λ some. at_walk w.at.walk refl (sym d.fits.owes.0 ∙ some)) where
     at_walk : (o : Option (Walk C)) → w.at.walk ≡ o → pays w.at.walk ≡ true → OwesOne v.seat_count w.at.owed
     at_walk None is e = absurd (let n : pays w.at.walk ≡ false = ap pays is in cc)
     at_walk (Some walk) is e =
         let wants = pays_wants walk (ap pays (sym is) ∙ e) in
-        subst (λ act. ActFits truths v.seat_count w.at.seat act (part_of d.new w.at.held w.at.owed)) wants.1 (fits_now truths b found v w walk d is)
+        subst (λ act. ActFits truths v.seat_count w.at.seat act (part_of d.new w.at.held w.at.owed)) wants (fits_now truths b found v w walk d is)
 
   true_after : (found : Found) (b : Option (Walk C)) (v w : GateView C N) → HasStepped truths b found v w → IsTrueToHistory truths w.seat_count w.at.seat w.told.seen w.told.mine
   true_after found b v w d =
@@ -83,7 +84,7 @@ module _ {C : Type 0} {N : ℕ} (truths : Truths C) where
       one = one;
       empty = none;
       over = over;
-      owes = none_of w.at.owed (d.fits.owes ∙ ap pays over);
+      owes = none_of w.at.owed (d.fits.owes.0 ∙ ap pays over);
       settled = subst (λ x. PlaceFits truths x w.at.held) over d.fits.place;
       wide = is_wide;
       true_to = true_after found b u w d;

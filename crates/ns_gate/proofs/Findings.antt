@@ -1,7 +1,8 @@
 -- What a step tells its caller.
 use Rattle.std.specs.Prelude.{slice_index}
-use Rattle.std.proofs.Common.{◌≡◌, ℕ, Bool, cond, inl, inr, ◌≤◌, List, [], ◌++◌, ◌∷◌, Option, None, Some, Result, refl, ap, sym, ◌∙◌, subst}
+use Rattle.std.proofs.Common.{◌≡◌, ℕ, Bool, cond, inl, inr, ◌<◌, List, [], ◌++◌, ◌∷◌, Option, None, Some, Result, refl, ap, sym, ◌∙◌, subst}
 use Rattle.std.proofs.lemmas.Bool.{ne_eqb, cases_eq}
+use Rattle.ns_gate.specs.Prelude.{Owed}
 use Rattle.ns_gate.specs.Prelude.{Me, rest, GateView, the, walk_by, CanStep, HasStepped, Performed, PerformedWith, IsExchange, IsOwedNext, MayExchange, act_by, act_of, act_returning, found_returned, made_by, next_owed, tried_for, standing_after, Truths, Lists, BeginsIf, view_in, number_of, word_of, IsPackable, found_of, exchanged, row_in, scanned, SectionFits, ActFits, LockState, Part, part_of, Effect, change_found, want_of, got_of, walk_after, LoadWord, LoadCell, JudgeQuiet, JudgeMet, LoadFlag, Acquire, TakeQueues, ReturnQueues, Release, ReleaseReturning, WaitReturning, Act, Saw, Made, Cell, Flag, Found, Held, SeatView, Walk, Word}
 use Rattle.ns_gate.specs.declared.queues.Returning.{Returning}
 use Rattle.ns_gate.specs.declared.queues.Returning.TheVariants.{Changed, Released, Waited}
@@ -9,10 +10,10 @@ use Rattle.ns_word.proofs.Codes.{decoded}
 use Rattle.ns_word.proofs.Seen.{packable, found_fits}
 use Rattle.ns_word.proofs.Acts.{act_fits, view_fits}
 
--- who is owed a wake next
-pub owed_next : (woken : ℕ) (owed : List ℕ) → IsOwedNext woken owed → woken ≡ next_owed owed
-owed_next woken [] is = absurd is
-owed_next woken (next ∷ others) is = sym is
+-- the wake that is owed next
+pub owed_next : (wake : Owed) (owed : List Owed) → IsOwedNext wake owed → wake ≡ next_owed owed
+owed_next wake [] is = absurd is
+owed_next wake (next ∷ others) is = sym is
 
 -- a seat that has the queues in hand may be lent them
 pub has_slot : {C : Type 0} (lists : Lists C) (slots : List (ℕ × Lists C)) → slots ≡ (0, lists) ∷ [] → (was : Lists C) × (slots ≡ (0, was) ∷ rest slots)
@@ -111,14 +112,14 @@ module _ {C : Type 0} {N : ℕ} (truths : Truths C) where
   does b act found me now p = let d = p.did in let view = view_in (the me.0).at b in
       subst (λ a. Effect truths view.seat a (part_of d.made.between view.held view.owed) found (part_of d.new d.made.step.held d.made.step.owed) d.commits) p.act_is d.made.step.effect
 
-  -- a flag is 0, 1 or 2
-  pub small_flag : (k : ℕ) (me now : Me (Lists C) (List (GateView C N))) → Performed truths None LoadFlag (Flag k) me now → k ≤ 2
+  -- a flag is at most 9
+  pub small_flag : (k : ℕ) (me now : Me (Lists C) (List (GateView C N))) → Performed truths None LoadFlag (Flag k) me now → k < 10
   small_flag k me now p =
       let d = p.did in
       let view = (the me.0).at in
       let e = does None LoadFlag (Flag k) me now p in
       let same : k ≡ d.new.flags view.seat = e.0 ∙ sym (ap (λ (q : Part C N). q.flags view.seat) e.1) in
-      subst (λ n. n ≤ 2) (sym same) (d.lawful_now.waiters_placed.flag view.seat)
+      subst (λ n. n < 10) (sym same) (d.lawful_now.waiters_placed.flag view.seat)
 
   -- the section in hand has the row's cells
   held_cells : (v w : GateView C N) (found : Found) (b : Option (Walk C)) (d : HasStepped truths b found v w) (front back : List (SeatView C N)) (held : Held C N) → d.old.views ≡ front ++ v.at ∷ back → v.at.held ≡ Some held → d.old.row ≡ row_in v.at.held

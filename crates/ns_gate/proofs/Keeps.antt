@@ -2,6 +2,7 @@
 use Rattle.std.specs.Prelude.{nat_lt, slice_get}
 use Rattle.std.proofs.Common.{◌≡◌, ◌≢◌, ◌⊎◌, inl, inr, ℕ, zero, suc, ◌<◌, ◌≤◌, true, false, cond, eqb, List, [], ◌∷◌, ◌++◌, Option, None, Some, IfSome, set, slice_set, take, drop, refl, ap, sym, ◌∙◌, subst, arith, eq-eqb}
 use Rattle.std.proofs.lemmas.Option.{slice_get_within}
+use Rattle.ns_gate.specs.Prelude.{Owed}
 use Rattle.ns_gate.specs.Prelude.{GateView, Views, Homes, is_seat, HasCome, Fits, Shows, AtHome, Underlying, IsRuled, walk_by, course_by, MayBegin, HasStepped, BeginsWith, row_after, standing_after, total, one_if, Every, Truths, QuietKeeps, Event, asked_of, BeginsIf, SeatStep, view_in, CallGoes, SoFar, course_after, IsLawful, ViewFits, Course, course_from, LockState, Part, part_of, Effect, Step, IsTold, told_after, calls_of, takers, want_of, got_of, walk_after, has_queues, Found, Request, Held, SeatView, On, Idle, Done, Next, Walk}
 use Rattle.ns_model.proofs.Tallies.{one_most, total_set, total_none, Others, every_at, others_of, others_both, others_map, others_none, every_both, every_put}
 use Rattle.ns_word.proofs.Acts.{view_fits}
@@ -40,7 +41,7 @@ module _ {C : Type 0} {N : ℕ} where
   next_view view walk found part = record { seat = view.seat; walk = walk_after (got_of N walk found); held = part.held; owed = part.owed }
 
   -- how far its call has come then
-  has_come : (truths : Truths C) (seat : ℕ) (row : List ℕ) (request : Request C) (course : Course C N) (next : Next C) (held : Option (Held C N)) (owed : List ℕ) → CallGoes truths seat row request course next held → HasCome truths course (record { seat = seat; walk = walk_after next; held = held; owed = owed })
+  has_come : (truths : Truths C) (seat : ℕ) (row : List ℕ) (request : Request C) (course : Course C N) (next : Next C) (held : Option (Held C N)) (owed : List Owed) → CallGoes truths seat row request course next held → HasCome truths course (record { seat = seat; walk = walk_after next; held = held; owed = owed })
   has_come truths seat row request course (On walk) held owed goes = goes.so_far
   has_come truths seat row request course (Idle walk) held owed goes = goes.so_far
   has_come truths seat row request course (Done reply) held owed goes = tt

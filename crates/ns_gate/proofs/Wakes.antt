@@ -6,6 +6,7 @@ use Rattle.std.specs.Int.{bit_at}
 use Rattle.std.proofs.lemmas.Bool.{cases_eq, eq-eqb, ne_eqb}
 use Rattle.std.proofs.lemmas.List.Elements.{filter-append}
 use Rattle.std.proofs.lemmas.List.Sums.{sum_by-cons}
+use Rattle.ns_word.specs.Owed.{wakes_of}
 use Rattle.ns_model.proofs.Sets.{in_more, none_in}
 use Rattle.ns_queue.specs.Signals.{taken_set}
 use Rattle.ns_queue.specs.declared.waiter.Which.TheVariants.{Cv, Lock}
@@ -144,7 +145,7 @@ module _ {C : Type 0} where
   owes_some : (waking : Waking) (k : ℕ) (held : Bool) (lists : Lists C) → (not held && has_some (taken_from waking k lists)) ≡ has_some (owed_woken waking k held lists)
   owes_some waking k true lists = refl
   owes_some waking k false lists = by (taken_from waking k lists) where
-    by : (ws : List (Waiter C)) → has_some ws ≡ has_some (seats_of ws)
+    by : (ws : List (Waiter C)) → has_some ws ≡ has_some (wakes_of k ws)
     by [] = refl
     by (w ∷ ws) = refl
 

@@ -6,6 +6,7 @@ use Rattle.ns_model.specs.Beginnings.{BeginsWith}
 use Rattle.ns_model.specs.Histories.{IsLegal, IsBySeats, own as own_of, row_after}
 use Rattle.ns_model.specs.Truths.{Truths}
 use Rattle.ns_queue.specs.Queues.{Lists}
+use Rattle.ns_word.specs.declared.owed.Owed.{Owed}
 use Rattle.ns_word.specs.declared.view.Held.{Held}
 use Rattle.ns_word.specs.declared.walk.Next.{Next}
 use Rattle.ns_word.specs.declared.walk.Next.TheVariants.{On, Idle, Done}
@@ -58,9 +59,9 @@ pub record HasSince {C : Type 0} {N : ℕ} (begun : Option (Walk C)) (v w : Gate
   pub calls : w.told.begun ≡ v.told.begun ++ calls_of begun
 
 -- the number of the seat that is owed the next wake is below 64
-abbrev pub OwesBelow : List ℕ → Type 0
+abbrev pub OwesBelow : List Owed → Type 0
 OwesBelow [] = Unit {0}
-OwesBelow (woken ∷ others) = woken < 64
+OwesBelow (wake ∷ others) = wake.seat < 64
 
 -- A seat stands at this place of its call, which has come as far as the place tells, with what the place needs; the rows of its section, if it has one in hand, are as wide as the lock's; it carries nothing, but where the place has the queues.
 pub record IsAtPlace {C : Type 0} {N : ℕ} (truths : Truths C) (walk : Walk C) (me : SeatOf C N) : Type 0 where

@@ -56,6 +56,6 @@ Needs {C} {N} truths begins (JudgeQuiet i) beside me = (i < N) × (beside.before
 Needs {C} {N} truths begins (JudgeMet i c) beside me = (i < N) × IsRowBut i beside.row (row_in (the me.0).at.held)
 Needs {C} {N} truths begins (StoreCell i v) beside me = (begins ≡ None) × (i < N)
 Needs truths begins ArmFlag beside me = (begins ≡ None) × IsNumbered beside (the me.0)
-Needs truths begins (PayWake value) beside me = (begins ≡ None) × IsOwedNext beside.woken (the me.0).at.owed × (beside.woken < 64) × (beside.finds ≡ owes_more (the me.0).at.owed)
+Needs truths begins PayWake beside me = (begins ≡ None) × IsOwedNext beside.wake (the me.0).at.owed × (beside.wake.seat < 64) × (beside.finds ≡ owes_more (the me.0).at.owed)
 Needs truths begins LoadFlag beside me = (begins ≡ None) × IsNumbered beside (the me.0)
 Needs truths begins (Look limits again) beside me = (begins ≡ None) × IsNumbered beside (the me.0) × MayShow limits beside.shown

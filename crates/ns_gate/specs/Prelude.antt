@@ -67,6 +67,7 @@ pub use Rattle.ns_word.specs.declared.show_walk.ShowPlace.TheVariants.{ReturnSho
 pub use Rattle.ns_word.specs.declared.signal_walk.SignalPlace.TheVariants.{PayTheWoken, SignalLoad, WakeAndReturn}
 pub use Rattle.ns_word.specs.declared.try_walk.TryPlace.TheVariants.{TryAcquire, TryLoad}
 pub use Rattle.ns_word.specs.declared.view.Held.{Held}
+pub use Rattle.ns_word.specs.declared.owed.Owed.{Owed}
 pub use Rattle.ns_word.specs.declared.view.SeatView.{SeatView}
 pub use Rattle.ns_word.specs.declared.wait.Aim.TheVariants.{ForLock, ForWait}
 pub use Rattle.ns_word.specs.declared.wait.LeavePlace.TheVariants.{AwaitWakeToLeave, Leave, LeaveLoad}

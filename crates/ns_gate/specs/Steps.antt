@@ -7,6 +7,7 @@ use Rattle.ns_model.specs.Histories.{row_after, standing_after}
 use Rattle.ns_model.specs.Truths.{Truths}
 use Rattle.ns_queue.specs.Queues.{Lists}
 use Rattle.ns_queue.specs.Scans.{woken_of, left_of}
+use Rattle.ns_word.specs.declared.owed.Owed.{Owed}
 use Rattle.ns_word.specs.declared.word.Word.{Word}
 use Rattle.ns_word.specs.declared.view.SeatView.{SeatView}
 use Rattle.ns_env.specs.declared.limits.Cause.{Cause}
@@ -101,14 +102,19 @@ Carries lists me = me.1 ≡ (0, lists) ∷ []
 abbrev pub HasUnchangedQueues : {C : Type 0} {N : ℕ} → Me (Lists C) (List (GateView C N)) → Type 0
 HasUnchangedQueues me = Carries (the me.0).stood me
 
+-- the next wake that is owed
+abbrev pub next_owed : List Owed → Owed
+next_owed [] = record { seat = 0; value = 0 }
+next_owed (wake ∷ others) = wake
+
 -- the content that an act loads, compares or stores in a state; one that judges loads the row's last cell
-abbrev pub content_by : {C : Type 0} {N : ℕ} → ℕ → Act C → LockState C N → ℕ
-content_by seat (JudgeQuiet i) s = slice_index s.row i
-content_by seat (JudgeMet i c) s = slice_index s.row i
-content_by seat (StoreCell i v) s = v
-content_by seat ArmFlag s = 1
-content_by seat (PayWake value) s = value
-content_by seat act s = content_at seat act s
+abbrev pub content_by : {C : Type 0} {N : ℕ} → SeatView C N → Act C → LockState C N → ℕ
+content_by view (JudgeQuiet i) s = slice_index s.row i
+content_by view (JudgeMet i c) s = slice_index s.row i
+content_by view (StoreCell i v) s = v
+content_by view ArmFlag s = 1
+content_by view PayWake s = (next_owed view.owed).value
+content_by view act s = content_at view.seat act s
 
 -- The seat has made the act, and found this: what the content that the state has there tells, but for a look.
 pub record Performed {C : Type 0} {N : ℕ} (truths : Truths C) (begun : Option (Walk C)) (act : Act C) (found : Found) (me now : Me (Lists C) (List (GateView C N))) : Type 0 where
@@ -116,12 +122,12 @@ pub record Performed {C : Type 0} {N : ℕ} (truths : Truths C) (begun : Option 
   pub carried : now.1 ≡ carried_by act found (the now.0).stood me.1
   pub did : HasStepped truths begun found (the me.0) (the now.0)
   pub act_is : want_of did.made.step.walk ≡ act
-  pub finds : (IsLook act → ⊥) → found ≡ found_of truths act (the me.0).at (the me.0).stood (content_by (the me.0).at.seat act did.old)
+  pub finds : (IsLook act → ⊥) → found ≡ found_of truths act (the me.0).at (the me.0).stood (content_by (the me.0).at act did.old)
 
 -- the same, where this is the content that the act loads, compares or stores
 pub record PerformedWith {C : Type 0} {N : ℕ} (truths : Truths C) (begun : Option (Walk C)) (act : Act C) (content : ℕ) (me now : Me (Lists C) (List (GateView C N))) : Type 0 where
   pub made : Performed truths begun act (found_of truths act (the me.0).at (the me.0).stood content) me now
-  pub tells : content ≡ content_by (the me.0).at.seat act made.did.old
+  pub tells : content ≡ content_by (the me.0).at act made.did.old
 
 -- the act that a call wants
 abbrev pub act_of : {C : Type 0} → Option (Walk C) → Act C
@@ -137,11 +143,6 @@ abbrev pub first_said : {A : Type 0} → List (Option A) → Option A
 first_said [] = None
 first_said (said ∷ others) = said
 
--- the seat that is owed the next wake
-abbrev pub next_owed : List ℕ → ℕ
-next_owed [] = 0
-next_owed (woken ∷ others) = woken
-
 -- the table's word that an act is on: the lock word, a cell, or a flag
 abbrev pub word_at : {C : Type 0} {N : ℕ} → Act C → GateView C N → ℕ
 word_at (LoadCell i) view = i + 1
@@ -150,7 +151,7 @@ word_at (JudgeMet i c) view = i + 1
 word_at (StoreCell i v) view = i + 1
 word_at {C} {N} ArmFlag view = view.at.seat + (N + 1)
 word_at {C} {N} LoadFlag view = view.at.seat + (N + 1)
-word_at {C} {N} (PayWake value) view = next_owed view.at.owed + (N + 1)
+word_at {C} {N} PayWake view = (next_owed view.at.owed).seat + (N + 1)
 word_at act view = 0
 
 -- the act loads a word, and does nothing else
@@ -163,11 +164,11 @@ IsLoad LoadFlag = Unit {0}
 IsLoad act = ⊥
 
 -- the act stores this content
-abbrev pub IsStoreOf : {C : Type 0} → ℕ → Act C → Type 0
-IsStoreOf content (StoreCell i v) = content ≡ v
-IsStoreOf content ArmFlag = content ≡ 1
-IsStoreOf content (PayWake value) = content ≡ value
-IsStoreOf content act = ⊥
+abbrev pub IsStoreOf : {C : Type 0} {N : ℕ} → SeatView C N → ℕ → Act C → Type 0
+IsStoreOf view content (StoreCell i v) = content ≡ v
+IsStoreOf view content ArmFlag = content ≡ 1
+IsStoreOf view content PayWake = content ≡ (next_owed view.owed).value
+IsStoreOf view content act = ⊥
 
 -- the seat may load this word, for the act that its call wants next or begins with
 pub record MayLoad {C : Type 0} {N : ℕ} (truths : Truths C) (begun : Option (Walk C)) (word : ℕ) (me : Me (Lists C) (List (GateView C N))) : Type 0 where
@@ -180,7 +181,7 @@ pub record MayLoad {C : Type 0} {N : ℕ} (truths : Truths C) (begun : Option (W
 pub record MayStore {C : Type 0} {N : ℕ} (truths : Truths C) (word content : ℕ) (me : Me (Lists C) (List (GateView C N))) : Type 0 where
   pub act : Act C
   pub can : CanStep truths None act me
-  pub stores : IsStoreOf content act
+  pub stores : IsStoreOf (the me.0).at content act
   pub there : word ≡ word_at act (the me.0)
 
 -- what an exchange came to, as the machine says it, where this is found if it is made
@@ -256,11 +257,11 @@ made_by truths (ReleaseReturning releasing last) view = scanned truths (row_in v
 made_by truths (WaitReturning wait again last) view = scanned truths (row_in view.at.held) view.stood.lock
 made_by truths act view = Made
 
--- a wake is owed to this seat next
-abbrev pub IsOwedNext : ℕ → List ℕ → Type 0
-IsOwedNext woken [] = ⊥
-IsOwedNext woken (next ∷ others) = next ≡ woken
+-- this wake is owed next
+abbrev pub IsOwedNext : Owed → List Owed → Type 0
+IsOwedNext wake [] = ⊥
+IsOwedNext wake (next ∷ others) = next ≡ wake
 
 -- the number is the seat's own, or that of the seat that it owes the next wake
 abbrev pub HasUseFor : {C : Type 0} {N : ℕ} → ℕ → GateView C N → Type 0
-HasUseFor number view = (number ≡ view.at.seat) ⊎ IsOwedNext number view.at.owed
+HasUseFor number view = (number ≡ view.at.seat) ⊎ ((value : ℕ) × IsOwedNext (record { seat = number; value = value }) view.at.owed)

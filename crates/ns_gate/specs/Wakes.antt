@@ -5,7 +5,8 @@ use Rattle.ns_queue.specs.declared.waiter.Waiter.{Waiter}
 use Rattle.ns_queue.specs.declared.waiter.Which.TheVariants.{Cv}
 use Rattle.ns_queue.specs.Queues.{Lists, cvs_without, waiters_of, without}
 use Rattle.ns_queue.specs.Signals.{taken_set}
-use Rattle.ns_queue.specs.Waiters.{seats_of}
+use Rattle.ns_word.specs.Owed.{wakes_of}
+use Rattle.ns_word.specs.declared.owed.Owed.{Owed}
 use Rattle.ns_word.specs.Lists.{bits_of, has_some}
 use Rattle.ns_word.specs.declared.act.Waking.{Waking}
 use Rattle.ns_word.specs.Steps.{moved_to, taken_by}
@@ -27,8 +28,8 @@ abbrev pub woken_nobody : {C : Type 0} → ℕ → Lists C → Option Turned
 woken_nobody k lists = if has_some (waiters_of lists (Cv k)) then None else Some (record { some = false; bits = bits_of lists.lock })
 
 -- to whom a wake is owed then: to those who were taken and not moved
-abbrev pub owed_woken : {C : Type 0} → Waking → ℕ → Bool → Lists C → List ℕ
-owed_woken waking k held lists = if held then [] else seats_of (taken_from waking k lists)
+abbrev pub owed_woken : {C : Type 0} → Waking → ℕ → Bool → Lists C → List Owed
+owed_woken waking k held lists = if held then [] else wakes_of k (taken_from waking k lists)
 
 -- the lists without any of these
 abbrev pub without_each : {C : Type 0} → List (Waiter C) → Lists C → Lists C

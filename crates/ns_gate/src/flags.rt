@@ -6,6 +6,7 @@ ghost use Rattle.ns_gate.specs.Prelude.{owes_more, CanStep, HasUseFor, IsOwedNex
 use crate::gate::{Gate, GateSeat};
 use ns_model::condition::Condition;
 use ns_word::act::{Act, Found};
+use ns_word::owed::Owed;
 use std::sync::Wait;
 use std::time::Duration;
 
@@ -52,20 +53,20 @@ impl<C: Condition<N>, const N: usize> Gate<C, N> {
         self.load_at(seat, None, flag) as u8
     }
 
-    /// Pays the wake that is owed to the seat of this number: stores the value into its flag, and wakes
-    /// it if it sleeps there.
+    /// Pays this wake: stores its value into the flag of the seat that it is owed to, and wakes that one
+    /// if it sleeps there.
     ///
-    /// Needs a seat of this gate, whose call wants that next, and to which number, below 64, it owes
-    /// the next wake.
-    pub fn pay_wake(&self, seat: &mut GateSeat<C, N>, woken: u8, value: u64)
+    /// Needs a seat of this gate, whose call wants that next, and the wake that it owes next, to a number
+    /// below 64.
+    pub fn pay_wake(&self, seat: &mut GateSeat<C, N>, wake: Owed)
         requires of { seat.old.table_id ≡ self.now }
-        requires owed { IsOwedNext woken (the seat.old.me.0).at.owed × (woken < 64) }
-        requires can { CanStep C.means None (Act.PayWake value) seat.old.me }
+        requires owed { IsOwedNext wake (the seat.old.me.0).at.owed × (wake.seat < 64) }
+        requires can { CanStep C.means None Act.PayWake seat.old.me }
         ensures seat { seat.new.table_id ≡ seat.old.table_id }
-        ensures did { Performed C.means None (Act.PayWake value) (owes_more (the seat.old.me.0).at.owed) seat.old.me seat.new.me }
+        ensures did { Performed C.means None Act.PayWake (owes_more (the seat.old.me.0).at.owed) seat.old.me seat.new.me }
     {
-        let flag = Self::flag_at(seat, woken);
-        self.store_at(seat, flag, value);
+        let flag = Self::flag_at(seat, wake.seat);
+        self.store_at(seat, flag, u64::from(wake.value));
         self.table.shared.wake_one(flag);
     }
 

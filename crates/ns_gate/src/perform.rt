@@ -9,6 +9,7 @@ use ns_env::limits::Cause;
 use ns_model::condition::Condition;
 use ns_word::act::{Act, Found};
 use ns_word::number::LockWord;
+use ns_word::owed::Owed;
 use ns_word::walk::Walk;
 use ns_word::word::Word;
 
@@ -25,8 +26,8 @@ pub struct Beside<const N: usize> {
     pub shown: Option<Cause>,
     /// What the hand has made of the queues.
     pub turned: Turned,
-    /// Who is owed the next wake.
-    pub woken: u8,
+    /// The wake that is owed next.
+    pub wake: Owed,
     /// What is found where the queues are put back or a wake is paid, which no word tells.
     pub finds: Found,
 }
@@ -48,7 +49,7 @@ impl<C: Condition<N>, const N: usize> Gate<C, N> {
     /// Needs a seat of this gate, whose call wants that; and beside it what the act's own function
     /// asks for: for an exchange a word that has a number, for a cell one below `N`; for the seat's
     /// flag and for a look its number, and what the look has shown; for a judgment the section's rows;
-    /// for a wake who is owed it; and for putting the queues back what the hand has made of them.
+    /// for a wake the one that is owed next; and for putting the queues back what the hand has made of them.
     pub fn perform(
         &self,
         seat: &mut GateSeat<C, N>,
@@ -88,8 +89,8 @@ impl<C: Condition<N>, const N: usize> Gate<C, N> {
                 self.arm_flag(seat, beside.number);
                 Found::Made
             }
-            Act::PayWake(value) => {
-                self.pay_wake(seat, beside.woken, u64::from(value));
+            Act::PayWake => {
+                self.pay_wake(seat, beside.wake);
                 beside.finds
             }
             _ => self.perform_exchange(seat, begins, act, beside),

@@ -137,8 +137,8 @@ impl<C: Condition<N>, const N: usize> Gate<C, N> {
         bits(queues)
     }
 
-    /// Takes the seat of this number out of this list in hand. Tells whether it stood there, and what
-    /// the lock list holds then.
+    /// Takes the seat of this number out of all lists in hand, if it stands in this one. Tells whether
+    /// it stood there, and what the lock list holds then.
     ///
     /// Needs a seat of this gate, which has the queues in hand as they stood, and a list that there is.
     pub fn leave_in_hand(&self, seat: &mut GateSeat<C, N>, number: u8, which: Which) -> (bool, Bits)

@@ -1,6 +1,6 @@
 //! What a signal or a broadcast does to the waiter queues in a hand.
 //!
-//! Those whom it takes out of the list of its variable, and of those of others, go to the back of the lock list where the
+//! Those whom it takes leave the lists of all variables. They go to the back of the lock list where the
 //! lock word is held, and are owed a wake where it is free. The queues are put back by an exchange
 //! of the lock word, which fails where another step came between, and the word that is found may
 //! differ in whether it is held. So they are kept apart, and the queues in hand are turned then.

@@ -20,6 +20,6 @@ is_just (Only j) k = j == k
 is_just (Any cvs) k = nat_lt k 8 && (cvs.0 == 2 ^ k)
 
 -- whether it is for those of the set and no others
-abbrev pub is_set : Variables → Cvs → Bool
-is_set (Only j) cvs = nat_lt j 8 && (cvs.0 == 2 ^ j)
-is_set (Any own) cvs = own.0 == cvs.0
+abbrev pub is_exactly : Variables → Cvs → Bool
+is_exactly (Only j) cvs = nat_lt j 8 && (cvs.0 == 2 ^ j)
+is_exactly (Any own) cvs = own.0 == cvs.0

@@ -1,6 +1,6 @@
 -- Which wakes are legal.
 use Rattle.std.specs.Prelude.{◌≡◌, ℕ, min, Bool, true, false, not, ◌&&◌, ◌⊎◌}
-use Rattle.ns_model.specs.Cvs.{is_just, is_set}
+use Rattle.ns_model.specs.Cvs.{is_just, is_exactly}
 use Rattle.ns_model.specs.declared.cvs.Cvs.{Cvs}
 use Rattle.ns_model.specs.declared.phase.Phase.{Phase}
 use Rattle.ns_model.specs.declared.phase.Phase.TheVariants.{Waiting}
@@ -42,5 +42,5 @@ IsLegalLeave k _ = ⊥
 
 -- Only one that waits for these and no others leaves them.
 abbrev pub IsLegalLeaveAny : {C : Type 0} → Cvs → Phase C → Type 0
-IsLegalLeaveAny cvs (Waiting variables mode) = is_set variables cvs ≡ true
+IsLegalLeaveAny cvs (Waiting variables mode) = is_exactly variables cvs ≡ true
 IsLegalLeaveAny cvs _ = ⊥

@@ -1,7 +1,7 @@
 //! Sets of condition variables, and which of them a wait is for.
 
 ghost use Rattle.std.specs.Prelude.{◌≡◌, ◌<◌, ◌==◌, ◌||◌, ℕ, false};
-ghost use Rattle.ns_model.specs.Cvs.{has, is_in, is_just, is_set};
+ghost use Rattle.ns_model.specs.Cvs.{has, is_in, is_just, is_exactly};
 
 /// A set of condition variables: bit `k` tells whether the variable of number `k` is in it.
 #[derive(Clone, Copy, Debug, PartialEq, Eq)]
@@ -64,8 +64,8 @@ impl Variables {
     }
 
     /// Whether it is for these and no others.
-    pub(crate) fn is_set(self, cvs: Cvs) -> bool
-        ensures { result ≡ is_set self cvs }
+    pub(crate) fn is_exactly(self, cvs: Cvs) -> bool
+        ensures { result ≡ is_exactly self cvs }
     {
         match self {
             Variables::Only(j) => j < 8 && cvs.0 == 1 << j,

@@ -56,7 +56,7 @@ pub enum Exit<C> {
 /// One event, with the seat of its caller: a whole section with the row before and after it, a
 /// signal or a broadcast of a condition variable with the seats that it woke, or a wait for a
 /// condition variable that was left for its deadline or its note, or one for any of several that was
-/// left for what else it waited for.
+/// left for its deadline or for what else it waited for.
 #[derive(Clone, Copy)]
 pub enum Event<C, const N: usize> {
     /// A whole section.

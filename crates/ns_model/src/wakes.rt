@@ -95,7 +95,7 @@ pub(crate) fn leave_any_fits<C: Copy>(cvs: Cvs, phase: Phase<C>) -> bool
     ensures { IsTrue result ↔ IsLegalLeaveAny cvs phase }
 {
     match phase {
-        Phase::Waiting(variables, _) => variables.is_set(cvs),
+        Phase::Waiting(variables, _) => variables.is_exactly(cvs),
         _ => false,
     }
 }

@@ -4,7 +4,8 @@ use Rattle.std.proofs.lemmas.List.{append-nil}
 use Rattle.ns_gate.specs.Prelude.{TableId, InHand, Releasing, asked_of, section_of, SeatOf, HasSince, IsAtPlace, IsAtRest, HasAnswered, HasReached, the, Performed, tried, Mode, Truths, Unchanged, row_after, got_of, may_acquire, Acquire, LoadCell, StoreCell, Saw, Made, Cell, SetStore, TryLock, Get, Set, TryAcquire, ForLock, On, Done, Busy, Succeeded, Number, Walk, InTry, InCells, AsFresh, Word}
 use Rattle.ns_gate.proofs.Calls.{begins, goes, since, since_then}
 use Rattle.ns_model.specs.declared.event.Exit.TheVariants as TheExit
-use Rattle.ns_monitor.specs.Prelude.{Grows, HasLocked, HasSeenMore, Known, WentAtOnce, getting, gone_to, known_of, setting, trying}
+use Rattle.ns_monitor.proofs.Begins.{locked_fresh}
+use Rattle.ns_monitor.specs.Prelude.{Grows, HasBegun, HasLocked, HasSeenMore, HasUnlocked, IsFreshIn, IsNumberOf, Known, WentAtOnce, getting, gone_to, known_of, locking, releasing_by, setting, trying}
 use Rattle.ns_word.specs.Meanings as TheMeanings
 
 abbrev made_of : {A B : Type 0} → Result A B → Bool
@@ -39,6 +40,30 @@ module _ {C : Type 0} {N : ℕ} (truths : Truths C) where
   -- one that has gone so is over, or has acquired
   pub went_so : (first walk : Walk C) (left : Option Word) (now : SeatOf C N) → walk ≡ first → left ≡ None → WentAtOnce truths walk left now → HasReached truths (asked_of first) (gone_to N first) now
   went_so first walk left now is none went = (subst (λ (x : Walk C × Option Word). WentAtOnce truths x.0 x.1 now) (λ i. (is i, none i)) went).1
+
+  -- where one begun so has come since, which has gone at once or behind a wait
+  abbrev pub CameSo : Walk C → TableId → SeatOf C N → TableId × SeatOf C N → Type 0
+  CameSo first monitor was now = (now.0 ≡ monitor) × HasSince (Some first) (the was.0) (the now.1.0) × HasReached truths (asked_of first) (gone_to N first) now.1
+
+  pub came_at_once : (first : Walk C) (old : Known C N) (monitor of : TableId) (number : ℕ) (last : Option Word) (now : SeatOf C N) → last ≡ None → of ≡ monitor → (b : HasBegun first old of number now) → WentAtOnce truths first last now → CameSo first monitor b.was (of, now)
+  came_at_once first old monitor of number last now none same b went = (same, b.since, went_so first first last now refl none went)
+
+  -- one that has locked so has a section that has just begun
+  pub locked_so : (mode : Mode) (old : Known C N) (monitor of : TableId) (number : ℕ) (began : SeatOf C N) (now : TableId × SeatOf C N) → old.monitor ≡ monitor → (b : HasBegun (locking mode) old of number began) → CameSo (locking mode) monitor b.was now →
+      (IsAtRest truths now.1 × IsNumberOf number now.1) × IsFreshIn N mode (the now.1.0).at.held × HasLocked truths (locking mode) mode old (known_of now.0 now.1)
+  locked_so mode old monitor of number began now own b came = let over = came.2 in (
+    (over.rest, (b.own.0 ∙ b.since.seat ∙ sym (came.1).seat, b.own.1)),
+    locked_fresh mode (row_after (the now.1.0).told.seen) (the now.1.0).at.held over.means.section over.rest.wide,
+    locked (locking mode) mode old of now.0 b.was now.1 b.view (came.0 ∙ sym own) over.rest came.1 over.means,
+  )
+
+  -- and one that has released so has none
+  pub released_so : (releasing : Releasing) (old : Known C N) (monitor of : TableId) (number : ℕ) (began : SeatOf C N) (now : TableId × SeatOf C N) → old.monitor ≡ monitor → (b : HasBegun (releasing_by releasing) old of number began) → CameSo (releasing_by releasing) monitor b.was now →
+      (IsAtRest truths now.1 × IsNumberOf number now.1 × ((the now.1.0).at.held ≡ None)) × HasUnlocked truths releasing old (known_of now.0 now.1)
+  released_so releasing old monitor of number began now own b came = let first = releasing_by releasing in let over = came.2 in (
+    (over.rest, (b.own.0 ∙ b.since.seat ∙ sym (came.1).seat, b.own.1), over.means.left),
+    record { grows = grew first old of now.0 b.was now.1 b.view (came.0 ∙ sym own) over.rest came.1; mine = released first releasing old of now.0 b.was now.1 b.view came.1 over.means },
+  )
 
   -- ---- tries
 

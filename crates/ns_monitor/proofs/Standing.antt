@@ -2,6 +2,8 @@
 use Rattle.std.proofs.Common.{◌≡◌, ℕ, ◌<◌, Bool, true, false, cond, List, [], ◌++◌, append-nil, ◌∷◌, Option, None, Some, refl, ap, sym, ◌∙◌, subst}
 use Rattle.ns_gate.proofs.Calls.{begins, can_go, goes, goes_on, since}
 use Rattle.ns_gate.proofs.Findings.{does}
+use Rattle.ns_word.specs.declared.owed.Owed.{Owed}
+use Rattle.ns_word.specs.Owed.{called_of, wakes_of}
 use Rattle.ns_gate.specs.Prelude.{SeatOf, HasSince, IsAtPlace, IsAtRest, HasReached, OwesBelow, GateView, rest_of, rest, the, act_returning, carried_by, Carries, found_returned, lists_returned, some_returned, CanStep, HasStepped, IsOwedNext, Performed, standing_after, view_in, woken_of, seats_of, row_in, SectionFits, changed, meets_at, moves, Change, Bits, Request, Held, Queue, Leave, QueueToWait, Truths, Event, Lists, asked_of, IsPackable, owes_more, bits_of, has_some, Effect, LockState, Part, part_of, Told, got_of, has_queues, want_of, release_has_queues, scan_place, word_taken, Act, LoadWord, LoadFlag, PayWake, TakeQueues, Acquire, Release, ReturnQueues, ReleaseReturning, WaitReturning, Found, Saw, Made, Flag, Paid, AcquireLoad, ReleaseLoad, ScanCells, ScanAndRelease, SignalLoad, SeatView, ForLock, ForWait, LeaveLoad, Load, InQueuing, InLeaving, On, Idle, Walk, InTry, InAcquire, InRelease, InCells, InWait, InSignal, InShow, ReturnShown, Taking, ToChange, ToQueue, Word}
 use Rattle.ns_gate.specs.declared.queues.Returning.{Returning}
 use Rattle.ns_gate.specs.declared.queues.Returning.TheVariants.{Changed, Released, Waited}
@@ -123,10 +125,10 @@ module _ {C : Type 0} where
   saw_slots (Released releasing) last word now slots = refl
   saw_slots (Waited wait again) last word now slots = refl
 
-same_owed : {C : Type 0} {N : ℕ} (truths : Truths C) (returning : Returning C) (start me : SeatOf C N) (owed : List ℕ) → HasKeptItsQueues start me → OwesTheWoken truths returning me owed → OwesTheWoken truths returning start owed
+same_owed : {C : Type 0} {N : ℕ} (truths : Truths C) (returning : Returning C) (start me : SeatOf C N) (owed : List Owed) → HasKeptItsQueues start me → OwesTheWoken truths returning me owed → OwesTheWoken truths returning start owed
 same_owed truths (Changed change) start me owed s is = tt
-same_owed truths (Released releasing) start me owed s is = is ∙ (λ i. seats_of (woken_of (meets_at truths (row_in (s.held i))) (s.stood i).lock))
-same_owed truths (Waited wait again) start me owed s is = is ∙ (λ i. seats_of (woken_of (meets_at truths (row_in (s.held i))) (s.stood i).lock))
+same_owed truths (Released releasing) start me owed s is = is ∙ (λ i. called_of (woken_of (meets_at truths (row_in (s.held i))) (s.stood i).lock))
+same_owed truths (Waited wait again) start me owed s is = is ∙ (λ i. called_of (woken_of (meets_at truths (row_in (s.held i))) (s.stood i).lock))
 
 -- what saw another word has changed nothing
 pub saw_keeps : {C : Type 0} {N : ℕ} (truths : Truths C) (seat : ℕ) (act : Act C) (old new : Part C N) (word : Word) (commits : List (Event C N)) → Effect truths seat act old (Saw word) new commits → new ≡ old
@@ -261,11 +263,11 @@ module _ {C : Type 0} {N : ℕ} (truths : Truths C) where
         stays_by truths act (Saw word) me now p (ap has_queues at.walks ∙ r.has last) (p.carried ∙ saw_slots (returning_of walk) last word (the now.0).stood me.1) (ap (λ (q : Part C N). q.lists) e ∙ ap (λ (s : LockState C N). s.lists) p.did.made.begins) (ap (λ (q : Part C N). q.held) e),
       )
 
-  by_effect : (found : Found) (me now : SeatOf C N) (d : HasStepped truths None found (the me.0) (the now.0)) → has_queues (the me.0).at.walk ≡ true → (held : Held C N) → (the me.0).at.held ≡ Some held → d.made.step.owed ≡ seats_of (woken_of (meets_at truths d.made.between.row) d.made.between.lists.lock) → (the now.0).at.owed ≡ seats_of (woken_of (meets_at truths (row_in (the me.0).at.held)) (the me.0).stood.lock)
+  by_effect : (found : Found) (me now : SeatOf C N) (d : HasStepped truths None found (the me.0) (the now.0)) → has_queues (the me.0).at.walk ≡ true → (held : Held C N) → (the me.0).at.held ≡ Some held → d.made.step.owed ≡ called_of (woken_of (meets_at truths d.made.between.row) d.made.between.lists.lock) → (the now.0).at.owed ≡ called_of (woken_of (meets_at truths (row_in (the me.0).at.held)) (the me.0).stood.lock)
   by_effect found me now d has held there owed =
       let row : d.made.between.row ≡ row_in (the me.0).at.held = sym (row_at found (the me.0) (the now.0) d held there) in
       let stood : d.made.between.lists ≡ (the me.0).stood = ap (λ (s : LockState C N). s.lists) d.made.begins ∙ sym (d.stood_was has) in
-      ap (λ (x : SeatView C N). x.owed) d.becomes ∙ (owed ∙ (λ i. seats_of (woken_of (meets_at truths (row i)) (stood i).lock)))
+      ap (λ (x : SeatView C N). x.owed) d.becomes ∙ (owed ∙ (λ i. called_of (woken_of (meets_at truths (row i)) (stood i).lock)))
 
   -- whom it owes a wake then
   owes_woken : (returning : Returning C) (last : Word) (me now : SeatOf C N) → has_queues (the me.0).at.walk ≡ true → Performed truths None (act_returning returning last) (found_back truths returning last me) me now → OwesTheWoken truths returning me (the now.0).at.owed
@@ -310,22 +312,22 @@ module _ {C : Type 0} {N : ℕ} (truths : Truths C) where
 
   -- ---- wakes are paid
 
-  pub can_pay : (walk : Walk C) (value woken : ℕ) (others : List ℕ) (me : SeatOf C N) → Pays N value walk → (the me.0).at.owed ≡ woken ∷ others → HasReached truths (asked_of walk) (got_of N walk (Paid (has_some (the me.0).at.owed))) me → IsAtPlace truths walk me
-  can_pay walk value woken others me pays some led = subst (λ next. HasReached truths (asked_of walk) next me) pays.more (subst (λ ns. HasReached truths (asked_of walk) (got_of N walk (Paid (has_some ns))) me) some led)
+  pub can_pay : (walk : Walk C) (wake : Owed) (others : List Owed) (me : SeatOf C N) → Pays N walk → (the me.0).at.owed ≡ wake ∷ others → HasReached truths (asked_of walk) (got_of N walk (Paid (has_some (the me.0).at.owed))) me → IsAtPlace truths walk me
+  can_pay walk wake others me pays some led = subst (λ next. HasReached truths (asked_of walk) next me) pays.more (subst (λ ns. HasReached truths (asked_of walk) (got_of N walk (Paid (has_some ns))) me) some led)
 
-  -- the next seat to which a wake is owed, and its number
-  pub owes_next : (woken : ℕ) (others : List ℕ) (me : SeatOf C N) → (the me.0).at.owed ≡ woken ∷ others → OwesBelow (the me.0).at.owed → IsOwedNext woken (the me.0).at.owed × (woken < 64)
-  owes_next woken others me some below = (subst (IsOwedNext woken) (sym some) refl, subst OwesBelow some below)
+  -- the next wake that is owed, and the number of its seat
+  pub owes_next : (wake : Owed) (others : List Owed) (me : SeatOf C N) → (the me.0).at.owed ≡ wake ∷ others → OwesBelow (the me.0).at.owed → IsOwedNext wake (the me.0).at.owed × (wake.seat < 64)
+  owes_next wake others me some below = (subst (IsOwedNext wake) (sym some) refl, subst OwesBelow some below)
 
   -- one wake was paid, and the others are owed still
-  pub is_paid : (walk : Walk C) (value woken : ℕ) (others : List ℕ) (me now : SeatOf C N) → Pays N value walk → (the me.0).at.owed ≡ woken ∷ others → IsAtPlace truths walk me → Performed truths None (PayWake value) (owes_more (the me.0).at.owed) me now
+  pub is_paid : (walk : Walk C) (wake : Owed) (others : List Owed) (me now : SeatOf C N) → Pays N walk → (the me.0).at.owed ≡ wake ∷ others → IsAtPlace truths walk me → Performed truths None PayWake (owes_more (the me.0).at.owed) me now
       → ((the now.0).at.owed ≡ others) × HasReached truths (asked_of walk) (got_of N walk (Paid (has_some (the now.0).at.owed))) now
-  is_paid walk value woken others me now pays some at p =
-      let paid = subst (λ ns. Performed truths None (PayWake value) (owes_more ns) me now) some p in
-      let e = does truths None (PayWake value) (Paid (has_some others)) me now paid in
+  is_paid walk wake others me now pays some at p =
+      let paid = subst (λ ns. Performed truths None PayWake (owes_more ns) me now) some p in
+      let e = does truths None PayWake (Paid (has_some others)) me now paid in
       let left : (the now.0).at.owed ≡ others = ap (λ (x : SeatView C N). x.owed) paid.did.becomes ∙ (ap (λ (q : Part C N). q.owed) e.3 ∙ ap rest_of (sym e.2 ∙ some)) in (
         left,
-        subst (λ ns. HasReached truths (asked_of walk) (got_of N walk (Paid (has_some ns))) now) (sym left) (goes truths walk (PayWake value) (Paid (has_some others)) (got_of N walk (Paid (has_some others))) me now at pays.free refl refl paid),
+        subst (λ ns. HasReached truths (asked_of walk) (got_of N walk (Paid (has_some ns))) now) (sym left) (goes truths walk PayWake (Paid (has_some others)) (got_of N walk (Paid (has_some others))) me now at pays.free refl refl paid),
       )
 
   pub all_paid : (walk : Walk C) (me : SeatOf C N) → (the me.0).at.owed ≡ [] → HasReached truths (asked_of walk) (got_of N walk (Paid (has_some (the me.0).at.owed))) me → HasReached truths (asked_of walk) (got_of N walk (Paid false)) me

@@ -4,6 +4,8 @@ use Rattle.ns_gate.proofs.Calls.{can_go, goes_on, works}
 use Rattle.ns_gate.proofs.Findings.{does}
 use Rattle.ns_gate.proofs.Stays.{HasKeptItsQueues, stays_by}
 use Rattle.ns_gate.proofs.Wakes.{found_nobody, moves_nobody, owes_the_woken, still_woken, takes_nobody, woken_found}
+use Rattle.ns_word.specs.declared.owed.Owed.{Owed}
+use Rattle.ns_word.specs.Owed.{called_of, wakes_of}
 use Rattle.ns_gate.specs.Prelude.{SeatOf, HasAnswered, HasReached, HasSince, HasUnchangedQueues, IsAtPlace, IsOrderly, SignalLoad, TableId, seats_of, woken_nobody, rest, the, Carries, CanStep, Performed, Truths, Lists, lists_woken, taken_from, bits_of, has_some, change_found, Event, LockState, Part, part_of, has_queues, owed_woken, is_held, ReturnQueues, WakeWaiters, Waking, Signaling, Broadcasting, Saw, Woke, WakeAndReturn, Succeeded, On, Walk, InSignal, Word}
 use Rattle.ns_gate.specs.declared.queues.Turned.{Turned}
 use Rattle.ns_monitor.proofs.Standing.{saw_keeps}
@@ -80,7 +82,7 @@ module _ {C : Type 0} {N : ℕ} (truths : Truths C) where
   nobody_woken waking k held lists turned now nobody back =
       let none = owed held (taken_from waking k lists) (takes_nobody waking k lists (found_nobody k lists turned nobody).0).0 in
       subst (λ b. HasReached truths (TheRequest.Wake waking k) (pay_woken waking k b) now) none back.leads where
-        owed : (b : Bool) (ws : List (Waiter C)) → ws ≡ [] → has_some (if b then [] else seats_of ws) ≡ false
+        owed : (b : Bool) (ws : List (Waiter C)) → ws ≡ [] → has_some (if b then [] else wakes_of k ws) ≡ false
         owed true ws is = refl
         owed false [] is = refl
         owed false (w ∷ ws) is = absurd (cc)
@@ -108,7 +110,7 @@ module _ {C : Type 0} {N : ℕ} (truths : Truths C) where
         owed = owes_the_woken truths waking k last owes me now (ap has_queues at.walks) made;
         leads = goes_on truths (InSignal waking k (WakeAndReturn last)) (ReturnQueues (WakeWaiters waking k) last) (Woke owes) (pay_woken waking k owes) me now at refl (λ _. made.carried ∙ ap rest hand.carries) made;
       }) where
-        owed_in : Lists C → List ℕ
+        owed_in : Lists C → List Owed
         owed_in lists = owed_woken waking k (is_held last) lists
 
   -- ---- what it tells

@@ -7,6 +7,7 @@ use Rattle.ns_model.specs.declared.event.Mode.{Mode}
 use Rattle.ns_model.specs.Beginnings.{BeginsWith}
 use Rattle.ns_model.specs.Histories.{own as own_of, row_after}
 use Rattle.ns_model.specs.Truths.{Truths}
+use Rattle.ns_word.specs.declared.owed.Owed.{Owed}
 use Rattle.ns_word.specs.declared.view.Held.{Held}
 use Rattle.ns_word.specs.declared.walk.Walk.{Walk}
 use Rattle.ns_word.specs.Lawful.{IsLawful}
@@ -32,7 +33,7 @@ pub record Known (C : Type 0) (N : ℕ) : Type 0 where
   pub held : Option (Held C N)
   pub call : Option (Walk C)
   pub carries : List (ℕ × Lists C)
-  pub owed : List ℕ
+  pub owed : List Owed
 
 -- what a seat of the gate shows of itself
 abbrev pub known_of : {C : Type 0} {N : ℕ} → TableId → SeatOf C N → Known C N

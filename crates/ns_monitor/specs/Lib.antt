@@ -1,3 +1,4 @@
+pub mod Begun
 pub mod Known
 pub mod Limits
 pub mod Looks
@@ -5,7 +6,6 @@ pub mod Prelude
 pub mod Saved
 pub mod Shows
 pub mod Standing
-pub mod Stopped
 pub mod Tests
 pub mod Variables
 pub mod Waits

@@ -8,7 +8,8 @@ use Rattle.ns_gate.specs.declared.queues.Turned.{Turned}
 use Rattle.ns_model.specs.Truths.{Truths}
 use Rattle.ns_queue.specs.Queues.{IsOrderly}
 use Rattle.ns_queue.specs.Scans.{woken_of}
-use Rattle.ns_queue.specs.Waiters.{seats_of}
+use Rattle.ns_word.specs.Owed.{called_of}
+use Rattle.ns_word.specs.declared.owed.Owed.{Owed}
 use Rattle.ns_queue.specs.declared.waiter.Which.TheVariants.{Lock}
 use Rattle.ns_word.specs.Finds.{row_in}
 use Rattle.ns_word.specs.Steps.{meets_at}
@@ -58,9 +59,9 @@ pub record Sleeps {C : Type 0} (N : ℕ) (walk : Walk C) : Type 0 where
   pub free : has_queues (Some walk) ≡ false
   pub rests : got_of N walk (Flag 1) ≡ Idle walk
 
--- a call at this place pays the wakes that it owes, each with this value, until it owes none
-pub record Pays {C : Type 0} (N value : ℕ) (walk : Walk C) : Type 0 where
-  pub pays : want_of walk ≡ PayWake value
+-- a call at this place pays the wakes that it owes, until it owes none
+pub record Pays {C : Type 0} (N : ℕ) (walk : Walk C) : Type 0 where
+  pub pays : want_of walk ≡ PayWake
   pub free : has_queues (Some walk) ≡ false
   pub more : got_of N walk (Paid true) ≡ On walk
 
@@ -152,7 +153,7 @@ abbrev pub WentOrTook : {C : Type 0} {N : ℕ} → Truths C → Walk C → Optio
 WentOrTook {C} {N} truths walk None me now = MayGoAlone (going_of walk) × HasReached truths (asked_of walk) (gone_to N walk) now
 WentOrTook truths walk (Some word) me now = HasTakenAt truths walk word me now
 
--- A call that has begun, and has loaded the word, has gone by it; or it has seen a word with this number last, and stands where its decision leads.
+-- A call that has begun, and has loaded the word, has gone by it; or it has seen this word last, and stands where its decision leads.
 abbrev pub WentAtOnce : {C : Type 0} {N : ℕ} → Truths C → Walk C → Option Word → SeatOf C N → Type 0
 WentAtOnce {C} {N} truths walk None now = MayGoAlone (going_of walk) × HasReached truths (asked_of walk) (gone_to N walk) now
 WentAtOnce {C} {N} truths walk (Some last) now = IsPackable last × HasReached truths (asked_of walk) (got_of N walk (Saw last)) now
@@ -196,10 +197,10 @@ pub record HasInHand {C : Type 0} {N : ℕ} (truths : Truths C) (returning : Ret
 abbrev pub found_back : {C : Type 0} {N : ℕ} → Truths C → Returning C → Word → SeatOf C N → Found
 found_back truths returning last me = found_returned truths (the me.0).at.seat returning last (row_in (the me.0).at.held) (the me.0).stood
 
--- whom it then owes a wake: those whom a scan of the lock list takes at the row of the section in hand
-abbrev pub OwesTheWoken : {C : Type 0} {N : ℕ} → Truths C → Returning C → SeatOf C N → List ℕ → Type 0
+-- the wakes that it then owes: those of them whom a scan of the lock list takes at the row of the section in hand
+abbrev pub OwesTheWoken : {C : Type 0} {N : ℕ} → Truths C → Returning C → SeatOf C N → List Owed → Type 0
 OwesTheWoken truths (Changed change) me owed = Unit {0}
-OwesTheWoken truths returning me owed = owed ≡ seats_of (woken_of (meets_at truths (row_in (the me.0).at.held)) (the me.0).stood.lock)
+OwesTheWoken truths returning me owed = owed ≡ called_of (woken_of (meets_at truths (row_in (the me.0).at.held)) (the me.0).stood.lock)
 
 -- ---- acquires and releases
 

@@ -2,10 +2,9 @@
 
 ghost use Rattle.std.specs.Prelude.{◌≡◌, None};
 ghost use Rattle.ns_gate.specs.Prelude.{IsPackable, AcquireLoad, Arm, InAcquire, HasSince, IsAtPlace, HasUnchangedQueues, the};
-ghost use Rattle.ns_monitor.specs.Prelude.{AcquiresBy, HasAcquired, HasLocked, HasStopped, IsNumberOf, Known, locking};
+ghost use Rattle.ns_monitor.specs.Prelude.{AcquiresBy, HasAcquired, IsNumberOf};
 
-use crate::caller::{Caller, Renewed};
-use crate::going::{Going, Stopped};
+use crate::going::Going;
 use crate::monitor::Monitor;
 use ns_gate::gate::GateSeat;
 use ns_gate::queues::{Returning, Turned};
@@ -20,32 +19,32 @@ use ns_word::word::Arrival;
 use std::sync::Wait;
 
 impl<C: Condition<N>, const N: usize> Monitor<C, N> {
-    /// Goes on to acquire the lock for such a section, and waits in the lock list as often as it has to.
+    /// Goes on to acquire the lock in this mode by the word last seen, and waits in the lock list as often
+    /// as it has to.
+    ///
+    /// It gives back the seat and no section: a section would come back in memory, and the public calls
+    /// would keep it there where it was acquired at once, too.
     #[cold]
-    pub(crate) fn lock_by<H: Renewed<C, N>, R: Wait>(
+    pub(crate) fn lock_slow<R: Wait>(
         &self,
         rt: &R,
-        stopped: Stopped<C, N>,
-    ) -> Caller<H, C, N>
-        requires of { stopped.seat.table_id ≡ self.now }
-        requires number { IsNumberOf stopped.number stopped.seat.me }
-        requires last { IsPackable stopped.last }
-        requires at { AcquiresBy C.means (Aim.ForLock H.mode) Arrival.AsFresh stopped.last stopped.seat.me }
-        ensures { (old : Known C N) → HasStopped (locking H.mode) old stopped.seat.table_id stopped.number stopped.last stopped.seat.me → HasLocked C.means (locking H.mode) H.mode old result }
+        seat: GateSeat<C, N>,
+        number: u8,
+        mode: Mode,
+        last: LockWord,
+    ) -> GateSeat<C, N>
+        requires of { seat.table_id ≡ self.now }
+        requires number { IsNumberOf number seat.me }
+        requires last { IsPackable last }
+        requires at { AcquiresBy C.means (Aim.ForLock mode) Arrival.AsFresh last seat.me }
+        ensures seat { result.table_id ≡ self.now }
+        ensures since { HasSince None (the seat.me.0) (the result.me.0) }
+        ensures acquired { HasAcquired C.means (Aim.ForLock mode) result.me }
     {
-        let Stopped {
-            mut seat,
-            number,
-            last,
-        } = stopped;
-        let mode = H::mode();
+        let mut seat = seat;
         let aim = Aim::ForLock(mode);
         self.acquire_on(rt, &mut seat, number, aim, Arrival::AsFresh, last);
-        Caller {
-            seat,
-            number,
-            hand: H::begun(),
-        }
+        seat
     }
 
     /// Acquires the lock for this, and waits in the lock list as often as it has to.

@@ -24,18 +24,18 @@ pub enum Going<C> {
     Changing,
 }
 
-/// A call that could not go at once, in the middle of it: its seat, that seat's number, and the lock
-/// word that it saw last. With this it goes on in a function that may wait.
+/// A call that has tried to go at once: its seat, that seat's number, and the lock word that it saw
+/// last, or none where it has gone. By that word it goes on in a function that may wait.
 ///
 /// What goes at once is no such function: each call of one costs a look at whether it was cut short.
 #[derive(Drop)]
-pub(crate) struct Stopped<C: Condition<N>, const N: usize> {
+pub(crate) struct Begun<C: Condition<N>, const N: usize> {
     /// The seat.
     pub(crate) seat: GateSeat<C, N>,
     /// The seat's number.
     pub(crate) number: u8,
-    /// The lock word seen last.
-    pub(crate) last: LockWord,
+    /// The lock word seen last, if the call has not gone.
+    pub(crate) last: Option<LockWord>,
 }
 
 impl<C: Copy> Clone for Going<C> {

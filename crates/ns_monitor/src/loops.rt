@@ -15,6 +15,7 @@ use ns_gate::queues::{Returning, Turned};
 use ns_model::condition::Condition;
 use ns_word::act::Found;
 use ns_word::number::LockWord;
+use ns_word::owed::Owed;
 use ns_word::walk::Walk;
 use std::sync::Wait;
 
@@ -166,24 +167,18 @@ impl<C: Condition<N>, const N: usize> Monitor<C, N> {
         unreachable!()
     }
 
-    /// Pays the wakes that the seat owes, in order: each flag gets this value.
-    pub(crate) fn pay(
-        &self,
-        seat: &mut GateSeat<C, N>,
-        _walk: Walk<C>,
-        woken: &ArrayVec<u8, 64>,
-        value: u64,
-    )
+    /// Pays the wakes that the seat owes, in order.
+    pub(crate) fn pay(&self, seat: &mut GateSeat<C, N>, _walk: Walk<C>, owed: &ArrayVec<Owed, 64>)
         requires of { seat.old.table_id ≡ self.now }
-        requires pays { Pays N value _walk }
+        requires pays { Pays N _walk }
         requires at { HasReached C.means (asked_of _walk) (got_of N _walk (Found.Paid (has_some (the seat.old.me.0).at.owed))) seat.old.me }
-        requires owed { (the seat.old.me.0).at.owed ≡ woken.now.items }
+        requires owed { (the seat.old.me.0).at.owed ≡ owed.now.items }
         ensures seat { seat.new.table_id ≡ self.now }
         ensures since { HasSince None (the seat.old.me.0) (the seat.new.me.0) }
         ensures paid { HasReached C.means (asked_of _walk) (got_of N _walk (Found.Paid false)) seat.new.me }
     {
-        for &number in woken.as_slice() {
-            self.gate.pay_wake(seat, number, value);
+        for &wake in owed.as_slice() {
+            self.gate.pay_wake(seat, wake);
         }
     }
 }

@@ -3,10 +3,10 @@
 ghost use Rattle.std.specs.Prelude.{◌≡◌, ◌<◌, ◌≤◌, ◌++◌, [], ◌∷◌, if◌then◌else◌, None, Some, true, All, IfErr, IfOk, OnOk, length, slice_index, slice_set};
 ghost use Rattle.ns_model.specs.declared.event.Exit.TheVariants as TheExit;
 ghost use Rattle.ns_gate.specs.Prelude.{Read, Write, TryLock, Busy, Succeeded, QuietWriter, Reader, Writer, InHand, HasMode, section_of, mode_released, HasAnswered, HasSince, IsAtRest, RefusesGate, ShareTheLock, the};
-ghost use Rattle.ns_monitor.specs.Prelude.{AcquiresBy, AreNew, AreOfOneHistory, EndsAs, Grows, HasLearned, HasLocked, HasSeenMore, HasStopped, HasUnlocked, IsNumberOf, IsQuietFor, ReleasesBy, getting, judging, known_of, locking, releasing_by, setting, trying};
+ghost use Rattle.ns_monitor.specs.Prelude.{AreNew, AreOfOneHistory, EndsAs, Grows, HasBegun, HasLearned, HasLocked, HasSeenMore, IsFreshIn, IsNumberOf, IsQuietFor, WentAtOnce, getting, judging, known_of, locking, releasing_by, setting, trying};
 
 use crate::caller::{Caller, Free, Hand, ReadHeld, Renewed, Seat, Section, WriteHeld};
-use crate::going::{Going, Stopped};
+use crate::going::{Begun, Going};
 use crate::room::Gated;
 use crate::{Closed, Fault};
 use ns_gate::gate::{Gate, GateSeat};
@@ -47,6 +47,20 @@ pub(crate) fn seated<C: Condition<N>, const N: usize>(
         number,
         hand: Free,
     }
+}
+
+/// A section that has just begun, in the hand of this seat.
+#[inline(always)]
+pub(crate) fn holding<H: Renewed<C, N>, C: Condition<N>, const N: usize>(
+    seat: GateSeat<C, N>,
+    number: u8,
+) -> Caller<H, C, N>
+    requires rest { IsAtRest C.means seat.me × IsNumberOf number seat.me }
+    requires fresh { IsFreshIn N H.mode (the seat.me.0).at.held }
+    ensures { result ≡ known_of seat.table_id seat.me }
+{
+    let hand = H::begun();
+    Caller { seat, number, hand }
 }
 
 /// Puts a seat behind the others.
@@ -145,31 +159,22 @@ impl<C: Gated<N>, const N: usize> Monitor<C, N> {
         self.try_lock_as(seat)
     }
 
-    /// Begins to acquire the lock for such a section, and does it at once where the word lets it.
+    /// Begins to acquire the lock in this mode, and does it at once where the word lets it.
     #[inline(always)]
-    fn begin_lock<H: Renewed<C, N>>(
-        &self,
-        seat: Seat<C, N>,
-    ) -> Result<Caller<H, C, N>, Stopped<C, N>>
+    fn begin_lock(&self, seat: Seat<C, N>, mode: Mode) -> Begun<C, N>
         requires { seat.monitor ≡ self.now }
-        ensures locked { IfOk result (λ held. HasLocked C.means (locking H.mode) H.mode seat held) }
-        ensures stopped { IfErr result (λ s. (s.seat.table_id ≡ self.now) × HasStopped (locking H.mode) seat s.seat.table_id s.number s.last s.seat.me × AcquiresBy C.means (Aim.ForLock H.mode) Arrival.AsFresh s.last s.seat.me) }
+        ensures of { result.seat.table_id ≡ self.now }
+        ensures begun { HasBegun (locking mode) seat result.seat.table_id result.number result.seat.me }
+        ensures went { WentAtOnce C.means (locking mode) result.last result.seat.me }
     {
         let Caller {
             mut seat,
             number,
             hand: _,
         } = seat;
-        let mode = H::mode();
         let going = Going::Acquiring(Aim::ForLock(mode), Arrival::AsFresh);
-        match self.go_at_once(&mut seat, going, Walk::lock(mode)) {
-            None => Ok(Caller {
-                seat,
-                number,
-                hand: H::begun(),
-            }),
-            Some(last) => Err(Stopped { seat, number, last }),
-        }
+        let last = self.go_at_once(&mut seat, going, Walk::lock(mode));
+        Begun { seat, number, last }
     }
 
     /// Acquires the lock to write, and waits as long as it has to. The section begins at the row after
@@ -179,10 +184,12 @@ impl<C: Gated<N>, const N: usize> Monitor<C, N> {
         requires { seat.monitor ≡ self.now }
         ensures { HasLocked C.means (locking Write) Write seat result }
     {
-        match self.begin_lock(seat) {
-            Ok(held) => held,
-            Err(stopped) => self.lock_by(rt, stopped),
-        }
+        let Begun { seat, number, last } = self.begin_lock(seat, Mode::Write);
+        let seat = match last {
+            None => seat,
+            Some(last) => self.lock_slow(rt, seat, number, Mode::Write, last),
+        };
+        holding(seat, number)
     }
 
     /// Acquires the lock to read, beside other readers, and waits as long as it has to. The section
@@ -192,10 +199,12 @@ impl<C: Gated<N>, const N: usize> Monitor<C, N> {
         requires { seat.monitor ≡ self.now }
         ensures { HasLocked C.means (locking Read) Read seat result }
     {
-        match self.begin_lock(seat) {
-            Ok(held) => held,
-            Err(stopped) => self.lock_by(rt, stopped),
-        }
+        let Begun { seat, number, last } = self.begin_lock(seat, Mode::Read);
+        let seat = match last {
+            None => seat,
+            Some(last) => self.lock_slow(rt, seat, number, Mode::Read, last),
+        };
+        holding(seat, number)
     }
 
     /// The value of a cell of the section's row.
@@ -318,12 +327,13 @@ impl<C: Gated<N>, const N: usize> Monitor<C, N> {
         &self,
         held: Caller<H, C, N>,
         releasing: Releasing,
-    ) -> Result<Seat<C, N>, Stopped<C, N>>
+    ) -> Begun<C, N>
         requires of { held.monitor ≡ self.now }
         requires mode { mode_released releasing ≡ H.mode }
         requires quiet { IsQuietFor C.means releasing held.held }
-        ensures released { IfOk result (λ seat. HasUnlocked C.means releasing held seat) }
-        ensures stopped { IfErr result (λ s. (s.seat.table_id ≡ self.now) × HasStopped (releasing_by releasing) held s.seat.table_id s.number s.last s.seat.me × ReleasesBy C.means releasing s.last s.seat.me) }
+        ensures of { result.seat.table_id ≡ self.now }
+        ensures begun { HasBegun (releasing_by releasing) held result.seat.table_id result.number result.seat.me }
+        ensures went { WentAtOnce C.means (releasing_by releasing) result.last result.seat.me }
     {
         let Caller {
             mut seat,
@@ -331,10 +341,8 @@ impl<C: Gated<N>, const N: usize> Monitor<C, N> {
             hand: _,
         } = held;
         let going = Going::Leaving(releasing);
-        match self.go_at_once(&mut seat, going, Walk::release(releasing)) {
-            None => Ok(seated(seat, number)),
-            Some(last) => Err(Stopped { seat, number, last }),
-        }
+        let last = self.go_at_once(&mut seat, going, Walk::release(releasing));
+        Begun { seat, number, last }
     }
 
     /// Ends a write section: it is committed as it is, and the caller's events have it as their last.
@@ -348,10 +356,13 @@ impl<C: Gated<N>, const N: usize> Monitor<C, N> {
         ensures grows { Grows C.means (releasing_by Writer) held result }
         ensures mine { InHand held.held (λ section. result.mine ≡ held.mine ++ section_of C.means.holds held.seat section TheExit.Plain ∷ []) }
     {
-        match self.begin_unlock(held, Releasing::Writer) {
-            Ok(seat) => seat,
-            Err(stopped) => self.unlock_by(rt, stopped, Releasing::Writer),
-        }
+        let releasing = Releasing::Writer;
+        let Begun { seat, number, last } = self.begin_unlock(held, releasing);
+        let seat = match last {
+            None => seat,
+            Some(last) => self.unlock_slow(rt, seat, releasing, last),
+        };
+        seated(seat, number)
     }
 
     /// Ends a read section: it is committed, and the caller's events have it as their last.
@@ -363,10 +374,13 @@ impl<C: Gated<N>, const N: usize> Monitor<C, N> {
         ensures grows { Grows C.means (releasing_by Reader) held result }
         ensures mine { InHand held.held (λ section. result.mine ≡ held.mine ++ section_of C.means.holds held.seat section TheExit.Plain ∷ []) }
     {
-        match self.begin_unlock(held, Releasing::Reader) {
-            Ok(seat) => seat,
-            Err(stopped) => self.unlock_by(rt, stopped, Releasing::Reader),
-        }
+        let releasing = Releasing::Reader;
+        let Begun { seat, number, last } = self.begin_unlock(held, releasing);
+        let seat = match last {
+            None => seat,
+            Some(last) => self.unlock_slow(rt, seat, releasing, last),
+        };
+        seated(seat, number)
     }
 
     /// Ends a write section that can't have made a false condition true: it is committed as it is, as
@@ -379,10 +393,13 @@ impl<C: Gated<N>, const N: usize> Monitor<C, N> {
         ensures grows { Grows C.means (releasing_by QuietWriter) held result }
         ensures mine { InHand held.held (λ section. result.mine ≡ held.mine ++ section_of C.means.holds held.seat section TheExit.Plain ∷ []) }
     {
-        match self.begin_unlock(held, Releasing::QuietWriter) {
-            Ok(seat) => seat,
-            Err(stopped) => self.unlock_by(rt, stopped, Releasing::QuietWriter),
-        }
+        let releasing = Releasing::QuietWriter;
+        let Begun { seat, number, last } = self.begin_unlock(held, releasing);
+        let seat = match last {
+            None => seat,
+            Some(last) => self.unlock_slow(rt, seat, releasing, last),
+        };
+        seated(seat, number)
     }
 
     /// Ends the monitor, and tells the cells as they stand, and whether the lock is free. Where it

@@ -3,46 +3,44 @@
 ghost use Rattle.std.specs.Prelude.{◌≡◌, None};
 ghost use Rattle.ns_gate.specs.Prelude.{IsPackable, bits_of, Succeeded, InRelease, HasAnswered, HasSince, IsAtPlace, HasUnchangedQueues, the};
 ghost use Rattle.ns_word.specs.declared.request.Request.TheVariants as TheRequest;
-ghost use Rattle.ns_monitor.specs.Prelude.{HasStopped, HasUnlocked, IsNumberOf, Known, ReleasesBy, releasing_by, scanning_at};
+ghost use Rattle.ns_monitor.specs.Prelude.{ReleasesBy, scanning_at};
 
-use crate::caller::Seat;
-use crate::going::{Going, Stopped};
-use crate::monitor::{Monitor, seated};
+use crate::going::Going;
+use crate::monitor::Monitor;
 use ns_gate::gate::GateSeat;
 use ns_gate::queues::{Returning, Turned};
 use ns_model::condition::Condition;
 use ns_word::number::LockWord;
+use ns_word::owed::called;
 use ns_word::release_walk::ReleasePlace;
 use ns_word::walk::Walk;
 use ns_word::word::Releasing;
 use std::sync::Wait;
 
 impl<C: Condition<N>, const N: usize> Monitor<C, N> {
-    /// Goes on to release the section in hand, and wakes those waiters who can go on.
+    /// Goes on to release the section in hand by the word last seen, and wakes those waiters who can go on.
     #[cold]
-    pub(crate) fn unlock_by<R: Wait>(
+    pub(crate) fn unlock_slow<R: Wait>(
         &self,
         rt: &R,
-        stopped: Stopped<C, N>,
+        seat: GateSeat<C, N>,
         releasing: Releasing,
-    ) -> Seat<C, N>
-        requires of { stopped.seat.table_id ≡ self.now }
-        requires number { IsNumberOf stopped.number stopped.seat.me }
-        requires last { IsPackable stopped.last }
-        requires at { ReleasesBy C.means releasing stopped.last stopped.seat.me }
-        ensures { (old : Known C N) → HasStopped (releasing_by releasing) old stopped.seat.table_id stopped.number stopped.last stopped.seat.me → HasUnlocked C.means releasing old result }
+        last: LockWord,
+    ) -> GateSeat<C, N>
+        requires of { seat.table_id ≡ self.now }
+        requires last { IsPackable last }
+        requires at { ReleasesBy C.means releasing last seat.me }
+        ensures seat { result.table_id ≡ self.now }
+        ensures since { HasSince None (the seat.me.0) (the result.me.0) }
+        ensures released { HasAnswered C.means (TheRequest.Release releasing) Succeeded result.me }
     {
-        let Stopped {
-            mut seat,
-            number,
-            last,
-        } = stopped;
+        let mut seat = seat;
         let going = Going::Leaving(releasing);
         let place = Walk::InRelease(releasing, ReleasePlace::ReleaseLoad);
         if let Some(word) = self.go_or_take(rt, &mut seat, going, place, last) {
             self.scan_and_release(rt, &mut seat, releasing, word);
         }
-        seated(seat, number)
+        seat
     }
 
     /// Scans the lock list in hand at the section's row, puts it back and releases, and pays the wakes
@@ -73,6 +71,7 @@ impl<C: Condition<N>, const N: usize> Monitor<C, N> {
         let place = Walk::InRelease(releasing, ReleasePlace::ScanAndRelease(parts));
         self.put_back(rt, seat, returning, place, word, Turned { some, bits });
         let place = Walk::InRelease(releasing, ReleasePlace::Pay);
-        self.pay(seat, place, &scan.woken, 0);
+        let owed = called(scan.woken.as_slice());
+        self.pay(seat, place, &owed);
     }
 }

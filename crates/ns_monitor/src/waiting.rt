@@ -13,6 +13,7 @@ use ns_model::condition::Condition;
 use ns_note::pause::Pause;
 use ns_word::act::Change;
 use ns_word::number::LockWord;
+use ns_word::owed::called;
 use ns_word::wait::{
     Aim, LeavePlace, Outcome, QueuePlace, Subject, Wait as Waiting, WaitPlace, arrival_of,
 };
@@ -93,7 +94,8 @@ impl<C: Condition<N>, const N: usize> Monitor<C, N> {
         );
         self.put_back(rt, seat, returning, place, word, Turned { some, bits });
         let place = Walk::InWait(wait, WaitPlace::PayInWait);
-        self.pay(seat, place, &scan.woken, 0);
+        let owed = called(scan.woken.as_slice());
+        self.pay(seat, place, &owed);
     }
 
     /// Takes a wait out of its list that is ended early. Where it was taken from there before, waits

@@ -12,10 +12,10 @@ use arrayvec::ArrayVec;
 use ns_gate::gate::GateSeat;
 use ns_gate::queues::{Returning, Turned};
 use ns_model::condition::Condition;
-use ns_queue::signal::seats;
 use ns_queue::waiter::Waiter;
 use ns_word::act::{Change, Waking};
 use ns_word::number::LockWord;
+use ns_word::owed::wakes;
 use ns_word::signal_walk::SignalPlace;
 use ns_word::walk::Walk;
 use std::sync::Wait;
@@ -74,8 +74,9 @@ impl<C: Condition<N>, const N: usize> Monitor<C, N> {
         unreachable!()
     }
 
-    /// With the queues in hand, taken at this word: takes those out of the list of the variable whom the
-    /// call wakes, and moves them to the lock list where the lock is held, else pays them their wakes.
+    /// With the queues in hand, taken at this word: takes those of the list of the variable whom the
+    /// call wakes out of all variables' lists, and moves them to the lock list where the lock is held,
+    /// else pays them their wakes.
     fn wake_waiters<R: Wait>(
         &self,
         rt: &R,
@@ -94,13 +95,13 @@ impl<C: Condition<N>, const N: usize> Monitor<C, N> {
         let held = word.is_held();
         let (taken, made) = self.gate.wake_in_hand(seat, waking, k, held);
         let moved = self.return_woken(rt, seat, waking, k, word, taken.as_slice(), made);
-        let woken = if moved {
+        let owed = if moved {
             ArrayVec::new()
         } else {
-            seats(taken.as_slice())
+            wakes(k, taken.as_slice())
         };
         let place = Walk::InSignal(waking, k, SignalPlace::PayTheWoken);
-        self.pay(seat, place, &woken, 2);
+        self.pay(seat, place, &owed);
     }
 
     /// Takes the queues, and wakes those whom the call wakes. Where nobody waits for the variable, it

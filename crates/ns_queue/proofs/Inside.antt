@@ -2,7 +2,7 @@
 use Rattle.std.proofs.Common.{◌≡◌, ℕ, zero, suc, ◌+◌, ◌≤◌, ◌<◌, inl, inr, Bool, true, false, IsTrue, not, cond, eqb, subst, List, [], ◌∷◌, ◌++◌, length, get_or, take, drop, set, map, refl, ap, sym, ◌∙◌, arith}
 use Rattle.std.specs.Bool.{OnFalse}
 use Rattle.std.specs.List.{filter, sum_by}
-use Rattle.std.proofs.lemmas.Bool.{cases_eq}
+use Rattle.std.proofs.lemmas.Bool.{cases_eq, eq-eqb, ne_eqb}
 use Rattle.ns_model.specs.Tallies.{one_if}
 use Rattle.std.proofs.lemmas.List.{length-set, length-map, map-set, get_or-map}
 use Rattle.std.proofs.lemmas.List.Sums.{get_or-le-sum_by, sum_by_more}
@@ -11,9 +11,9 @@ use Rattle.arrayvec.specs.ArrayVec.{ArrayVec}
 use Rattle.ns_queue.specs.declared.waiter.Waiter.{Waiter}
 use Rattle.ns_queue.specs.declared.waiter.Which.TheVariants.{Cv}
 use Rattle.ns_queue.specs.Waiters.{times_in, without_in}
-use Rattle.ns_queue.specs.Queues.{Lists, IsOrderly, times, with_waiters, waiters_of}
+use Rattle.ns_queue.specs.Queues.{Lists, IsOrderly, beside, times, with_waiters, waiters_of}
 use Rattle.ns_queue.proofs.Seats.{times_in-cons, times_in_push}
-use Rattle.ns_queue.proofs.Orders.{beside, orderly_more, orderly_less, times_set, cv_times, part_has_room}
+use Rattle.ns_queue.proofs.Orders.{orderly_more, orderly_less, times_set, cv_times, part_has_room}
 use Rattle.ns_queue.proofs.Parts.{once_in, read_apart, read_back}
 
 -- what a test told
@@ -49,9 +49,9 @@ module _ {C : Type 0} where
   list_put lock cvs k v = ap (λ (vs : List (List (Waiter C))). record { lock = lock; cvs = vs }) (map-set (λ v. v.items) cvs k v)
 
   pub list_has_room : (lock : List (Waiter C)) (cvs : List (ArrayVec (Waiter C))) (k : ℕ) (d : ArrayVec (Waiter C)) (w : Waiter C) →
-      IsOrderly (shape lock cvs) → k < 4 → w.seat < 64 → times w.seat (shape lock cvs) ≡ 0 → length (get_or cvs k d).items < 64
+      IsOrderly (shape lock cvs) → k < 4 → w.seat < 64 → beside (shape lock cvs) w.seat k ≡ 0 → length (get_or cvs k d).items < 64
   list_has_room lock cvs k d w orderly within low free =
-      let room = part_has_room (shape lock cvs) (waiters_of (shape lock cvs) (Cv k)) w orderly (once_in (shape lock cvs) (Cv k) orderly within) (λ seat. cv_times (shape lock cvs) k seat (omega (arith, orderly.four))) low free in
+      let room = part_has_room (shape lock cvs) (waiters_of (shape lock cvs) (Cv k)) w orderly (once_in (shape lock cvs) (Cv k) orderly within) (λ seat. cv_times (shape lock cvs) k seat (omega (arith, orderly.four))) low (omega (arith, free)) in
       omega (arith, room, ap length (list_at lock cvs k d orderly within))
 
   pub lock_pushed : (lock lock' : List (Waiter C)) (cvs : List (ArrayVec (Waiter C))) (w : Waiter C) → IsOrderly (shape lock cvs) → w.seat < 64 → times w.seat (shape lock cvs) ≡ 0 →
@@ -85,13 +85,24 @@ module _ {C : Type 0} where
         | inr ne ↦ omega (arith, there j, ap (times_in seat) (read_apart (shape lock cvs) k j v.items ne))
       ]
 
+  -- one more in it, who stood neither there nor in the lock's
   pub list_pushed : (lock : List (Waiter C)) (cvs : List (ArrayVec (Waiter C))) (k : ℕ) (d v : ArrayVec (Waiter C)) (w : Waiter C) → IsOrderly (shape lock cvs) → k < 4 → w.seat < 64 →
-      times w.seat (shape lock cvs) ≡ 0 → v.items ≡ (get_or cvs k d).items ++ w ∷ [] → IsOrderly (shape lock (set cvs k v))
+      beside (shape lock cvs) w.seat k ≡ 0 → v.items ≡ (get_or cvs k d).items ++ w ∷ [] → IsOrderly (shape lock (set cvs k v))
   list_pushed lock cvs k d v w orderly within low free is =
+      let new = shape lock (set cvs k v) in
       let more : (seat : ℕ) → times_in seat v.items ≡ times_in seat (get_or cvs k d).items + one_if (eqb w.seat seat) = λ seat. ap (times_in seat) is ∙ times_in_push (get_or cvs k d).items w seat in
-      orderly_more (shape lock cvs) (shape lock (set cvs k v)) w orderly low free (put_four lock cvs k v orderly)
-      (λ seat. put_beside lock cvs k d v (one_if (eqb w.seat seat)) seat orderly within (omega (arith, more seat)))
-      (λ seat. omega (arith, put_times lock cvs k d v orderly within seat, more seat))
+      let here : (seat : ℕ) → beside new seat k ≤ 1 = λ seat. let most = put_beside lock cvs k d v (one_if (eqb w.seat seat)) seat orderly within (omega (arith, more seat)) k within in elim (cases_eq w.seat seat) [
+        | inl e ↦ (let P : ℕ → Type 0 = λ s. beside new s k ≤ 1 in subst P e (let own = put_beside lock cvs k d v (one_if (eqb w.seat w.seat)) w.seat orderly within (omega (arith, more w.seat)) k within in let one : one_if (eqb w.seat w.seat) ≡ 1 = rw (eq-eqb w.seat w.seat refl) refl in omega (arith, own, one, free)))
+        | inr ne ↦ (let no : one_if (eqb w.seat seat) ≡ 0 = rw (ne_eqb w.seat seat ne) refl in omega (arith, most, no, orderly.once seat k within))
+      ] in
+      record {
+        four = put_four lock cvs k v orderly;
+        once = λ seat j low_j. elim (cases_eq j k) [
+          | inl e ↦ (let P : ℕ → Type 0 = λ i. beside new seat i ≤ 1 in subst P (sym e) (here seat))
+          | inr ne ↦ omega (arith, ap (λ (lists : Lists C). beside lists seat j) (list_put lock cvs k v), ap (times_in seat) (read_apart (shape lock cvs) k j v.items ne), orderly.once seat j low_j)
+        ];
+        below = λ seat high. let no : one_if (eqb w.seat seat) ≡ 0 = rw (ne_eqb w.seat seat (λ e. omega arith)) refl in omega (arith, put_times lock cvs k d v orderly within seat, more seat, no, orderly.below seat high);
+      }
 
   pub lock_lessened : (lock lock' : List (Waiter C)) (cvs : List (ArrayVec (Waiter C))) → IsOrderly (shape lock cvs) →
       ((seat : ℕ) → times_in seat lock' ≤ times_in seat lock) → IsOrderly (shape lock' cvs)

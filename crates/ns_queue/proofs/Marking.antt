@@ -1,10 +1,9 @@
 -- One place further along a list.
-use Rattle.std.proofs.Common.{◌≡◌, ℕ, suc, ◌+◌, ◌≤◌, ◌<◌, Bool, true, false, List, [], ◌∷◌, ◌++◌, length, get_or, take, drop, set, refl, ap, sym, ◌∙◌, arith, append_assoc, add-one}
+use Rattle.std.proofs.Common.{◌≡◌, ℕ, suc, ◌+◌, ◌<◌, Bool, true, false, List, [], ◌∷◌, ◌++◌, length, get_or, drop, refl, ap, sym, ◌∙◌, arith, append_assoc, add-one}
 use Rattle.std.proofs.Math.Seq.{drop-cons}
-use Rattle.std.proofs.lemmas.List.{take_more, take_more_set, drop-set-lt}
 use Rattle.ns_queue.specs.declared.waiter.Waiter.{Waiter}
 use Rattle.ns_queue.specs.declared.signal.Wanted.{Wanted}
-use Rattle.ns_queue.specs.Marks.{marked, unmarked, is_wanted, wanted_after, signal_marks}
+use Rattle.ns_queue.specs.Marks.{marked, is_wanted, wanted_after, signal_marks}
 
 pub drop_step : {A : Type 0} (xs : List A) (i : ℕ) (d x : A) → i < length xs → get_or xs i d ≡ x → drop i xs ≡ x ∷ drop (i + 1) xs
 drop_step {A} xs i d x within is = rw add-one (drop-cons xs i d within ∙ ap (λ (y : A). y ∷ drop (suc i) xs) is)
@@ -28,30 +27,6 @@ module _ {A : Type 0} where
   pub marked_no : (ms : List Bool) (xs : List A) (i : ℕ) (b : Bool) → i < length ms → i < length xs → get_or ms i b ≡ false →
       marked (drop i ms) (drop i xs) ≡ marked (drop (i + 1) ms) (drop (i + 1) xs)
   marked_no ms xs i b w v m = let d = some_item xs i v in rw (drop_step ms i b false w m, drop_step xs i d (get_or xs i d) v refl) refl
-
-  pub unmarked_no : (ms : List Bool) (xs : List A) (i : ℕ) (b : Bool) (x : A) → i < length ms → i < length xs → get_or ms i b ≡ false → x ≡ get_or xs i x →
-      unmarked (drop i ms) (drop i xs) ≡ x ∷ unmarked (drop (i + 1) ms) (drop (i + 1) xs)
-  unmarked_no ms xs i b x w v m is = rw (drop_step ms i b false w m, drop_step xs i x x v (sym is)) refl
-
-  pub unmarked_yes : (ms : List Bool) (xs : List A) (i : ℕ) (b : Bool) → i < length ms → i < length xs → get_or ms i b ≡ true →
-      unmarked (drop i ms) (drop i xs) ≡ unmarked (drop (i + 1) ms) (drop (i + 1) xs)
-  unmarked_yes ms xs i b w v m = let d = some_item xs i v in rw (drop_step ms i b true w m, drop_step xs i d (get_or xs i d) v refl) refl
-
-  pub kept_on : (ms : List Bool) (xs whole : List A) (kept i : ℕ) (b : Bool) (x : A) → kept ≤ i → i < length ms → i < length xs → get_or ms i b ≡ false → x ≡ get_or xs i x →
-      take kept xs ++ unmarked (drop i ms) (drop i xs) ≡ whole → take (kept + 1) (set xs kept x) ++ unmarked (drop (i + 1) ms) (drop (i + 1) (set xs kept x)) ≡ whole
-  kept_on ms xs whole kept i b x behind w v m is before =
-      rw (drop-set-lt (i + 1) xs kept x (omega arith))
-      (pushed_on (take kept xs) (take (kept + 1) (set xs kept x)) (unmarked (drop i ms) (drop i xs)) (unmarked (drop (i + 1) ms) (drop (i + 1) xs)) whole x
-      (take_more_set xs kept x (omega arith)) (unmarked_no ms xs i b x w v m is) before)
-
-  -- where nobody in front was taken, the next stands in its place already
-  pub kept_here : (ms : List Bool) (xs whole : List A) (kept i : ℕ) (b : Bool) → kept ≡ i → i < length ms → i < length xs → get_or ms i b ≡ false →
-      take kept xs ++ unmarked (drop i ms) (drop i xs) ≡ whole → take (kept + 1) xs ++ unmarked (drop (i + 1) ms) (drop (i + 1) xs) ≡ whole
-  kept_here ms xs whole kept i b same w v m before =
-      let d = some_item xs i v in
-      let more = take_more xs kept d (omega (arith, same, v)) ∙ ap (λ n. take kept xs ++ get_or xs n d ∷ []) same in
-      pushed_on (take kept xs) (take (kept + 1) xs) (unmarked (drop i ms) (drop i xs)) (unmarked (drop (i + 1) ms) (drop (i + 1) xs)) whole (get_or xs i d) more
-      (rw (drop_step ms i b false w m, drop_step xs i d (get_or xs i d) v refl) refl) before
 
 module _ {C : Type 0} where
   pub signal_on : (ws : List (Waiter C)) (i : ℕ) (w : Waiter C) (wanted wanted' : Wanted) (b : Bool) (got got' whole : List Bool) → i < length ws → w ≡ get_or ws i w →

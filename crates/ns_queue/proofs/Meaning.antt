@@ -1,22 +1,14 @@
 -- What the marks of a signal come to.
-use Rattle.std.proofs.Common.{◌≡◌, ℕ, suc, ◌≤◌, Bool, true, false, not, cond, List, [], ◌∷◌, length, drop, refl, ap, arith}
+use Rattle.std.proofs.Common.{◌≡◌, suc, Bool, true, false, not, cond, List, [], ◌∷◌, length, drop, refl, ap}
 use Rattle.std.specs.List.{filter}
 use Rattle.ns_queue.specs.declared.waiter.Waiter.{Waiter}
 use Rattle.ns_queue.specs.declared.signal.Wanted.{Wanted}
 use Rattle.ns_queue.specs.declared.signal.Wanted.TheVariants.{Anybody, ReadersAndWriter, Readers, Nobody}
-use Rattle.ns_queue.specs.Waiters.{reads, writes, times_in}
+use Rattle.ns_queue.specs.Waiters.{reads, writes}
 use Rattle.ns_queue.specs.Signals.{readers_and_a_writer, signaled_of, unsignaled_of}
 use Rattle.ns_queue.specs.Marks.{marked, signal_marks, unmarked, wanted_after}
-use Rattle.ns_queue.proofs.Seats.{times_in-cons}
 
 module _ {C : Type 0} where
-  -- marks take nobody in
-  pub times_unmarked : (ms : List Bool) (ws : List (Waiter C)) (seat : ℕ) → times_in seat (unmarked ms ws) ≤ times_in seat ws
-  times_unmarked [] ws seat = omega arith
-  times_unmarked (m ∷ ms) [] seat = omega arith
-  times_unmarked (true ∷ ms) (w ∷ ws) seat = omega (arith, times_in-cons seat w ws, times_unmarked ms ws seat)
-  times_unmarked (false ∷ ms) (w ∷ ws) seat = omega (arith, times_in-cons seat w ws, times_in-cons seat w (unmarked ms ws), times_unmarked ms ws seat)
-
   pub length-signal_marks : (wanted : Wanted) (ws : List (Waiter C)) → length (signal_marks wanted ws) ≡ length ws
   length-signal_marks wanted [] = refl
   length-signal_marks wanted (w ∷ ws) = ap suc (length-signal_marks (wanted_after wanted w) ws)
@@ -64,9 +56,3 @@ module _ {C : Type 0} where
 
   pub signaled_takes : (a b : List (Waiter C)) (c ms : List Bool) (items : List (Waiter C)) → a ≡ items → b ≡ items → c ≡ ms → ms ≡ signal_marks Anybody a → marked c b ≡ signaled_of items
   signaled_takes a b c ms items ea eb ec em = rw (ec, em, ea, eb) (signal_takes items)
-
-  pub signaled_leaves : (a b : List (Waiter C)) (c ms : List Bool) (items : List (Waiter C)) → a ≡ items → b ≡ items → c ≡ ms → ms ≡ signal_marks Anybody a → unmarked c b ≡ unsignaled_of items
-  signaled_leaves a b c ms items ea eb ec em = rw (ec, em, ea, eb) (signal_leaves items)
-
-  pub times_unsignaled : (ws : List (Waiter C)) (seat : ℕ) → times_in seat (unsignaled_of ws) ≤ times_in seat ws
-  times_unsignaled ws seat = rw (← signal_leaves ws) (times_unmarked (signal_marks Anybody ws) ws seat)

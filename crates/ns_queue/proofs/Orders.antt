@@ -1,23 +1,27 @@
 -- What changes one list keeps the lists orderly.
-use Rattle.std.proofs.Common.{◌≡◌, ℕ, zero, suc, ◌+◌, ◌*◌, ◌^◌, ◌≤◌, ◌<◌, inl, inr, eqb, List, [], ◌∷◌, length, get_or, set, refl, subst, arith}
+use Rattle.std.proofs.Common.{◌≡◌, ℕ, zero, suc, ◌+◌, ◌*◌, ◌^◌, ◌≤◌, ◌<◌, inl, inr, eqb, List, [], ◌∷◌, length, get_or, set, refl, ap, subst, arith}
 use Rattle.std.proofs.Common.{Fits, w64}
 use Rattle.std.proofs.Math.Nat.{mul-le-mul_right}
 use Rattle.std.proofs.lemmas.List.Sums.{sum_by-set, get_or-le-sum_by}
-use Rattle.std.proofs.lemmas.Bool.{ne_eqb, eq-eqb, cases_eq}
+use Rattle.std.proofs.lemmas.Bool.{ne_eqb, eq-eqb, cases_eq, cases_lt}
+use Rattle.std.proofs.lemmas.List.{get_or_past}
 use Rattle.ns_model.specs.Tallies.{one_if}
 use Rattle.ns_queue.specs.declared.waiter.Waiter.{Waiter}
 use Rattle.ns_queue.specs.Waiters.{times_in}
 use Rattle.ns_queue.specs.declared.waiter.Which.TheVariants.{Cv}
-use Rattle.ns_queue.specs.Queues.{Lists, IsOrderly, times, waiters_of}
+use Rattle.ns_queue.specs.Queues.{Lists, IsOrderly, beside, times, waiters_of}
 use Rattle.ns_queue.proofs.Seats.{room_for}
 
 module _ {C : Type 0} where
-  -- how often a seat stands in the lock's list and in that of a variable
-  abbrev pub beside : Lists C → ℕ → ℕ → ℕ
-  beside lists seat k = times_in seat lists.lock + times_in seat (waiters_of lists (Cv k))
-
   pub beside_most : (lists : Lists C) (seat k : ℕ) → length lists.cvs ≡ 4 → k < 4 → beside lists seat k ≤ times seat lists
   beside_most lists seat k four low = omega (arith, get_or-le-sum_by (times_in seat) lists.cvs k [] (omega (arith, four, low)))
+
+  -- who stands nowhere stands in neither
+  pub free_beside : (lists : Lists C) (seat k : ℕ) → times seat lists ≡ 0 → beside lists seat k ≡ 0
+  free_beside lists seat k free = elim (cases_lt k (length lists.cvs)) [
+    | inl low ↦ omega (arith, get_or-le-sum_by (times_in seat) lists.cvs k [] low, free)
+    | inr past ↦ omega (arith, ap (times_in seat) (get_or_past lists.cvs k [] past), free)
+  ]
 
   -- nobody stands anywhere
   pub orderly_fresh : IsOrderly {C = C} (record { lock = []; cvs = [] ∷ [] ∷ [] ∷ [] ∷ [] })
@@ -63,11 +67,11 @@ module _ {C : Type 0} where
   pub cv_times : (lists : Lists C) (k : ℕ) (seat : ℕ) → k < length lists.cvs → times_in seat (get_or lists.cvs k []) ≤ times seat lists
   cv_times lists k seat within = omega (arith, get_or-le-sum_by (times_in seat) lists.cvs k [] within)
 
-  -- any list has room for one that stands in none
+  -- a list has room for one that doesn't stand in it
   pub part_has_room : (lists : Lists C) (ws : List (Waiter C)) (w : Waiter C) → IsOrderly lists → ((seat : ℕ) → times_in seat ws ≤ 1) → ((seat : ℕ) → times_in seat ws ≤ times seat lists) →
-      w.seat < 64 → times w.seat lists ≡ 0 → length ws < 64
+      w.seat < 64 → times_in w.seat ws ≡ 0 → length ws < 64
   part_has_room lists ws w orderly once part low free =
-      room_for 64 ws w once (λ seat high. omega (arith, part seat, orderly.below seat high)) low (omega (arith, part w.seat, free))
+      room_for 64 ws w once (λ seat high. omega (arith, part seat, orderly.below seat high)) low free
 
 -- where the lists of the variables lie, in bytes
 pub offset_fits : (k size : ℕ) → k < 4 → size < 2 ^ 60 → Fits w64 (k * size)

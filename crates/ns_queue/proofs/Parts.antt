@@ -1,5 +1,5 @@
 -- One of the five lists: read back, changed, and left by a seat.
-use Rattle.std.proofs.Common.{◌≡◌, ◌≢◌, ℕ, zero, suc, ◌+◌, ◌≤◌, ◌<◌, List, [], ◌∷◌, length, get_or, set, map, refl, ap, arith}
+use Rattle.std.proofs.Common.{◌≡◌, ◌≢◌, ℕ, zero, suc, ◌+◌, ◌≤◌, ◌<◌, Bool, true, false, List, [], ◌∷◌, ◌++◌, length, get_or, set, map, refl, ap, ◌∙◌, arith, add-one}
 use Rattle.std.specs.List.{sum_by}
 use Rattle.std.proofs.lemmas.List.{length-set, get_or-set_same, get_or-set_other}
 use Rattle.std.proofs.lemmas.List.Sums.{sum_by-cons, get_or-le-sum_by}
@@ -7,7 +7,9 @@ use Rattle.ns_queue.specs.declared.waiter.Waiter.{Waiter}
 use Rattle.ns_queue.specs.declared.waiter.Which.{Which}
 use Rattle.ns_queue.specs.declared.waiter.Which.TheVariants.{Lock, Cv}
 use Rattle.ns_queue.specs.Waiters.{times_in, without_in, HaveSeats}
-use Rattle.ns_queue.specs.Queues.{Lists, IsList, IsOrderly, times, waiters_of, with_waiters, without}
+use Rattle.ns_model.specs.Cvs.{is_in}
+use Rattle.ns_model.specs.declared.cvs.Cvs.{Cvs}
+use Rattle.ns_queue.specs.Queues.{Lists, IsList, IsOrderly, beside, times, waiters_of, with_each, with_waiters, without}
 use Rattle.ns_queue.proofs.Seats.{none_without}
 use Rattle.ns_queue.proofs.Orders.{times_set, lock_times, cv_times}
 
@@ -89,3 +91,30 @@ module _ {C : Type 0} where
       let within : k < length lists.cvs = omega (arith, orderly.four, is) in
       let part = get_or-le-sum_by (times_in seat) lists.cvs k [] within in
       rw (none_without seat lists.lock (omega (arith, alone, here, part)), one_without seat k lists.cvs within (omega (arith, alone)) here) refl
+
+  -- ---- a waiter in the lists of several variables
+
+  -- the lists of those that are still to come, and that of the lock, are as they were
+  each_lock : (n : ℕ) (cvs : Cvs) (w : Waiter C) (lists : Lists C) → (with_each n cvs w lists).lock ≡ lists.lock
+  each_lock zero cvs w lists = refl
+  each_lock (suc n) cvs w lists = go (is_in cvs n) refl (each_lock n cvs w lists) where
+    go : (b : Bool) → is_in cvs n ≡ b → (with_each n cvs w lists).lock ≡ lists.lock → (with_each (suc n) cvs w lists).lock ≡ lists.lock
+    go true e rest = rw e rest
+    go false e rest = rw e rest
+
+  each_apart : (n j : ℕ) (cvs : Cvs) (w : Waiter C) (lists : Lists C) → n ≤ j → waiters_of (with_each n cvs w lists) (Cv j) ≡ waiters_of lists (Cv j)
+  each_apart zero j cvs w lists low = refl
+  each_apart (suc n) j cvs w lists low = go (is_in cvs n) refl (each_apart n j cvs w lists (omega (arith, low))) where
+    go : (b : Bool) → is_in cvs n ≡ b → waiters_of (with_each n cvs w lists) (Cv j) ≡ waiters_of lists (Cv j) → waiters_of (with_each (suc n) cvs w lists) (Cv j) ≡ waiters_of lists (Cv j)
+    go true e rest = rw e (read_apart (with_each n cvs w lists) n j _ (λ same. absurd (omega (arith, same, low))) ∙ rest)
+    go false e rest = rw e rest
+
+  pub each_beside : (n seat : ℕ) (cvs : Cvs) (w : Waiter C) (lists now : Lists C) → now ≡ with_each n cvs w lists → beside now seat n ≡ beside lists seat n
+  each_beside n seat cvs w lists now is = ap (λ (x : Lists C). beside x seat n) is ∙ (λ i. times_in seat (each_lock n cvs w lists i) + times_in seat (each_apart n n cvs w lists (omega arith) i))
+
+  -- one list further
+  pub each_more : (n : ℕ) (cvs : Cvs) (w : Waiter C) (lists now new : Lists C) → is_in cvs n ≡ true → now ≡ with_each n cvs w lists → new ≡ with_waiters now (Cv n) (waiters_of now (Cv n) ++ w ∷ []) → new ≡ with_each (n + 1) cvs w lists
+  each_more n cvs w lists now new has is pushed = rw (add-one, has) (pushed ∙ ap (λ (x : Lists C). with_waiters x (Cv n) (waiters_of x (Cv n) ++ w ∷ [])) is)
+
+  pub each_less : (n : ℕ) (cvs : Cvs) (w : Waiter C) (lists now : Lists C) → is_in cvs n ≡ false → now ≡ with_each n cvs w lists → now ≡ with_each (n + 1) cvs w lists
+  each_less n cvs w lists now has is = rw (add-one, has) is

@@ -67,20 +67,6 @@ module _ {C : Type 0} where
       let none : times_in seat ws ≡ 0 = sym (ap (times_in seat) (take_all i ws over)) ∙ before in
       (λ is. absurd (cc), λ some. absurd (omega (arith, none, some)))
 
-  -- ---- a pass along a list that gathers its seats
-
-  pub seats_so_far : (ws : List (Waiter C)) (i : ℕ) (got : List ℕ) → i < length ws → length ws ≤ 64 → got ≡ seats_of (take i ws) → length got < 64
-  seats_so_far ws i got within most is =
-      rw (is, length-map, length-take-le i ws (omega arith)) (omega arith)
-
-  pub seats_more : (ws : List (Waiter C)) (i : ℕ) (w : Waiter C) (got got' : List ℕ) → i < length ws → w ≡ get_or ws i w → got' ≡ got ++ w.seat ∷ [] → got ≡ seats_of (take i ws) → got' ≡ seats_of (take (i + 1) ws)
-  seats_more ws i w got got' within is push before =
-      let here : w.seat ≡ (get_or ws i w).seat = ap (λ (v : Waiter C). v.seat) is in
-      rw (push, before, here) (sym (map_more (λ (v : Waiter C). v.seat) ws i w within))
-
-  pub seats_all : (ws : List (Waiter C)) (i : ℕ) (got : List ℕ) → length ws ≤ i → got ≡ seats_of (take i ws) → got ≡ seats_of ws
-  seats_all ws i got over is = is ∙ ap seats_of (take_all i ws over)
-
   -- how many have a seat below n
   abbrev low : ℕ → List (Waiter C) → ℕ
   low n ws = count_by (λ w. ltb w.seat n) ws

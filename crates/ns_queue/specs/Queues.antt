@@ -1,8 +1,10 @@
 -- The five lists.
-use Rattle.std.specs.Prelude.{◌≡◌, ℕ, ◌+◌, ◌<◌, ◌≤◌, List, [], map, length, sum_by, slice_index_or, slice_set}
+use Rattle.std.specs.Prelude.{◌≡◌, ℕ, zero, suc, ◌+◌, ◌<◌, ◌≤◌, if◌then◌else◌, List, [], ◌∷◌, ◌++◌, map, length, sum_by, slice_index_or, slice_set}
 use Rattle.ns_queue.specs.declared.waiter.Waiter.{Waiter}
 use Rattle.ns_queue.specs.declared.waiter.Which.{Which}
 use Rattle.ns_queue.specs.declared.waiter.Which.TheVariants.{Lock, Cv}
+use Rattle.ns_model.specs.Cvs.{is_in}
+use Rattle.ns_model.specs.declared.cvs.Cvs.{Cvs}
 use Rattle.ns_model.specs.declared.seats.Seats.{Seats}
 use Rattle.ns_queue.specs.Waiters.{outside, times_in, without_in}
 
@@ -26,6 +28,11 @@ abbrev pub with_waiters : {C : Type 0} → Lists C → Which → List (Waiter C)
 with_waiters lists Lock ws = record { lock = ws; cvs = lists.cvs }
 with_waiters lists (Cv k) ws = record { lock = lists.lock; cvs = slice_set lists.cvs k ws }
 
+-- the lists with a waiter behind the others in each list of those variables of a set whose numbers are below n
+abbrev pub with_each : {C : Type 0} → ℕ → Cvs → Waiter C → Lists C → Lists C
+with_each zero cvs w lists = lists
+with_each (suc n) cvs w lists = if is_in cvs n then with_waiters (with_each n cvs w lists) (Cv n) (waiters_of (with_each n cvs w lists) (Cv n) ++ w ∷ []) else with_each n cvs w lists
+
 -- how often a seat stands in the lists
 abbrev pub times : {C : Type 0} → ℕ → Lists C → ℕ
 times seat lists = times_in seat lists.lock + sum_by (times_in seat) lists.cvs
@@ -38,8 +45,12 @@ without seat lists = record { lock = without_in seat lists.lock; cvs = map (with
 abbrev pub cvs_without : {C : Type 0} → Seats → Lists C → Lists C
 cvs_without set lists = record { lock = lists.lock; cvs = map (outside set) lists.cvs }
 
+-- how often a seat stands in the lock's list and in that of a variable
+abbrev pub beside : {C : Type 0} → Lists C → ℕ → ℕ → ℕ
+beside lists seat k = times_in seat lists.lock + times_in seat (waiters_of lists (Cv k))
+
 -- There are four variables. A seat stands once in the list of the lock, or once in any of those of variables; and each that stands somewhere is below 64.
 pub record IsOrderly {C : Type 0} (lists : Lists C) : Type 0 where
   pub four : length lists.cvs ≡ 4
-  pub once : (seat k : ℕ) → k < 4 → times_in seat lists.lock + times_in seat (waiters_of lists (Cv k)) ≤ 1
+  pub once : (seat k : ℕ) → k < 4 → beside lists seat k ≤ 1
   pub below : (seat : ℕ) → 64 ≤ seat → times seat lists ≡ 0

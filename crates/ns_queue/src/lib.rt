@@ -15,6 +15,7 @@
 //!         mode,
 //!         cond: None,
 //!         tries: 0,
+//!         via: None,
 //!     };
 //!     if !queues.holds(seat) {
 //!         queues.push_back(Which::Lock, waiter);
@@ -36,5 +37,6 @@ mod remake;
 mod ring;
 pub mod room;
 pub mod scan;
+pub mod several;
 pub mod signal;
 pub mod waiter;

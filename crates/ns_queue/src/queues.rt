@@ -3,7 +3,7 @@
 ghost use Rattle.std.specs.Prelude.{◌≡◌, ◌<◌, ℕ, ◌+◌, ◌≤◌, ◌↔◌, ◌&&◌, not, [], ◌∷◌, ◌++◌, length, map, nat_lt, replicate, sum_by, take, IsTrue};
 ghost use Rattle.std.specs.Bool.{OnFalse, OnTrue};
 ghost use Rattle.std.specs.List.{list_any};
-ghost use Rattle.ns_queue.specs.Queues.{IsList, IsOrderly, times, waiters_of, with_waiters, without};
+ghost use Rattle.ns_queue.specs.Queues.{IsList, IsOrderly, beside, times, waiters_of, with_waiters, without};
 ghost use Rattle.ns_queue.specs.Waiters.{HaveSeats, has_condition, is_long, outside, shown_of, times_in, writes};
 
 use crate::lock_list::LockList;
@@ -126,11 +126,21 @@ impl<C: Queueable<N>, const N: usize> Queues<C, N> {
     {
         match list {
             Which::Lock => self.lock.push_back(waiter),
-            Which::Cv(k) => {
-                let queue = &mut self.cvs[k as usize];
-                queue.push(waiter)
-            }
+            Which::Cv(k) => self.push_to(k, waiter),
         }
+    }
+
+    /// Puts a waiter at the back of the list of a variable; the others stay as they are.
+    ///
+    /// Needs a number below 4, and a seat below 64 that stands neither in that list nor in the lock's.
+    pub(crate) fn push_to(&mut self, k: u8, waiter: Waiter<C>)
+        requires variable { k < 4 }
+        requires below { waiter.seat < 64 }
+        requires free { beside self.old waiter.seat k ≡ 0 }
+        ensures { self.new ≡ with_waiters self.old (Which.Cv k) (waiters_of self.old (Which.Cv k) ++ waiter ∷ []) }
+    {
+        let queue = &mut self.cvs[k as usize];
+        queue.push(waiter)
     }
 
     /// Puts these waiters at the back of the lock list, in order; the others stay as they are.

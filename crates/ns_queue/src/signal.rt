@@ -4,7 +4,7 @@ ghost use Rattle.std.specs.Prelude.{◌≡◌, ◌<◌, ◌≤◌, [], length};
 ghost use Rattle.ns_queue.specs.Marks.{is_wanted, signal_marks, wanted_after};
 ghost use Rattle.ns_queue.specs.Queues.{IsOrderly, waiters_of, cvs_without};
 ghost use Rattle.ns_queue.specs.Signals.{signaled_of, taken_set};
-ghost use Rattle.ns_queue.specs.Waiters.{HaveSeats, seats_of};
+ghost use Rattle.ns_queue.specs.Waiters.{HaveSeats};
 ghost use Rattle.ns_queue.specs.declared.signal.Wanted.TheVariants.{Anybody};
 
 use crate::marks::marked;
@@ -75,20 +75,6 @@ fn signaled<C: Queueable<N>, const N: usize>(
 {
     let marks = marks_of(waiters.as_slice());
     marked(waiters.as_slice(), marks.as_slice())
-}
-
-/// The seats of these waiters, in order.
-///
-/// Needs at most 64 of them, and no list has more.
-pub fn seats<C: Queueable<N>, const N: usize>(waiters: &[Waiter<C>]) -> ArrayVec<u8, 64>
-    requires { length waiters.now ≤ 64 }
-    ensures { result.items ≡ seats_of waiters.now }
-{
-    let mut seats = ArrayVec::new();
-    for waiter in waiters {
-        seats.push(waiter.seat);
-    }
-    seats
 }
 
 /// The set of the seats of those whom a signal or a broadcast took.

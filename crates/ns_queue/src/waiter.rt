@@ -5,8 +5,8 @@ use ns_model::event::Mode;
 /// Tries are counted up to here: a waiter that has failed so often waits long.
 pub const LONG_TRIES: u8 = 30;
 
-/// One who waits: its seat, the mode that it waits in, the condition that it waits for, if any, and
-/// how often it has failed.
+/// One who waits: its seat, the mode that it waits in, the condition that it waits for, if any, how
+/// often it has failed, and a place for the variable whose wake has moved it to the lock list.
 #[derive(Clone, Copy)]
 pub struct Waiter<C> {
     /// A number below 64.
@@ -18,14 +18,17 @@ pub struct Waiter<C> {
     /// How often it has queued again in one acquire, after it was woken and could not acquire: at
     /// most [`LONG_TRIES`].
     pub tries: u8,
+    /// The condition variable whose signal or broadcast has moved it to the lock list. Nobody fills it in
+    /// yet.
+    pub via: Option<u8>,
 }
 
-/// The blank that unused places of a list hold: seat 0, writing, without condition, untried.
+/// The blank that unused places of a list hold: seat 0, writing, without condition, untried, unmoved.
 impl<C> Default for Waiter<C> {
     ghost use Rattle.std.specs.Prelude.{◌≡◌, None};
     ghost use Rattle.ns_model.specs.declared.event.Mode.TheVariants.{Write};
 
-    ghost is_default = { λ w. w ≡ record { seat = 0; mode = Write; cond = None; tries = 0 } };
+    ghost is_default = { λ w. w ≡ record { seat = 0; mode = Write; cond = None; tries = 0; via = None } };
 
     fn default() -> Waiter<C> {
         Waiter {
@@ -33,6 +36,7 @@ impl<C> Default for Waiter<C> {
             mode: Mode::Write,
             cond: None,
             tries: 0,
+            via: None,
         }
     }
 }

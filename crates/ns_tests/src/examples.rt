@@ -60,6 +60,7 @@ fn a_scan(rt: HostRuntime) {
             mode,
             cond: None,
             tries: 0,
+            via: None,
         };
         if !queues.holds(seat) {
             queues.push_back(Which::Lock, waiter);

@@ -6,6 +6,7 @@ ghost use Rattle.ns_queue.specs.Queues.{IsList};
 
 use arrayvec::ArrayVec;
 use ns_model::condition::Condition;
+use ns_model::cvs::Cvs;
 use ns_model::event::Mode;
 use ns_queue::queues::Queues;
 use ns_queue::waiter::{Shown, Waiter, Which};
@@ -171,6 +172,7 @@ fn scan_table(rt: HostRuntime) {
                     mode: *mode,
                     cond,
                     tries: 0,
+                    via: None,
                 },
             );
         }
@@ -197,6 +199,7 @@ fn signal_table(rt: HostRuntime) {
                     mode: *mode,
                     cond: condition(None, &counter),
                     tries: 0,
+                    via: None,
                 },
             );
         }
@@ -205,6 +208,48 @@ fn signal_table(rt: HostRuntime) {
         assert_eq!(rt; seats(&signaled).as_slice(), *taken);
         assert_eq!(rt; seats(&others).as_slice(), *left);
     }
+}
+
+/// Who waits in the lists of several variables stands at the back of just these, and a signal of one of
+/// them takes it out of all, as it does who is removed.
+#[test]
+fn stands_in_several(rt: HostRuntime) {
+    let counter = AtomicU32::new(0);
+    let mut queues: Queues<AtLeast<'_>, 2> = Queues::new();
+    let waiter = Waiter {
+        seat: 7,
+        mode: Mode::Write,
+        cond: condition(None, &counter),
+        tries: 0,
+        via: None,
+    };
+    if !queues.holds(7) {
+        queues.push_any(Cvs(13), waiter);
+    }
+    if !queues.holds(8) {
+        queues.push_any(Cvs(10), Waiter { seat: 8, ..waiter });
+    }
+    assert_eq!(rt;
+        seats(&queues.waiters(Which::Cv(0))).as_slice(),
+        [7].as_slice()
+    );
+    assert_eq!(rt;
+        seats(&queues.waiters(Which::Cv(1))).as_slice(),
+        [8].as_slice()
+    );
+    assert_eq!(rt;
+        seats(&queues.waiters(Which::Cv(2))).as_slice(),
+        [7].as_slice()
+    );
+    assert_eq!(rt;
+        seats(&queues.waiters(Which::Cv(3))).as_slice(),
+        [7, 8].as_slice()
+    );
+    let signaled = queues.take_signal(3);
+    assert_eq!(rt; seats(&signaled).as_slice(), [7].as_slice());
+    assert!(rt; !queues.holds(7));
+    assert!(rt; queues.remove(8));
+    assert!(rt; !queues.holds(8));
 }
 
 /// How many tests a scan of 64 writers with false conditions reports, how many were made, and how
@@ -223,6 +268,7 @@ fn crowd(step: u64) -> (u32, u32, usize) {
                 mode: Mode::Write,
                 cond,
                 tries: 0,
+                via: None,
             },
         );
         value = value.wrapping_add(step);
@@ -248,6 +294,7 @@ fn tests_counted(rt: HostRuntime) {
                 mode: Mode::Write,
                 cond,
                 tries: 0,
+                via: None,
             },
         );
     }
@@ -271,6 +318,7 @@ fn one_after_another(rt: HostRuntime) {
             mode: Mode::Write,
             cond,
             tries: 30,
+            via: None,
         },
     );
     let cond = condition(Some((1, 1)), &counter);
@@ -280,6 +328,7 @@ fn one_after_another(rt: HostRuntime) {
             mode: Mode::Read,
             cond,
             tries: 29,
+            via: None,
         });
     }
     let waiters = queues.waiters(Which::Lock);
@@ -298,6 +347,7 @@ fn shows(rt: HostRuntime) {
         mode: Mode::Read,
         cond: condition(Some((1, 1)), &counter),
         tries: 0,
+        via: None,
     };
     let shown = waiter.shown();
     assert!(rt;

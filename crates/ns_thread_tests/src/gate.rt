@@ -23,6 +23,7 @@ use ns_model::condition::Condition;
 use ns_model::event::{Answer, Mode};
 use ns_monitor::room::Gated;
 use ns_word::act::{Act, Found};
+use ns_word::owed::Owed;
 use ns_word::wait::{Subject, Wait};
 use ns_word::walk::{Next, Reply, Walk};
 use ns_word::word::{Bits, Releasing};
@@ -102,7 +103,7 @@ const NOTHING: Beside<1> = Beside {
             long: false,
         },
     },
-    woken: 0,
+    wake: Owed { seat: 0, value: 0 },
     finds: Found::Made,
 };
 

@@ -5,6 +5,8 @@ use Rattle.ns_model.specs.Histories.{standing_after}
 use Rattle.ns_queue.specs.Queues.{IsList, times}
 use Rattle.ns_queue.specs.Waiters.{times_in}
 use Rattle.ns_queue.specs.Scans.{left_of}
+use Rattle.ns_word.specs.Owed.{times_among}
+use Rattle.ns_word.specs.declared.owed.Owed.{Owed}
 use Rattle.ns_word.specs.declared.view.Held.{Held}
 use Rattle.ns_word.specs.declared.view.SeatView.{SeatView}
 use Rattle.ns_word.specs.declared.wait.Subject.{Subject}
@@ -22,7 +24,7 @@ use Rattle.ns_word.specs.declared.show_walk.ShowPlace.TheVariants.{ShowLoad, Tak
 use Rattle.ns_word.specs.declared.signal_walk.SignalPlace.TheVariants.{SignalLoad, TakeToWake, WakeAndReturn, PayTheWoken}
 use Rattle.ns_word.specs.declared.walk.Walk.{Walk}
 use Rattle.ns_word.specs.declared.walk.Walk.TheVariants.{InTry, InAcquire, InRelease, InCells, InWait, InSignal, InShow}
-use Rattle.ns_word.specs.Lists.{has_some, times_among}
+use Rattle.ns_word.specs.Lists.{has_some}
 use Rattle.ns_word.specs.Waits.{home_of}
 use Rattle.ns_word.specs.Walks.{judge_of, want_waiting, want_of, awaits, pays}
 use Rattle.ns_word.specs.Views.{walk_at, AreApart}
@@ -93,11 +95,11 @@ module _ {C : Type 0} {N : ℕ} (truths : Truths C) (seats : ℕ) (few : seats �
   stays_nowhere meets a = let none : times_in view.seat s.lists.lock + sum_by (times_in view.seat) s.lists.cvs ≡ 0 = stands_nowhere a in omega (arith, times_scan view.seat meets s.lists.lock, none)
 
   -- a seat that pays owes a wake, to a seat
-  owes_one : (owed : List ℕ) → view.owed ≡ owed → has_some owed ≡ true → OwesOne seats owed
+  owes_one : (owed : List Owed) → view.owed ≡ owed → has_some owed ≡ true → OwesOne seats owed
   owes_one [] e some = absurd (cc)
   owes_one (x ∷ xs) e some =
-      let one : times_among x view.owed ≡ 1 + times_among x xs = ap (times_among x) e ∙ rw (eq-eqb x x refl) refl in
-      owed_below truths seats h s p.waiters_placed p.one_history.each front view back split x (omega (arith, one))
+      let one : times_among x.seat view.owed ≡ 1 + times_among x.seat xs = ap (times_among x.seat) e ∙ rw (eq-eqb x.seat x.seat refl) refl in
+      owed_below truths seats h s p.waiters_placed p.one_history.each front view back split x.seat (omega (arith, one))
 
   judges : (on : Subject C) (i : ℕ) → IsSome view.held → i < N → ActFits truths seats view.seat (judge_of on i) (part_of s view.held view.owed)
   judges (OnCondition c) i some less = (some, less)
@@ -151,7 +153,7 @@ module _ {C : Type 0} {N : ℕ} (truths : Truths C) (seats : ℕ) (few : seats �
 
   -- The act that the seat's walk wants may be made.
   pub act_fits : (walk : Walk C) → view.walk ≡ Some walk → ActFits truths seats view.seat (want_of walk) (part_of s view.held view.owed)
-  act_fits walk e = fits_at walk e (subst (λ w. PlaceFits truths w view.held) e view_fits.place) (view_fits.owes ∙ ap pays e)
+  act_fits walk e = fits_at walk e (subst (λ w. PlaceFits truths w view.held) e view_fits.place) (view_fits.owes.0 ∙ ap pays e)
 
   -- The list that it names is one that there is.
   pub has_list : (walk : Walk C) → view.walk ≡ Some walk → HasList walk

@@ -393,7 +393,7 @@ module _ {C : Type 0} {N : ℕ} where
   effect_so truths seat (JudgeMet i c) old (Tested met) new commits was held n e p q = stays_so was held old.held new.held p q (ap (λ (x : Part C N). x.held) e.3)
   effect_so truths seat (StoreCell i v) old Made new commits was held n e p q = stored_so was held e.0 (slice_set e.0.row i v) old.held new.held p q e.1 (ap (λ (x : Part C N). x.held) e.3)
   effect_so truths seat ArmFlag old Made new commits was held n e p q = stays_so was held old.held new.held p q (ap (λ (x : Part C N). x.held) e.0)
-  effect_so truths seat (PayWake value) old (Paid owes) new commits was held n e p q = stays_so was held old.held new.held p q (ap (λ (x : Part C N). x.held) e.3)
+  effect_so truths seat PayWake old (Paid owes) new commits was held n e p q = stays_so was held old.held new.held p q (ap (λ (x : Part C N). x.held) e.3)
   effect_so truths seat LoadFlag old (Flag v) new commits was held n e p q = stays_so was held old.held new.held p q (ap (λ (x : Part C N). x.held) e.1)
   effect_so truths seat (Look limits false) old (Looked None) new commits was held n e p q = stays_so was held old.held new.held p q (ap (λ (x : Part C N). x.held) e.1)
   effect_so truths seat (Look limits false) old (Looked (Some cause)) new commits was held n e p q = stays_so was held old.held new.held p q (ap (λ (x : Part C N). x.held) e.1)

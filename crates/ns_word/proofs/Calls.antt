@@ -1,6 +1,6 @@
 -- What a call owes once it is over, whom it wakes, and when it looks and acquires as woken.
 use Rattle.std.specs.Prelude.{slice_get}
-use Rattle.std.proofs.Common.{◌≡◌, ◌⊎◌, inl, inr, ℕ, ◌-◌, ◌≤◌, ◌<◌, arith, Bool, true, false, not, cond, eqb, ltb, ◌+◌, suc, take, drop, List, [], ◌∷◌, length, None, Some, refl, ap, sym, ◌∙◌, subst, eqb-true}
+use Rattle.std.proofs.Common.{◌≡◌, ◌⊎◌, inl, inr, ℕ, ◌-◌, ◌≤◌, ◌<◌, arith, Bool, true, false, not, ◌||◌, cond, eqb, ltb, ◌+◌, suc, take, drop, List, [], ◌∷◌, length, None, Some, refl, ap, sym, ◌∙◌, subst}
 use Rattle.ns_model.specs.Histories.{standing_after}
 use Rattle.ns_model.specs.Sections.{is_met}
 use Rattle.ns_model.specs.Truths.{Truths}
@@ -11,6 +11,7 @@ use Rattle.ns_queue.proofs.Outside.{broadcast_outside, signal_outside}
 use Rattle.ns_queue.proofs.Parts.{times_at_most}
 use Rattle.ns_queue.specs.Signals.{taken_set}
 use Rattle.ns_queue.specs.Waiters.{outside, times_in}
+use Rattle.std.proofs.lemmas.Bool.{cases_eq, ltb-true, ne_eqb}
 use Rattle.std.proofs.lemmas.List.{get_or-map}
 use Rattle.ns_word.proofs.Ranges.{stands_once}
 use Rattle.ns_word.specs.declared.act.Waking.TheVariants.{Broadcasting, Signaling}
@@ -25,10 +26,12 @@ use Rattle.ns_word.specs.Answers.{has_come_back}
 use Rattle.ns_word.specs.Asked.{asked_in_cells, asked_of, asked_to_judge}
 use Rattle.ns_word.specs.Places.{PlaceFits}
 use Rattle.ns_word.specs.Lawful.{EachFits, IsLawful}
+use Rattle.ns_model.specs.Tallies.{Every}
+use Rattle.ns_word.specs.Owed.{Tells, is_from_lock}
 use Rattle.ns_word.specs.Steps.{Effect, Part, LockState, Step, changed, kept_by, moved_to, part_of, taken_by, wake_of}
 use Rattle.ns_env.specs.Walks.{is_limited}
 use Rattle.ns_word.specs.Waits.{arrival_of, mode_for, outcome_taken, woken_by}
-use Rattle.ns_word.specs.Walks.{acquire_by, acquired_for, back_with, got_acquiring, got_in_cells, got_leaving, got_of, got_queuing, got_releasing, got_signaling, got_showing, got_trying, got_waiting, is_arrival_woken, judge_of, look_or_queue, pays, release_by, rest_or_look, test_place, unmet_by, walk_after, want_acquiring, want_in_cells, want_leaving, want_of, want_releasing, want_signaling, want_showing, want_trying, want_waiting, was_woken}
+use Rattle.ns_word.specs.Walks.{acquire_by, acquired_for, back_with, calls_from_lock, got_acquiring, got_in_cells, got_leaving, got_of, got_queuing, got_releasing, got_signaling, got_showing, got_trying, got_waiting, is_arrival_woken, judge_of, look_or_queue, pays, release_by, rest_or_look, test_place, unmet_by, walk_after, want_acquiring, want_in_cells, want_leaving, want_of, want_releasing, want_signaling, want_showing, want_trying, want_waiting, was_woken}
 use Rattle.ns_word.specs.Words.{is_held, is_woken, may_acquire, needs_scan}
 use Rattle.ns_word.specs.declared.acquire_walk.AcquirePlace.{AcquirePlace}
 use Rattle.ns_word.specs.declared.acquire_walk.AcquirePlace.TheVariants.{AcquireExchange, AcquireLoad, Arm, AwaitWake, Queue, TakeToQueue}
@@ -83,7 +86,12 @@ use Rattle.ns_word.specs.declared.word.Word.{Word}
 pub over_owes_nothing : {C : Type 0} {N : ℕ} (truths : Truths C) (seats : ℕ) (h : List (Event C N)) (s : LockState C N) (at : ℕ) (view : SeatView C N) → IsLawful truths seats h s → slice_get s.views at ≡ Some view → view.walk ≡ None → view.owed ≡ []
 over_owes_nothing truths seats h s at view lawful here over =
     let fits = (each_parts truths seats (standing_after h) s.row (take at s.views) view (drop (suc at) s.views) (subst (λ vs. EachFits truths seats (standing_after h) s.row vs) (split_at s.views at view here) lawful.one_history.each)).1 in
-    none_of view.owed (fits.owes ∙ ap pays over)
+    none_of view.owed (fits.owes.0 ∙ ap pays over)
+
+-- What a seat owes tells from where those were taken to whom it is owed.
+pub owed_tells : {C : Type 0} {N : ℕ} (truths : Truths C) (seats : ℕ) (h : List (Event C N)) (s : LockState C N) (at : ℕ) (view : SeatView C N) → IsLawful truths seats h s → slice_get s.views at ≡ Some view → Every (Tells (calls_from_lock view.walk)) view.owed
+owed_tells truths seats h s at view lawful here =
+    (each_parts truths seats (standing_after h) s.row (take at s.views) view (drop (suc at) s.views) (subst (λ vs. EachFits truths seats (standing_after h) s.row vs) (split_at s.views at view here) lawful.one_history.each)).1.owes.1
 
 -- ---- whom a call wakes
 
@@ -199,10 +207,21 @@ set_flag_looks N wait e = (InWait wait LookOut, ap (λ b. walk_after (cond b (On
 
 -- ---- who acquires as woken
 
+-- its flag was loaded, and told that it was taken from the lock list
+abbrev FoundCalled : {C : Type 0} → Walk C → Found → Type 0
+FoundCalled walk found = (value : ℕ) × (want_of walk ≡ LoadFlag) × (found ≡ Flag value) × ((value ≡ 0) ⊎ (5 < value))
+
+-- what a flag tells so is 0, or more than 5
+called_values : (v : ℕ) → is_from_lock v ≡ true → (v ≡ 0) ⊎ (5 < v)
+called_values v said = elim (cases_eq v 0) [
+  | inl e ↦ inl e
+  | inr ne ↦ inr (ltb-true 5 v (subst (λ b. (b || ltb 5 v) ≡ true) (ne_eqb v 0 ne) said))
+]
+
 module _ (C : Type 0) (N : ℕ) where
   -- it was woken before, or found its flag cleared by a wake from the lock list
   record IsCalled (walk : Walk C) (found : Found) (next : Next C) : Type 0 where
-    called : was_woken (walk_after next) ≡ true → (was_woken (Some walk) ≡ true) ⊎ ((want_of walk ≡ LoadFlag) × (found ≡ Flag 0))
+    called : was_woken (walk_after next) ≡ true → (was_woken (Some walk) ≡ true) ⊎ FoundCalled walk found
 
   two_ways : (walk : Walk C) (found : Found) (b : Bool) (one other : Next C) → IsCalled walk found one → IsCalled walk found other → IsCalled walk found (cond b one other)
   two_ways walk found true one other p q = p
@@ -220,10 +239,10 @@ module _ (C : Type 0) (N : ℕ) where
 
   -- who finds its flag cleared acquires as woken where the wake was one from the lock list
   flag_tells : (walk : Walk C) (other : Next C) (aim : Aim C) (tries v : ℕ) → want_of walk ≡ LoadFlag → was_woken (walk_after other) ≡ false → IsCalled walk (Flag v) (cond (eqb v 1) other (On (InAcquire aim (AcquireLoad (arrival_of tries v)))))
-  flag_tells walk other aim tries v loads e = two_ways walk (Flag v) (eqb v 1) other _ (not_there walk (Flag v) other e) (record { called = cleared (eqb v 0) refl })
+  flag_tells walk other aim tries v loads e = two_ways walk (Flag v) (eqb v 1) other _ (not_there walk (Flag v) other e) (record { called = cleared (is_from_lock v) refl })
     where
-      cleared : (b : Bool) → eqb v 0 ≡ b → is_woken (cond b (AsWoken tries) AsFresh) ≡ true → (was_woken (Some walk) ≡ true) ⊎ ((want_of walk ≡ LoadFlag) × (Flag v ≡ Flag 0))
-      cleared true z woken = inr (loads, ap Flag (eqb-true v 0 z))
+      cleared : (b : Bool) → is_from_lock v ≡ b → is_woken (cond b (AsWoken tries) AsFresh) ≡ true → (was_woken (Some walk) ≡ true) ⊎ FoundCalled walk (Flag v)
+      cleared true z woken = inr (v, loads, refl, called_values v z)
       cleared false z woken = absurd (cc)
 
   -- of two places that are no acquire's
@@ -357,5 +376,5 @@ module _ (C : Type 0) (N : ℕ) where
   every_call (InShow place) found = show_calls place found
 
 -- Who acquires as woken was called.
-pub woken_was_called : (C : Type 0) (N : ℕ) (walk : Walk C) (found : Found) → was_woken (walk_after (got_of N walk found)) ≡ true → (was_woken (Some walk) ≡ true) ⊎ ((want_of walk ≡ LoadFlag) × (found ≡ Flag 0))
+pub woken_was_called : (C : Type 0) (N : ℕ) (walk : Walk C) (found : Found) → was_woken (walk_after (got_of N walk found)) ≡ true → (was_woken (Some walk) ≡ true) ⊎ FoundCalled walk found
 woken_was_called C N walk found = (every_call C N walk found).called

@@ -19,7 +19,7 @@ use Rattle.ns_queue.specs.declared.waiter.Waiter.{Waiter}
 use Rattle.ns_queue.specs.declared.waiter.Which.{Which}
 use Rattle.ns_queue.specs.declared.waiter.Which.TheVariants.{Lock, Cv}
 use Rattle.ns_queue.specs.Queues.{Lists, IsList, IsOrderly, cvs_without, times, waiters_of, with_waiters, without}
-use Rattle.ns_queue.specs.Waiters.{outside, seats_of, times_in, without_in}
+use Rattle.ns_queue.specs.Waiters.{outside, times_in, without_in}
 use Rattle.ns_queue.specs.Scans.{woken_of, left_of}
 use Rattle.ns_queue.specs.Signals.{taken_set}
 use Rattle.ns_queue.specs.Wakes.{AreWaiting, woken_phases}
@@ -28,6 +28,8 @@ use Rattle.ns_queue.proofs.Parts.{once_in, removed_of}
 use Rattle.ns_queue.proofs.Seats.{none_without}
 use Rattle.ns_queue.proofs.Taken.{times_signaled, every_signaled, every_unsignaled}
 use Rattle.ns_queue.proofs.Wakes.{signal_legal, broadcast_legal}
+use Rattle.ns_word.specs.Owed.{Tells, called_of, is_from_lock, times_among, wakes_of}
+use Rattle.ns_word.specs.declared.owed.Owed.{Owed}
 use Rattle.ns_word.specs.declared.word.Word.{Word}
 use Rattle.ns_word.specs.declared.word.Releasing.{Releasing}
 use Rattle.ns_word.specs.declared.word.Arrival.{Arrival}
@@ -69,7 +71,7 @@ use Rattle.ns_word.specs.declared.act.Found.TheVariants.{Saw, Made, Cell, Quiet,
 use Rattle.ns_word.specs.declared.walk.Next.{Next}
 use Rattle.ns_word.specs.declared.walk.Next.TheVariants.{On, Idle}
 use Rattle.ns_word.specs.Words.{is_held, is_woken, tries_of, mode_released, releasing_of, may_acquire, needs_scan, word_acquired, word_released, word_taken, word_returned, word_released_returning}
-use Rattle.ns_word.specs.Lists.{has_some, bits_of, queued, times_among}
+use Rattle.ns_word.specs.Lists.{has_some, bits_of, queued}
 use Rattle.ns_word.specs.Waits.{IsWokenBy, OutcomeFits, arrival_of, cause_in, home_of, mode_for, outcome_taken, phase_for, phase_kept, variable_by, woken_by}
 use Rattle.ns_word.specs.Walks.{want_waiting, want_signaling, want_showing, judge_of, want_of, got_waiting, got_leaving, got_signaling, got_showing, got_of, walk_after, acquired_for, armed_place, pay_waiting, pay_woken, rest_or_look, pay_releasing, wait_has_queues, place_awaits, has_queues, is_queuing, has_armed, waits_in, awaits, was_woken, calls_from_lock, pays, is_on_way, phase_by, expected_for}
 use Rattle.ns_word.specs.Views.{NoneIs}
@@ -87,6 +89,7 @@ use Rattle.ns_word.proofs.Owns.{long_eligible}
 use Rattle.ns_word.proofs.Ranges.{lists_orderly, stands_once}
 use Rattle.ns_word.proofs.Safes.{section, same_section}
 use Rattle.ns_word.proofs.Seen.{packable, found_fits, seen_next}
+use Rattle.ns_word.proofs.Scans.{some_wakes}
 use Rattle.ns_word.proofs.Keeps.{Same, Stays, none_of, rests, acquires, stores, releases, takes, arms, enqueues, withdraws, returns, leaves as leaves_variable, scans, waits, waits_on, waits_for, wakes, sees, wakes_waiters}
 use Rattle.ns_word.proofs.Leads.{Leads, none_settled, shown_settled, try_leads, acquire_leads, acquired_leads, test_leads, met_leads, shown_section, queue_leads, leave_leads, rest_leads, pay_waiting_leads, release_leads, scan_leads, taken_leads, quiet_leads, judged_leads, pay_leads, calm_release, load_leads, armed_leads, signal_leads, pay_woken_leads, show_leads}
 
@@ -115,10 +118,6 @@ left_mode Read = refl
 abbrev owes_in : Found → Bool
 owes_in (Woke owes) = owes
 owes_in _ = false
-
-some_seats : {C : Type 0} (ws : List (Waiter C)) → has_some (seats_of ws) ≡ has_some ws
-some_seats [] = refl
-some_seats (w ∷ ws) = refl
 
 is_list : {C : Type 0} (on : Subject C) → IsInRange on → IsList (home_of on)
 is_list (OnCondition c) range = tt
@@ -155,21 +154,28 @@ woken_alone {C = C} waking k lists orderly alone low =
       left Broadcasting ws once = broadcast_outside ws
 
 -- those whom a call that wakes owes wakes were not taken from the lock list
-from_by : (C : Type 0) (waking : Waking) (k : ℕ) (owes : Bool) (owed : List ℕ) → owes ≡ has_some owed → (calls_from_lock {C = C} (walk_after (pay_woken waking k owes)) ≡ false) ⊎ (owed ≡ [])
+from_by : (C : Type 0) (waking : Waking) (k : ℕ) (owes : Bool) (owed : List Owed) → owes ≡ has_some owed → (calls_from_lock {C = C} (walk_after (pay_woken waking k owes)) ≡ false) ⊎ (owed ≡ [])
 from_by C waking k true owed e = inl refl
 from_by C waking k false owed e = inr (none_of owed (sym e))
 
-from_others : (C : Type 0) (waking : Waking) (k : ℕ) (owes : Bool) (owed : List ℕ) → owes ≡ has_some owed → (seat : ℕ) → ◌≡◌ {A = ℕ} (cond (calls_from_lock {C = C} (walk_after (pay_woken waking k owes))) (times_among seat owed) 0) 0
+from_others : (C : Type 0) (waking : Waking) (k : ℕ) (owes : Bool) (owed : List Owed) → owes ≡ has_some owed → (seat : ℕ) → ◌≡◌ {A = ℕ} (cond (calls_from_lock {C = C} (walk_after (pay_woken waking k owes))) (times_among seat owed) 0) 0
 from_others C waking k owes owed e seat = elim (from_by C waking k owes owed e) [
   | inl other ↦ ap (λ b. cond b (times_among seat owed) 0) other
   | inr none ↦ nothing_called (walk_after (pay_woken {C = C} waking k owes)) owed seat none
+]
+
+-- and what they are owed still tells so
+told_on : (C : Type 0) (waking : Waking) (k : ℕ) (owes : Bool) (owed : List Owed) → owes ≡ has_some owed → Every (Tells false) owed → Every (Tells (calls_from_lock {C = C} (walk_after (pay_woken waking k owes)))) owed
+told_on C waking k owes owed e told = elim (from_by C waking k owes owed e) [
+  | inl other ↦ subst (λ b. Every (Tells b) owed) (sym other) told
+  | inr none ↦ subst (λ xs. Every (Tells (calls_from_lock {C = C} (walk_after (pay_woken waking k owes)))) xs) (sym none) tt
 ]
 
 paid_phase : {C : Type 0} (releasing : Releasing) (b : Bool) → phase_by (walk_after (pay_releasing {C = C} releasing b)) ≡ phase_by {C = C} None
 paid_phase releasing true = refl
 paid_phase releasing false = refl
 
--- one that waits and was not woken from the lock list is on its way with no wake owed only where its flag is 0
+-- one that waits and was not woken from the lock list is on its way with no wake owed only where its flag tells so
 not_way : (w a z : Bool) → w ≡ false → z ≡ false → (w || (a && (z || ltb 0 0))) ≡ true → ⊥
 not_way true a z p q e = absurd (cc)
 not_way false false z p q e = absurd (cc)
@@ -177,10 +183,10 @@ not_way false true true p q e = absurd (cc)
 not_way false true false p q e = absurd (cc)
 
 way_seen : {C : Type 0} (walk : Option (Walk C)) (aim : Aim C) (tries v : ℕ) → was_woken walk ≡ false → is_on_way walk v 0 ≡ true → is_on_way (Some (InAcquire aim (AcquireLoad (arrival_of tries v)))) v 0 ≡ true
-way_seen walk aim tries v none e = go (eqb v 0) refl where
-  go : (b : Bool) → eqb v 0 ≡ b → is_on_way (Some (InAcquire aim (AcquireLoad (arrival_of tries v)))) v 0 ≡ true
+way_seen walk aim tries v none e = go (is_from_lock v) refl where
+  go : (b : Bool) → is_from_lock v ≡ b → is_on_way (Some (InAcquire aim (AcquireLoad (arrival_of tries v)))) v 0 ≡ true
   go true z = rw z refl
-  go false z = absurd (not_way (was_woken walk) (awaits walk) (eqb v 0) none z e)
+  go false z = absurd (not_way (was_woken walk) (awaits walk) (is_from_lock v) none z e)
 
 -- the phase of a wait whose flag was seen cleared: one for a variable has been woken, if it waits no more
 seen_phase : {C : Type 0} (on : Subject C) (mode : Mode) (flag : ℕ) (ph : Phase C) → ((vs : Variables) (m : Mode) → ph ≡ Waiting vs m → ⊥) → IsExpected (expected_for on mode) ph → ph ≡ phase_kept on mode (woken_by on flag)
@@ -243,15 +249,15 @@ module _ {C : Type 0} {N : ℕ} (truths : Truths C) (seats : ℕ) (h : List (Eve
       (subst (λ word. may_acquire (mode_for aim) arrival word ≡ true) same may) (λ ph is. phase ph is ∙ phase_opened aim) fits tags q o (with_held walk part None none p)))
 
   took : (walk walk' : Walk C) (taking : Taking) (last : Word) (part next : Part C N) (commits : List (Event C N)) →
-      last ≡ part.word → last.spin ≡ false → next ≡ record part { word = word_taken taking last } → commits ≡ [] →
+      last ≡ part.word → last.spin ≡ false → next ≡ record part { word = word_taken taking last } → commits ≡ [] → pays (Some walk) ≡ false →
       PlaceFits truths (Some walk') part.held → pays (Some walk') ≡ pays (Some walk) → has_queues (Some walk) ≡ false → has_queues (Some walk') ≡ true → waits_in (Some walk') ≡ waits_in (Some walk) → has_armed (Some walk') ≡ false → Stays (Some walk) (Some walk') part.held →
       (NoneIs who front → Homed part.word part.lists.lock (front ++ view_of who (Some walk) part.held part.owed ∷ back) →
       Known truths.holds part.word (standing_after h).row part.lists.lock part.flags (front ++ view_of who (Some walk) part.held part.owed ∷ back) →
       Known truths.holds (word_taken taking part.word) (standing_after h).row part.lists.lock part.flags (front ++ view_of who (Some walk') part.held part.owed ∷ back)) →
       Groups truths seats h (at part (Some walk)) → Kept commits next (Some walk')
-  took walk walk' taking last part next commits same none e f fits pay s s' a set stays knows p =
+  took walk walk' taking last part next commits same none e f idle fits pay s s' a set stays knows p =
       moved (Some walk') (record part { word = word_taken taking part.word }) next [] commits (e ∙ ap (λ word. record part { word = word_taken taking word }) same) f
-      (none_more _ (takes truths seats h front who (Some walk) (Some walk') back taking part.word part.row part.lists part.flags part.held part.owed (ap (λ word. word.spin) (sym same) ∙ none) fits pay s s' a set stays knows p))
+      (none_more _ (takes truths seats h front who (Some walk) (Some walk') back taking part.word part.row part.lists part.flags part.held part.owed idle (ap (λ word. word.spin) (sym same) ∙ none) fits pay s s' a set stays knows p))
 
   -- a seat looks at its flag: cleared, it goes on to acquire, as woken where it was taken from the lock list; else where it waits on
   checks : (walk : Walk C) (aim : Aim C) (tries : ℕ) (other : Next C) (v : ℕ) (b : Bool) (part next : Part C N) (commits : List (Event C N)) → eqb v 1 ≡ b → v ≡ part.flags who → next ≡ part → commits ≡ [] → part.held ≡ None →
@@ -315,14 +321,14 @@ module _ {C : Type 0} {N : ℕ} (truths : Truths C) (seats : ℕ) (h : List (Eve
 
   -- a wait takes the queues
   wait_took : (wait : Wait C) (from to : WaitPlace) (last : Word) (part next : Part C N) (commits : List (Event C N)) →
-      last ≡ part.word → last.spin ≡ false → next ≡ record part { word = word_taken ToChange last } → commits ≡ [] → PlaceFits truths (Some (InWait wait to)) part.held →
+      last ≡ part.word → last.spin ≡ false → next ≡ record part { word = word_taken ToChange last } → commits ≡ [] → pays (Some (InWait wait from)) ≡ false → PlaceFits truths (Some (InWait wait to)) part.held →
       pays (Some (InWait wait to)) ≡ pays (Some (InWait wait from)) → wait_has_queues from ≡ false → wait_has_queues to ≡ true → place_awaits to ≡ place_awaits from → has_armed (Some (InWait wait to)) ≡ false →
       Groups truths seats h (at part (Some (InWait wait from))) → Kept commits next (Some (InWait wait to))
-  wait_took wait from to last part next commits same none e f fits pay s s' a set p =
+  wait_took wait from to last part next commits same none e f idle fits pay s s' a set p =
       let waits = ap (λ b. cond b (Some (record { mode = wait.mode; on = Some wait.on; tries = 0 })) None) a in
-      took (InWait wait from) (InWait wait to) ToChange last part next commits same none e f fits pay s s' waits set (λ n. refl)
+      took (InWait wait from) (InWait wait to) ToChange last part next commits same none e f idle fits pay s s' waits set (λ n. refl)
       (λ apart homed known. known_rests truths.holds front who (Some (InWait wait from)) part.held part.owed (Some (InWait wait to)) part.held part.owed back part.word (word_taken ToChange part.word) (standing_after h).row part.lists.lock part.flags apart (λ seat. refl) refl refl refl refl refl refl
-      (λ flag n g. subst (λ x. x ≡ true) (ap (λ w. is_some w && (eqb flag 0 || ltb 0 n)) (sym waits)) g) known) p
+      (λ flag n g. subst (λ x. x ≡ true) (ap (λ w. is_some w && (is_from_lock flag || ltb 0 n)) (sym waits)) g) known) p
 
   -- a wait for a condition tests it
   tested : (mode : Mode) (on : Subject C) (limits : Limits) (visit : Visit) (i : ℕ) (found : Found) (part next : Part C N) (commits : List (Event C N)) → let wait : Wait C = record { mode = mode; on = on; limits = limits } in
@@ -338,7 +344,7 @@ module _ {C : Type 0} {N : ℕ} (truths : Truths C) (seats : ℕ) (h : List (Eve
   abbrev put_back : Wait C → Bool → Part C N → Word → Part C N
   put_back wait again part word =
       let woken = woken_of (meets_at truths part.row) part.lists.lock in let lists = waited_in truths who wait again part.row part.lists in
-      record part { word = word_released_returning (releasing_of wait.mode) (has_some woken) (bits_of lists.lock) word; lists = lists; held = None; owed = seats_of woken }
+      record part { word = word_released_returning (releasing_of wait.mode) (has_some woken) (bits_of lists.lock) word; lists = lists; held = None; owed = called_of woken }
 
   -- a wait queues, and leaves its section; one that queues again says nothing of it
   queued_up : (mode : Mode) (on : Subject C) (limits : Limits) (again : Bool) (last : Word) (owes : Bool) (tests : ℕ) (part next : Part C N) (commits : List (Event C N)) → seats ≤ 64 → let wait : Wait C = record { mode = mode; on = on; limits = limits } in
@@ -406,9 +412,9 @@ module _ {C : Type 0} {N : ℕ} (truths : Truths C) (seats : ℕ) (h : List (Eve
   wake_by Broadcasting k took = refl
 
   -- where those go who were taken: to the back of the lock list, or they are owed their wakes
-  woken_to : (waking : Waking) (k : ℕ) (last : Word) (owes : Bool) (part : Part C N) (moved : Bool) (lock' : List (Waiter C)) (owed' : List ℕ) → seats ≤ 64 →
+  woken_to : (waking : Waking) (k : ℕ) (last : Word) (owes : Bool) (part : Part C N) (moved : Bool) (lock' : List (Waiter C)) (owed' : List Owed) → seats ≤ 64 →
       let took = taken_by waking (waiters_of part.lists (Cv k)) in let put = with_waiters part.lists (Cv k) (kept_by waking (waiters_of part.lists (Cv k))) in
-      ((moved ≡ true) × (is_held part.word ≡ true) × (has_some took ≡ true) × (lock' ≡ part.lists.lock ++ took) × (owed' ≡ [])) ⊎ ((moved ≡ false) × (lock' ≡ part.lists.lock) × (owed' ≡ seats_of took)) → owes ≡ has_some owed' →
+      ((moved ≡ true) × (is_held part.word ≡ true) × (has_some took ≡ true) × (lock' ≡ part.lists.lock ++ took) × (owed' ≡ [])) ⊎ ((moved ≡ false) × (lock' ≡ part.lists.lock) × (owed' ≡ wakes_of k took)) → owes ≡ has_some owed' →
       Groups truths seats h (at part (Some (InSignal waking k (WakeAndReturn last)))) →
       Kept (wake_of who waking k took ∷ []) (record part { word = word_returned moved (bits_of lock') part.word; lists = with_lock put lock'; owed = owed' }) (walk_after (pay_woken waking k owes))
   woken_to waking k last owes part moved lock' owed' few ways is p =
@@ -427,14 +433,14 @@ module _ {C : Type 0} {N : ℕ} (truths : Truths C) (seats : ℕ) (h : List (Eve
       let took = taken_by waking (waiters_of part.lists (Cv k)) in let put = with_waiters part.lists (Cv k) (kept_by waking (waiters_of part.lists (Cv k))) in
       is_held part.word ≡ held → has_some took ≡ some → (not held && some) ≡ owes →
       Groups truths seats h (at part (Some (InSignal waking k (WakeAndReturn last)))) →
-      Kept (wake_of who waking k took ∷ []) (record part { word = word_returned (held && some) (bits_of (moved_to held took put).lock) part.word; lists = moved_to held took put; owed = cond held [] (seats_of took) }) (walk_after (pay_woken waking k owes))
+      Kept (wake_of who waking k took ∷ []) (record part { word = word_returned (held && some) (bits_of (moved_to held took put).lock) part.word; lists = moved_to held took put; owed = cond held [] (wakes_of k took) }) (walk_after (pay_woken waking k owes))
   woken_at waking k last owes part true true few is some owing p = woken_to waking k last owes part true (part.lists.lock ++ taken_by waking (waiters_of part.lists (Cv k))) [] few (inl (refl, is, some, refl, refl)) (sym owing) p
   woken_at waking k last owes part true false few is some owing p =
       let took = taken_by waking (waiters_of part.lists (Cv k)) in
       let none = none_of took some in
-      woken_to waking k last owes part false (part.lists.lock ++ took) [] few (inr (refl, ap (λ xs. part.lists.lock ++ xs) none ∙ append-nil part.lists.lock, sym (ap seats_of none))) (sym owing) p
+      woken_to waking k last owes part false (part.lists.lock ++ took) [] few (inr (refl, ap (λ xs. part.lists.lock ++ xs) none ∙ append-nil part.lists.lock, sym (ap (wakes_of k) none))) (sym owing) p
   woken_at waking k last owes part false some few is held owing p =
-      woken_to waking k last owes part false part.lists.lock (seats_of (taken_by waking (waiters_of part.lists (Cv k)))) few (inr (refl, refl, refl)) (sym owing ∙ sym held ∙ sym (some_seats (taken_by waking (waiters_of part.lists (Cv k))))) p
+      woken_to waking k last owes part false part.lists.lock (wakes_of k (taken_by waking (waiters_of part.lists (Cv k)))) few (inr (refl, refl, refl)) (sym owing ∙ sym held ∙ sym (some_wakes k (taken_by waking (waiters_of part.lists (Cv k))))) p
 
   woken_up : (waking : Waking) (k : ℕ) (last : Word) (owes : Bool) (part next : Part C N) (commits : List (Event C N)) → seats ≤ 64 →
       Effect truths who (ReturnQueues (WakeWaiters waking k) last) part (Woke owes) next commits → Groups truths seats h (at part (Some (InSignal waking k (WakeAndReturn last)))) → Kept commits next (walk_after (pay_woken waking k owes))
@@ -471,8 +477,8 @@ module _ {C : Type 0} {N : ℕ} (truths : Truths C) (seats : ℕ) (h : List (Eve
   by_wait wait (InLeaving cause (TakeToLeave last)) (Saw word) part next commits few some e p = finds (InWait wait (InLeaving cause (TakeToLeave last))) _ part next commits e.2 e.3 refl (leave_leads truths wait cause word part.held (place (InWait wait (InLeaving cause (TakeToLeave last))) part p).0.0 (place (InWait wait (InLeaving cause (TakeToLeave last))) part p).0.2 (place (InWait wait (InLeaving cause (TakeToLeave last))) part p).1) p
   by_wait wait (InLeaving cause (Leave last)) (Saw word) part next commits few some e p = finds (InWait wait (InLeaving cause (Leave last))) _ part next commits e.2 e.3 refl (place (InWait wait (InLeaving cause (Leave last))) part p, (refl, refl, refl, refl), refl, λ flag n f. f, λ none. refl) p
   -- it takes the queues, and sets its flag
-  by_wait wait (InQueuing again (Take last)) Made part next commits few some e p = wait_took wait (InQueuing again (Take last)) (InQueuing again (ArmToWait (word_taken ToChange last))) last part next commits e.0 e.1 e.2 e.3 (((place (InWait wait (InQueuing again (Take last))) part p).0.0, tt), tt) refl refl refl refl refl p
-  by_wait wait (InLeaving cause (TakeToLeave last)) Made part next commits few some e p = wait_took wait (InLeaving cause (TakeToLeave last)) (InLeaving cause (Leave (word_taken ToChange last))) last part next commits e.0 e.1 e.2 e.3 (((place (InWait wait (InLeaving cause (TakeToLeave last))) part p).0.0, tt, (place (InWait wait (InLeaving cause (TakeToLeave last))) part p).0.2), (place (InWait wait (InLeaving cause (TakeToLeave last))) part p).1) refl refl refl refl refl p
+  by_wait wait (InQueuing again (Take last)) Made part next commits few some e p = wait_took wait (InQueuing again (Take last)) (InQueuing again (ArmToWait (word_taken ToChange last))) last part next commits e.0 e.1 e.2 e.3 refl (((place (InWait wait (InQueuing again (Take last))) part p).0.0, tt), tt) refl refl refl refl refl p
+  by_wait wait (InLeaving cause (TakeToLeave last)) Made part next commits few some e p = wait_took wait (InLeaving cause (TakeToLeave last)) (InLeaving cause (Leave (word_taken ToChange last))) last part next commits e.0 e.1 e.2 e.3 refl (((place (InWait wait (InLeaving cause (TakeToLeave last))) part p).0.0, tt, (place (InWait wait (InLeaving cause (TakeToLeave last))) part p).0.2), (place (InWait wait (InLeaving cause (TakeToLeave last))) part p).1) refl refl refl refl refl p
   by_wait wait (InQueuing again (ArmToWait last)) Made part next commits few some e p =
       let walk = InWait wait (InQueuing again (ArmToWait last)) in
       let to = armed_leads truths wait wait.on again last part.held (place walk part p).0.0 in
@@ -486,9 +492,9 @@ module _ {C : Type 0} {N : ℕ} (truths : Truths C) (seats : ℕ) (h : List (Eve
   by_wait wait PayInWait (Paid owes) part next commits few some e p =
       let to = pay_waiting_leads truths wait part.held owes in
       let here = (place (InWait wait PayInWait) part p).0 in
-      moved (walk_after (pay_waiting wait owes)) (record part { flags = flags_with part.flags e.0 0; owed = e.1 }) next [] commits e.3 e.5
-      (none_more _ (wakes truths seats h front who (Some (InWait wait PayInWait)) (walk_after (pay_waiting wait owes)) back part.word part.row part.lists part.flags part.held e.0 0 e.1
-      refl (inl refl) (λ seat. ap (λ b. cond b (times_among seat e.1) 0) to.6) (to.0 here.0 here.1) (to.1 ∙ e.4) to.2 to.3 to.8 to.4 to.5 (λ n. to.7)
+      moved (walk_after (pay_waiting wait owes)) (record part { flags = flags_with part.flags e.0.seat e.0.value; owed = e.1 }) next [] commits e.3 e.5
+      (none_more _ (wakes truths seats h front who (Some (InWait wait PayInWait)) (walk_after (pay_waiting wait owes)) back part.word part.row part.lists part.flags part.held e.0 e.1
+      (λ seat. ap (λ b. cond b (times_among seat e.1) 0) to.6) (to.0 here.0 here.1) (to.1 ∙ e.4) (λ told. subst (λ b. Every (Tells b) e.1) (sym to.6) told) to.2 to.3 to.8 to.4 to.5 (λ n. to.7)
       (subst (λ owed. Groups truths seats h (at (record part { owed = owed }) (Some (InWait wait PayInWait)))) e.2 p)))
   -- it looks at its flag
   by_wait wait AwaitWakeInWait (Flag v) part next commits few some e p =
@@ -530,7 +536,7 @@ module _ {C : Type 0} {N : ℕ} (truths : Truths C) (seats : ℕ) (h : List (Eve
       let walk = InSignal waking k (TakeToWake last) in
       let to = InSignal waking k (WakeAndReturn (word_taken ToChange last)) in
       let here = place walk part p in
-      took walk to ToChange last part next commits e.0 e.1 e.2 e.3 (tt, here.1, here.2) refl refl refl refl refl (λ none. refl)
+      took walk to ToChange last part next commits e.0 e.1 e.2 e.3 refl (tt, here.1, here.2) refl refl refl refl refl (λ none. refl)
       (λ apart homed known. known_rests truths.holds front who (Some walk) part.held part.owed (Some to) part.held part.owed back part.word (word_taken ToChange part.word) (standing_after h).row part.lists.lock part.flags apart (λ seat. refl) refl refl refl refl refl refl (λ flag n f. f) known) p
   by_signal waking k (WakeAndReturn last) (Woke owes) part next commits few e p = woken_up waking k last owes part next commits few e p
   by_signal waking k (WakeAndReturn last) Made part next commits few e p = absurd (not_made waking k last part e.0)
@@ -539,9 +545,9 @@ module _ {C : Type 0} {N : ℕ} (truths : Truths C) (seats : ℕ) (h : List (Eve
       let walk = InSignal waking k PayTheWoken in
       let here = place walk part p in
       let to = pay_woken_leads truths waking k part.held owes in
-      moved (walk_after (pay_woken waking k owes)) (record part { flags = flags_with part.flags e.0 2; owed = e.1 }) next [] commits e.3 e.5
-      (none_more _ (wakes truths seats h front who (Some walk) (walk_after (pay_woken waking k owes)) back part.word part.row part.lists part.flags part.held e.0 2 e.1
-      refl (inr refl) (λ seat. from_others C waking k owes e.1 e.4 seat) (to.0 here.1 here.2) (to.1 ∙ e.4) to.2 to.3 to.8 to.4 to.5 (λ n. to.7)
+      moved (walk_after (pay_woken waking k owes)) (record part { flags = flags_with part.flags e.0.seat e.0.value; owed = e.1 }) next [] commits e.3 e.5
+      (none_more _ (wakes truths seats h front who (Some walk) (walk_after (pay_woken waking k owes)) back part.word part.row part.lists part.flags part.held e.0 e.1
+      (λ seat. from_others C waking k owes e.1 e.4 seat) (to.0 here.1 here.2) (to.1 ∙ e.4) (told_on C waking k owes e.1 e.4) to.2 to.3 to.8 to.4 to.5 (λ n. to.7)
       (subst (λ owed. Groups truths seats h (at (record part { owed = owed }) (Some walk))) e.2 p)))
   by_signal waking k _ _ part next commits few e p = absurd e
 
@@ -558,7 +564,7 @@ module _ {C : Type 0} {N : ℕ} (truths : Truths C) (seats : ℕ) (h : List (Eve
   by_show (TakeToShow last) Made part next commits e p =
       let walk = InShow (TakeToShow last) in
       let to = InShow (ReturnShown (word_taken ToChange last)) in
-      took walk to ToChange last part next commits e.0 e.1 e.2 e.3 (tt, (place walk part p).1) refl refl refl refl refl (λ none. refl)
+      took walk to ToChange last part next commits e.0 e.1 e.2 e.3 refl (tt, (place walk part p).1) refl refl refl refl refl (λ none. refl)
       (λ apart homed known. known_rests truths.holds front who (Some walk) part.held part.owed (Some to) part.held part.owed back part.word (word_taken ToChange part.word) (standing_after h).row part.lists.lock part.flags apart (λ seat. refl) refl refl refl refl refl refl (λ flag n f. f) known) p
   by_show (ReturnShown last) Made part next commits e p =
       moved None (record part { word = word_returned false (bits_of part.lists.lock) part.word }) next [] commits (e.2 ∙ ap (λ word. record part { word = word_returned false (bits_of part.lists.lock) word }) e.1) e.3
@@ -617,12 +623,12 @@ module _ {C : Type 0} {N : ℕ} (truths : Truths C) (seats : ℕ) (h : List (Eve
       (calm_release truths quiet releasing held.mode held.entry held.before held.row start.1) start.0)
   -- the queues are taken
   by_walk (InAcquire aim (TakeToQueue arrival last)) Made part next commits few some quiet e p =
-      took (InAcquire aim (TakeToQueue arrival last)) _ (ToQueue (mode_for aim) arrival) last part next commits e.0 e.1 e.2 e.3 ((place (InAcquire aim (TakeToQueue arrival last)) part p).0, tt, (place (InAcquire aim (TakeToQueue arrival last)) part p).2) refl refl refl refl refl (λ none. refl)
+      took (InAcquire aim (TakeToQueue arrival last)) _ (ToQueue (mode_for aim) arrival) last part next commits e.0 e.1 e.2 e.3 refl ((place (InAcquire aim (TakeToQueue arrival last)) part p).0, tt, (place (InAcquire aim (TakeToQueue arrival last)) part p).2) refl refl refl refl refl (λ none. refl)
       (λ apart homed known. known_takes truths.holds front who (Some (InAcquire aim (TakeToQueue arrival last))) part.held part.owed (Some (InAcquire aim (Arm arrival (word_taken (ToQueue (mode_for aim) arrival) last)))) part.held part.owed back (mode_for aim) arrival part.word (standing_after h).row part.lists.lock part.flags apart (λ seat. refl)
       (subst (λ word. may_acquire (mode_for aim) arrival word ≡ false) e.0 (place (InAcquire aim (TakeToQueue arrival last)) part p).1.1) (ap (λ word. word.spin) (sym e.0) ∙ e.1) homed (long_eligible (λ c. truths.holds c (standing_after h).row) part.lists.lock _ p.own) (λ flag n w f. absurd (not_way (is_woken arrival) false false w refl f)) known) p
   by_walk (InRelease releasing (TakeToScan last)) Made part next commits few some quiet e p =
       let fits = taken_leads truths releasing (word_taken ToChange last) part.held last.cond (place (InRelease releasing (TakeToScan last)) part p).0 in
-      took (InRelease releasing (TakeToScan last)) _ ToChange last part next commits e.0 e.1 e.2 e.3 fits.0 fits.1.0 refl fits.1.1 fits.1.2 fits.1.3 fits.4
+      took (InRelease releasing (TakeToScan last)) _ ToChange last part next commits e.0 e.1 e.2 e.3 refl fits.0 fits.1.0 refl fits.1.1 fits.1.2 fits.1.3 fits.4
       (λ apart homed known. known_rests truths.holds front who (Some (InRelease releasing (TakeToScan last))) part.held part.owed (walk_after (got_of N (InRelease releasing (TakeToScan last)) Made)) part.held part.owed back part.word (word_taken ToChange part.word) (standing_after h).row part.lists.lock part.flags apart (λ seat. refl) refl refl refl refl refl fits.2 fits.3 known) p
   -- a flag is set, a seat queues
   by_walk (InAcquire aim (Arm arrival last)) Made part next commits few some quiet e p =
@@ -644,7 +650,7 @@ module _ {C : Type 0} {N : ℕ} (truths : Truths C) (seats : ℕ) (h : List (Eve
       let meets : C → Bool = meets_at truths part.row in
       let some = has_some (woken_of meets part.lists.lock) in
       let stay = left_of meets part.lists.lock in
-      let owed = seats_of (woken_of meets part.lists.lock) in
+      let owed = called_of (woken_of meets part.lists.lock) in
       let to = pay_leads {C = C} {N = N} truths releasing None owes in
       let start = leaves (InRelease releasing (ScanAndRelease last)) releasing part held e.1 e.2 (place (InRelease releasing (ScanAndRelease last)) part p) p in
       moved (walk_after (got_of N (InRelease releasing (ScanAndRelease last)) (Scanned owes tests))) (record part { word = word_released_returning releasing some (bits_of stay) part.word; lists = with_lock part.lists stay; held = None; owed = owed }) next
@@ -657,9 +663,9 @@ module _ {C : Type 0} {N : ℕ} (truths : Truths C) (seats : ℕ) (h : List (Eve
   by_walk (InRelease releasing Pay) (Paid owes) part next commits few some quiet e p =
       let to = pay_leads truths releasing part.held owes in
       let none : part.held ≡ None = place (InRelease releasing Pay) part p in
-      moved (walk_after (got_of N (InRelease releasing Pay) (Paid owes))) (record part { flags = flags_with part.flags e.0 0; owed = e.1 }) next [] commits e.3 e.5
-      (none_more _ (wakes truths seats h front who (Some (InRelease releasing Pay)) (walk_after (got_of N (InRelease releasing Pay) (Paid owes))) back part.word part.row part.lists part.flags part.held e.0 0 e.1
-      refl (inl refl) (λ seat. ap (λ b. cond b (times_among seat e.1) 0) to.7) (to.0 none) (to.1 ∙ e.4) to.2 to.3 to.9 to.4 to.5 (λ n. paid_phase releasing owes)
+      moved (walk_after (got_of N (InRelease releasing Pay) (Paid owes))) (record part { flags = flags_with part.flags e.0.seat e.0.value; owed = e.1 }) next [] commits e.3 e.5
+      (none_more _ (wakes truths seats h front who (Some (InRelease releasing Pay)) (walk_after (got_of N (InRelease releasing Pay) (Paid owes))) back part.word part.row part.lists part.flags part.held e.0 e.1
+      (λ seat. ap (λ b. cond b (times_among seat e.1) 0) to.7) (to.0 none) (to.1 ∙ e.4) (λ told. subst (λ b. Every (Tells b) e.1) (sym to.7) told) to.2 to.3 to.9 to.4 to.5 (λ n. paid_phase releasing owes)
       (subst (λ owed. Groups truths seats h (at (record part { owed = owed }) (Some (InRelease releasing Pay)))) e.2 p)))
   by_walk (InWait wait at_place) found part next commits few some quiet e p = by_wait wait at_place found part next commits few some e p
   by_walk (InSignal waking k at_place) found part next commits few some quiet e p = by_signal waking k at_place found part next commits few e p

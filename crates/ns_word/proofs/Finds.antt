@@ -59,7 +59,7 @@ module _ {C : Type 0} {N : ℕ} (truths : Truths C) (old : LockState C N) (view 
   finds (JudgeMet i c) (Tested is_met) new commits row other e = ap Tested (e.2 ∙ ap (λ (held : Option (Held C N)). truths.holds c (row_in held)) (sym e.1))
   finds (StoreCell i v) Made new commits row other e = refl
   finds ArmFlag Made new commits row other e = refl
-  finds (PayWake value) (Paid owes) new commits row other e = ap Paid e.4 ∙ ap owes_more (sym e.2)
+  finds PayWake (Paid owes) new commits row other e = ap Paid e.4 ∙ ap owes_more (sym e.2)
   finds LoadFlag (Flag v) new commits row other e = ap Flag e.0
   finds (Look limits again) found new commits row other e = absurd (other tt)
   finds act found new commits row other e = absurd e

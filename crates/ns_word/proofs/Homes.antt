@@ -1,6 +1,7 @@
 -- What the steps leave of the queues' place and of the bits that tell of them.
 use Rattle.std.proofs.Common.{◌≡◌, ℕ, ◌+◌, ◌≤◌, true, false, List, ◌∷◌, ◌++◌, Option, ap, sym, ◌∙◌, arith}
 use Rattle.ns_queue.specs.declared.waiter.Waiter.{Waiter}
+use Rattle.ns_word.specs.declared.owed.Owed.{Owed}
 use Rattle.ns_word.specs.declared.word.Word.{Word}
 use Rattle.ns_word.specs.declared.view.Held.{Held}
 use Rattle.ns_word.specs.declared.view.SeatView.{SeatView}
@@ -14,7 +15,7 @@ use Rattle.ns_model.specs.Tallies.{one_if}
 use Rattle.ns_model.proofs.Tallies.{one_most}
 use Rattle.ns_word.proofs.Views.{view_of, takers_at}
 
-module _ {C : Type 0} {N : ℕ} (front : List (SeatView C N)) (who : ℕ) (walk : Option (Walk C)) (held : Option (Held C N)) (owed : List ℕ) (walk' : Option (Walk C)) (held' : Option (Held C N)) (owed' : List ℕ) (back : List (SeatView C N)) where
+module _ {C : Type 0} {N : ℕ} (front : List (SeatView C N)) (who : ℕ) (walk : Option (Walk C)) (held : Option (Held C N)) (owed : List Owed) (walk' : Option (Walk C)) (held' : Option (Held C N)) (owed' : List Owed) (back : List (SeatView C N)) where
   abbrev olds : List (SeatView C N)
   olds = front ++ view_of who walk held owed ∷ back
 

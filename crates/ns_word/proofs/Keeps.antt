@@ -22,7 +22,7 @@ use Rattle.ns_model.proofs.Histories.{standing_from-append}
 use Rattle.ns_queue.specs.declared.waiter.Waiter.{Waiter}
 use Rattle.ns_queue.specs.declared.waiter.Which.TheVariants.{Cv}
 use Rattle.ns_queue.specs.Queues.{Lists, IsOrderly, times, waiters_of, with_waiters}
-use Rattle.ns_queue.specs.Waiters.{seats_of, times_in, without_in, is_of}
+use Rattle.ns_queue.specs.Waiters.{times_in, without_in, is_of}
 use Rattle.ns_queue.specs.Scans.{woken_of, left_of}
 use Rattle.ns_queue.specs.Signals.{taken_set}
 use Rattle.ns_queue.specs.Wakes.{woken_phases}
@@ -30,6 +30,8 @@ use Rattle.ns_queue.proofs.Seats.{times_in-cons, times_in-append}
 use Rattle.ns_queue.proofs.Taken.{in_stands}
 use Rattle.ns_queue.proofs.Wakes.{stands_waits}
 use Rattle.ns_queue.proofs.Parts.{four_kept, times_with, times_at_most}
+use Rattle.ns_word.specs.Owed.{Tells, called_of, times_among, wakes_of}
+use Rattle.ns_word.specs.declared.owed.Owed.{Owed}
 use Rattle.ns_word.specs.declared.word.Word.{Word}
 use Rattle.ns_word.specs.declared.word.Releasing.{Releasing}
 use Rattle.ns_word.specs.declared.word.Releasing.TheVariants.{Writer, QuietWriter, Reader}
@@ -42,20 +44,20 @@ use Rattle.ns_word.specs.declared.view.Held.{Held}
 use Rattle.ns_word.specs.declared.view.SeatView.{SeatView}
 use Rattle.ns_word.specs.declared.walk.Walk.{Walk}
 use Rattle.ns_word.specs.Words.{is_held, is_woken, tries_of, mode_released, may_acquire, needs_scan, word_acquired, word_released, word_taken, word_returned, word_released_returning}
-use Rattle.ns_word.specs.Lists.{has_some, has_eligible, bits_of, queued, times_among}
+use Rattle.ns_word.specs.Lists.{has_some, has_eligible, bits_of, queued}
 use Rattle.ns_word.specs.Walks.{Stance, has_queues, is_queuing, has_armed, waits_in, awaits, pays, was_woken, calls_from_lock, is_on_way, phase_by}
 use Rattle.ns_word.specs.Views.{called_to, walk_at, NoneIs}
 use Rattle.ns_word.specs.Steps.{LockState, section_of, flags_with, meets_at, with_lock}
 use Rattle.ns_word.specs.Places.{IsSettledBy, PlaceFits}
-use Rattle.ns_word.specs.Lawful.{IsExpected, is_armed, is_unwoken, ViewFits, WaitersOwn, VariableWaiterFits, VariablesTell, lock_stance, bits_in, phase_before}
+use Rattle.ns_word.specs.Lawful.{OwesAs, IsExpected, is_armed, is_unwoken, ViewFits, WaitersOwn, VariableWaiterFits, VariablesTell, lock_stance, bits_in, phase_before}
 use Rattle.ns_word.proofs.Groups.{Safe, Homed, Known, Groups}
-use Rattle.ns_word.proofs.Knows.{is_loud, due_flag, nothing_called, rests as known_rests, acquires as known_acquires, arms as known_arms, puts, withdraws as known_withdraws, moves_in as known_moves, releases as known_releases, scans as known_scans, pays_one as known_pays, sees_wake as known_sees}
+use Rattle.ns_word.proofs.Knows.{bool_cases, is_loud, due_flag, nothing_called, rests as known_rests, acquires as known_acquires, arms as known_arms, puts, withdraws as known_withdraws, moves_in as known_moves, releases as known_releases, scans as known_scans, pays_one as known_pays, sees_wake as known_sees}
 use Rattle.ns_word.proofs.Views.{view_of, apart_parts, each_parts, called_most, walk_here}
 use Rattle.ns_word.proofs.Waits.{not_due, cleared, placed_here, rested, armed, taken, entered, withdraws as withdrawn, woke, seen}
 use Rattle.ns_word.proofs.Owns.{own_stays, own_same, nowhere, own_queued, own_scanned, own_waited, own_without, own_moved}
 use Rattle.ns_word.proofs.Ranges.{stands_once}
 use Rattle.ns_word.proofs.Variables.{one_of, tell_same, tell_moves, tell_enters, tell_leaves, tell_lists, tell_taken, waits_of}
-use Rattle.ns_word.proofs.Scans.{times_queued, times_seats, times_scan, times_without, times_others, filter_eligible, queued_eligible}
+use Rattle.ns_word.proofs.Scans.{calls_tell, tells_clear, tells_few, tells_from, times_wakes, wakes_tell, times_queued, times_seats, times_scan, times_without, times_others, filter_eligible, queued_eligible}
 use Rattle.ns_word.proofs.Homes.{at_home, away, back_home}
 use Rattle.ns_word.proofs.Safes.{section, SameSection, same_section, unchanged, unchanged_by, woken, left_variable, acquired_write, acquired_read, stored, released, dropped, left_by}
 
@@ -118,18 +120,15 @@ released_readers Writer word e = absurd (cc)
 released_readers QuietWriter word e = absurd (cc)
 released_readers Reader word e = refl
 
--- a wake is by another value than 1, and at most 2
-wake_clears : (value : ℕ) → (value ≡ 0) ⊎ (value ≡ 2) → value ≢ 1
-wake_clears value (inl e) f = absurd (omega (arith, e, f))
-wake_clears value (inr e) f = absurd (omega (arith, e, f))
+-- what a scan owes tells that it was taken from the lock list
+calls_told : {C : Type 0} (walk' : Option (Walk C)) (ws : List (Waiter C)) → calls_from_lock walk' ≡ true → Every (Tells (calls_from_lock walk')) (called_of ws)
+calls_told walk' ws from = subst (λ b. Every (Tells b) (called_of ws)) (sym from) (calls_tell ws)
 
-wake_few : (value : ℕ) → (value ≡ 0) ⊎ (value ≡ 2) → value ≤ 2
-wake_few value (inl e) = omega (arith, e)
-wake_few value (inr e) = omega (arith, e)
-
-bool_cases : (b : Bool) → (b ≡ true) ⊎ (b ≡ false)
-bool_cases true = inl refl
-bool_cases false = inr refl
+-- and what a call that wakes owes that it wasn't
+wakes_told : {C : Type 0} (b : Bool) (k : ℕ) (took : List (Waiter C)) (owed : List Owed) → k < 4 → (owed ≡ []) ⊎ (owed ≡ wakes_of k took) → (b ≡ false) ⊎ (owed ≡ []) → Every (Tells b) owed
+wakes_told b k took owed low (inl none) from = subst (λ xs. Every (Tells b) xs) (sym none) tt
+wakes_told b k took owed low (inr are) (inr none) = subst (λ xs. Every (Tells b) xs) (sym none) tt
+wakes_told b k took owed low (inr are) (inl other) = subst (λ xs. Every (Tells b) xs) (sym are) (subst (λ c. Every (Tells c) (wakes_of k took)) (sym other) (wakes_tell k took low))
 
 -- the mode in which one waits
 abbrev stance_mode : {C : Type 0} → Option (Stance C) → Mode
@@ -140,34 +139,40 @@ pub none_of : {A : Type 0} (xs : List A) → has_some xs ≡ false → xs ≡ []
 none_of [] e = refl
 none_of (x ∷ xs) e = absurd (cc)
 
+-- one that owes no wake owes none at another place of that kind
+still_owes : {C : Type 0} (walk walk' : Option (Walk C)) (owed : List Owed) → pays walk ≡ false → pays walk' ≡ pays walk → OwesAs walk owed → OwesAs walk' owed
+still_owes walk walk' owed idle same owes =
+    let none = none_of owed (owes.0 ∙ idle) in
+    subst (λ xs. OwesAs walk' xs) (sym none) (sym (same ∙ idle), tt)
+
 -- how often a seat stands in lists with another lock list
 times_lock : {C : Type 0} (lists : Lists C) (lock : List (Waiter C)) (seat : ℕ) → times seat (with_lock lists lock) + times_in seat lists.lock ≡ times seat lists + times_in seat lock
 times_lock lists lock seat = omega arith
 
 module _ {C : Type 0} {N : ℕ} (truths : Truths C) (seats : ℕ) (h : List (Event C N)) (front : List (SeatView C N)) (who : ℕ) (walk walk' : Option (Walk C)) (back : List (SeatView C N)) where
-  abbrev st : Option (Walk C) → Word → List ℕ → Lists C → (ℕ → ℕ) → Option (Held C N) → List ℕ → LockState C N
+  abbrev st : Option (Walk C) → Word → List ℕ → Lists C → (ℕ → ℕ) → Option (Held C N) → List Owed → LockState C N
   st walk word row lists flags held owed = record { word = word; row = row; lists = lists; flags = flags; views = front ++ view_of who walk held owed ∷ back }
 
-  fits : (word : Word) (row : List ℕ) (held : Option (Held C N)) (owed : List ℕ) → Safe truths seats h word row (front ++ view_of who walk held owed ∷ back) →
+  fits : (word : Word) (row : List ℕ) (held : Option (Held C N)) (owed : List Owed) → Safe truths seats h word row (front ++ view_of who walk held owed ∷ back) →
       ViewFits truths seats (standing_after h) row (view_of who walk held owed)
   fits word row held owed p = (each_parts truths seats (standing_after h) row front (view_of who walk held owed) back p.one_history.each).1
 
-  others : (word : Word) (row : List ℕ) (held : Option (Held C N)) (owed : List ℕ) → Safe truths seats h word row (front ++ view_of who walk held owed ∷ back) → NoneIs who front
+  others : (word : Word) (row : List ℕ) (held : Option (Held C N)) (owed : List Owed) → Safe truths seats h word row (front ++ view_of who walk held owed ∷ back) → NoneIs who front
   others word row held owed p = (apart_parts front (view_of who walk held owed) back p.apart).0
 
   due : waits_in walk' ≡ waits_in walk → (flag : ℕ) → one_if (awaits walk' && is_armed flag) ≡ one_if (awaits walk && is_armed flag)
   due e flag = ap (λ w. one_if (is_some w && is_armed flag)) e
 
   -- one that isn't about to pay owes nothing
-  owes_none : (word : Word) (row : List ℕ) (held : Option (Held C N)) (owed : List ℕ) → pays walk ≡ false → Safe truths seats h word row (front ++ view_of who walk held owed ∷ back) → owed ≡ []
-  owes_none word row held owed idle p = none_of owed ((fits word row held owed p).owes ∙ idle)
+  owes_none : (word : Word) (row : List ℕ) (held : Option (Held C N)) (owed : List Owed) → pays walk ≡ false → Safe truths seats h word row (front ++ view_of who walk held owed ∷ back) → owed ≡ []
+  owes_none word row held owed idle p = none_of owed ((fits word row held owed p).owes.0 ∙ idle)
 
-  calls : (word : Word) (row : List ℕ) (held : Option (Held C N)) (owed : List ℕ) → pays walk ≡ false → Safe truths seats h word row (front ++ view_of who walk held owed ∷ back) →
+  calls : (word : Word) (row : List ℕ) (held : Option (Held C N)) (owed : List Owed) → pays walk ≡ false → Safe truths seats h word row (front ++ view_of who walk held owed ∷ back) →
       (seat : ℕ) → cond (calls_from_lock walk') (times_among seat owed) 0 ≡ cond (calls_from_lock walk) (times_among seat owed) 0
   calls word row held owed idle p seat = let none = owes_none word row held owed idle p in nothing_called walk' owed seat none ∙ sym (nothing_called walk owed seat none)
 
   -- one that doesn't wait stands nowhere, and so waits for no variable
-  stands_not : (word : Word) (row : List ℕ) (lists : Lists C) (flags : ℕ → ℕ) (held : Option (Held C N)) (owed : List ℕ) → awaits walk ≡ false → Groups truths seats h (st walk word row lists flags held owed) → times who lists ≡ 0
+  stands_not : (word : Word) (row : List ℕ) (lists : Lists C) (flags : ℕ → ℕ) (held : Option (Held C N)) (owed : List Owed) → awaits walk ≡ false → Groups truths seats h (st walk word row lists flags held owed) → times who lists ≡ 0
   stands_not word row lists flags held owed a p = nowhere front who walk held owed walk' held owed back lists flags (others word row held owed p.safe) (not_due walk (flags who) a) p.placed
 
   waits_not : (lists : Lists C) (views : List (SeatView C N)) → length lists.cvs ≡ 4 → times who lists ≡ 0 → VariablesTell (standing_after h).phases lists views → (vs : Variables) (mode : Mode) → (standing_after h).phases who ≡ Waiting vs mode → ⊥
@@ -177,13 +182,13 @@ module _ {C : Type 0} {N : ℕ} (truths : Truths C) (seats : ℕ) (h : List (Eve
   lock_nowhere lists none = omega (arith, none)
 
   -- the place in the call changes, and no more of the section in hand than how it is said to have begun
-  pub rests : (word : Word) (row : List ℕ) (lists : Lists C) (flags : ℕ → ℕ) (held held' : Option (Held C N)) (owed : List ℕ) → pays walk ≡ false → PlaceFits truths walk' held' → Same walk walk' → is_queuing walk' ≡ is_queuing walk → Way walk walk' → SameSection walk held walk' held' →
+  pub rests : (word : Word) (row : List ℕ) (lists : Lists C) (flags : ℕ → ℕ) (held held' : Option (Held C N)) (owed : List Owed) → pays walk ≡ false → PlaceFits truths walk' held' → Same walk walk' → is_queuing walk' ≡ is_queuing walk → Way walk walk' → SameSection walk held walk' held' →
       Groups truths seats h (st walk word row lists flags held owed) → Groups truths seats h (st walk' word row lists flags held' owed)
   rests word row lists flags held held' owed idle place same q o section p =
       let fit = fits word row held owed p.safe in
       let apart = others word row held owed p.safe in
       record {
-        safe = unchanged truths seats h front who walk owed walk' owed back word word row held held' refl refl place (fit.owes ∙ sym same.0) section p.safe;
+        safe = unchanged truths seats h front who walk owed walk' owed back word word row held held' refl refl place (still_owes walk walk' owed idle same.0 fit.owes) section p.safe;
         homed = at_home front who walk held owed walk' held' owed back word word lists.lock refl refl same.1 p.homed;
         placed = rested front who walk held owed walk' held' owed back lists flags apart refl (due same.2 (flags who)) (λ f. sym same.3 ∙ f) p.placed;
         own = own_same front who walk held owed walk' held' owed back lists.lock apart same.2 p.own;
@@ -192,7 +197,7 @@ module _ {C : Type 0} {N : ℕ} (truths : Truths C) (seats : ℕ) (h : List (Eve
       }
 
   -- an acquire
-  pub acquires : (mode : Mode) (entry : Opening C) (arrival : Arrival) (word : Word) (row : List ℕ) (lists : Lists C) (flags : ℕ → ℕ) (owed : List ℕ) → pays walk ≡ false → may_acquire mode arrival word ≡ true → ((ph : Phase C) → IsExpected (phase_by walk) ph → ph ≡ phase_before mode entry) →
+  pub acquires : (mode : Mode) (entry : Opening C) (arrival : Arrival) (word : Word) (row : List ℕ) (lists : Lists C) (flags : ℕ → ℕ) (owed : List Owed) → pays walk ≡ false → may_acquire mode arrival word ≡ true → ((ph : Phase C) → IsExpected (phase_by walk) ph → ph ≡ phase_before mode entry) →
       PlaceFits truths walk' (Some (section {C = C} {N = N} mode entry row row)) → Same walk walk' → is_queuing walk' ≡ is_queuing walk → ((flag n : ℕ) → is_woken arrival ≡ false → is_on_way walk flag n ≡ true → is_on_way walk' flag n ≡ true) →
       Groups truths seats h (st walk word row lists flags None owed) → Groups truths seats h (st walk' (word_acquired mode arrival word) row lists flags (Some (section mode entry row row)) owed)
   acquires Write entry arrival word row lists flags owed idle may phase place same q o p =
@@ -201,7 +206,7 @@ module _ {C : Type 0} {N : ℕ} (truths : Truths C) (seats : ℕ) (h : List (Eve
       let free = open_write arrival word may in
       let held' = Some (section {C = C} {N = N} Write entry row row) in
       record {
-        safe = acquired_write truths seats h front who walk owed walk' owed back word (word_acquired Write arrival word) row entry phase free.0 free.1 refl refl place (fit.owes ∙ sym same.0) p.safe;
+        safe = acquired_write truths seats h front who walk owed walk' owed back word (word_acquired Write arrival word) row entry phase free.0 free.1 refl refl place (still_owes walk walk' owed idle same.0 fit.owes) p.safe;
         homed = at_home front who walk None owed walk' held' owed back word (word_acquired Write arrival word) lists.lock refl refl same.1 p.homed;
         placed = rested front who walk None owed walk' held' owed back lists flags apart refl (due same.2 (flags who)) (λ f. sym same.3 ∙ f) p.placed;
         own = own_same front who walk None owed walk' held' owed back lists.lock apart same.2 p.own;
@@ -214,7 +219,7 @@ module _ {C : Type 0} {N : ℕ} (truths : Truths C) (seats : ℕ) (h : List (Eve
       let free = open_read arrival word may in
       let held' = Some (section {C = C} {N = N} Read entry row row) in
       record {
-        safe = acquired_read truths seats h front who walk owed walk' owed back word (word_acquired Read arrival word) row entry phase free free refl place (fit.owes ∙ sym same.0) p.safe;
+        safe = acquired_read truths seats h front who walk owed walk' owed back word (word_acquired Read arrival word) row entry phase free free refl place (still_owes walk walk' owed idle same.0 fit.owes) p.safe;
         homed = at_home front who walk None owed walk' held' owed back word (word_acquired Read arrival word) lists.lock refl refl same.1 p.homed;
         placed = rested front who walk None owed walk' held' owed back lists flags apart refl (due same.2 (flags who)) (λ f. sym same.3 ∙ f) p.placed;
         own = own_same front who walk None owed walk' held' owed back lists.lock apart same.2 p.own;
@@ -223,7 +228,7 @@ module _ {C : Type 0} {N : ℕ} (truths : Truths C) (seats : ℕ) (h : List (Eve
       }
 
   -- a store into a cell
-  pub stores : (word : Word) (row : List ℕ) (lists : Lists C) (flags : ℕ → ℕ) (entry : Opening C) (before cells : List ℕ) (owed : List ℕ) (i v : ℕ) → pays walk ≡ false →
+  pub stores : (word : Word) (row : List ℕ) (lists : Lists C) (flags : ℕ → ℕ) (entry : Opening C) (before cells : List ℕ) (owed : List Owed) (i v : ℕ) → pays walk ≡ false →
       PlaceFits truths walk' (Some (section {C = C} {N = N} Write entry before (slice_set cells i v))) → Same walk walk' → is_queuing walk' ≡ is_queuing walk → Way walk walk' →
       Groups truths seats h (st walk word row lists flags (Some (section Write entry before cells)) owed) →
       Groups truths seats h (st walk' word (slice_set row i v) lists flags (Some (section Write entry before (slice_set cells i v))) owed)
@@ -233,7 +238,7 @@ module _ {C : Type 0} {N : ℕ} (truths : Truths C) (seats : ℕ) (h : List (Eve
       let fit = fits word row held owed p.safe in
       let apart = others word row held owed p.safe in
       record {
-        safe = stored truths seats h front who walk owed walk' owed back word row entry before cells i v place (fit.owes ∙ sym same.0) p.safe;
+        safe = stored truths seats h front who walk owed walk' owed back word row entry before cells i v place (still_owes walk walk' owed idle same.0 fit.owes) p.safe;
         homed = at_home front who walk held owed walk' held' owed back word word lists.lock refl refl same.1 p.homed;
         placed = rested front who walk held owed walk' held' owed back lists flags apart refl (due same.2 (flags who)) (λ f. sym same.3 ∙ f) p.placed;
         own = own_same front who walk held owed walk' held' owed back lists.lock apart same.2 p.own;
@@ -256,7 +261,7 @@ module _ {C : Type 0} {N : ℕ} (truths : Truths C) (seats : ℕ) (h : List (Eve
   left_here k mode was = ap (λ (s : Standing C). s.phases who) (standing_from-append (first_standing N) h (Leave who k ∷ [])) ∙ ap (λ b. cond b (left_phase ((standing_after h).phases who)) ((standing_after h).phases who)) (eq-eqb who who refl) ∙ ap left_phase was
 
   -- a release without a scan
-  pub releases : (releasing : Releasing) (word : Word) (row : List ℕ) (lists : Lists C) (flags : ℕ → ℕ) (entry : Opening C) (before cells : List ℕ) (owed : List ℕ) → pays walk ≡ false → awaits walk ≡ false → seats ≤ 64 → IsSettledBy truths.holds before entry → IsExpected (phase_by walk') Idle →
+  pub releases : (releasing : Releasing) (word : Word) (row : List ℕ) (lists : Lists C) (flags : ℕ → ℕ) (entry : Opening C) (before cells : List ℕ) (owed : List Owed) → pays walk ≡ false → awaits walk ≡ false → seats ≤ 64 → IsSettledBy truths.holds before entry → IsExpected (phase_by walk') Idle →
       PlaceFits {C = C} {N = N} truths walk' None → Same walk walk' → needs_scan releasing word ≡ false → is_queuing walk' ≡ is_queuing walk → Way walk walk' →
       -- no condition becomes true where the release is a reader's or quiet
       (length before ≡ N → length cells ≡ N → (mode_released releasing ≡ Read → cells ≡ before) → is_loud releasing ≡ false → (ws : List (Waiter C)) →
@@ -274,7 +279,7 @@ module _ {C : Type 0} {N : ℕ} (truths : Truths C) (seats : ℕ) (h : List (Eve
       let left : (standing_after (h ++ section_of truths.holds who section_is Plain ∷ [])).row ≡ cells = ap (λ s. s.row) (left_by truths seats h who section_is Plain) in
       record {
         safe = released truths seats h front who walk owed walk' owed back mode Plain word (word_released releasing word) row entry before cells few settled tt phase
-            (released_write releasing word) (kept_write releasing word) (kept_readers releasing word) (released_readers releasing word) place (fit.owes ∙ sym same.0) p.safe;
+            (released_write releasing word) (kept_write releasing word) (kept_readers releasing word) (released_readers releasing word) place (still_owes walk walk' owed idle same.0 fit.owes) p.safe;
         homed = at_home front who walk held owed walk' None owed back word (word_released releasing word) lists.lock queues.0 queues.1 same.1 p.homed;
         placed = rested front who walk held owed walk' None owed back lists flags apart refl (due same.2 (flags who)) (λ f. sym same.3 ∙ f) p.placed;
         own = own_same front who walk held owed walk' None owed back lists.lock apart same.2 p.own;
@@ -287,16 +292,16 @@ module _ {C : Type 0} {N : ℕ} (truths : Truths C) (seats : ℕ) (h : List (Eve
       }
 
   -- the queues are taken
-  pub takes : (taking : Taking) (word : Word) (row : List ℕ) (lists : Lists C) (flags : ℕ → ℕ) (held : Option (Held C N)) (owed : List ℕ) → word.spin ≡ false →
+  pub takes : (taking : Taking) (word : Word) (row : List ℕ) (lists : Lists C) (flags : ℕ → ℕ) (held : Option (Held C N)) (owed : List Owed) → pays walk ≡ false → word.spin ≡ false →
       PlaceFits truths walk' held → pays walk' ≡ pays walk → has_queues walk ≡ false → has_queues walk' ≡ true → waits_in walk' ≡ waits_in walk → has_armed walk' ≡ false → Stays walk walk' held →
       (NoneIs who front → Homed word lists.lock (front ++ view_of who walk held owed ∷ back) → Known truths.holds word (standing_after h).row lists.lock flags (front ++ view_of who walk held owed ∷ back) → Known truths.holds (word_taken taking word) (standing_after h).row lists.lock flags (front ++ view_of who walk' held owed ∷ back)) →
       Groups truths seats h (st walk word row lists flags held owed) → Groups truths seats h (st walk' (word_taken taking word) row lists flags held owed)
-  takes taking word row lists flags held owed none place pay a a' wait set stays knows p =
+  takes taking word row lists flags held owed idle none place pay a a' wait set stays knows p =
       let fit = fits word row held owed p.safe in
       let apart = others word row held owed p.safe in
       let same = taken_holders taking word in
       record {
-        safe = unchanged truths seats h front who walk owed walk' owed back word (word_taken taking word) row held held same.0 same.1 place (fit.owes ∙ sym pay) (same_section walk walk' held stays) p.safe;
+        safe = unchanged truths seats h front who walk owed walk' owed back word (word_taken taking word) row held held same.0 same.1 place (still_owes walk walk' owed idle pay fit.owes) (same_section walk walk' held stays) p.safe;
         homed = away front who walk held owed walk' held owed back word (word_taken taking word) lists.lock none (taken_spin taking word) a a' p.homed;
         placed = rested front who walk held owed walk' held owed back lists flags apart refl (due wait (flags who)) (λ f. absurd (cc)) p.placed;
         own = own_same front who walk held owed walk' held owed back lists.lock apart wait p.own;
@@ -305,14 +310,14 @@ module _ {C : Type 0} {N : ℕ} (truths : Truths C) (seats : ℕ) (h : List (Eve
       }
 
   -- a seat sets its flag
-  pub arms : (word : Word) (row : List ℕ) (lists : Lists C) (flags : ℕ → ℕ) (held : Option (Held C N)) (owed : List ℕ) → pays walk ≡ false →
+  pub arms : (word : Word) (row : List ℕ) (lists : Lists C) (flags : ℕ → ℕ) (held : Option (Held C N)) (owed : List Owed) → pays walk ≡ false →
       PlaceFits truths walk' held → pays walk' ≡ pays walk → has_queues walk' ≡ has_queues walk → awaits walk ≡ false → waits_in walk' ≡ waits_in walk → is_queuing walk' ≡ is_queuing walk → NoWay walk → Stays walk walk' held →
       Groups truths seats h (st walk word row lists flags held owed) → Groups truths seats h (st walk' word row lists (flags_with flags who 1) held owed)
   arms word row lists flags held owed idle place pay spin a wait q o stays p =
       let fit = fits word row held owed p.safe in
       let apart = others word row held owed p.safe in
       record {
-        safe = unchanged truths seats h front who walk owed walk' owed back word word row held held refl refl place (fit.owes ∙ sym pay) (same_section walk walk' held stays) p.safe;
+        safe = unchanged truths seats h front who walk owed walk' owed back word word row held held refl refl place (still_owes walk walk' owed idle pay fit.owes) (same_section walk walk' held stays) p.safe;
         homed = at_home front who walk held owed walk' held owed back word word lists.lock refl refl spin p.homed;
         placed = armed front who walk held owed walk' held owed back lists flags apart refl a (ap is_some wait ∙ a) p.placed;
         own = own_same front who walk held owed walk' held owed back lists.lock apart wait p.own;
@@ -321,7 +326,7 @@ module _ {C : Type 0} {N : ℕ} (truths : Truths C) (seats : ℕ) (h : List (Eve
       }
 
   -- a seat puts itself into the lock list, and puts the queues back
-  pub enqueues : (mode : Mode) (arrival : Arrival) (word : Word) (row : List ℕ) (lists : Lists C) (flags : ℕ → ℕ) (held : Option (Held C N)) (owed : List ℕ) → pays walk ≡ false →
+  pub enqueues : (mode : Mode) (arrival : Arrival) (word : Word) (row : List ℕ) (lists : Lists C) (flags : ℕ → ℕ) (held : Option (Held C N)) (owed : List Owed) → pays walk ≡ false →
       PlaceFits truths walk' held → pays walk' ≡ pays walk → has_queues walk ≡ true → has_queues walk' ≡ false → awaits walk ≡ false → waits_in walk' ≡ Some (record { mode = mode; on = None; tries = tries_of arrival }) → has_armed walk ≡ true → has_armed walk' ≡ false → is_queuing walk ≡ true → NoWay walk → Stays walk walk' held →
       let lock' = queued who mode None (tries_of arrival) (is_woken arrival) lists.lock in
       Groups truths seats h (st walk word row lists flags held owed) → Groups truths seats h (st walk' (word_returned false (bits_of lock') word) row (with_lock lists lock') flags held owed)
@@ -332,7 +337,7 @@ module _ {C : Type 0} {N : ℕ} (truths : Truths C) (seats : ℕ) (h : List (Eve
       let none = stands_not word row lists flags held owed a p in
       let owing = owes_none word row held owed idle p.safe in
       record {
-        safe = unchanged truths seats h front who walk owed walk' owed back word (word_returned false (bits_of lock') word) row held held refl refl place (fit.owes ∙ sym pay) (same_section walk walk' held stays) p.safe;
+        safe = unchanged truths seats h front who walk owed walk' owed back word (word_returned false (bits_of lock') word) row held held refl refl place (still_owes walk walk' owed idle pay fit.owes) (same_section walk walk' held stays) p.safe;
         homed = back_home front who walk held owed walk' held owed back word (word_returned false (bits_of lock') word) lists.lock lock' refl refl s s' p.homed;
         placed = entered front who walk held owed walk' held owed back lists (with_lock lists lock') flags apart p.placed.four owing
             (λ seat. let more = times_queued seat who mode None (tries_of arrival) (is_woken arrival) lists.lock in let nothing : times_among seat owed ≡ 0 = rw owing refl in omega (arith, times_lock lists lock' seat, more, nothing)) set a (ap is_some a') set' p.placed;
@@ -342,7 +347,7 @@ module _ {C : Type 0} {N : ℕ} (truths : Truths C) (seats : ℕ) (h : List (Eve
       }
 
   -- a seat that leaves takes itself out of the lock list
-  pub withdraws : (word : Word) (row : List ℕ) (lists : Lists C) (flags : ℕ → ℕ) (owed : List ℕ) → pays walk ≡ false → 1 ≤ times_in who lists.lock →
+  pub withdraws : (word : Word) (row : List ℕ) (lists : Lists C) (flags : ℕ → ℕ) (owed : List Owed) → pays walk ≡ false → 1 ≤ times_in who lists.lock →
       PlaceFits {C = C} {N = N} truths walk' None → pays walk' ≡ pays walk → has_queues walk ≡ true → has_queues walk' ≡ false → has_armed walk' ≡ false → is_queuing walk ≡ false → is_queuing walk' ≡ false → awaits walk' ≡ false → is_on_way walk 1 0 ≡ false → phase_by walk' ≡ phase_by walk →
       let lock' = without_in who lists.lock in
       Groups truths seats h (st walk word row lists flags None owed) → Groups truths seats h (st walk' (word_returned false (bits_of lock') word) row (with_lock lists lock') flags None owed)
@@ -359,7 +364,7 @@ module _ {C : Type 0} {N : ℕ} (truths : Truths C) (seats : ℕ) (h : List (Eve
       (omega (arith, times_lock lists lock' who, gone)) (λ seat ne. let same = times_others seat who lists.lock ne in omega (arith, times_lock lists lock' seat, same)) (λ some. a') (λ z. absurd (omega (arith, stood, z))) p.placed in
       let nowhere_now : times who (with_lock lists lock') ≡ 0 = omega (arith, times_lock lists lock' who, gone, here, most, stood) in
       record {
-        safe = unchanged truths seats h front who walk owed walk' owed back word (word_returned false (bits_of lock') word) row None None refl refl place (fit.owes ∙ sym pay) (same_section walk walk' None (λ none. stays)) p.safe;
+        safe = unchanged truths seats h front who walk owed walk' owed back word (word_returned false (bits_of lock') word) row None None refl refl place (still_owes walk walk' owed idle pay fit.owes) (same_section walk walk' None (λ none. stays)) p.safe;
         homed = back_home front who walk None owed walk' None owed back word (word_returned false (bits_of lock') word) lists.lock lock' refl refl s s' p.homed;
         placed = placed;
         own = own_without front who walk None owed walk' None owed back lists.lock p.own;
@@ -371,14 +376,14 @@ module _ {C : Type 0} {N : ℕ} (truths : Truths C) (seats : ℕ) (h : List (Eve
       }
 
   -- The queues are put back as they were.
-  pub returns : (word : Word) (row : List ℕ) (lists : Lists C) (flags : ℕ → ℕ) (held : Option (Held C N)) (owed : List ℕ) → pays walk ≡ false →
+  pub returns : (word : Word) (row : List ℕ) (lists : Lists C) (flags : ℕ → ℕ) (held : Option (Held C N)) (owed : List Owed) → pays walk ≡ false →
       PlaceFits truths walk' held → pays walk' ≡ pays walk → has_queues walk ≡ true → has_queues walk' ≡ false → waits_in walk' ≡ waits_in walk → has_armed walk' ≡ false → is_queuing walk ≡ false → is_queuing walk' ≡ false → Way walk walk' → Stays walk walk' held →
       Groups truths seats h (st walk word row lists flags held owed) → Groups truths seats h (st walk' (word_returned false (bits_of lists.lock) word) row lists flags held owed)
   returns word row lists flags held owed idle place pay s s' wait set' q q' o stays p =
       let fit = fits word row held owed p.safe in
       let apart = others word row held owed p.safe in
       record {
-        safe = unchanged truths seats h front who walk owed walk' owed back word (word_returned false (bits_of lists.lock) word) row held held refl refl place (fit.owes ∙ sym pay) (same_section walk walk' held stays) p.safe;
+        safe = unchanged truths seats h front who walk owed walk' owed back word (word_returned false (bits_of lists.lock) word) row held held refl refl place (still_owes walk walk' owed idle pay fit.owes) (same_section walk walk' held stays) p.safe;
         homed = back_home front who walk held owed walk' held owed back word (word_returned false (bits_of lists.lock) word) lists.lock lists.lock refl refl s s' p.homed;
         placed = rested front who walk held owed walk' held owed back lists flags apart refl (due wait (flags who)) (λ f. absurd (cc)) p.placed;
         own = own_same front who walk held owed walk' held owed back lists.lock apart wait p.own;
@@ -387,7 +392,7 @@ module _ {C : Type 0} {N : ℕ} (truths : Truths C) (seats : ℕ) (h : List (Eve
       }
 
   -- a seat that leaves takes itself out of the list of its variable, and commits that
-  pub leaves : (k : ℕ) (mode : Mode) (word : Word) (row : List ℕ) (lists : Lists C) (flags : ℕ → ℕ) (owed : List ℕ) → seats ≤ 64 → k < 4 → pays walk ≡ false → 1 ≤ times_in who (waiters_of lists (Cv k)) → waits_in walk ≡ Some (record { mode = mode; on = Some (OnVariable k); tries = 0 }) →
+  pub leaves : (k : ℕ) (mode : Mode) (word : Word) (row : List ℕ) (lists : Lists C) (flags : ℕ → ℕ) (owed : List Owed) → seats ≤ 64 → k < 4 → pays walk ≡ false → 1 ≤ times_in who (waiters_of lists (Cv k)) → waits_in walk ≡ Some (record { mode = mode; on = Some (OnVariable k); tries = 0 }) →
       PlaceFits {C = C} {N = N} truths walk' None → pays walk' ≡ pays walk → has_queues walk ≡ true → has_queues walk' ≡ false → has_armed walk' ≡ false → is_queuing walk ≡ false → is_queuing walk' ≡ false → awaits walk' ≡ false → is_on_way walk 1 0 ≡ false → IsExpected (phase_by walk') (Left (Only k) mode) →
       let lists' = with_waiters lists (Cv k) (without_in who (waiters_of lists (Cv k))) in
       Groups truths seats h (st walk word row lists flags None owed) → Groups truths seats (h ++ Leave who k ∷ []) (st walk' (word_returned false (bits_of lists.lock) word) row lists' flags None owed)
@@ -408,7 +413,7 @@ module _ {C : Type 0} {N : ℕ} (truths : Truths C) (seats : ℕ) (h : List (Eve
       let was : (standing_after h).phases who ≡ Waiting (Only k) mode = subst (λ seat. (standing_after h).phases seat ≡ Waiting (Only k) waiter.0.mode) waiter.1 waiter.2.waits ∙ ap (Waiting (Only k)) same_mode in
       let row_same : (standing_after (h ++ Leave who k ∷ [])).row ≡ (standing_after h).row = ap (λ (s : Standing C). s.row) (standing_from-append (first_standing N) h (Leave who k ∷ [])) in
       record {
-        safe = left_variable truths seats h front who walk owed walk' owed back k mode word (word_returned false (bits_of lists.lock) word) row few was phase refl refl place (fit.owes ∙ sym pay) p.safe;
+        safe = left_variable truths seats h front who walk owed walk' owed back k mode word (word_returned false (bits_of lists.lock) word) row few was phase refl refl place (still_owes walk walk' owed idle pay fit.owes) p.safe;
         homed = back_home front who walk None owed walk' None owed back word (word_returned false (bits_of lists.lock) word) lists.lock lists.lock refl refl s s' p.homed;
         placed = withdrawn front who walk None owed walk' None owed back lists lists' (times_in who waiting) flags apart (four_kept lists (Cv k) (without_in who waiting) ∙ four) refl set'
             (omega (arith, times_with lists (Cv k) (without_in who waiting) who four low, gone)) (λ seat ne. let same = times_others seat who waiting ne in omega (arith, times_with lists (Cv k) (without_in who waiting) seat four low, same)) (λ some. a') (λ z. absurd (omega (arith, stood, z))) p.placed;
@@ -424,30 +429,30 @@ module _ {C : Type 0} {N : ℕ} (truths : Truths C) (seats : ℕ) (h : List (Eve
   -- ---- with a scan
 
   -- what a scan takes and leaves
-  scan_parts : (meets : C → Bool) (lists : Lists C) (seat : ℕ) → times seat (with_lock lists (left_of meets lists.lock)) + times_among seat (seats_of (woken_of meets lists.lock)) ≡ times seat lists
+  scan_parts : (meets : C → Bool) (lists : Lists C) (seat : ℕ) → times seat (with_lock lists (left_of meets lists.lock)) + times_among seat (called_of (woken_of meets lists.lock)) ≡ times seat lists
   scan_parts meets lists seat = omega (arith, times_scan seat meets lists.lock, times_seats seat (woken_of meets lists.lock), times_lock lists (left_of meets lists.lock) seat)
 
   -- a seat puts the queues back as a scan leaves them, and releases its section
-  pub scans : (releasing : Releasing) (word : Word) (row : List ℕ) (lists : Lists C) (flags : ℕ → ℕ) (entry : Opening C) (before cells : List ℕ) (owed : List ℕ) → seats ≤ 64 → IsSettledBy truths.holds before entry → let meets : C → Bool = meets_at truths row in
+  pub scans : (releasing : Releasing) (word : Word) (row : List ℕ) (lists : Lists C) (flags : ℕ → ℕ) (entry : Opening C) (before cells : List ℕ) (owed : List Owed) → seats ≤ 64 → IsSettledBy truths.holds before entry → let meets : C → Bool = meets_at truths row in
       IsExpected (phase_by walk') Idle → calls_from_lock walk' ≡ true →
-      PlaceFits {C = C} {N = N} truths walk' None → pays walk ≡ false → pays walk' ≡ has_some (seats_of (woken_of meets lists.lock)) → has_queues walk ≡ true → has_queues walk' ≡ false → awaits walk ≡ false → awaits walk' ≡ false → has_armed walk' ≡ false → is_queuing walk' ≡ false → NoWay walk →
+      PlaceFits {C = C} {N = N} truths walk' None → pays walk ≡ false → pays walk' ≡ has_some (called_of (woken_of meets lists.lock)) → has_queues walk ≡ true → has_queues walk' ≡ false → awaits walk ≡ false → awaits walk' ≡ false → has_armed walk' ≡ false → is_queuing walk' ≡ false → NoWay walk →
       Groups truths seats h (st walk word row lists flags (Some (section (mode_released releasing) entry before cells)) owed) →
       Groups truths seats (h ++ section_of truths.holds who (section (mode_released releasing) entry before cells) Plain ∷ [])
-      (st walk' (word_released_returning releasing (has_some (woken_of meets lists.lock)) (bits_of (left_of meets lists.lock)) word) row (with_lock lists (left_of meets lists.lock)) flags None (seats_of (woken_of meets lists.lock)))
+      (st walk' (word_released_returning releasing (has_some (woken_of meets lists.lock)) (bits_of (left_of meets lists.lock)) word) row (with_lock lists (left_of meets lists.lock)) flags None (called_of (woken_of meets lists.lock)))
   scans releasing word row lists flags entry before cells owed few settled phase from place idle pay' s s' a a' set' q' o p =
       let meets : C → Bool = meets_at truths row in
       let section_is = section {C = C} {N = N} (mode_released releasing) entry before cells in
       let held = Some section_is in
       let fit = fits word row held owed p.safe in
       let apart = others word row held owed p.safe in
-      let took = seats_of (woken_of meets lists.lock) in
+      let took = called_of (woken_of meets lists.lock) in
       let stay = left_of meets lists.lock in
       let owing = owes_none word row held owed idle p.safe in
       let none = stands_not word row lists flags held owed a p in
       let word' = word_released_returning releasing (has_some (woken_of meets lists.lock)) (bits_of stay) word in
       record {
         safe = released truths seats h front who walk owed walk' took back (mode_released releasing) Plain word word' row entry before cells few settled tt phase
-            (released_write releasing word) (kept_write releasing word) (kept_readers releasing word) (released_readers releasing word) place (sym pay') p.safe;
+            (released_write releasing word) (kept_write releasing word) (kept_readers releasing word) (released_readers releasing word) place (sym pay', calls_told walk' (woken_of meets lists.lock) from) p.safe;
         homed = back_home front who walk held owed walk' None took back word word' lists.lock stay refl refl s s' p.homed;
         placed = taken front who walk held owed walk' None took back lists (with_lock lists stay) flags apart p.placed.four owing (scan_parts meets lists) a a' set' p.placed;
         own = own_scanned front who walk held owed walk' None took back meets lists.lock (lock_nowhere lists none) p.own;
@@ -458,8 +463,8 @@ module _ {C : Type 0} {N : ℕ} (truths : Truths C) (seats : ℕ) (h : List (Eve
       }
 
   -- The same with itself in the lock list, for a condition that is false. What it leaves of the sections is told, and the history after that.
-  pub queues_scanned : (releasing : Releasing) (mode : Mode) (c : C) (again : Bool) (h' : List (Event C N)) (word : Word) (row : List ℕ) (lists : Lists C) (flags : ℕ → ℕ) (held : Option (Held C N)) (owed : List ℕ) →
-      let meets : C → Bool = meets_at truths row in let took = seats_of (woken_of meets lists.lock) in let lock' = queued who mode (Some c) 0 again (left_of meets lists.lock) in let word' = word_released_returning releasing (has_some (woken_of meets lists.lock)) (bits_of lock') word in
+  pub queues_scanned : (releasing : Releasing) (mode : Mode) (c : C) (again : Bool) (h' : List (Event C N)) (word : Word) (row : List ℕ) (lists : Lists C) (flags : ℕ → ℕ) (held : Option (Held C N)) (owed : List Owed) →
+      let meets : C → Bool = meets_at truths row in let took = called_of (woken_of meets lists.lock) in let lock' = queued who mode (Some c) 0 again (left_of meets lists.lock) in let word' = word_released_returning releasing (has_some (woken_of meets lists.lock)) (bits_of lock') word in
       truths.holds c row ≡ false → row ≡ (standing_after h').row → Safe truths seats h' word' row (front ++ view_of who walk' None took ∷ back) →
       ((seat : ℕ) → who ≢ seat → (standing_after h').phases seat ≡ (standing_after h).phases seat) → ((vs : Variables) (m : Mode) → (standing_after h').phases who ≡ Waiting vs m → ⊥) →
       pays walk ≡ false → calls_from_lock walk' ≡ true → has_queues walk ≡ true → has_queues walk' ≡ false → awaits walk ≡ false → waits_in walk' ≡ Some (record { mode = mode; on = Some (OnCondition c); tries = 0 }) → has_armed walk ≡ true → has_armed walk' ≡ false → is_queuing walk' ≡ false → NoWay walk →
@@ -467,7 +472,7 @@ module _ {C : Type 0} {N : ℕ} (truths : Truths C) (seats : ℕ) (h : List (Eve
   queues_scanned releasing mode c again h' word row lists flags held owed unmet now safe there idles idle from s s' a a' set set' q' o p =
       let meets : C → Bool = meets_at truths row in
       let apart = others word row held owed p.safe in
-      let took = seats_of (woken_of meets lists.lock) in
+      let took = called_of (woken_of meets lists.lock) in
       let lock' = queued who mode (Some c) 0 again (left_of meets lists.lock) in
       let owing = owes_none word row held owed idle p.safe in
       let none = stands_not word row lists flags held owed a p in
@@ -485,65 +490,65 @@ module _ {C : Type 0} {N : ℕ} (truths : Truths C) (seats : ℕ) (h : List (Eve
       }
 
   -- a wait for a condition leaves its section, and commits it
-  pub waits : (releasing : Releasing) (mode : Mode) (c : C) (again : Bool) (word : Word) (row : List ℕ) (lists : Lists C) (flags : ℕ → ℕ) (entry : Opening C) (before cells : List ℕ) (owed : List ℕ) → seats ≤ 64 → IsSettledBy truths.holds before entry →
+  pub waits : (releasing : Releasing) (mode : Mode) (c : C) (again : Bool) (word : Word) (row : List ℕ) (lists : Lists C) (flags : ℕ → ℕ) (entry : Opening C) (before cells : List ℕ) (owed : List Owed) → seats ≤ 64 → IsSettledBy truths.holds before entry →
       let meets : C → Bool = meets_at truths row in let lock' = queued who mode (Some c) 0 again (left_of meets lists.lock) in
       truths.holds c cells ≡ false → mode_released releasing ≡ mode → IsExpected (phase_by walk') (Cond c mode) →
-      PlaceFits {C = C} {N = N} truths walk' None → pays walk ≡ false → pays walk' ≡ has_some (seats_of (woken_of meets lists.lock)) → calls_from_lock walk' ≡ true → has_queues walk ≡ true → has_queues walk' ≡ false → awaits walk ≡ false → waits_in walk' ≡ Some (record { mode = mode; on = Some (OnCondition c); tries = 0 }) → has_armed walk ≡ true → has_armed walk' ≡ false → is_queuing walk' ≡ false → NoWay walk →
+      PlaceFits {C = C} {N = N} truths walk' None → pays walk ≡ false → pays walk' ≡ has_some (called_of (woken_of meets lists.lock)) → calls_from_lock walk' ≡ true → has_queues walk ≡ true → has_queues walk' ≡ false → awaits walk ≡ false → waits_in walk' ≡ Some (record { mode = mode; on = Some (OnCondition c); tries = 0 }) → has_armed walk ≡ true → has_armed walk' ≡ false → is_queuing walk' ≡ false → NoWay walk →
       Groups truths seats h (st walk word row lists flags (Some (section mode entry before cells)) owed) →
       Groups truths seats (h ++ section_of truths.holds who (section mode entry before cells) (CondWait c) ∷ [])
-      (st walk' (word_released_returning releasing (has_some (woken_of meets lists.lock)) (bits_of lock') word) row (with_lock lists lock') flags None (seats_of (woken_of meets lists.lock)))
+      (st walk' (word_released_returning releasing (has_some (woken_of meets lists.lock)) (bits_of lock') word) row (with_lock lists lock') flags None (called_of (woken_of meets lists.lock)))
   waits releasing mode c again word row lists flags entry before cells owed few settled unmet is phase place idle pay' from s s' a a' set set' q' o p =
       let meets : C → Bool = meets_at truths row in
       let held = section {C = C} {N = N} mode entry before cells in
       let fit = fits word row (Some held) owed p.safe in
-      let took = seats_of (woken_of meets lists.lock) in
+      let took = called_of (woken_of meets lists.lock) in
       let lock' = queued who mode (Some c) 0 again (left_of meets lists.lock) in
       let word' = word_released_returning releasing (has_some (woken_of meets lists.lock)) (bits_of lock') word in
       queues_scanned releasing mode c again (h ++ section_of truths.holds who held (CondWait c) ∷ []) word row lists flags (Some held) owed
       (subst (λ r. truths.holds c r ≡ false) fit.section.cells unmet) (sym fit.section.cells ∙ sym (ap (λ s. s.row) (left_by truths seats h who held (CondWait c))))
       (released truths seats h front who walk owed walk' took back mode (CondWait c) word word' row entry before cells few settled unmet phase
-      (λ m. released_write releasing word (is ∙ m)) (λ m. kept_write releasing word (is ∙ m)) (λ m. kept_readers releasing word (is ∙ m)) (λ m. released_readers releasing word (is ∙ m)) place (sym pay') p.safe)
+      (λ m. released_write releasing word (is ∙ m)) (λ m. kept_write releasing word (is ∙ m)) (λ m. kept_readers releasing word (is ∙ m)) (λ m. released_readers releasing word (is ∙ m)) place (sym pay', calls_told walk' (woken_of meets lists.lock) from) p.safe)
       (phases_there held (CondWait c)) (λ k m e. let clash : Cond c mode ≡ Waiting k m = sym (phases_here held (CondWait c)) ∙ e in absurd (cc))
       idle from s s' a a' set set' q' o p
 
   -- a wait for a condition that came back gives its section up, and commits nothing
-  pub waits_on : (releasing : Releasing) (mode : Mode) (c : C) (again : Bool) (word : Word) (row : List ℕ) (lists : Lists C) (flags : ℕ → ℕ) (entry : Opening C) (before cells : List ℕ) (owed : List ℕ) →
+  pub waits_on : (releasing : Releasing) (mode : Mode) (c : C) (again : Bool) (word : Word) (row : List ℕ) (lists : Lists C) (flags : ℕ → ℕ) (entry : Opening C) (before cells : List ℕ) (owed : List Owed) →
       let meets : C → Bool = meets_at truths row in let lock' = queued who mode (Some c) 0 again (left_of meets lists.lock) in
       truths.holds c cells ≡ false → mode_released releasing ≡ mode → cells ≡ before → phase_before mode entry ≡ Cond c mode → IsExpected (phase_by walk') (Cond c mode) →
-      PlaceFits {C = C} {N = N} truths walk' None → pays walk ≡ false → pays walk' ≡ has_some (seats_of (woken_of meets lists.lock)) → calls_from_lock walk' ≡ true → has_queues walk ≡ true → has_queues walk' ≡ false → awaits walk ≡ false → waits_in walk' ≡ Some (record { mode = mode; on = Some (OnCondition c); tries = 0 }) → has_armed walk ≡ true → has_armed walk' ≡ false → is_queuing walk' ≡ false → NoWay walk →
+      PlaceFits {C = C} {N = N} truths walk' None → pays walk ≡ false → pays walk' ≡ has_some (called_of (woken_of meets lists.lock)) → calls_from_lock walk' ≡ true → has_queues walk ≡ true → has_queues walk' ≡ false → awaits walk ≡ false → waits_in walk' ≡ Some (record { mode = mode; on = Some (OnCondition c); tries = 0 }) → has_armed walk ≡ true → has_armed walk' ≡ false → is_queuing walk' ≡ false → NoWay walk →
       Groups truths seats h (st walk word row lists flags (Some (section mode entry before cells)) owed) →
-      Groups truths seats h (st walk' (word_released_returning releasing (has_some (woken_of meets lists.lock)) (bits_of lock') word) row (with_lock lists lock') flags None (seats_of (woken_of meets lists.lock)))
+      Groups truths seats h (st walk' (word_released_returning releasing (has_some (woken_of meets lists.lock)) (bits_of lock') word) row (with_lock lists lock') flags None (called_of (woken_of meets lists.lock)))
   waits_on releasing mode c again word row lists flags entry before cells owed unmet is same comes phase place idle pay' from s s' a a' set set' q' o p =
       let meets : C → Bool = meets_at truths row in
       let held = section {C = C} {N = N} mode entry before cells in
       let fit = fits word row (Some held) owed p.safe in
-      let took = seats_of (woken_of meets lists.lock) in
+      let took = called_of (woken_of meets lists.lock) in
       let lock' = queued who mode (Some c) 0 again (left_of meets lists.lock) in
       let word' = word_released_returning releasing (has_some (woken_of meets lists.lock)) (bits_of lock') word in
       queues_scanned releasing mode c again h word row lists flags (Some held) owed
       (subst (λ r. truths.holds c r ≡ false) fit.section.cells unmet) (sym fit.section.cells ∙ same ∙ fit.section.starts)
       (dropped truths seats h front who walk owed walk' took back mode word word' row entry before cells same (subst (λ ph. IsExpected (phase_by walk') ph) (sym comes) phase)
-      (λ m. released_write releasing word (is ∙ m)) (λ m. kept_write releasing word (is ∙ m)) (λ m. kept_readers releasing word (is ∙ m)) (λ m. released_readers releasing word (is ∙ m)) place (sym pay') p.safe)
+      (λ m. released_write releasing word (is ∙ m)) (λ m. kept_write releasing word (is ∙ m)) (λ m. kept_readers releasing word (is ∙ m)) (λ m. released_readers releasing word (is ∙ m)) place (sym pay', calls_told walk' (woken_of meets lists.lock) from) p.safe)
       (λ seat ne. refl) (λ k m e. let clash : Cond c mode ≡ Waiting k m = sym (fit.section.enters ∙ comes) ∙ e in absurd (cc))
       idle from s s' a a' set set' q' o p
 
   -- a wait for a variable leaves its section, commits it, and goes to the back of the variable's list
-  pub waits_for : (releasing : Releasing) (mode : Mode) (j : ℕ) (word : Word) (row : List ℕ) (lists : Lists C) (flags : ℕ → ℕ) (entry : Opening C) (before cells : List ℕ) (owed : List ℕ) → seats ≤ 64 → j < 4 → IsSettledBy truths.holds before entry →
+  pub waits_for : (releasing : Releasing) (mode : Mode) (j : ℕ) (word : Word) (row : List ℕ) (lists : Lists C) (flags : ℕ → ℕ) (entry : Opening C) (before cells : List ℕ) (owed : List Owed) → seats ≤ 64 → j < 4 → IsSettledBy truths.holds before entry →
       let meets : C → Bool = meets_at truths row in let stay = with_lock lists (left_of meets lists.lock) in
-      let lists' = with_waiters stay (Cv j) (waiters_of lists (Cv j) ++ record { seat = who; mode = mode; cond = None; tries = 0 } ∷ []) in
+      let lists' = with_waiters stay (Cv j) (waiters_of lists (Cv j) ++ record { seat = who; mode = mode; cond = None; tries = 0; via = None } ∷ []) in
       mode_released releasing ≡ mode → IsExpected (phase_by walk') (Waiting (Only j) mode) →
-      PlaceFits {C = C} {N = N} truths walk' None → pays walk ≡ false → pays walk' ≡ has_some (seats_of (woken_of meets lists.lock)) → calls_from_lock walk' ≡ true → has_queues walk ≡ true → has_queues walk' ≡ false → awaits walk ≡ false → waits_in walk' ≡ Some (record { mode = mode; on = Some (OnVariable j); tries = 0 }) → has_armed walk ≡ true → has_armed walk' ≡ false → is_queuing walk' ≡ false → NoWay walk →
+      PlaceFits {C = C} {N = N} truths walk' None → pays walk ≡ false → pays walk' ≡ has_some (called_of (woken_of meets lists.lock)) → calls_from_lock walk' ≡ true → has_queues walk ≡ true → has_queues walk' ≡ false → awaits walk ≡ false → waits_in walk' ≡ Some (record { mode = mode; on = Some (OnVariable j); tries = 0 }) → has_armed walk ≡ true → has_armed walk' ≡ false → is_queuing walk' ≡ false → NoWay walk →
       Groups truths seats h (st walk word row lists flags (Some (section mode entry before cells)) owed) →
       Groups truths seats (h ++ section_of truths.holds who (section mode entry before cells) (CvWait j) ∷ [])
-      (st walk' (word_released_returning releasing (has_some (woken_of meets lists.lock)) (bits_of (left_of meets lists.lock)) word) row lists' flags None (seats_of (woken_of meets lists.lock)))
+      (st walk' (word_released_returning releasing (has_some (woken_of meets lists.lock)) (bits_of (left_of meets lists.lock)) word) row lists' flags None (called_of (woken_of meets lists.lock)))
   waits_for releasing mode j word row lists flags entry before cells owed few low settled is phase place idle pay' from s s' a a' set set' q' o p =
       let meets : C → Bool = meets_at truths row in
       let held = section {C = C} {N = N} mode entry before cells in
       let fit = fits word row (Some held) owed p.safe in
       let apart = others word row (Some held) owed p.safe in
-      let took = seats_of (woken_of meets lists.lock) in
+      let took = called_of (woken_of meets lists.lock) in
       let stay = with_lock lists (left_of meets lists.lock) in
-      let one : Waiter C = record { seat = who; mode = mode; cond = None; tries = 0 } in
+      let one : Waiter C = record { seat = who; mode = mode; cond = None; tries = 0; via = None } in
       let queue = waiters_of lists (Cv j) ++ one ∷ [] in
       let lists' = with_waiters stay (Cv j) queue in
       let owing = owes_none word row (Some held) owed idle p.safe in
@@ -551,7 +556,7 @@ module _ {C : Type 0} {N : ℕ} (truths : Truths C) (seats : ℕ) (h : List (Eve
       let word' = word_released_returning releasing (has_some (woken_of meets lists.lock)) (bits_of (left_of meets lists.lock)) word in
       record {
         safe = released truths seats h front who walk owed walk' took back mode (CvWait j) word word' row entry before cells few settled tt phase
-            (λ m. released_write releasing word (is ∙ m)) (λ m. kept_write releasing word (is ∙ m)) (λ m. kept_readers releasing word (is ∙ m)) (λ m. released_readers releasing word (is ∙ m)) place (sym pay') p.safe;
+            (λ m. released_write releasing word (is ∙ m)) (λ m. kept_write releasing word (is ∙ m)) (λ m. kept_readers releasing word (is ∙ m)) (λ m. released_readers releasing word (is ∙ m)) place (sym pay', calls_told walk' (woken_of meets lists.lock) from) p.safe;
         homed = back_home front who walk (Some held) owed walk' None took back word word' lists.lock (left_of meets lists.lock) refl refl s s' p.homed;
         placed = entered front who walk (Some held) owed walk' None took back lists lists' flags apart (four_kept stay (Cv j) queue ∙ p.placed.four) owing
             (λ seat. omega (arith, scan_parts meets lists seat, times_with stay (Cv j) queue seat p.placed.four low, times_in-append seat (waiters_of lists (Cv j)) (one ∷ []), times_in-cons seat one [])) set a (ap is_some a') set' p.placed;
@@ -564,23 +569,25 @@ module _ {C : Type 0} {N : ℕ} (truths : Truths C) (seats : ℕ) (h : List (Eve
 
   -- ---- wakes
 
-  -- a seat clears the flag of one that it owes a wake: one taken from the lock list by 0, any other by 2
-  pub wakes : (word : Word) (row : List ℕ) (lists : Lists C) (flags : ℕ → ℕ) (held : Option (Held C N)) (target value : ℕ) (rest : List ℕ) → calls_from_lock walk ≡ eqb value 0 → (value ≡ 0) ⊎ (value ≡ 2) → ((seat : ℕ) → ◌≡◌ {A = ℕ} (cond (calls_from_lock walk') (times_among seat rest) 0) (cond (eqb value 0) (times_among seat rest) 0)) →
-      PlaceFits truths walk' held → pays walk' ≡ has_some rest → has_queues walk' ≡ has_queues walk → waits_in walk' ≡ waits_in walk → was_woken walk' ≡ was_woken walk → has_armed walk' ≡ false → is_queuing walk' ≡ is_queuing walk → Stays walk walk' held →
-      Groups truths seats h (st walk word row lists flags held (target ∷ rest)) → Groups truths seats h (st walk' word row lists (flags_with flags target value) held rest)
-  wakes word row lists flags held target value rest from is after_all place pay spin a w set' q stays p =
-      let apart = others word row held (target ∷ rest) p.safe in
+  -- a seat pays a wake that it owes
+  pub wakes : (word : Word) (row : List ℕ) (lists : Lists C) (flags : ℕ → ℕ) (held : Option (Held C N)) (wake : Owed) (rest : List Owed) → ((seat : ℕ) → ◌≡◌ {A = ℕ} (cond (calls_from_lock walk') (times_among seat rest) 0) (cond (calls_from_lock walk) (times_among seat rest) 0)) →
+      PlaceFits truths walk' held → pays walk' ≡ has_some rest → (Every (Tells (calls_from_lock walk)) rest → Every (Tells (calls_from_lock walk')) rest) → has_queues walk' ≡ has_queues walk → waits_in walk' ≡ waits_in walk → was_woken walk' ≡ was_woken walk → has_armed walk' ≡ false → is_queuing walk' ≡ is_queuing walk → Stays walk walk' held →
+      Groups truths seats h (st walk word row lists flags held (wake ∷ rest)) → Groups truths seats h (st walk' word row lists (flags_with flags wake.seat wake.value) held rest)
+  wakes word row lists flags held wake rest after_all place pay tell spin a w set' q stays p =
+      let apart = others word row held (wake ∷ rest) p.safe in
+      let tells = (fits word row held (wake ∷ rest) p.safe).owes.1 in
+      let from = tells_from (calls_from_lock walk) wake tells.0 in
       record {
-        safe = unchanged truths seats h front who walk (target ∷ rest) walk' rest back word word row held held refl refl place (sym pay) (same_section walk walk' held stays) p.safe;
-        homed = at_home front who walk held (target ∷ rest) walk' held rest back word word lists.lock refl refl spin p.homed;
-        placed = woke front who walk held (target ∷ rest) walk' held rest back target value lists flags apart refl (wake_clears value is) (wake_few value is) (ap is_some a) set' p.placed;
-        own = own_same front who walk held (target ∷ rest) walk' held rest back lists.lock apart a p.own;
-        told = tell_same front who walk held (target ∷ rest) walk' held rest back (standing_after h).phases lists lists apart refl a p.told;
-        known = known_pays truths.holds front who walk held (target ∷ rest) walk' held rest back word (standing_after h).row lists flags target value apart refl from is after_all q (ap is_some a) w p.placed p.known;
+        safe = unchanged truths seats h front who walk (wake ∷ rest) walk' rest back word word row held held refl refl place (sym pay, tell tells.1) (same_section walk walk' held stays) p.safe;
+        homed = at_home front who walk held (wake ∷ rest) walk' held rest back word word lists.lock refl refl spin p.homed;
+        placed = woke front who walk held (wake ∷ rest) walk' held rest back wake lists flags apart refl (tells_clear (calls_from_lock walk) wake tells.0) (tells_few (calls_from_lock walk) wake tells.0) (ap is_some a) set' p.placed;
+        own = own_same front who walk held (wake ∷ rest) walk' held rest back lists.lock apart a p.own;
+        told = tell_same front who walk held (wake ∷ rest) walk' held rest back (standing_after h).phases lists lists apart refl a p.told;
+        known = known_pays truths.holds front who walk held (wake ∷ rest) walk' held rest back word (standing_after h).row lists flags wake apart refl from (λ seat. after_all seat ∙ ap (λ b. cond b (times_among seat rest) 0) from) q (ap is_some a) w p.placed p.known;
       }
 
   -- a seat sees its flag cleared: it stands nowhere then, and so has been woken if it waits for a variable
-  pub sees : (word : Word) (row : List ℕ) (lists : Lists C) (flags : ℕ → ℕ) (owed : List ℕ) → flags who ≢ 1 → pays walk ≡ false →
+  pub sees : (word : Word) (row : List ℕ) (lists : Lists C) (flags : ℕ → ℕ) (owed : List Owed) → flags who ≢ 1 → pays walk ≡ false →
       PlaceFits {C = C} {N = N} truths walk' None → pays walk' ≡ pays walk → has_queues walk' ≡ has_queues walk → awaits walk' ≡ false → waits_in walk' ≡ None → has_armed walk' ≡ false → is_queuing walk' ≡ is_queuing walk → (is_on_way walk (flags who) 0 ≡ true → is_on_way walk' (flags who) 0 ≡ true) →
       ((ph : Phase C) → ((vs : Variables) (mode : Mode) → ph ≡ Waiting vs mode → ⊥) → IsExpected (phase_by walk) ph → IsExpected (phase_by walk') ph) →
       Groups truths seats h (st walk word row lists flags None owed) → Groups truths seats h (st walk' word row lists flags None owed)
@@ -590,7 +597,7 @@ module _ {C : Type 0} {N : ℕ} (truths : Truths C) (seats : ℕ) (h : List (Eve
       let none = nowhere front who walk None owed walk' None owed back lists flags apart (cleared walk (flags who) clear) p.placed in
       let waits = waits_not lists _ p.placed.four none p.told in
       record {
-        safe = unchanged_by truths seats h front who walk owed walk' owed back word word row None None refl refl place (fit.owes ∙ sym pay) refl refl (λ section. phase ((standing_after h).phases who) waits section) p.safe;
+        safe = unchanged_by truths seats h front who walk owed walk' owed back word word row None None refl refl place (still_owes walk walk' owed idle pay fit.owes) refl refl (λ section. phase ((standing_after h).phases who) waits section) p.safe;
         homed = at_home front who walk None owed walk' None owed back word word lists.lock refl refl spin p.homed;
         placed = seen front who walk None owed walk' None owed back lists flags apart refl clear a' set' p.placed;
         own = own_stays front who walk None owed walk' None owed back lists.lock (lock_nowhere lists none) p.own;
@@ -599,13 +606,13 @@ module _ {C : Type 0} {N : ℕ} (truths : Truths C) (seats : ℕ) (h : List (Eve
       }
 
   -- A call takes waiters from the list of a variable and puts the queues back: they are owed wakes, or stand at the back of the lock list, if the lock is held. What it takes, and that its event is legal, is told.
-  pub wakes_waiters : (e : Event C N) (k : ℕ) (took left : List (Waiter C)) (word : Word) (row : List ℕ) (lists : Lists C) (flags : ℕ → ℕ) (held : Option (Held C N)) (owed owed' : List ℕ) (lock' : List (Waiter C)) (moved : Bool) → seats ≤ 64 → k < 4 → who_of e ≡ who →
+  pub wakes_waiters : (e : Event C N) (k : ℕ) (took left : List (Waiter C)) (word : Word) (row : List ℕ) (lists : Lists C) (flags : ℕ → ℕ) (held : Option (Held C N)) (owed owed' : List Owed) (lock' : List (Waiter C)) (moved : Bool) → seats ≤ 64 → k < 4 → who_of e ≡ who →
       IsLegalEvent truths.holds (standing_after h) e → standing_next (standing_after h) e ≡ record { row = (standing_after h).row; phases = woken_phases k (taken_set took) (standing_after h).phases } →
       ((seat : ℕ) → times_in seat took + times_in seat left ≡ times_in seat (waiters_of lists (Cv k))) →
       Every (VariableWaiterFits (standing_after h).phases (front ++ view_of who walk held owed ∷ back) k) took → Every (VariableWaiterFits (standing_after h).phases (front ++ view_of who walk held owed ∷ back) k) left →
       IsOrderly lists → pays walk ≡ false →
       -- moved, or owed
-      ((moved ≡ true) × (is_held word ≡ true) × (has_some took ≡ true) × (lock' ≡ lists.lock ++ took) × (owed' ≡ [])) ⊎ ((moved ≡ false) × (lock' ≡ lists.lock) × (owed' ≡ seats_of took)) →
+      ((moved ≡ true) × (is_held word ≡ true) × (has_some took ≡ true) × (lock' ≡ lists.lock ++ took) × (owed' ≡ [])) ⊎ ((moved ≡ false) × (lock' ≡ lists.lock) × (owed' ≡ wakes_of k took)) →
       PlaceFits truths walk' held → pays walk' ≡ has_some owed' → calls_from_lock walk' ≡ false ⊎ (owed' ≡ []) → has_queues walk ≡ true → has_queues walk' ≡ false → waits_in walk ≡ None → waits_in walk' ≡ None → has_armed walk' ≡ false → is_queuing walk ≡ false → is_queuing walk' ≡ false → Way walk walk' → Stays walk walk' held →
       Groups truths seats h (st walk word row lists flags held owed) →
       Groups truths seats (h ++ e ∷ []) (st walk' (word_returned moved (bits_of lock') word) row (with_lock (with_waiters lists (Cv k) left) lock') flags held owed')
@@ -633,7 +640,7 @@ module _ {C : Type 0} {N : ℕ} (truths : Truths C) (seats : ℕ) (h : List (Eve
             omega (arith, at_cv, at_lock, sum, more, nothing)
         | inr owe ↦
             let same : times_in seat lock' ≡ times_in seat lists.lock = ap (times_in seat) owe.1 in
-            let due_now : times_among seat owed' ≡ times_in seat took = ap (times_among seat) owe.2 ∙ times_seats seat took in
+            let due_now : times_among seat owed' ≡ times_in seat took = ap (times_among seat) owe.2 ∙ times_wakes seat k took in
             omega (arith, at_cv, at_lock, sum, same, due_now)
       ] in
       record {
@@ -642,7 +649,7 @@ module _ {C : Type 0} {N : ℕ} (truths : Truths C) (seats : ℕ) (h : List (Eve
               | inl in_it ↦ inr (stands_waits k (standing_after h).phases took seat (waits_of (standing_after h).phases (front ++ view_of who walk held owed ∷ back) k took takes) (in_stands took seat in_it), ap (λ (x : Standing C). x.phases seat) after_it ∙ ap (λ b. cond b (woken_phase k ((standing_after h).phases seat)) ((standing_after h).phases seat)) in_it)
               | inr out_of_it ↦ inl (ap (λ (x : Standing C). x.phases seat) after_it ∙ ap (λ b. cond b (woken_phase k ((standing_after h).phases seat)) ((standing_after h).phases seat)) out_of_it)
             ])
-            refl refl place (sym pay) ((same_section walk walk' held stays).fits (standing_after h) row who) p.safe;
+            refl refl place (sym pay, wakes_told (calls_from_lock walk') k took owed' low (elim ways [ inl move ↦ inl move.4 | inr owe ↦ inr owe.2 ]) from) ((same_section walk walk' held stays).fits (standing_after h) row who) p.safe;
         homed = back_home front who walk held owed walk' held owed' back word word' lists.lock lock' refl refl s s' p.homed;
         placed = taken front who walk held owed walk' held owed' back lists lists' flags apart (four_kept lists (Cv k) left ∙ orderly.four) owing counts (ap is_some a) (ap is_some a') set' p.placed;
         own = elim ways [

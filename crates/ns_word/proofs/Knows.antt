@@ -6,7 +6,9 @@ use Rattle.ns_model.specs.declared.event.Mode.{Mode}
 use Rattle.ns_model.specs.declared.event.Mode.TheVariants.{Write, Read}
 use Rattle.ns_queue.specs.declared.waiter.Waiter.{Waiter}
 use Rattle.ns_queue.specs.Queues.{Lists, times}
-use Rattle.ns_queue.specs.Waiters.{is_long, seats_of, times_in}
+use Rattle.ns_queue.specs.Waiters.{is_long, times_in}
+use Rattle.ns_word.specs.Owed.{called_of, is_from_lock, times_among}
+use Rattle.ns_word.specs.declared.owed.Owed.{Owed}
 use Rattle.ns_queue.specs.Scans.{woken_of, left_of}
 use Rattle.ns_word.specs.declared.word.Word.{Word}
 use Rattle.ns_word.specs.declared.word.Releasing.{Releasing}
@@ -18,7 +20,7 @@ use Rattle.ns_word.specs.declared.view.SeatView.{SeatView}
 use Rattle.ns_word.specs.declared.walk.Walk.{Walk}
 use Rattle.ns_word.specs.declared.walk.Walk.TheVariants.{InAcquire}
 use Rattle.ns_word.specs.Words.{is_held, is_woken, may_acquire, needs_scan, word_acquired, word_released, word_taken, word_returned, word_released_returning}
-use Rattle.ns_word.specs.Lists.{has_some, has_eligible, bits_of, queued, times_among}
+use Rattle.ns_word.specs.Lists.{has_some, has_eligible, bits_of, queued}
 use Rattle.ns_word.specs.Walks.{awaits, has_queues, is_queuing, was_woken, calls_from_lock, is_on_way}
 use Rattle.ns_word.specs.Views.{takers, queuers, owed_to, called_to, walk_at, NoneIs}
 use Rattle.ns_word.specs.Lawful.{WaitersPlaced, NobodyCouldGoOn, is_armed, is_unwoken}
@@ -32,23 +34,23 @@ use Rattle.ns_word.specs.Steps.{flags_with}
 
 -- one that waits, and whose wake from the lock list is owed, is on its way
 called_on_way : {C : Type 0} (walk : Option (Walk C)) (flag owed : ℕ) → awaits walk ≡ true → 1 ≤ owed → is_on_way walk flag owed ≡ true
-called_on_way walk flag owed a some = rw a (rw (lt-ltb 0 owed some) (elim (was_woken walk) as (λ b. (b || (true && (eqb flag 0 || true))) ≡ true) [ true ↦ refl | false ↦ elim (eqb flag 0) as (λ c. (c || true) ≡ true) [ true ↦ refl | false ↦ refl ] ]))
+called_on_way walk flag owed a some = rw a (rw (lt-ltb 0 owed some) (elim (was_woken walk) as (λ b. (b || (true && (is_from_lock flag || true))) ≡ true) [ true ↦ refl | false ↦ elim (is_from_lock flag) as (λ c. (c || true) ≡ true) [ true ↦ refl | false ↦ refl ] ]))
 
--- one on its way stays so where its flag is cleared to 0
-cleared_on_way : {C : Type 0} (walk : Option (Walk C)) (flag owed owed' : ℕ) → is_on_way walk flag owed ≡ true → is_on_way walk 0 owed' ≡ true
-cleared_on_way walk flag owed owed' e = go (was_woken walk) (awaits walk) e where
-  go : (b a : Bool) → (b || (a && (eqb flag 0 || ltb 0 owed))) ≡ true → (b || (a && (true || ltb 0 owed'))) ≡ true
+-- a wake of one taken from the lock list was paid
+cleared_on_way : {C : Type 0} (walk : Option (Walk C)) (flag value owed owed' : ℕ) → is_from_lock value ≡ true → is_on_way walk flag owed ≡ true → is_on_way walk value owed' ≡ true
+cleared_on_way walk flag value owed owed' from e = rw from (go (was_woken walk) (awaits walk) e) where
+  go : (b a : Bool) → (b || (a && (is_from_lock flag || ltb 0 owed))) ≡ true → (b || (a && (true || ltb 0 owed'))) ≡ true
   go true a f = refl
   go false true f = refl
   go false false f = absurd (cc)
 
--- a wake of another value puts nobody on its way whose flag was set
-woken_on_way : {C : Type 0} (walk : Option (Walk C)) (owed : ℕ) → is_on_way walk 1 owed ≡ true → is_on_way walk 2 owed ≡ true
-woken_on_way walk owed e = e
+-- and one of another
+woken_on_way : {C : Type 0} (walk : Option (Walk C)) (value owed : ℕ) → is_from_lock value ≡ false → is_on_way walk 1 owed ≡ true → is_on_way walk value owed ≡ true
+woken_on_way walk value owed other e = rw other e
 
 -- more wakes owed are no fewer
 more_on_way : {C : Type 0} (walk : Option (Walk C)) (flag owed owed' : ℕ) → owed ≤ owed' → is_on_way walk flag owed ≡ true → is_on_way walk flag owed' ≡ true
-more_on_way walk flag owed owed' less e = go (was_woken walk) (awaits walk) (eqb flag 0) e where
+more_on_way walk flag owed owed' less e = go (was_woken walk) (awaits walk) (is_from_lock flag) e where
   some : ltb 0 owed ≡ true → ltb 0 owed' ≡ true
   some f = lt-ltb 0 owed' (omega (arith, ltb-true 0 owed f, less))
 
@@ -106,8 +108,12 @@ refused Read arrival word e w r =
     let parts = or_parts (is_woken arrival) (not word.writer_waits && not word.long) (subst (λ b. (not b && (is_woken arrival || (not word.writer_waits && not word.long))) ≡ false) w e) in
     (parts.0, elim (and_cases (not word.writer_waits) (not word.long) parts.1) [ inl f ↦ inl (not-false word.writer_waits f) | inr f ↦ inr (not-false word.long f) ])
 
+pub bool_cases : (b : Bool) → (b ≡ true) ⊎ (b ≡ false)
+bool_cases true = inl refl
+bool_cases false = inr refl
+
 -- one that owes no wake owes none of one taken from the lock list
-pub nothing_called : {C : Type 0} (at : Option (Walk C)) (owing : List ℕ) (seat : ℕ) → owing ≡ [] → ◌≡◌ {A = ℕ} (cond (calls_from_lock at) (times_among seat owing) 0) 0
+pub nothing_called : {C : Type 0} (at : Option (Walk C)) (owing : List Owed) (seat : ℕ) → owing ≡ [] → ◌≡◌ {A = ℕ} (cond (calls_from_lock at) (times_among seat owing) 0) 0
 nothing_called at owing seat none = subst (λ xs. ◌≡◌ {A = ℕ} (cond (calls_from_lock at) (times_among seat xs) 0) 0) (sym none) (go (calls_from_lock at)) where
   go : (b : Bool) → ◌≡◌ {A = ℕ} (cond b 0 0) 0
   go true = refl
@@ -118,7 +124,7 @@ module _ {C : Type 0} {N : ℕ} where
   queuers_most [] = omega arith
   queuers_most (u ∷ views) = let rest = queuers_most views in let here = queuer_spins u.walk in omega (arith, rest, here)
 
-module _ {C : Type 0} {N : ℕ} (holds : C → List ℕ → Bool) (front : List (SeatView C N)) (who : ℕ) (walk : Option (Walk C)) (held : Option (Held C N)) (owed : List ℕ) (walk' : Option (Walk C)) (held' : Option (Held C N)) (owed' : List ℕ) (back : List (SeatView C N)) where
+module _ {C : Type 0} {N : ℕ} (holds : C → List ℕ → Bool) (front : List (SeatView C N)) (who : ℕ) (walk : Option (Walk C)) (held : Option (Held C N)) (owed : List Owed) (walk' : Option (Walk C)) (held' : Option (Held C N)) (owed' : List Owed) (back : List (SeatView C N)) where
   abbrev olds : List (SeatView C N)
   olds = front ++ view_of who walk held owed ∷ back
 
@@ -132,7 +138,7 @@ module _ {C : Type 0} {N : ℕ} (holds : C → List ℕ → Bool) (front : List 
   Way flags views = (seat : ℕ) × (is_on_way (walk_at seat views) (flags seat) (called_to seat views) ≡ true)
 
   -- what the seat itself owes of those wakes
-  abbrev pub called : Option (Walk C) → List ℕ → ℕ → ℕ
+  abbrev pub called : Option (Walk C) → List Owed → ℕ → ℕ
   called walk owed seat = cond (calls_from_lock walk) (times_among seat owed) 0
 
   called_old : (seat : ℕ) → called_to seat olds ≡ called_to seat front + (called walk owed seat + called_to seat back)
@@ -310,7 +316,7 @@ module _ {C : Type 0} {N : ℕ} (holds : C → List ℕ → Bool) (front : List 
   -- A scan, with the release of a section that leaves the row now'. What is put back has nobody who can go on where the scan leaves nobody.
   pub scans : (releasing : Releasing) (word : Word) (now now' : List ℕ) (lists : Lists C) (lock' : List (Waiter C)) (flags : ℕ → ℕ) → NoneIs who front → has_queues walk ≡ true → is_queuing walk' ≡ false → awaits walk ≡ false → ((flag n : ℕ) → is_on_way walk flag n ≡ false) →
       let meets : C → Bool = λ c. holds c now' in
-      owed ≡ [] → owed' ≡ seats_of (woken_of meets lists.lock) → calls_from_lock walk' ≡ true →
+      owed ≡ [] → owed' ≡ called_of (woken_of meets lists.lock) → calls_from_lock walk' ≡ true →
       (has_eligible meets (left_of meets lists.lock) ≡ false → has_eligible meets lock' ≡ false) →
       Homed word lists.lock olds → WaitersPlaced lists flags olds →
       Known holds word now lists.lock flags olds → Known holds (word_released_returning releasing (has_some (woken_of meets lists.lock)) (bits_of lock') word) now' lock' flags news
@@ -357,27 +363,26 @@ module _ {C : Type 0} {N : ℕ} (holds : C → List ℕ → Bool) (front : List 
         empty = λ e. let was = p.empty e in (was.0, same ∙ was.1);
       }
 
-  -- a seat pays a wake: of one taken from the lock list by 0, of any other by 2
-  pub pays_one : (word : Word) (now : List ℕ) (lists : Lists C) (flags : ℕ → ℕ) (target value : ℕ) → NoneIs who front → owed ≡ target ∷ owed' → calls_from_lock walk ≡ eqb value 0 → (value ≡ 0) ⊎ (value ≡ 2) → ((seat : ℕ) → called walk' owed' seat ≡ cond (eqb value 0) (times_among seat owed') 0) →
+  -- a seat pays a wake
+  pub pays_one : (word : Word) (now : List ℕ) (lists : Lists C) (flags : ℕ → ℕ) (wake : Owed) → NoneIs who front → owed ≡ wake ∷ owed' → calls_from_lock walk ≡ is_from_lock wake.value → ((seat : ℕ) → called walk' owed' seat ≡ cond (is_from_lock wake.value) (times_among seat owed') 0) →
       is_queuing walk' ≡ is_queuing walk → awaits walk' ≡ awaits walk → was_woken walk' ≡ was_woken walk → WaitersPlaced lists flags olds →
-      Known holds word now lists.lock flags olds → Known holds word now lists.lock (flags_with flags target value) news
-  pays_one word now lists flags target value apart owes calls is_value after_all q a w placed p =
-      let same = same_queuers q in
-      let due : (seat : ℕ) → target ≡ seat → flags seat ≡ 1 = λ seat e. due_flag (walk_at seat olds) (flags seat) (due_of front who walk held owed walk' held' owed' back target seat lists flags owes e placed) in
+      Known holds word now lists.lock flags olds → Known holds word now lists.lock (flags_with flags wake.seat wake.value) news
+  pays_one word now lists flags wake apart owes calls after_all q a w placed p =
+      let same = same_queuers q in let target = wake.seat in let value = wake.value in
+      let due : (seat : ℕ) → target ≡ seat → flags seat ≡ 1 = λ seat e. due_flag (walk_at seat olds) (flags seat) (due_of front who walk held owed walk' held' owed' back wake seat lists flags owes e placed) in
       let goes : (seat : ℕ) (at : Option (Walk C)) → is_on_way at (flags seat) (called_to seat olds) ≡ true → is_on_way at (flags_with flags target value seat) (called_to seat news) ≡ true = λ seat at f.
       elim (cases_eq target seat) [
-        | inl e ↦ subst (λ n. is_on_way at n (called_to seat news) ≡ true) (sym (ap (λ b. cond b value (flags seat)) (eq-eqb target seat e))) (elim is_value [
-          | inl zero ↦ subst (λ n. is_on_way at n (called_to seat news) ≡ true) (sym zero) (cleared_on_way at (flags seat) (called_to seat olds) (called_to seat news) f)
-          | inr two ↦
-              let no : eqb value 0 ≡ false = ap (λ n. eqb n 0) two in
-              let here : called walk owed seat ≡ 0 = ap (λ b. cond b (times_among seat owed) 0) (calls ∙ no) in
-              let there : called walk' owed' seat ≡ 0 = after_all seat ∙ ap (λ b. cond b (times_among seat owed') 0) no in
+        | inl e ↦ subst (λ n. is_on_way at n (called_to seat news) ≡ true) (sym (ap (λ b. cond b value (flags seat)) (eq-eqb target seat e))) (elim (bool_cases (is_from_lock value)) [
+          | inl said ↦ cleared_on_way at (flags seat) value (called_to seat olds) (called_to seat news) said f
+          | inr other ↦
+              let here : called walk owed seat ≡ 0 = ap (λ b. cond b (times_among seat owed) 0) (calls ∙ other) in
+              let there : called walk' owed' seat ≡ 0 = after_all seat ∙ ap (λ b. cond b (times_among seat owed') 0) other in
               let now_is : called_to seat news ≡ called_to seat olds = omega (arith, called_old seat, called_new seat, here, there) in
-              subst (λ n. is_on_way at n (called_to seat news) ≡ true) (sym two) (subst (λ n. is_on_way at 2 n ≡ true) (sym now_is) (woken_on_way at (called_to seat olds) (subst (λ n. is_on_way at n (called_to seat olds) ≡ true) (due seat e) f)))
+              subst (λ n. is_on_way at value n ≡ true) (sym now_is) (woken_on_way at value (called_to seat olds) other (subst (λ n. is_on_way at n (called_to seat olds) ≡ true) (due seat e) f))
         ])
         | inr ne ↦
             let fewer : times_among seat owed ≡ times_among seat owed' = ap (times_among seat) owes ∙ rw (ne_eqb target seat ne) (omega arith) in
-            let here : called walk owed seat ≡ called walk' owed' seat = ap (λ b. cond b (times_among seat owed) 0) calls ∙ ap (λ n. cond (eqb value 0) n 0) fewer ∙ sym (after_all seat) in
+            let here : called walk owed seat ≡ called walk' owed' seat = ap (λ b. cond b (times_among seat owed) 0) calls ∙ ap (λ n. cond (is_from_lock value) n 0) fewer ∙ sym (after_all seat) in
             let now_is : called_to seat news ≡ called_to seat olds = omega (arith, called_old seat, called_new seat, here) in
             subst (λ n. is_on_way at n (called_to seat news) ≡ true) (sym (ap (λ b. cond b value (flags seat)) (ne_eqb target seat ne))) (subst (λ n. is_on_way at (flags seat) n ≡ true) (sym now_is) f)
       ] in

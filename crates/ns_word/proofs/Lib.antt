@@ -16,8 +16,10 @@ pub mod Knows
 pub mod Leads
 pub mod Longs
 pub mod Made
+pub mod Mapped
 pub mod Numbers
 pub mod Owns
+pub mod Paid
 pub mod Phases
 pub mod Puts
 pub mod Ranges

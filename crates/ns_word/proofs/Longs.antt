@@ -89,7 +89,7 @@ module _ {C : Type 0} {N : ℕ} where
   gained truths seat (JudgeMet i c) old (Tested is_met) new commits held e none some = let never : None ≡ Some e.0 = sym none ∙ e.1 in absurd (cc)
   gained truths seat (StoreCell i v) old Made new commits held e none some = let never : None ≡ Some e.0 = sym none ∙ e.1 in absurd (cc)
   gained truths seat ArmFlag old Made new commits held e none some = absurd (none_yet old.held new.held held (ap (λ p. p.held) e.0) none some)
-  gained truths seat (PayWake value) old (Paid owes) new commits held e none some = absurd (none_yet old.held new.held held (ap (λ p. p.held) e.3) none some)
+  gained truths seat PayWake old (Paid owes) new commits held e none some = absurd (none_yet old.held new.held held (ap (λ p. p.held) e.3) none some)
   gained truths seat LoadFlag old (Flag v) new commits held e none some = absurd (none_yet old.held new.held held (ap (λ p. p.held) e.1) none some)
   gained truths seat (Look limits again) old (Looked cause) new commits held e none some =
       let never : None ≡ Some held = sym (none_looked again cause old.held none) ∙ sym (ap (λ p. p.held) e.1) ∙ some in absurd (cc)

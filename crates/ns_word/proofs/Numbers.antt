@@ -2,6 +2,7 @@
 use Rattle.std.proofs.Common.{◌≡◌, ℕ, zero, suc, ◌+◌, ◌∙◌, List, [], ◌∷◌, ◌++◌, None, Some, take, drop, slice_get, slice_set, refl, ap, sym, arith, zero-add}
 use Rattle.ns_model.specs.declared.event.Event.{Event}
 use Rattle.ns_model.specs.Truths.{Truths}
+use Rattle.ns_word.specs.declared.owed.Owed.{Owed}
 use Rattle.ns_word.specs.declared.view.SeatView.{SeatView}
 use Rattle.ns_word.specs.declared.walk.Walk.{Walk}
 use Rattle.ns_word.specs.declared.act.Found.{Found}
@@ -49,7 +50,7 @@ set_again (z ∷ xs) (suc i) x y = ap (λ zs. z ∷ zs) (set_again xs i x y)
 
 module _ {C : Type 0} {N : ℕ} (truths : Truths C) (old : LockState C N) (i : ℕ) (view : SeatView C N) (at : slice_get old.views i ≡ Some view) (walk : Walk C) where
   -- the step whose effect is this, where the view at that number is set and no other
-  abbrev pub step_at : (found : Found) (new : LockState C N) (held : _) (owed : List ℕ) (commits : List (Event C N)) → view.walk ≡ Some walk →
+  abbrev pub step_at : (found : Found) (new : LockState C N) (held : _) (owed : List Owed) (commits : List (Event C N)) → view.walk ≡ Some walk →
       new.views ≡ slice_set old.views i (record { seat = view.seat; walk = walk_after (got_of N walk found); held = held; owed = owed }) → Effect truths view.seat (want_of walk) (part_of old view.held view.owed) found (part_of new held owed) commits → Step truths old view found new commits
   step_at found new held owed commits walks becomes effect = record {
     walk = walk;

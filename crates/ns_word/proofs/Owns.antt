@@ -11,6 +11,7 @@ use Rattle.ns_queue.specs.Queues.{Lists, times}
 use Rattle.ns_queue.specs.Waiters.{times_in, is_of, is_long, without_in, reads, writes}
 use Rattle.ns_queue.specs.Scans.{is_eligible, left_of}
 use Rattle.ns_queue.proofs.Seats.{times_in-cons}
+use Rattle.ns_word.specs.declared.owed.Owed.{Owed}
 use Rattle.ns_word.specs.declared.view.Held.{Held}
 use Rattle.ns_word.specs.declared.view.SeatView.{SeatView}
 use Rattle.ns_word.specs.declared.acquire_walk.AcquirePlace.TheVariants.{AwaitWake}
@@ -43,7 +44,7 @@ module _ {C : Type 0} {N : ℕ} where
   own_append [] vs views p q = q
   own_append (w ∷ ws) vs views p q = (p.0, own_append ws vs views p.1 q)
 
-module _ {C : Type 0} {N : ℕ} (front : List (SeatView C N)) (who : ℕ) (walk : Option (Walk C)) (held : Option (Held C N)) (owed : List ℕ) (walk' : Option (Walk C)) (held' : Option (Held C N)) (owed' : List ℕ) (back : List (SeatView C N)) where
+module _ {C : Type 0} {N : ℕ} (front : List (SeatView C N)) (who : ℕ) (walk : Option (Walk C)) (held : Option (Held C N)) (owed : List Owed) (walk' : Option (Walk C)) (held' : Option (Held C N)) (owed' : List Owed) (back : List (SeatView C N)) where
   abbrev olds : List (SeatView C N)
   olds = front ++ view_of who walk held owed ∷ back
 
@@ -83,9 +84,9 @@ module _ {C : Type 0} {N : ℕ} (front : List (SeatView C N)) (who : ℕ) (walk 
   pub own_queued : (mode : Mode) (c : Option C) (tries : ℕ) (first : Bool) (ws : List (Waiter C)) → NoneIs who front → times_in who ws ≡ 0 → lock_stance (waits_in walk') ≡ Some (mode, c, tries) →
       WaitersOwn ws olds → WaitersOwn (queued who mode c tries first ws) news
   own_queued mode c tries first ws apart none waits p =
-      let self : WaiterFits news (record { seat = who; mode = mode; cond = c; tries = tries }) = ap (λ w. lock_stance (waits_in w)) (walk_here front (view_of who walk' held' owed') back apart) ∙ waits in
+      let self : WaiterFits news (record { seat = who; mode = mode; cond = c; tries = tries; via = None }) = ap (λ w. lock_stance (waits_in w)) (walk_here front (view_of who walk' held' owed') back apart) ∙ waits in
       let rest = own_stays ws none p in
-      elim first as (λ b. WaitersOwn (queued who mode c tries b ws) news) [ true ↦ (self, rest) | false ↦ own_append ws (record { seat = who; mode = mode; cond = c; tries = tries } ∷ []) news rest (self, tt) ]
+      elim first as (λ b. WaitersOwn (queued who mode c tries b ws) news) [ true ↦ (self, rest) | false ↦ own_append ws (record { seat = who; mode = mode; cond = c; tries = tries; via = None } ∷ []) news rest (self, tt) ]
 
   -- a scan takes some, and the seat stands nowhere
   pub own_scanned : (meets : C → Bool) (ws : List (Waiter C)) → times_in who ws ≡ 0 → WaitersOwn ws olds → WaitersOwn (left_of meets ws) news

@@ -13,8 +13,8 @@ use Rattle.ns_queue.specs.Waiters.{times_in}
 use Rattle.ns_queue.proofs.Orders.{beside_most}
 use Rattle.ns_queue.proofs.Parts.{times_at_most}
 use Rattle.ns_queue.proofs.Seats.{times_in-cons, few, room_for}
+use Rattle.ns_word.specs.Owed.{times_among}
 use Rattle.ns_word.specs.declared.view.SeatView.{SeatView}
-use Rattle.ns_word.specs.Lists.{times_among}
 use Rattle.ns_word.specs.Walks.{awaits}
 use Rattle.ns_word.specs.Views.{is_reading, readers, owed_to, walk_at, NoneIs, AreApart}
 use Rattle.ns_model.specs.Truths.{Truths}
@@ -103,26 +103,26 @@ module _ {C : Type 0} {N : ℕ} (truths : Truths C) (seats : ℕ) (h : List (Eve
 
 module _ {C : Type 0} {N : ℕ} where
   abbrev reader : SeatView C N → Waiter C
-  reader view = record { seat = view.seat; mode = Read; cond = None; tries = 0 }
+  reader view = record { seat = view.seat; mode = Read; cond = None; tries = 0; via = None }
 
   -- the seats that read
   reading : List (SeatView C N) → List (Waiter C)
   reading [] = []
-  reading (view ∷ views) = cond (is_reading view.held) (record { seat = view.seat; mode = Read; cond = None; tries = 0 } ∷ reading views) (reading views)
+  reading (view ∷ views) = cond (is_reading view.held) (record { seat = view.seat; mode = Read; cond = None; tries = 0; via = None } ∷ reading views) (reading views)
 
   reading_length : (views : List (SeatView C N)) → length (reading views) ≡ readers views
   unfolding reading
   reading_length [] = refl
   reading_length (u ∷ views) =
       let rest = reading_length views in
-      elim (is_reading u.held) as (λ b. length (cond b (record { seat = u.seat; mode = Read; cond = None; tries = 0 } ∷ reading views) (reading views)) ≡ cond b 1 0 + readers views) [ true ↦ omega (arith, rest) | false ↦ omega (arith, rest) ]
+      elim (is_reading u.held) as (λ b. length (cond b (record { seat = u.seat; mode = Read; cond = None; tries = 0; via = None } ∷ reading views) (reading views)) ≡ cond b 1 0 + readers views) [ true ↦ omega (arith, rest) | false ↦ omega (arith, rest) ]
 
   -- one more view may stand in it, once
   reading_more : (seat : ℕ) (u : SeatView C N) (views : List (SeatView C N)) → times_in seat (reading (u ∷ views)) ≤ one_if (eqb u.seat seat) + times_in seat (reading views)
   unfolding reading
   reading_more seat u views =
-      elim (is_reading u.held) as (λ b. times_in seat (cond b (record { seat = u.seat; mode = Read; cond = None; tries = 0 } ∷ reading views) (reading views)) ≤ one_if (eqb u.seat seat) + times_in seat (reading views))
-      [ true ↦ omega (arith, times_in-cons seat (record { seat = u.seat; mode = Read; cond = None; tries = 0 }) (reading views)) | false ↦ omega arith ]
+      elim (is_reading u.held) as (λ b. times_in seat (cond b (record { seat = u.seat; mode = Read; cond = None; tries = 0; via = None } ∷ reading views) (reading views)) ≤ one_if (eqb u.seat seat) + times_in seat (reading views))
+      [ true ↦ omega (arith, times_in-cons seat (record { seat = u.seat; mode = Read; cond = None; tries = 0; via = None }) (reading views)) | false ↦ omega arith ]
 
   reading_none : (seat : ℕ) (views : List (SeatView C N)) → NoneIs seat views → times_in seat (reading views) ≡ 0
   unfolding reading

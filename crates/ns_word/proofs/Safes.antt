@@ -16,6 +16,7 @@ use Rattle.ns_model.specs.Wakes.{IsLegalLeave}
 use Rattle.ns_model.specs.Sections.{is_met, ModeFits, EntryFits, ExitFits, phase_after}
 use Rattle.ns_model.specs.Histories.{Standing, first_standing, standing_after, standing_next, IsLegal, IsLegalEvent, IsBySeats, who_of}
 use Rattle.ns_model.proofs.Histories.{legal_append, standing_from-append}
+use Rattle.ns_word.specs.declared.owed.Owed.{Owed}
 use Rattle.ns_word.specs.declared.word.Word.{Word}
 use Rattle.ns_env.specs.declared.limits.Cause.{Cause}
 use Rattle.ns_env.specs.declared.limits.Cause.TheVariants.{Expired, Notified}
@@ -26,14 +27,13 @@ use Rattle.ns_word.specs.declared.view.Opening.TheVariants.{Locked, CameBack}
 use Rattle.ns_word.specs.declared.view.Held.{Held}
 use Rattle.ns_word.specs.declared.view.SeatView.{SeatView}
 use Rattle.ns_word.specs.declared.walk.Walk.{Walk}
-use Rattle.ns_word.specs.Lists.{has_some}
 use Rattle.ns_word.specs.Waits.{answer_of}
-use Rattle.ns_word.specs.Walks.{pays, phase_by}
+use Rattle.ns_word.specs.Walks.{phase_by}
 use Rattle.ns_word.specs.Views.{is_writing, is_reading, writers, readers}
 use Rattle.ns_model.specs.Truths.{Truths}
 use Rattle.ns_word.specs.Steps.{entry_of, section_of}
 use Rattle.ns_word.specs.Places.{IsSettledBy, PlaceFits}
-use Rattle.ns_word.specs.Lawful.{HeldFits, SectionFits, IsExpected, phase_before}
+use Rattle.ns_word.specs.Lawful.{OwesAs, HeldFits, SectionFits, IsExpected, phase_before}
 use Rattle.ns_word.proofs.Groups.{Safe}
 use Rattle.ns_word.proofs.Views.{view_of, writers_at, readers_at, apart_parts, apart_moves, each_parts, each_join, each_moves, each_woken, IsWokenBy}
 
@@ -96,10 +96,10 @@ after_wake {C} {N} truths seats h e k word row views low legal same phases p =
     }
 
 module _ {C : Type 0} {N : ℕ} (truths : Truths C) (seats : ℕ) (h : List (Event C N)) where
-  module _ (front : List (SeatView C N)) (who : ℕ) (walk : Option (Walk C)) (owed : List ℕ) (walk' : Option (Walk C)) (owed' : List ℕ) (back : List (SeatView C N)) where
+  module _ (front : List (SeatView C N)) (who : ℕ) (walk : Option (Walk C)) (owed : List Owed) (walk' : Option (Walk C)) (owed' : List Owed) (back : List (SeatView C N)) where
     -- a step that leaves the sections, but for what is shown of the seat's own
     pub unchanged_by : (word word' : Word) (row : List ℕ) (held held' : Option (Held C N)) → word'.write ≡ word.write → word'.readers ≡ word.readers →
-        PlaceFits truths walk' held' → has_some owed' ≡ pays walk' → is_writing held' ≡ is_writing held → is_reading held' ≡ is_reading held →
+        PlaceFits truths walk' held' → OwesAs walk' owed' → is_writing held' ≡ is_writing held → is_reading held' ≡ is_reading held →
         (SectionFits (standing_after h) row who walk held → SectionFits (standing_after h) row who walk' held') →
         Safe truths seats h word row (front ++ view_of who walk held owed ∷ back) → Safe truths seats h word' row (front ++ view_of who walk' held' owed' ∷ back)
     unchanged_by word word' row held held' same_write same_readers place owes writing reading fits p =
@@ -125,7 +125,7 @@ module _ {C : Type 0} {N : ℕ} (truths : Truths C) (seats : ℕ) (h : List (Eve
 
     -- a step that leaves the sections, but for how one is said to have begun
     pub unchanged : (word word' : Word) (row : List ℕ) (held held' : Option (Held C N)) → word'.write ≡ word.write → word'.readers ≡ word.readers →
-        PlaceFits truths walk' held' → has_some owed' ≡ pays walk' → SameSection walk held walk' held' →
+        PlaceFits truths walk' held' → OwesAs walk' owed' → SameSection walk held walk' held' →
         Safe truths seats h word row (front ++ view_of who walk held owed ∷ back) → Safe truths seats h word' row (front ++ view_of who walk' held' owed' ∷ back)
     unchanged word word' row held held' same_write same_readers place owes same p =
         unchanged_by word word' row held held' same_write same_readers place owes same.writing same.reading (same.fits (standing_after h) row who) p
@@ -135,7 +135,7 @@ module _ {C : Type 0} {N : ℕ} (truths : Truths C) (seats : ℕ) (h : List (Eve
         (standing_next (standing_after h) e).row ≡ (standing_after h).row →
         ((seat : ℕ) → IsWokenBy k ((standing_after h).phases seat) ((standing_next (standing_after h) e).phases seat)) →
         word'.write ≡ word.write → word'.readers ≡ word.readers →
-        PlaceFits truths walk' held → has_some owed' ≡ pays walk' →
+        PlaceFits truths walk' held → OwesAs walk' owed' →
         (SectionFits (standing_after h) row who walk held → SectionFits (standing_after h) row who walk' held) →
         Safe truths seats h word row (front ++ view_of who walk held owed ∷ back) →
         Safe truths seats (h ++ e ∷ []) word' row (front ++ view_of who walk' held owed' ∷ back)
@@ -147,7 +147,7 @@ module _ {C : Type 0} {N : ℕ} (truths : Truths C) (seats : ℕ) (h : List (Eve
     -- a wait for a variable takes itself out of its list
     pub left_variable : (k : ℕ) (mode : Mode) (word word' : Word) (row : List ℕ) → seats ≤ 64 → (standing_after h).phases who ≡ Waiting (Only k) mode → IsExpected (phase_by walk') (Left (Only k) mode) →
         word'.write ≡ word.write → word'.readers ≡ word.readers →
-        PlaceFits {C = C} {N = N} truths walk' None → has_some owed' ≡ pays walk' →
+        PlaceFits {C = C} {N = N} truths walk' None → OwesAs walk' owed' →
         Safe truths seats h word row (front ++ view_of who walk None owed ∷ back) →
         Safe truths seats (h ++ Leave who k ∷ []) word' row (front ++ view_of who walk' None owed' ∷ back)
     left_variable k mode word word' row few phase is same_write same_readers place owes p =
@@ -180,7 +180,7 @@ module _ {C : Type 0} {N : ℕ} (truths : Truths C) (seats : ℕ) (h : List (Eve
 
     -- a write acquire
     pub acquired_write : (word word' : Word) (row : List ℕ) (entry : Opening C) → ((p : Phase C) → IsExpected (phase_by walk) p → p ≡ phase_before Write entry) → word.write ≡ false → word.readers ≡ 0 → word'.write ≡ true → word'.readers ≡ word.readers →
-        PlaceFits truths walk' (Some (section {C = C} {N = N} Write entry row row)) → has_some owed' ≡ pays walk' →
+        PlaceFits truths walk' (Some (section {C = C} {N = N} Write entry row row)) → OwesAs walk' owed' →
         Safe truths seats h word row (front ++ view_of who walk None owed ∷ back) →
         Safe truths seats h word' row (front ++ view_of who walk' (Some (section Write entry row row)) owed' ∷ back)
     acquired_write word word' row entry phase no_writer no_reader write' readers' place owes p =
@@ -216,7 +216,7 @@ module _ {C : Type 0} {N : ℕ} (truths : Truths C) (seats : ℕ) (h : List (Eve
 
     -- a read acquire
     pub acquired_read : (word word' : Word) (row : List ℕ) (entry : Opening C) → ((p : Phase C) → IsExpected (phase_by walk) p → p ≡ phase_before Read entry) → word.write ≡ false → word'.write ≡ false → word'.readers ≡ word.readers + 1 →
-        PlaceFits truths walk' (Some (section {C = C} {N = N} Read entry row row)) → has_some owed' ≡ pays walk' →
+        PlaceFits truths walk' (Some (section {C = C} {N = N} Read entry row row)) → OwesAs walk' owed' →
         Safe truths seats h word row (front ++ view_of who walk None owed ∷ back) →
         Safe truths seats h word' row (front ++ view_of who walk' (Some (section Read entry row row)) owed' ∷ back)
     acquired_read word word' row entry phase no_writer write' readers' place owes p =
@@ -248,7 +248,7 @@ module _ {C : Type 0} {N : ℕ} (truths : Truths C) (seats : ℕ) (h : List (Eve
 
     -- a store into a cell, by the writer
     pub stored : (word : Word) (row : List ℕ) (entry : Opening C) (before cells : List ℕ) (i v : ℕ) →
-        PlaceFits truths walk' (Some (section {C = C} {N = N} Write entry before (slice_set cells i v))) → has_some owed' ≡ pays walk' →
+        PlaceFits truths walk' (Some (section {C = C} {N = N} Write entry before (slice_set cells i v))) → OwesAs walk' owed' →
         Safe truths seats h word row (front ++ view_of who walk (Some (section Write entry before cells)) owed ∷ back) →
         Safe truths seats h word (slice_set row i v) (front ++ view_of who walk' (Some (section Write entry before (slice_set cells i v))) owed' ∷ back)
     stored word row entry before cells i v place owes p =
@@ -317,11 +317,11 @@ module _ {C : Type 0} {N : ℕ} (truths : Truths C) (seats : ℕ) (h : List (Eve
         tt,
       )
 
-  module _ (front : List (SeatView C N)) (who : ℕ) (walk : Option (Walk C)) (owed : List ℕ) (walk' : Option (Walk C)) (owed' : List ℕ) (back : List (SeatView C N)) where
+  module _ (front : List (SeatView C N)) (who : ℕ) (walk : Option (Walk C)) (owed : List Owed) (walk' : Option (Walk C)) (owed' : List Owed) (back : List (SeatView C N)) where
     -- a release
     pub released : (mode : Mode) (exit : Exit C) (word word' : Word) (row : List ℕ) (entry : Opening C) (before cells : List ℕ) → seats ≤ 64 → IsSettledBy truths.holds before entry → ExitFits truths.holds cells exit → IsExpected (phase_by walk') (phase_after mode exit) →
         (mode ≡ Write → word'.write ≡ false) → (mode ≡ Read → word'.write ≡ word.write) → (mode ≡ Write → word'.readers ≡ word.readers) → (mode ≡ Read → word'.readers ≡ word.readers - 1) →
-        PlaceFits {C = C} {N = N} truths walk' None → has_some owed' ≡ pays walk' →
+        PlaceFits {C = C} {N = N} truths walk' None → OwesAs walk' owed' →
         Safe truths seats h word row (front ++ view_of who walk (Some (section mode entry before cells)) owed ∷ back) →
         Safe truths seats (h ++ section_of truths.holds who (section mode entry before cells) exit ∷ []) word' row (front ++ view_of who walk' None owed' ∷ back)
     released Write exit word word' row entry before cells few settled leaves phase ww rw' wr rr place owes p =
@@ -400,7 +400,7 @@ module _ {C : Type 0} {N : ℕ} (truths : Truths C) (seats : ℕ) (h : List (Eve
     -- a section is given up without an event: nothing has changed in it, and its seat goes back to where it came from
     pub dropped : (mode : Mode) (word word' : Word) (row : List ℕ) (entry : Opening C) (before cells : List ℕ) → cells ≡ before → IsExpected (phase_by walk') (phase_before mode entry) →
         (mode ≡ Write → word'.write ≡ false) → (mode ≡ Read → word'.write ≡ word.write) → (mode ≡ Write → word'.readers ≡ word.readers) → (mode ≡ Read → word'.readers ≡ word.readers - 1) →
-        PlaceFits {C = C} {N = N} truths walk' None → has_some owed' ≡ pays walk' →
+        PlaceFits {C = C} {N = N} truths walk' None → OwesAs walk' owed' →
         Safe truths seats h word row (front ++ view_of who walk (Some (section mode entry before cells)) owed ∷ back) →
         Safe truths seats h word' row (front ++ view_of who walk' None owed' ∷ back)
     dropped Write word word' row entry before cells stays phase ww rw' wr rr place owes p =

@@ -1,14 +1,17 @@
 -- How often a seat stands in the lists that a scan makes of one, or one that queues or leaves, and who is in them.
 use Rattle.std.proofs.Common.{◌≡◌, ◌≢◌, ℕ, ◌+◌, ◌<◌, ◌≤◌, Bool, true, false, not, ◌&&◌, ◌||◌, cond, eqb, inl, inr, List, [], ◌∷◌, length, Option, None, Some, refl, ap, sym, ◌∙◌, subst, arith, eq-eqb}
 use Rattle.std.specs.List.{filter, list_any}
-use Rattle.std.proofs.lemmas.Bool.{ne_eqb, or_parts, both_ways, cases_eq, false_from_ne_true}
+use Rattle.std.proofs.lemmas.Bool.{ne_eqb, or_parts, both_ways, cases_eq, false_from_ne_true, le-ltb}
 use Rattle.ns_model.specs.declared.event.Mode.{Mode}
 use Rattle.ns_queue.specs.declared.waiter.Waiter.{Waiter}
-use Rattle.ns_queue.specs.Waiters.{is_long, seats_of, times_in, without_in, reads, writes, has_condition}
+use Rattle.ns_queue.specs.Waiters.{is_long, times_in, without_in, reads, writes, has_condition}
 use Rattle.ns_queue.specs.Scans.{is_satisfied, is_eligible, woken_of, left_of}
-use Rattle.ns_model.specs.Tallies.{one_if}
+use Rattle.ns_model.specs.Tallies.{Every, one_if}
 use Rattle.ns_queue.proofs.Seats.{times_in-cons, times_in-append}
-use Rattle.ns_word.specs.Lists.{has_some, has_eligible, bits_of, times_among, queued}
+use Rattle.ns_word.specs.Lists.{has_some, has_eligible, bits_of, queued}
+use Rattle.ns_queue.specs.Waiters.{seats_of}
+use Rattle.ns_word.specs.Owed.{called_by, Tells, called_of, is_from_lock, times_among, wakes_of}
+use Rattle.ns_word.specs.declared.owed.Owed.{Owed}
 
 -- whether a list has somebody, by its length
 pub some_length : {A : Type 0} (xs : List A) (b : Bool) → (b ≡ true → 0 < length xs) → (0 < length xs → b ≡ true) → b ≡ has_some xs
@@ -27,14 +30,50 @@ module _ {C : Type 0} where
       record { waiting = waiting; conditional = conditional; writer_waits = writer_waits; long = long } ≡ bits_of lock
   bits_told lock waiting conditional writer_waits long is has b c d = λ i. record { waiting = some_length lock waiting is has i; conditional = b i; writer_waits = c i; long = d i }
 
-  pub times_seats : (seat : ℕ) (ws : List (Waiter C)) → times_among seat (seats_of ws) ≡ times_in seat ws
+  pub times_seats : (seat : ℕ) (ws : List (Waiter C)) → times_among seat (called_of ws) ≡ times_in seat ws
   times_seats seat [] = refl
   times_seats seat (w ∷ ws) = let rest = times_seats seat ws in omega (arith, rest, times_in-cons seat w ws)
 
-  pub some_seats : (ws : List (Waiter C)) → has_some (seats_of ws) ≡ has_some ws
+  -- the wakes of the seats of waiters are the waiters' own
+  pub called_seats : (ws : List (Waiter C)) → called_by (seats_of ws) ≡ called_of ws
+  called_seats [] = refl
+  called_seats (w ∷ ws) = ap (λ owed. record { seat = w.seat; value = 0 } ∷ owed) (called_seats ws)
+
+  pub times_wakes : (seat k : ℕ) (ws : List (Waiter C)) → times_among seat (wakes_of k ws) ≡ times_in seat ws
+  times_wakes seat k [] = refl
+  times_wakes seat k (w ∷ ws) = let rest = times_wakes seat k ws in omega (arith, rest, times_in-cons seat w ws)
+
+  pub some_seats : (ws : List (Waiter C)) → has_some (called_of ws) ≡ has_some ws
   some_seats [] = refl
   some_seats (w ∷ ws) = refl
 
+  pub some_wakes : (k : ℕ) (ws : List (Waiter C)) → has_some (wakes_of k ws) ≡ has_some ws
+  some_wakes k [] = refl
+  some_wakes k (w ∷ ws) = refl
+
+  -- each tells from where its seat was taken
+  pub calls_tell : (ws : List (Waiter C)) → Every (Tells true) (called_of ws)
+  calls_tell [] = tt
+  calls_tell (w ∷ ws) = (refl, calls_tell ws)
+
+  pub wakes_tell : (k : ℕ) (ws : List (Waiter C)) → k < 4 → Every (Tells false) (wakes_of k ws)
+  wakes_tell k [] low = tt
+  wakes_tell k (w ∷ ws) low = ((omega (arith, low), omega (arith, low)), wakes_tell k ws low)
+
+-- what a wake tells is no 1, is few, and says whether its seat was taken from the lock list
+pub tells_clear : (b : Bool) (wake : Owed) → Tells b wake → wake.value ≢ 1
+tells_clear true wake is e = absurd (omega (arith, is, e))
+tells_clear false wake is e = absurd (omega (arith, is.0, e))
+
+pub tells_few : (b : Bool) (wake : Owed) → Tells b wake → wake.value < 10
+tells_few true wake is = omega (arith, is)
+tells_few false wake is = omega (arith, is.1)
+
+pub tells_from : (b : Bool) (wake : Owed) → Tells b wake → b ≡ is_from_lock wake.value
+tells_from true wake is = rw is refl
+tells_from false wake is = rw (ne_eqb wake.value 0 (λ e. absurd (omega (arith, is.0, e))), le-ltb 5 wake.value (omega (arith, is.1))) refl
+
+module _ {C : Type 0} where
   -- a list falls into what passes a test and what doesn't
   times_filter : (seat : ℕ) (test : Waiter C → Bool) (ws : List (Waiter C)) →
       times_in seat (filter test ws) + times_in seat (filter (λ w. not (test w)) ws) ≡ times_in seat ws
@@ -64,9 +103,9 @@ module _ {C : Type 0} where
 
   -- one more
   pub times_queued : (seat who : ℕ) (mode : Mode) (c : Option C) (tries : ℕ) (first : Bool) (ws : List (Waiter C)) → times_in seat (queued who mode c tries first ws) ≡ cond (eqb who seat) 1 0 + times_in seat ws
-  times_queued seat who mode c tries true ws = times_in-cons seat (record { seat = who; mode = mode; cond = c; tries = tries }) ws
+  times_queued seat who mode c tries true ws = times_in-cons seat (record { seat = who; mode = mode; cond = c; tries = tries; via = None }) ws
   times_queued seat who mode c tries false ws =
-      let one : Waiter C = record { seat = who; mode = mode; cond = c; tries = tries } in
+      let one : Waiter C = record { seat = who; mode = mode; cond = c; tries = tries; via = None } in
       omega (arith, times_in-append seat ws (one ∷ []), times_in-cons seat one [])
 
   pub some_queued : (who : ℕ) (mode : Mode) (c : Option C) (tries : ℕ) (first : Bool) (ws : List (Waiter C)) → has_some (queued who mode c tries first ws) ≡ true

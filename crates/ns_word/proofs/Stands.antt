@@ -10,7 +10,7 @@ use Rattle.ns_queue.proofs.Parts.{read_back}
 use Rattle.ns_queue.specs.Queues.{Lists, cvs_without, waiters_of}
 use Rattle.ns_queue.specs.Signals.{taken_set}
 use Rattle.ns_queue.specs.Scans.{left_of}
-use Rattle.ns_queue.specs.Waiters.{seats_of}
+use Rattle.ns_word.specs.Owed.{wakes_of}
 use Rattle.ns_queue.specs.declared.waiter.Waiter.{Waiter}
 use Rattle.ns_queue.specs.declared.waiter.Which.TheVariants.{Cv}
 use Rattle.ns_word.proofs.Views.{each_parts}
@@ -59,7 +59,7 @@ module _ (C : Type 0) (N : ℕ) (truths : Truths C) (seat : ℕ) where
       (read_back (with_lock lists (left_of (meets_at truths row) lists.lock)) (Cv k) (waiters_of lists (Cv k) ++ waiter seat mode None 0 ∷ []) four range, refl)
 
   are_called : (waking : Waking) (k : ℕ) (held : Bool) (lists : Lists C) → let taken = taken_by waking (waiters_of lists (Cv k)) in
-      AreCalled held taken lists.lock (moved_to held taken (cvs_without (taken_set taken) lists)).lock (cond held [] (seats_of taken))
+      AreCalled held k taken lists.lock (moved_to held taken (cvs_without (taken_set taken) lists)).lock (cond held [] (wakes_of k taken))
   are_called waking k true lists = (refl, refl)
   are_called waking k false lists = (refl, refl)
 
@@ -92,9 +92,9 @@ waits_in_place {C} {N} truths seats h old new view commits wait again last owes 
     can_range wait again (Some held) p = in_range wait.on held.row p.unmet
 
 pub taken_called : {C : Type 0} {N : ℕ} (truths : Truths C) (old new : LockState C N) (view : SeatView C N) (commits : List (Event C N)) (waking : Waking) (k : ℕ) (last : Word) (owes : Bool) → (step : Step truths old view (Woke owes) new commits) → step.walk ≡ InSignal waking k (WakeAndReturn last) →
-    AreCalled (is_held last) (taken_by waking (waiters_of old.lists (Cv k))) old.lists.lock new.lists.lock step.owed
+    AreCalled (is_held last) k (taken_by waking (waiters_of old.lists (Cv k))) old.lists.lock new.lists.lock step.owed
 taken_called {C} {N} truths old new view commits waking k last owes step walks =
     let e = effect_at truths old new view (Woke owes) commits (InSignal waking k (WakeAndReturn last)) step walks in
     let taken = taken_by waking (waiters_of old.lists (Cv k)) in
-    subst (λ lock. AreCalled (is_held last) taken old.lists.lock lock step.owed) (sym (ap (λ p. p.lists.lock) e.2)) (subst (λ owed. AreCalled (is_held last) taken old.lists.lock (changed view.seat (WakeWaiters waking k) last old.lists).lock owed) (sym (ap (λ p. p.owed) e.2))
+    subst (λ lock. AreCalled (is_held last) k taken old.lists.lock lock step.owed) (sym (ap (λ p. p.lists.lock) e.2)) (subst (λ owed. AreCalled (is_held last) k taken old.lists.lock (changed view.seat (WakeWaiters waking k) last old.lists).lock owed) (sym (ap (λ p. p.owed) e.2))
     (are_called C N truths view.seat waking k (is_held last) old.lists))

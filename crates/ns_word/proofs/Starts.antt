@@ -81,7 +81,7 @@ module _ (C : Type 0) (N : ℕ) where
 
   each : (truths : Truths C) (seats first n : ℕ) (row : List ℕ) → first + n ≤ seats → EachFits truths seats (first_standing N) row (fresh first n)
   each truths seats first zero row few = tt
-  each truths seats first (suc n) row few = (record { in_range = omega arith; place = tt; owes = refl; section = refl }, each truths seats (first + 1) n row (omega arith))
+  each truths seats first (suc n) row few = (record { in_range = omega arith; place = tt; owes = (refl, tt); section = refl }, each truths seats (first + 1) n row (omega arith))
 
   -- nobody stands in the list of a variable
   nobody_waits : (P : Waiter C → Type 0) (k : ℕ) → Every P (waiters_of {C = C} (record { lock = []; cvs = replicate 4 [] }) (Cv k))

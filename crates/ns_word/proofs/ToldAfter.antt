@@ -95,7 +95,7 @@ module _ {C : Type 0} {N : ℕ} where
   effect_by truths seat (JudgeMet i c) old (Tested is_met) new commits e = none_by seat commits e.4
   effect_by truths seat (StoreCell i v) old Made new commits e = none_by seat commits e.4
   effect_by truths seat ArmFlag old Made new commits e = none_by seat commits e.1
-  effect_by truths seat (PayWake value) old (Paid owes) new commits e = none_by seat commits e.5
+  effect_by truths seat PayWake old (Paid owes) new commits e = none_by seat commits e.5
   effect_by truths seat LoadFlag old (Flag v) new commits e = none_by seat commits e.2
   effect_by truths seat (Look limits again) old (Looked cause) new commits e = none_by seat commits e.2
   effect_by truths seat _ old _ new commits e = absurd e

@@ -20,6 +20,7 @@ use Rattle.ns_queue.specs.Signals.{taken_set}
 use Rattle.ns_queue.specs.Wakes.{WaitFor, AreWaiting, woken_phases}
 use Rattle.ns_queue.proofs.Taken.{in_list}
 use Rattle.ns_queue.proofs.Woken.{untaken_stays}
+use Rattle.ns_word.specs.declared.owed.Owed.{Owed}
 use Rattle.ns_word.specs.declared.wait.Subject.TheVariants.{OnVariable}
 use Rattle.ns_word.specs.declared.view.Held.{Held}
 use Rattle.ns_word.specs.declared.view.SeatView.{SeatView}
@@ -71,7 +72,7 @@ module _ {C : Type 0} {N : ℕ} where
         every_moves phases phases' views views' k ws (λ seat some. same seat (omega (arith, times_in-cons seat w ws, some))) p.1,
       )
 
-  module _ (front : List (SeatView C N)) (who : ℕ) (walk : Option (Walk C)) (held : Option (Held C N)) (owed : List ℕ) (walk' : Option (Walk C)) (held' : Option (Held C N)) (owed' : List ℕ) (back : List (SeatView C N)) where
+  module _ (front : List (SeatView C N)) (who : ℕ) (walk : Option (Walk C)) (held : Option (Held C N)) (owed : List Owed) (walk' : Option (Walk C)) (held' : Option (Held C N)) (owed' : List Owed) (back : List (SeatView C N)) where
     abbrev olds : List (SeatView C N)
     olds = front ++ view_of who walk held owed ∷ back
 
@@ -116,12 +117,12 @@ module _ {C : Type 0} {N : ℕ} where
 
     -- the seat goes to the back of a variable's list
     pub tell_enters : (phases phases' : ℕ → Phase C) (lists lists' : Lists C) (j : ℕ) (mode : Mode) → NoneIs who front → length lists.cvs ≡ 4 → length lists'.cvs ≡ 4 → j < 4 → times who lists ≡ 0 →
-        lists'.cvs ≡ (with_waiters lists (Cv j) (CvOf lists j ++ record { seat = who; mode = mode; cond = None; tries = 0 } ∷ [])).cvs →
+        lists'.cvs ≡ (with_waiters lists (Cv j) (CvOf lists j ++ record { seat = who; mode = mode; cond = None; tries = 0; via = None } ∷ [])).cvs →
         waits_in walk' ≡ Some (record { mode = mode; on = Some (OnVariable j); tries = 0 }) → phases' who ≡ Waiting (Only j) mode → ((seat : ℕ) → who ≢ seat → phases' seat ≡ phases seat) →
         VariablesTell phases lists olds → VariablesTell phases' lists' news
     tell_enters phases phases' lists lists' j mode apart four four' low none cvs stance phase others p =
         let just : (seat : ℕ) (vs : Variables) (m : Mode) → phases' seat ≡ Waiting vs m → who ≡ seat → vs ≡ Only j = λ seat vs m e same. let is : Waiting vs m ≡ Waiting (Only j) mode = sym e ∙ subst (λ s. phases' s ≡ Waiting (Only j) mode) same phase in cc in
-        let w : Waiter C = record { seat = who; mode = mode; cond = None; tries = 0 } in
+        let w : Waiter C = record { seat = who; mode = mode; cond = None; tries = 0; via = None } in
         let put = with_waiters lists (Cv j) (CvOf lists j ++ w ∷ []) in
         let at_k : (k : ℕ) → CvOf lists' k ≡ CvOf put k = λ k. ap (λ (c : List (List (Waiter C))). waiters_of (record { lock = lists.lock; cvs = c }) (Cv k)) cvs in
         let at_j : CvOf lists' j ≡ CvOf lists j ++ w ∷ [] = at_k j ∙ read_back lists (Cv j) (CvOf lists j ++ w ∷ []) four low in
@@ -236,7 +237,7 @@ module _ {C : Type 0} {N : ℕ} where
     waiting_for (Woken j mode) k e = absurd (cc)
     waiting_for (Left j mode) k e = absurd (cc)
 
-  module _ (front : List (SeatView C N)) (who : ℕ) (walk : Option (Walk C)) (held : Option (Held C N)) (owed : List ℕ) (walk' : Option (Walk C)) (held' : Option (Held C N)) (owed' : List ℕ) (back : List (SeatView C N)) where
+  module _ (front : List (SeatView C N)) (who : ℕ) (walk : Option (Walk C)) (held : Option (Held C N)) (owed : List Owed) (walk' : Option (Walk C)) (held' : Option (Held C N)) (owed' : List Owed) (back : List (SeatView C N)) where
     -- those who are taken from the list of k are woken, and the others stay
     pub tell_taken : (phases : ℕ → Phase C) (lists lists' : Lists C) (k : ℕ) (taken kept : List (Waiter C)) → IsOrderly lists → ((seat : ℕ) → times seat lists ≤ 1) → k < 4 → times who lists ≡ 0 →
         lists'.cvs ≡ (with_waiters lists (Cv k) kept).cvs → ((seat : ℕ) → times_in seat taken + times_in seat kept ≡ times_in seat (CvOf lists k)) →

@@ -9,6 +9,8 @@ use Rattle.ns_model.proofs.Tallies.{total_amid, every_parts, every_join}
 use Rattle.ns_model.specs.declared.event.Mode.{Mode}
 use Rattle.ns_model.specs.declared.phase.Phase.{Phase}
 use Rattle.ns_model.specs.declared.phase.Phase.TheVariants.{Idle, Cond, Waiting, Woken, Left}
+use Rattle.ns_word.specs.Owed.{times_among}
+use Rattle.ns_word.specs.declared.owed.Owed.{Owed}
 use Rattle.ns_word.specs.declared.wait.Subject.{Subject}
 use Rattle.ns_word.specs.declared.wait.Subject.TheVariants.{OnCondition, OnVariable}
 use Rattle.ns_word.specs.declared.wait.Outcome.{Outcome}
@@ -23,14 +25,13 @@ use Rattle.ns_word.specs.Waits.{phase_kept, phase_for}
 use Rattle.ns_word.specs.declared.view.Held.{Held}
 use Rattle.ns_word.specs.declared.view.SeatView.{SeatView}
 use Rattle.ns_word.specs.declared.walk.Walk.{Walk}
-use Rattle.ns_word.specs.Lists.{times_among}
 use Rattle.ns_word.specs.Walks.{has_queues, is_queuing, calls_from_lock, phase_by, expected_for}
 use Rattle.ns_word.specs.Views.{is_writing, is_reading, writers, readers, takers, queuers, owed_to, called_to, walk_at, NoneIs, AreApart}
 use Rattle.ns_model.specs.Truths.{Truths}
 use Rattle.ns_word.specs.Lawful.{ViewFits, SectionFits, EachFits, IsExpected, IsEither, phase_before}
 
 -- a seat with this place, this section and these wakes to pay
-abbrev pub view_of : {C : Type 0} {N : ℕ} → ℕ → Option (Walk C) → Option (Held C N) → List ℕ → SeatView C N
+abbrev pub view_of : {C : Type 0} {N : ℕ} → ℕ → Option (Walk C) → Option (Held C N) → List Owed → SeatView C N
 view_of seat walk held owed = record { seat = seat; walk = walk; held = held; owed = owed }
 
 one_of : (b : Bool) → cond b 1 0 + cond (not b) 1 0 ≡ 1

@@ -1,5 +1,5 @@
 -- What the steps leave of the waiters: each stands where it did, or where it ought to.
-use Rattle.std.proofs.Common.{◌≡◌, ◌≢◌, ℕ, ◌+◌, ◌≤◌, Bool, true, false, ◌&&◌, cond, eqb, inl, inr, List, [], ◌∷◌, ◌++◌, length, Option, Some, refl, ap, sym, ◌∙◌, subst, arith, eq-eqb}
+use Rattle.std.proofs.Common.{◌≡◌, ◌≢◌, ℕ, ◌+◌, ◌≤◌, ◌<◌, Bool, true, false, ◌&&◌, cond, eqb, inl, inr, List, [], ◌∷◌, ◌++◌, length, Option, Some, refl, ap, sym, ◌∙◌, subst, arith, eq-eqb}
 use Rattle.std.proofs.lemmas.Bool.{ne_eqb, cases_eq}
 use Rattle.ns_queue.specs.Queues.{Lists, times}
 use Rattle.ns_word.specs.declared.view.Held.{Held}
@@ -9,7 +9,8 @@ use Rattle.ns_word.specs.declared.wait.QueuePlace.TheVariants.{LoadToScan, Queue
 use Rattle.ns_word.specs.declared.acquire_walk.AcquirePlace.TheVariants.{Queue}
 use Rattle.ns_word.specs.declared.walk.Walk.{Walk}
 use Rattle.ns_word.specs.declared.walk.Walk.TheVariants.{InAcquire, InWait}
-use Rattle.ns_word.specs.Lists.{times_among}
+use Rattle.ns_word.specs.Owed.{times_among}
+use Rattle.ns_word.specs.declared.owed.Owed.{Owed}
 use Rattle.ns_word.specs.Walks.{awaits, has_armed}
 use Rattle.ns_word.specs.Views.{owed_to, walk_at, NoneIs}
 use Rattle.ns_word.specs.Steps.{flags_with}
@@ -34,7 +35,7 @@ cleared walk flag ne = rw (ne_eqb flag 1 ne) (elim (awaits walk) as (λ b. (b &&
 
 module _ {C : Type 0} {N : ℕ} where
   -- One seat's view changes, and so may the lists and the flags: it is enough to look at each seat's own balance.
-  module _ (front : List (SeatView C N)) (who : ℕ) (walk : Option (Walk C)) (held : Option (Held C N)) (owed : List ℕ) (walk' : Option (Walk C)) (held' : Option (Held C N)) (owed' : List ℕ) (back : List (SeatView C N)) where
+  module _ (front : List (SeatView C N)) (who : ℕ) (walk : Option (Walk C)) (held : Option (Held C N)) (owed : List Owed) (walk' : Option (Walk C)) (held' : Option (Held C N)) (owed' : List Owed) (back : List (SeatView C N)) where
     abbrev pub olds : List (SeatView C N)
     olds = front ++ view_of who walk held owed ∷ back
 
@@ -58,7 +59,7 @@ module _ {C : Type 0} {N : ℕ} where
         ((seat : ℕ) → who ≢ seat →
         times seat lists' + times_among seat owed' + one_if (is_unwoken (walk_at seat olds) (flags seat)) ≡ times seat lists + times_among seat owed + one_if (is_unwoken (walk_at seat olds) (flags' seat))) →
         ((seat : ℕ) → who ≢ seat → has_armed (walk_at seat olds) ≡ true → flags' seat ≡ 1) →
-        ((seat : ℕ) → flags' seat ≤ 2) →
+        ((seat : ℕ) → flags' seat < 10) →
         WaitersPlaced lists flags olds → WaitersPlaced lists' flags' news
     balanced lists lists' flags flags' apart four here set there sets bound p =
         let was : walk_at who olds ≡ walk = walk_here front (view_of who walk held owed) back apart in
@@ -106,7 +107,7 @@ module _ {C : Type 0} {N : ℕ} where
         (λ f. rw (eq-eqb who who refl) refl)
         (λ seat ne. rw owes (rw (ne_eqb who seat ne) refl))
         (λ seat ne f. rw (ne_eqb who seat ne) (p.armed seat f))
-        (λ seat. elim (eqb who seat) as (λ b. cond b 1 (flags seat) ≤ 2) [ true ↦ omega arith | false ↦ p.flag seat ]) p
+        (λ seat. elim (eqb who seat) as (λ b. cond b 1 (flags seat) < 10) [ true ↦ omega arith | false ↦ p.flag seat ]) p
 
     -- some go from the lists to those who are owed wakes, or within the lists, and the seat doesn't wait
     pub taken : (lists lists' : Lists C) (flags : ℕ → ℕ) → NoneIs who front → length lists'.cvs ≡ 4 → owed ≡ [] → ((seat : ℕ) → times seat lists' + times_among seat owed' ≡ times seat lists) →
@@ -162,21 +163,22 @@ module _ {C : Type 0} {N : ℕ} where
     owed_here seat = let was = owed_at seat front (view_of who walk held owed) back in omega (arith, was)
 
     -- one that the seat owes a wake is due
-    pub due_of : (target seat : ℕ) (lists : Lists C) (flags : ℕ → ℕ) → owed ≡ target ∷ owed' → target ≡ seat → WaitersPlaced lists flags olds → one_if (is_unwoken (walk_at seat olds) (flags seat)) ≡ 1
-    due_of target seat lists flags owes e p =
+    pub due_of : (wake : Owed) (seat : ℕ) (lists : Lists C) (flags : ℕ → ℕ) → owed ≡ wake ∷ owed' → wake.seat ≡ seat → WaitersPlaced lists flags olds → one_if (is_unwoken (walk_at seat olds) (flags seat)) ≡ 1
+    due_of wake seat lists flags owes e p =
         let here : times_among seat owed ≤ owed_to seat olds = owed_here seat in
-        let one : times_among seat owed ≡ 1 + times_among seat owed' = ap (times_among seat) owes ∙ rw (eq-eqb target seat e) refl in
+        let one : times_among seat owed ≡ 1 + times_among seat owed' = ap (times_among seat) owes ∙ rw (eq-eqb wake.seat seat e) refl in
         let most = one_most (is_unwoken (walk_at seat olds) (flags seat)) in
         let sum : times seat lists + owed_to seat olds ≡ one_if (is_unwoken (walk_at seat olds) (flags seat)) = p.placed seat in
         omega (arith, here, one, most, sum)
 
     -- a seat clears the flag of one that is owed a wake
-    pub woke : (target value : ℕ) (lists : Lists C) (flags : ℕ → ℕ) → NoneIs who front → owed ≡ target ∷ owed' → value ≢ 1 → value ≤ 2 → awaits walk' ≡ awaits walk → has_armed walk' ≡ false →
-        WaitersPlaced lists flags olds → WaitersPlaced lists (flags_with flags target value) news
-    woke target value lists flags apart owes clear few a set' p =
+    pub woke : (wake : Owed) (lists : Lists C) (flags : ℕ → ℕ) → NoneIs who front → owed ≡ wake ∷ owed' → wake.value ≢ 1 → wake.value < 10 → awaits walk' ≡ awaits walk → has_armed walk' ≡ false →
+        WaitersPlaced lists flags olds → WaitersPlaced lists (flags_with flags wake.seat wake.value) news
+    woke wake lists flags apart owes clear few a set' p =
+        let target = wake.seat in let value = wake.value in
         let was : walk_at who olds ≡ walk = walk_here front (view_of who walk held owed) back apart in
         let count : (seat : ℕ) → times_among seat owed ≡ one_if (eqb target seat) + times_among seat owed' = λ seat. ap (times_among seat) owes in
-        let due : (seat : ℕ) → target ≡ seat → one_if (is_unwoken (walk_at seat olds) (flags seat)) ≡ 1 = λ seat e. due_of target seat lists flags owes e p in
+        let due : (seat : ℕ) → target ≡ seat → one_if (is_unwoken (walk_at seat olds) (flags seat)) ≡ 1 = λ seat e. due_of wake seat lists flags owes e p in
         let each : (seat : ℕ) → times seat lists + times_among seat owed' + one_if (is_unwoken (walk_at seat olds) (flags seat)) ≡ times seat lists + times_among seat owed + one_if (is_unwoken (walk_at seat olds) (flags_with flags target value seat)) =
         λ seat. elim (cases_eq target seat) [
           | inl e ↦ let one : times_among seat owed ≡ 1 + times_among seat owed' = count seat ∙ rw (eq-eqb target seat e) refl in
@@ -192,7 +194,7 @@ module _ {C : Type 0} {N : ℕ} where
           | inl e ↦ let none : one_if (is_unwoken (walk_at seat olds) (flags seat)) ≡ 0 = rw (not_due (walk_at seat olds) (flags seat) (unqueued (walk_at seat olds) f)) refl in absurd (omega (arith, none, due seat e))
           | inr other ↦ rw (ne_eqb target seat other) (p.armed seat f)
         ])
-        (λ seat. elim (eqb target seat) as (λ b. cond b value (flags seat) ≤ 2) [ true ↦ few | false ↦ p.flag seat ]) p
+        (λ seat. elim (eqb target seat) as (λ b. cond b value (flags seat) < 10) [ true ↦ few | false ↦ p.flag seat ]) p
 
     -- a seat sees its flag cleared
     pub seen : (lists : Lists C) (flags : ℕ → ℕ) → NoneIs who front → owed' ≡ owed → flags who ≢ 1 → awaits walk' ≡ false → has_armed walk' ≡ false →

@@ -1,43 +1,33 @@
--- What wakes store, where the woken go, when a try is busy, and what a shown cause does.
-use Rattle.std.proofs.Common.{◌≡◌, ◌≢◌, ◌⊎◌, inl, inr, ℕ, Bool, true, false, not, ◌&&◌, ◌||◌, cond, eqb, Option, None, Some, refl, ap, sym, ◌∙◌}
-use Rattle.std.proofs.lemmas.Bool.{ne_eqb}
+-- Where the woken go, when a try is busy, and what a shown cause does.
+use Rattle.std.proofs.Common.{◌≡◌, ◌≢◌, ◌<◌, ◌⊎◌, inl, inr, ℕ, arith, Bool, true, false, not, ◌&&◌, ◌||◌, cond, eqb, ltb, Some, refl, ap, ◌∙◌}
+use Rattle.std.proofs.lemmas.Bool.{cases_eq, lt-ltb, ne_eqb}
 use Rattle.ns_model.specs.declared.event.Mode.{Mode}
 use Rattle.ns_model.specs.declared.event.Mode.TheVariants.{Read}
 use Rattle.ns_word.proofs.Answers.{acquire_looks_not, cells_look_not, judge_looks_not, leaver_looks_not, release_looks_not, signal_looks_not, show_looks_not, try_looks_not}
 use Rattle.ns_word.proofs.Calls.{no_look}
 use Rattle.ns_word.specs.Answers.{cause_kept}
 use Rattle.ns_word.specs.Waits.{answer_of, arrival_of, outcome_taken, woken_by}
-use Rattle.ns_word.specs.Walks.{calls_from_lock, got_of, judge_of, rest_or_look, walk_after, want_acquiring, want_in_cells, want_leaving, want_of, want_queuing, want_releasing, want_signaling, want_showing, want_trying, want_waiting}
-use Rattle.ns_word.specs.Words.{may_acquire}
-use Rattle.ns_word.specs.declared.acquire_walk.AcquirePlace.{AcquirePlace}
+use Rattle.ns_word.specs.Walks.{got_of, judge_of, rest_or_look, walk_after, want_acquiring, want_in_cells, want_leaving, want_of, want_releasing, want_signaling, want_showing, want_trying}
+use Rattle.ns_word.specs.Owed.{is_from_lock}
+use Rattle.ns_word.specs.Words.{is_woken, may_acquire}
 use Rattle.ns_word.specs.declared.acquire_walk.AcquirePlace.TheVariants.{AcquireExchange, AcquireLoad, Arm, AwaitWake, Queue, TakeToQueue}
-use Rattle.ns_word.specs.declared.act.Act.{Act}
-use Rattle.ns_word.specs.declared.act.Act.TheVariants.{LoadCell, LoadFlag, LoadWord, Look, PayWake}
+use Rattle.ns_word.specs.declared.act.Act.TheVariants.{LoadFlag, Look}
 use Rattle.ns_word.specs.declared.act.Found.{Found}
 use Rattle.ns_word.specs.declared.act.Found.TheVariants.{Flag, Looked, Made, Saw}
-use Rattle.ns_word.specs.declared.act.Waking.{Waking}
-use Rattle.ns_word.specs.declared.cell_walk.CellPlace.{CellPlace}
 use Rattle.ns_word.specs.declared.cell_walk.CellPlace.TheVariants.{GetLoad, QuietCells, QuietLast, SetLoad, SetStore}
 use Rattle.ns_env.specs.declared.limits.Cause.{Cause}
 use Rattle.ns_env.specs.declared.limits.Limits.{Limits}
-use Rattle.ns_word.specs.declared.release_walk.ReleasePlace.{ReleasePlace}
 use Rattle.ns_word.specs.declared.release_walk.ReleasePlace.TheVariants.{Pay, ReleaseExchange, ReleaseLoad, ScanAndRelease, ScanCells, TakeToScan}
-use Rattle.ns_word.specs.declared.show_walk.ShowPlace.{ShowPlace}
 use Rattle.ns_word.specs.declared.show_walk.ShowPlace.TheVariants.{ShowLoad, TakeToShow, ReturnShown}
-use Rattle.ns_word.specs.declared.signal_walk.SignalPlace.{SignalPlace}
 use Rattle.ns_word.specs.declared.signal_walk.SignalPlace.TheVariants.{PayTheWoken, SignalLoad, TakeToWake, WakeAndReturn}
 use Rattle.ns_word.specs.declared.try_walk.TryPlace.{TryPlace}
 use Rattle.ns_word.specs.declared.try_walk.TryPlace.TheVariants.{TryAcquire, TryLoad}
 use Rattle.ns_word.specs.declared.wait.Aim.{Aim}
 use Rattle.ns_word.specs.declared.wait.Aim.TheVariants.{ForWait}
-use Rattle.ns_word.specs.declared.wait.LeavePlace.{LeavePlace}
 use Rattle.ns_word.specs.declared.wait.LeavePlace.TheVariants.{AwaitWakeToLeave, Leave, LeaveLoad, TakeToLeave}
-use Rattle.ns_word.specs.declared.wait.QueuePlace.{QueuePlace}
 use Rattle.ns_word.specs.declared.wait.QueuePlace.TheVariants.{ArmToWait, Load, LoadToScan, LookIn, QueueToWait, Take}
 use Rattle.ns_word.specs.declared.wait.Subject.{Subject}
 use Rattle.ns_word.specs.declared.wait.Subject.TheVariants.{OnCondition, OnVariable}
-use Rattle.ns_word.specs.declared.wait.Wait.{Wait}
-use Rattle.ns_word.specs.declared.wait.WaitPlace.{WaitPlace}
 use Rattle.ns_word.specs.declared.wait.WaitPlace.TheVariants.{AwaitWakeInWait, InLeaving, InQueuing, LookOut, PayInWait, TestCells, TestLast}
 use Rattle.ns_word.specs.declared.walk.Next.{Next}
 use Rattle.ns_word.specs.declared.walk.Next.TheVariants.{Done, Idle, On}
@@ -46,95 +36,7 @@ use Rattle.ns_word.specs.declared.walk.Walk.{Walk}
 use Rattle.ns_word.specs.declared.walk.Walk.TheVariants.{InAcquire, InCells, InRelease, InShow, InSignal, InTry, InWait}
 use Rattle.ns_word.specs.declared.word.Arrival.{Arrival}
 use Rattle.ns_word.specs.declared.word.Arrival.TheVariants.{AsFresh, AsWoken}
-use Rattle.ns_word.specs.declared.word.Releasing.{Releasing}
 use Rattle.ns_word.specs.declared.word.Word.{Word}
-
--- what an act pays
-abbrev paid_by : {C : Type 0} → Act C → Option ℕ
-paid_by (PayWake value) = Some value
-paid_by act = None
-
-module _ (C : Type 0) where
-  -- an act that pays this pays nothing else
-  pays_it : (act : Act C) (one other : ℕ) → act ≡ PayWake one → act ≡ PayWake other → other ≡ one
-  pays_it act one other e f = let both : Some other ≡ Some one = sym (ap paid_by f) ∙ ap paid_by e in cc
-
-  pays_not : (act : Act C) (value : ℕ) → paid_by act ≡ None → act ≡ PayWake value → ⊥
-  pays_not act value none e = let some : paid_by act ≡ Some value = ap paid_by e in absurd (cc)
-
-  judge_pays_not : (on : Subject C) (i : ℕ) → paid_by (judge_of on i) ≡ None
-  judge_pays_not (OnCondition c) i = refl
-  judge_pays_not (OnVariable k) i = refl
-
-  try_pays_not : (mode : Mode) (place : TryPlace) → paid_by {C = C} (want_trying mode place) ≡ None
-  try_pays_not mode TryLoad = refl
-  try_pays_not mode (TryAcquire last) = refl
-
-  acquire_pays_not : (aim : Aim C) (place : AcquirePlace) → paid_by (want_acquiring aim place) ≡ None
-  acquire_pays_not aim (AcquireLoad arrival) = refl
-  acquire_pays_not aim (AcquireExchange arrival last) = refl
-  acquire_pays_not aim (TakeToQueue arrival last) = refl
-  acquire_pays_not aim (Arm arrival last) = refl
-  acquire_pays_not aim (Queue arrival last) = refl
-  acquire_pays_not aim (AwaitWake tries) = refl
-
-  cells_pay_not : (place : CellPlace) → paid_by {C = C} (want_in_cells place) ≡ None
-  cells_pay_not (GetLoad i) = refl
-  cells_pay_not (SetLoad i v) = refl
-  cells_pay_not (SetStore i v) = refl
-  cells_pay_not (QuietCells judging i) = refl
-  cells_pay_not (QuietLast judging i) = refl
-
-  queue_pays_not : (wait : Wait C) (again : Bool) (place : QueuePlace) → paid_by (want_queuing wait again place) ≡ None
-  queue_pays_not wait again LookIn = refl
-  queue_pays_not wait again Load = refl
-  queue_pays_not wait again (Take last) = refl
-  queue_pays_not wait again (ArmToWait last) = refl
-  queue_pays_not wait again (LoadToScan last i) = refl
-  queue_pays_not wait again (QueueToWait last) = refl
-
-  leaver_pays_not : (wait : Wait C) (place : LeavePlace) → paid_by (want_leaving wait place) ≡ None
-  leaver_pays_not wait LeaveLoad = refl
-  leaver_pays_not wait (TakeToLeave last) = refl
-  leaver_pays_not wait (Leave last) = refl
-  leaver_pays_not wait AwaitWakeToLeave = refl
-
-  wait_pays : (wait : Wait C) (place : WaitPlace) (value : ℕ) → want_waiting wait place ≡ PayWake value → value ≡ 0
-  wait_pays wait (TestCells visit i) value e = absurd (pays_not (want_waiting wait (TestCells visit i)) value refl e)
-  wait_pays wait (TestLast visit i) value e = absurd (pays_not (judge_of wait.on i) value (judge_pays_not wait.on i) e)
-  wait_pays wait (InQueuing again place) value e = absurd (pays_not (want_queuing wait again place) value (queue_pays_not wait again place) e)
-  wait_pays wait PayInWait value e = pays_it (PayWake 0) 0 value refl e
-  wait_pays wait AwaitWakeInWait value e = absurd (pays_not (want_waiting wait AwaitWakeInWait) value refl e)
-  wait_pays wait LookOut value e = absurd (pays_not (want_waiting wait LookOut) value refl e)
-  wait_pays wait (InLeaving cause place) value e = absurd (pays_not (want_leaving wait place) value (leaver_pays_not wait place) e)
-
-  release_pays : (releasing : Releasing) (place : ReleasePlace) (value : ℕ) → want_releasing {C = C} releasing place ≡ PayWake value → value ≡ 0
-  release_pays releasing ReleaseLoad value e = absurd (pays_not LoadWord value refl e)
-  release_pays releasing (ReleaseExchange last) value e = absurd (pays_not (want_releasing releasing (ReleaseExchange last)) value refl e)
-  release_pays releasing (TakeToScan last) value e = absurd (pays_not (want_releasing releasing (TakeToScan last)) value refl e)
-  release_pays releasing (ScanCells last i) value e = absurd (pays_not (LoadCell i) value refl e)
-  release_pays releasing (ScanAndRelease last) value e = absurd (pays_not (want_releasing releasing (ScanAndRelease last)) value refl e)
-  release_pays releasing Pay value e = pays_it (PayWake 0) 0 value refl e
-
-  signal_pays : (waking : Waking) (k : ℕ) (place : SignalPlace) (value : ℕ) → want_signaling {C = C} waking k place ≡ PayWake value → value ≡ 2
-  signal_pays waking k SignalLoad value e = absurd (pays_not LoadWord value refl e)
-  signal_pays waking k (TakeToWake last) value e = absurd (pays_not (want_signaling waking k (TakeToWake last)) value refl e)
-  signal_pays waking k (WakeAndReturn last) value e = absurd (pays_not (want_signaling waking k (WakeAndReturn last)) value refl e)
-  signal_pays waking k PayTheWoken value e = pays_it (PayWake 2) 2 value refl e
-
-  show_pays_not : (place : ShowPlace) → paid_by {C = C} (want_showing place) ≡ None
-  show_pays_not ShowLoad = refl
-  show_pays_not (TakeToShow last) = refl
-  show_pays_not (ReturnShown last) = refl
-
-  pub wake_tells : (walk : Walk C) (value : ℕ) → want_of walk ≡ PayWake value → value ≡ cond (calls_from_lock (Some walk)) 0 2
-  wake_tells (InTry mode place) value e = absurd (pays_not (want_trying mode place) value (try_pays_not mode place) e)
-  wake_tells (InAcquire aim place) value e = absurd (pays_not (want_acquiring aim place) value (acquire_pays_not aim place) e)
-  wake_tells (InRelease releasing place) value e = release_pays releasing place value e
-  wake_tells (InCells place) value e = absurd (pays_not (want_in_cells place) value (cells_pay_not place) e)
-  wake_tells (InWait wait place) value e = wait_pays wait place value e
-  wake_tells (InSignal waking k place) value e = signal_pays waking k place value e
-  wake_tells (InShow place) value e = absurd (pays_not (want_showing place) value (show_pays_not place) e)
 
 -- ---- tries, and readers
 
@@ -160,17 +62,38 @@ readers_stand_back word e = ap (λ b. not word.write && (not b && not word.long)
 -- ---- flags, and looks
 
 module _ (C : Type 0) (N : ℕ) where
-  abbrev Acquires : Next C → Type 0
-  Acquires next = (aim : Aim C) × (arrival : Arrival) × (next ≡ On (InAcquire aim (AcquireLoad arrival)))
+  abbrev Acquires : ℕ → Next C → Type 0
+  Acquires v next = (aim : Aim C) × (arrival : Arrival) × (next ≡ On (InAcquire aim (AcquireLoad arrival))) × (is_woken arrival ≡ (eqb v 0 || ltb 5 v))
 
-  cleared : (v : ℕ) (other : Next C) (aim : Aim C) (arrival : Arrival) → v ≢ 1 → Acquires (cond (eqb v 1) other (On (InAcquire aim (AcquireLoad arrival))))
-  cleared v other aim arrival ne = (aim, arrival, ap (λ b. cond b other (On (InAcquire aim (AcquireLoad arrival)))) (ne_eqb v 1 ne))
+  as_told : (tries : ℕ) (b : Bool) → is_woken (cond b (AsWoken tries) AsFresh) ≡ b
+  as_told tries true = refl
+  as_told tries false = refl
+
+  cleared : (v : ℕ) (other : Next C) (aim : Aim C) (tries : ℕ) → v ≢ 1 → Acquires v (cond (eqb v 1) other (On (InAcquire aim (AcquireLoad (arrival_of tries v)))))
+  cleared v other aim tries ne = (aim, arrival_of tries v, ap (λ b. cond b other (On (InAcquire aim (AcquireLoad (arrival_of tries v))))) (ne_eqb v 1 ne), as_told tries (is_from_lock v))
+
+  tells_so : (v : ℕ) → (v ≡ 0) ⊎ (5 < v) → is_from_lock v ≡ true
+  tells_so v (inl e) = ap (λ n. eqb n 0 || ltb 5 n) e
+  tells_so v (inr high) = elim (cases_eq v 0) [
+    | inl e ↦ ap (λ n. eqb n 0 || ltb 5 n) e
+    | inr ne ↦ rw (ne_eqb v 0 ne) (lt-ltb 5 v high)
+  ]
+
+  unset : (v : ℕ) → (v ≡ 0) ⊎ (5 < v) → v ≢ 1
+  unset v (inl e) is = absurd (omega (arith, e, is))
+  unset v (inr high) is = absurd (omega (arith, high, is))
+
+  -- who finds that it was taken from the lock list goes to acquire with the tries that it had
+  pub tries_kept : (aim : Aim C) (tries v : ℕ) → (v ≡ 0) ⊎ (5 < v) → got_of N (InAcquire aim (AwaitWake tries)) (Flag v) ≡ On (InAcquire aim (AcquireLoad (AsWoken tries)))
+  tries_kept aim tries v told =
+      ap (λ b. cond b (Idle (InAcquire aim (AwaitWake tries))) (On (InAcquire aim (AcquireLoad (arrival_of tries v))))) (ne_eqb v 1 (unset v told))
+      ∙ ap (λ b. On (InAcquire aim (AcquireLoad (cond b (AsWoken tries) AsFresh)))) (tells_so v told)
 
   -- who finds its flag cleared goes to acquire
-  pub woken_acquires : (walk : Walk C) (v : ℕ) → want_of walk ≡ LoadFlag → v ≢ 1 → Acquires (got_of N walk (Flag v))
-  woken_acquires (InAcquire aim (AwaitWake tries)) v e ne = cleared v (Idle (InAcquire aim (AwaitWake tries))) aim (arrival_of tries v) ne
-  woken_acquires (InWait wait AwaitWakeInWait) v e ne = cleared v (rest_or_look wait) (ForWait wait (woken_by wait.on v)) (arrival_of 0 v) ne
-  woken_acquires (InWait wait (InLeaving cause AwaitWakeToLeave)) v e ne = cleared v (Idle (InWait wait (InLeaving cause AwaitWakeToLeave))) (ForWait wait (outcome_taken wait.on cause v)) (arrival_of 0 v) ne
+  pub woken_acquires : (walk : Walk C) (v : ℕ) → want_of walk ≡ LoadFlag → v ≢ 1 → Acquires v (got_of N walk (Flag v))
+  woken_acquires (InAcquire aim (AwaitWake tries)) v e ne = cleared v (Idle (InAcquire aim (AwaitWake tries))) aim tries ne
+  woken_acquires (InWait wait AwaitWakeInWait) v e ne = cleared v (rest_or_look wait) (ForWait wait (woken_by wait.on v)) 0 ne
+  woken_acquires (InWait wait (InLeaving cause AwaitWakeToLeave)) v e ne = cleared v (Idle (InWait wait (InLeaving cause AwaitWakeToLeave))) (ForWait wait (outcome_taken wait.on cause v)) 0 ne
   woken_acquires (InTry mode TryLoad) v e ne = absurd (cc)
   woken_acquires (InTry mode (TryAcquire last)) v e ne = absurd (cc)
   woken_acquires (InAcquire aim (AcquireLoad arrival)) v e ne = absurd (cc)

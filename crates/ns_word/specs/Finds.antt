@@ -4,7 +4,8 @@ use Rattle.ns_model.specs.Truths.{Truths}
 use Rattle.ns_queue.specs.declared.waiter.Waiter.{Waiter}
 use Rattle.ns_queue.specs.Queues.{Lists}
 use Rattle.ns_queue.specs.Scans.{woken_of, tests_of}
-use Rattle.ns_queue.specs.Waiters.{seats_of}
+use Rattle.ns_word.specs.Owed.{called_of}
+use Rattle.ns_word.specs.declared.owed.Owed.{Owed}
 use Rattle.ns_word.specs.declared.word.Word.{Word}
 use Rattle.ns_word.specs.declared.view.Held.{Held}
 use Rattle.ns_word.specs.declared.view.SeatView.{SeatView}
@@ -37,12 +38,12 @@ exchanged number last made = if number_of last == number then made else Saw (wor
 
 -- what a scan of this list finds at this row
 abbrev pub scanned : {C : Type 0} → Truths C → List ℕ → List (Waiter C) → Found
-scanned truths row lock = Scanned (has_some (seats_of (woken_of (meets_at truths row) lock))) (tests_of truths.same (meets_at truths row) lock)
+scanned truths row lock = Scanned (has_some (called_of (woken_of (meets_at truths row) lock))) (tests_of truths.same (meets_at truths row) lock)
 
 -- whether wakes are owed behind the first
-abbrev pub owes_more : List ℕ → Found
+abbrev pub owes_more : List Owed → Found
 owes_more [] = Paid false
-owes_more (woken ∷ rest) = Paid (has_some rest)
+owes_more (wake ∷ rest) = Paid (has_some rest)
 
 -- What the act of a seat finds: of the content that it loads or compares, of the seat's section and wakes, and of the lists, if it has them in hand. What a look shows stands in no word of the lock.
 abbrev pub found_of : {C : Type 0} {N : ℕ} → Truths C → Act C → SeatView C N → Lists C → ℕ → Found
@@ -58,7 +59,7 @@ found_of truths (JudgeQuiet i) view lists number = Quiet (truths.quiet (before_i
 found_of truths (JudgeMet i c) view lists number = Tested (truths.holds c (row_in view.held))
 found_of truths (StoreCell i v) view lists number = Made
 found_of truths ArmFlag view lists number = Made
-found_of truths (PayWake value) view lists number = owes_more view.owed
+found_of truths PayWake view lists number = owes_more view.owed
 found_of truths LoadFlag view lists number = Flag number
 found_of truths (Look limits again) view lists number = Looked None
 

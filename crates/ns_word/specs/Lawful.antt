@@ -25,7 +25,9 @@ use Rattle.ns_word.specs.declared.view.Held.{Held}
 use Rattle.ns_word.specs.declared.view.SeatView.{SeatView}
 use Rattle.ns_word.specs.declared.walk.Walk.{Walk}
 use Rattle.ns_word.specs.Lists.{has_some, has_eligible, bits_of}
-use Rattle.ns_word.specs.Walks.{Stance, Expected, has_armed, waits_in, awaits, pays, is_on_way, phase_by}
+use Rattle.ns_word.specs.Owed.{Tells}
+use Rattle.ns_word.specs.Walks.{Stance, Expected, calls_from_lock, has_armed, waits_in, awaits, pays, is_on_way, phase_by}
+use Rattle.ns_word.specs.declared.owed.Owed.{Owed}
 use Rattle.ns_word.specs.Waits.{phase_kept}
 use Rattle.ns_word.specs.Views.{writers, readers, takers, queuers, owed_to, called_to, walk_at, AreApart}
 use Rattle.ns_word.specs.Seen.{HasNumber, word_seen}
@@ -69,11 +71,15 @@ abbrev pub SectionFits : {C : Type 0} {N : ℕ} → Standing C → List ℕ → 
 SectionFits now row seat walk None = IsExpected (phase_by walk) (now.phases seat)
 SectionFits now row seat walk (Some held) = HeldFits now row seat held
 
--- A view of one of so many seats, after a history that left this standing. It owes a wake exactly where it is about to pay one, so none once its call is over.
+-- wakes are owed at this place
+abbrev pub OwesAs : {C : Type 0} → Option (Walk C) → List Owed → Type 0
+OwesAs walk owed = (has_some owed ≡ pays walk) × Every (Tells (calls_from_lock walk)) owed
+
+-- A view of one of so many seats, after a history that left this standing. It owes a wake exactly where it is about to pay one, so none once its call is over; and each tells whether its seat was taken from the lock list.
 pub record ViewFits {C : Type 0} {N : ℕ} (truths : Truths C) (seats : ℕ) (now : Standing C) (row : List ℕ) (view : SeatView C N) : Type 0 where
   pub in_range : view.seat < seats
   pub place : PlaceFits truths view.walk view.held
-  pub owes : has_some view.owed ≡ pays view.walk
+  pub owes : OwesAs view.walk view.owed
   pub section : SectionFits now row view.seat view.walk view.held
 
 -- each view fits
@@ -118,7 +124,7 @@ is_unwoken walk flag = awaits walk && is_armed flag
 pub record WaitersPlaced {C : Type 0} {N : ℕ} (lists : Lists C) (flags : ℕ → ℕ) (views : List (SeatView C N)) : Type 0 where
   pub placed : (seat : ℕ) → times seat lists + owed_to seat views ≡ (if is_unwoken (walk_at seat views) (flags seat) then 1 else 0)
   pub armed : (seat : ℕ) → has_armed (walk_at seat views) ≡ true → flags seat ≡ 1
-  pub flag : (seat : ℕ) → flags seat ≤ 2
+  pub flag : (seat : ℕ) → flags seat < 10
   pub four : length lists.cvs ≡ 4
 
 -- with which condition one stands in the lock list that waits so: one that waits for a variable, and was moved there, with none

@@ -8,6 +8,7 @@ pub mod Finds
 pub mod Lawful
 pub mod Lists
 pub mod Meanings
+pub mod Owed
 pub mod Places
 pub mod Room
 pub mod Seen

@@ -1,5 +1,5 @@
 -- The lock list, and lists of seats.
-use Rattle.std.specs.Prelude.{ℕ, ◌+◌, ◌==◌, Bool, true, false, not, ◌&&◌, ◌||◌, if◌then◌else◌, List, [], ◌∷◌, ◌++◌, Option}
+use Rattle.std.specs.Prelude.{ℕ, Bool, true, false, not, ◌&&◌, ◌||◌, if◌then◌else◌, List, [], ◌∷◌, ◌++◌, Option, None}
 use Rattle.std.specs.List.{list_any}
 use Rattle.ns_model.specs.declared.event.Mode.{Mode}
 use Rattle.ns_queue.specs.declared.waiter.Waiter.{Waiter}
@@ -26,13 +26,8 @@ abbrev pub has_eligible : {C : Type 0} → (C → Bool) → List (Waiter C) → 
 has_eligible meets [] = false
 has_eligible meets (w ∷ ws) = is_eligible meets w || has_eligible meets ws
 
--- how often a seat stands among these
-abbrev pub times_among : ℕ → List ℕ → ℕ
-times_among seat [] = 0
-times_among seat (x ∷ xs) = (if x == seat then 1 else 0) + times_among seat xs
-
 -- the list with one more waiter, which has failed so often: at the front or at the back
 abbrev pub queued : {C : Type 0} → ℕ → Mode → Option C → ℕ → Bool → List (Waiter C) → List (Waiter C)
 queued seat mode cond tries front lock =
-    if front then record { seat = seat; mode = mode; cond = cond; tries = tries } ∷ lock
-    else lock ++ record { seat = seat; mode = mode; cond = cond; tries = tries } ∷ []
+    if front then record { seat = seat; mode = mode; cond = cond; tries = tries; via = None } ∷ lock
+    else lock ++ record { seat = seat; mode = mode; cond = cond; tries = tries; via = None } ∷ []

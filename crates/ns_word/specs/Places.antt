@@ -3,6 +3,7 @@ use Rattle.std.specs.Prelude.{◌≡◌, ℕ, ◌+◌, ◌<◌, ◌≤◌, Bool,
 use Rattle.ns_model.specs.declared.event.Mode.{Mode}
 use Rattle.ns_model.specs.declared.event.Mode.TheVariants.{Write}
 use Rattle.ns_queue.specs.Queues.{IsList, times}
+use Rattle.ns_word.specs.declared.owed.Owed.{Owed}
 use Rattle.ns_word.specs.declared.word.Releasing.{Releasing}
 use Rattle.ns_word.specs.declared.word.Releasing.TheVariants.{Writer, QuietWriter, Reader}
 use Rattle.ns_word.specs.declared.view.Held.{Held}
@@ -196,9 +197,9 @@ HasList (InSignal waking k place) = k < 4
 HasList walk = Unit {0}
 
 -- a wake is owed, to one of so many seats
-abbrev pub OwesOne : ℕ → List ℕ → Type 0
+abbrev pub OwesOne : ℕ → List Owed → Type 0
 OwesOne seats [] = ⊥
-OwesOne seats (woken ∷ rest) = woken < seats
+OwesOne seats (wake ∷ rest) = wake.seat < seats
 
 -- a seat that puts itself in stands nowhere yet, and a list is one that there is
 abbrev pub ChangeFits : {C : Type 0} {N : ℕ} → ℕ → Change → Part C N → Type 0
@@ -221,6 +222,6 @@ ActFits {C} {N} truths seats seat (JudgeQuiet i) part = HasMode Write part.held 
 ActFits {C} {N} truths seats seat (JudgeMet i c) part = IsSome part.held × (i < N)
 ActFits {C} {N} truths seats seat (StoreCell i v) part = HasMode Write part.held × (i < N)
 ActFits truths seats seat ArmFlag part = seat < seats
-ActFits truths seats seat (PayWake value) part = OwesOne seats part.owed
+ActFits truths seats seat PayWake part = OwesOne seats part.owed
 ActFits truths seats seat LoadFlag part = seat < seats
 ActFits truths seats seat (Look limits again) part = Unit {0}

@@ -1,12 +1,12 @@
 -- Where a seat stands that queues, said of the lists before and after.
-use Rattle.std.specs.Prelude.{◌≡◌, ℕ, ◌+◌, min, Bool, true, false, List, [], ◌∷◌, ◌++◌, Option, None, Some}
+use Rattle.std.specs.Prelude.{◌≡◌, ℕ, ◌+◌, min, Bool, true, false, List, [], ◌∷◌, ◌++◌, map, Option, None, Some}
 use Rattle.ns_model.specs.declared.event.Mode.{Mode}
 use Rattle.ns_model.specs.Truths.{Truths}
 use Rattle.ns_queue.specs.declared.waiter.Waiter.{Waiter}
 use Rattle.ns_queue.specs.declared.waiter.Which.TheVariants.{Cv}
 use Rattle.ns_queue.specs.Queues.{Lists, waiters_of}
 use Rattle.ns_queue.specs.Scans.{left_of}
-use Rattle.ns_queue.specs.Waiters.{seats_of}
+use Rattle.ns_word.specs.declared.owed.Owed.{Owed}
 use Rattle.ns_word.specs.declared.word.Arrival.{Arrival}
 use Rattle.ns_word.specs.declared.word.Arrival.TheVariants.{AsFresh, AsWoken}
 use Rattle.ns_word.specs.declared.wait.Subject.{Subject}
@@ -15,7 +15,7 @@ use Rattle.ns_word.specs.Steps.{meets_at}
 
 -- a waiter, part by part
 abbrev pub waiter : {C : Type 0} → ℕ → Mode → Option C → ℕ → Waiter C
-waiter seat mode cond tries = record { seat = seat; mode = mode; cond = cond; tries = tries }
+waiter seat mode cond tries = record { seat = seat; mode = mode; cond = cond; tries = tries; via = None }
 
 -- Who queues for the lock fresh stands behind all others, and hasn't failed; who was woken stands before them all, and has failed once more, of which 30 are counted.
 abbrev pub QueuesFor : {C : Type 0} → ℕ → Mode → Arrival → List (Waiter C) → List (Waiter C) → Type 0
@@ -29,6 +29,6 @@ WaitsFor truths seat mode (OnCondition c) true row old new = (new.lock ≡ waite
 WaitsFor truths seat mode (OnVariable k) again row old new = (waiters_of new (Cv k) ≡ waiters_of old (Cv k) ++ waiter seat mode None 0 ∷ []) × (new.lock ≡ left_of (meets_at truths row) old.lock)
 
 -- Those whom a call takes from a variable stand behind all others in the lock list, in their order, where the lock is held, and nobody is owed a wake; else that list stays, and they are owed their wakes in that order.
-abbrev pub AreCalled : {C : Type 0} → Bool → List (Waiter C) → List (Waiter C) → List (Waiter C) → List ℕ → Type 0
-AreCalled true taken old new owed = (new ≡ old ++ taken) × (owed ≡ [])
-AreCalled false taken old new owed = (new ≡ old) × (owed ≡ seats_of taken)
+abbrev pub AreCalled : {C : Type 0} → Bool → ℕ → List (Waiter C) → List (Waiter C) → List (Waiter C) → List Owed → Type 0
+AreCalled true k taken old new owed = (new ≡ old ++ taken) × (owed ≡ [])
+AreCalled false k taken old new owed = (new ≡ old) × (owed ≡ map (λ w. record { seat = w.seat; value = 2 + k }) taken)

@@ -17,7 +17,9 @@ use Rattle.ns_queue.specs.declared.waiter.Which.{Which}
 use Rattle.ns_queue.specs.declared.waiter.Which.TheVariants.{Cv}
 use Rattle.ns_queue.specs.Queues.{Lists, cvs_without, waiters_of, with_waiters, without}
 use Rattle.ns_queue.specs.Signals.{signaled_of, unsignaled_of, taken_set}
-use Rattle.ns_queue.specs.Waiters.{seats_of, times_in}
+use Rattle.ns_queue.specs.Waiters.{times_in}
+use Rattle.ns_word.specs.Owed.{called_of, wakes_of}
+use Rattle.ns_word.specs.declared.owed.Owed.{Owed}
 use Rattle.ns_queue.specs.Scans.{woken_of, left_of, tests_of}
 use Rattle.ns_word.specs.declared.word.Word.{Word}
 use Rattle.ns_env.specs.declared.limits.Limits.{Limits}
@@ -73,7 +75,7 @@ pub record Part (C : Type 0) (N : ℕ) : Type 0 where
   pub lists : Lists C
   pub flags : ℕ → ℕ
   pub held : Option (Held C N)
-  pub owed : List ℕ
+  pub owed : List Owed
 
 -- How a section is said to begin in the history. A wait for a condition that came back is said to have met it where it is true of the row that the section began at, or where nothing has ended the wait; else it is said to have been ended by its cause. A wait for a variable says what it was ended by, or that it was woken.
 abbrev pub entry_of : {C : Type 0} → (C → List ℕ → Bool) → List ℕ → Opening C → Entry C
@@ -160,8 +162,8 @@ moves (WakeWaiters waking k) last lists = is_held last && has_some (taken_by wak
 moves change last lists = false
 
 -- whom the seat owes a wake then: those whom it took and didn't move
-abbrev pub owed_after : {C : Type 0} → Change → Word → Lists C → List ℕ → List ℕ
-owed_after (WakeWaiters waking k) last lists owed = if is_held last then [] else seats_of (taken_by waking (waiters_of lists (Cv k)))
+abbrev pub owed_after : {C : Type 0} → Change → Word → Lists C → List Owed → List Owed
+owed_after (WakeWaiters waking k) last lists owed = if is_held last then [] else wakes_of k (taken_by waking (waiters_of lists (Cv k)))
 owed_after change last lists owed = owed
 
 -- what is found where they were put back: one that leaves learns whether it still stood there
@@ -191,7 +193,7 @@ change_commits seat Nothing lists = []
 -- a waiter of its own list, with its condition if it waits for one
 abbrev pub waits_at : {C : Type 0} → Subject C → ℕ → Mode → Bool → Lists C → Lists C
 waits_at (OnCondition c) seat mode again lists = with_lock lists (queued seat mode (Some c) 0 again lists.lock)
-waits_at (OnVariable k) seat mode again lists = with_waiters lists (Cv k) (waiters_of lists (Cv k) ++ record { seat = seat; mode = mode; cond = None; tries = 0 } ∷ [])
+waits_at (OnVariable k) seat mode again lists = with_waiters lists (Cv k) (waiters_of lists (Cv k) ++ record { seat = seat; mode = mode; cond = None; tries = 0; via = None } ∷ [])
 
 -- the lists that a wait puts back: as a scan leaves them, with itself in its own
 abbrev pub waited_in : {C : Type 0} → Truths C → ℕ → Wait C → Bool → List ℕ → Lists C → Lists C
@@ -218,7 +220,7 @@ wait_hand truths seat wait (InQueuing again (QueueToWait last)) row lists = wait
 wait_hand truths seat wait (InLeaving cause (Leave last)) row lists = changed seat (LeaveSelf (home_of wait.on)) last lists
 wait_hand truths seat wait place row lists = lists
 
--- in the hand of a call that wakes: those whom it takes leave their list, and are moved where the word last seen is held
+-- in the hand of a call that wakes: those whom it takes leave all variables' lists, and are moved where the word last seen is held
 abbrev pub signal_hand : {C : Type 0} → ℕ → Waking → ℕ → SignalPlace → Lists C → Lists C
 signal_hand seat waking k (WakeAndReturn last) lists = changed seat (WakeWaiters waking k) last lists
 signal_hand seat waking k place lists = lists
@@ -273,15 +275,15 @@ Effect {C} {N} truths seat (Release releasing last) old Made new commits =
 Effect {C} {N} truths seat (ReleaseReturning releasing last) old (Scanned owes tests) new commits =
     let woken = woken_of (meets_at truths old.row) old.lists.lock in let stay = left_of (meets_at truths old.row) old.lists.lock in
     (held : Held C N) × (old.held ≡ Some held) × (held.mode ≡ mode_released releasing) × (last ≡ old.word)
-    × (new ≡ record old { word = word_released_returning releasing (has_some woken) (bits_of stay) last; lists = with_lock old.lists stay; held = None; owed = seats_of woken })
-    × (owes ≡ has_some (seats_of woken)) × (tests ≡ tests_of truths.same (meets_at truths old.row) old.lists.lock)
+    × (new ≡ record old { word = word_released_returning releasing (has_some woken) (bits_of stay) last; lists = with_lock old.lists stay; held = None; owed = called_of woken })
+    × (owes ≡ has_some (called_of woken)) × (tests ≡ tests_of truths.same (meets_at truths old.row) old.lists.lock)
     × (commits ≡ section_of truths.holds seat held TheExit.Plain ∷ [])
 -- the same by a wait, which puts itself into the list; one that queues again commits nothing
 Effect {C} {N} truths seat (WaitReturning wait again last) old (Scanned owes tests) new commits =
     let woken = woken_of (meets_at truths old.row) old.lists.lock in let lists = waited_in truths seat wait again old.row old.lists in
     (held : Held C N) × (old.held ≡ Some held) × (held.mode ≡ wait.mode) × (last ≡ old.word)
-    × (new ≡ record old { word = word_released_returning (releasing_of wait.mode) (has_some woken) (bits_of lists.lock) last; lists = lists; held = None; owed = seats_of woken })
-    × (owes ≡ has_some (seats_of woken)) × (tests ≡ tests_of truths.same (meets_at truths old.row) old.lists.lock)
+    × (new ≡ record old { word = word_released_returning (releasing_of wait.mode) (has_some woken) (bits_of lists.lock) last; lists = lists; held = None; owed = called_of woken })
+    × (owes ≡ has_some (called_of woken)) × (tests ≡ tests_of truths.same (meets_at truths old.row) old.lists.lock)
     × (commits ≡ (if again then [] else section_of truths.holds seat held (exit_for wait.on) ∷ []))
 -- the cells
 Effect truths seat (LoadCell i) old (Cell v) new commits = (v ≡ slice_index old.row i) × (new ≡ old) × (commits ≡ [])
@@ -295,9 +297,9 @@ Effect {C} {N} truths seat (StoreCell i v) old Made new commits =
     × (commits ≡ [])
 -- the flags
 Effect truths seat ArmFlag old Made new commits = (new ≡ record old { flags = flags_with old.flags seat 1 }) × (commits ≡ [])
-Effect {C} {N} truths seat (PayWake value) old (Paid owes) new commits =
-    (woken : ℕ) × (rest : List ℕ) × (old.owed ≡ woken ∷ rest)
-    × (new ≡ record old { flags = flags_with old.flags woken value; owed = rest })
+Effect {C} {N} truths seat PayWake old (Paid owes) new commits =
+    (wake : Owed) × (rest : List Owed) × (old.owed ≡ wake ∷ rest)
+    × (new ≡ record old { flags = flags_with old.flags wake.seat wake.value; owed = rest })
     × (owes ≡ has_some rest) × (commits ≡ [])
 Effect truths seat LoadFlag old (Flag v) new commits = (v ≡ old.flags seat) × (new ≡ old) × (commits ≡ [])
 -- a look
@@ -305,7 +307,7 @@ Effect truths seat (Look limits again) old (Looked cause) new commits = MayShow 
 Effect truths seat act old found new commits = ⊥
 
 -- a view's part of a state
-abbrev pub part_of : {C : Type 0} {N : ℕ} → LockState C N → Option (Held C N) → List ℕ → Part C N
+abbrev pub part_of : {C : Type 0} {N : ℕ} → LockState C N → Option (Held C N) → List Owed → Part C N
 part_of s held owed = record { word = s.word; row = s.row; lists = s.lists; flags = s.flags; held = held; owed = owed }
 
 -- The seat with this view makes the step that its walk wants, and no other view changes.
@@ -315,7 +317,7 @@ pub record Step {C : Type 0} {N : ℕ} (truths : Truths C) (old : LockState C N)
   pub front : List (SeatView C N)
   pub back : List (SeatView C N)
   pub held : Option (Held C N)
-  pub owed : List ℕ
+  pub owed : List Owed
   pub was : old.views ≡ front ++ view ∷ back
   pub becomes : new.views ≡ front ++ record { seat = view.seat; walk = walk_after (got_of N walk found); held = held; owed = owed } ∷ back
   pub effect : Effect truths view.seat (want_of walk) (part_of old view.held view.owed) found (part_of new held owed) commits

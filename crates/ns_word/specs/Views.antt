@@ -5,7 +5,7 @@ use Rattle.ns_model.specs.Tallies.{total, one_if}
 use Rattle.ns_word.specs.declared.view.Held.{Held}
 use Rattle.ns_word.specs.declared.view.SeatView.{SeatView}
 use Rattle.ns_word.specs.declared.walk.Walk.{Walk}
-use Rattle.ns_word.specs.Lists.{times_among}
+use Rattle.ns_word.specs.Owed.{times_among}
 use Rattle.ns_word.specs.Walks.{has_queues, is_queuing, calls_from_lock}
 
 -- whether the section in hand, if there is one, is a write section

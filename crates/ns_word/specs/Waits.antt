@@ -1,5 +1,5 @@
 -- Waits, for a condition or for a condition variable.
-use Rattle.std.specs.Prelude.{◌≡◌, ℕ, ◌==◌, if◌then◌else◌, Option, None, Some}
+use Rattle.std.specs.Prelude.{◌≡◌, ℕ, if◌then◌else◌, Option, None, Some}
 use Rattle.ns_model.specs.declared.event.Mode.{Mode}
 use Rattle.ns_model.specs.declared.event.Answer.{Answer}
 use Rattle.ns_model.specs.declared.event.Answer.TheVariants.{Met, TimedOut, Canceled}
@@ -10,6 +10,7 @@ use Rattle.ns_env.specs.declared.limits.Cause.{Cause}
 use Rattle.ns_env.specs.declared.limits.Cause.TheVariants.{Expired, Notified}
 use Rattle.ns_queue.specs.declared.waiter.Which.{Which}
 use Rattle.ns_queue.specs.declared.waiter.Which.TheVariants.{Lock, Cv}
+use Rattle.ns_word.specs.Owed.{is_from_lock}
 use Rattle.ns_word.specs.declared.word.Arrival.{Arrival}
 use Rattle.ns_word.specs.declared.word.Arrival.TheVariants.{AsFresh, AsWoken}
 use Rattle.ns_word.specs.declared.wait.Subject.{Subject}
@@ -35,9 +36,9 @@ abbrev pub answer_of_wait : Outcome → Answer
 answer_of_wait (TheOutcome.Woken by) = Met
 answer_of_wait (Ended cause) = answer_of cause
 
--- how one comes to acquire that stood there with so many failed tries, and has found this value in its flag: 0 is the wake of one taken from the lock list
+-- how one comes to acquire that stood there with so many failed tries, and has found this value in its flag, which tells whether it was taken from the lock list
 abbrev pub arrival_of : ℕ → ℕ → Arrival
-arrival_of tries flag = if flag == 0 then AsWoken tries else AsFresh
+arrival_of tries flag = if is_from_lock flag then AsWoken tries else AsFresh
 
 -- the list in which such a wait stands
 abbrev pub home_of : {C : Type 0} → Subject C → Which

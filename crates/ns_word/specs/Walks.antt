@@ -56,6 +56,7 @@ use Rattle.ns_word.specs.declared.walk.Next.{Next}
 use Rattle.ns_word.specs.declared.walk.Next.TheVariants.{On, Idle, Done}
 use Rattle.ns_word.specs.Words.{is_woken, tries_of, may_acquire, needs_scan, word_taken}
 use Rattle.ns_env.specs.Walks.{is_limited}
+use Rattle.ns_word.specs.Owed.{is_from_lock}
 use Rattle.ns_word.specs.Waits.{answer_of, answer_of_wait, arrival_of, home_of, mode_for, outcome_taken, phase_for, woken_by}
 
 -- ---- what a place wants
@@ -81,7 +82,7 @@ want_releasing releasing (ReleaseExchange last) = Release releasing last
 want_releasing releasing (TakeToScan last) = TakeQueues ToChange last
 want_releasing releasing (ScanCells last i) = LoadCell i
 want_releasing releasing (ScanAndRelease last) = ReleaseReturning releasing last
-want_releasing releasing Pay = PayWake 0
+want_releasing releasing Pay = PayWake
 
 -- the step that the place of a call on the row wants
 abbrev pub want_in_cells : {C : Type 0} → CellPlace → Act C
@@ -117,7 +118,7 @@ abbrev pub want_waiting : {C : Type 0} → Wait C → WaitPlace → Act C
 want_waiting wait (TestCells visit i) = LoadCell i
 want_waiting wait (TestLast visit i) = judge_of wait.on i
 want_waiting wait (InQueuing again place) = want_queuing wait again place
-want_waiting wait PayInWait = PayWake 0
+want_waiting wait PayInWait = PayWake
 want_waiting wait AwaitWakeInWait = LoadFlag
 want_waiting wait LookOut = Look wait.limits false
 want_waiting wait (InLeaving cause place) = want_leaving wait place
@@ -127,7 +128,7 @@ abbrev pub want_signaling : {C : Type 0} → Waking → ℕ → SignalPlace → 
 want_signaling waking k SignalLoad = LoadWord
 want_signaling waking k (TakeToWake last) = TakeQueues ToChange last
 want_signaling waking k (WakeAndReturn last) = ReturnQueues (WakeWaiters waking k) last
-want_signaling waking k PayTheWoken = PayWake 2
+want_signaling waking k PayTheWoken = PayWake
 
 -- the step that a call wants that shows the lock
 abbrev pub want_showing : {C : Type 0} → ShowPlace → Act C
@@ -476,9 +477,9 @@ abbrev pub calls_from_lock : {C : Type 0} → Option (Walk C) → Bool
 calls_from_lock (Some (InSignal waking k place)) = false
 calls_from_lock walk = true
 
--- It was taken from the lock list, and neither acquired nor queued again after that: it acquires as woken, or waits, with its flag at 0 or so many wakes owed to it of seats that were taken there.
+-- It was taken from the lock list, and neither acquired nor queued again after that: it acquires as woken, or waits, with its flag cleared so or so many wakes owed to it of seats that were taken there.
 abbrev pub is_on_way : {C : Type 0} → Option (Walk C) → ℕ → ℕ → Bool
-is_on_way walk flag owed = was_woken walk || (awaits walk && (flag == 0 || nat_lt 0 owed))
+is_on_way walk flag owed = was_woken walk || (awaits walk && (is_from_lock flag || nat_lt 0 owed))
 
 -- the phase of a seat with no section in hand, by its place; one that waits for a variable may have been woken since
 pub record Expected (C : Type 0) : Type 0 where

@@ -15,10 +15,11 @@ pub enum Change {
     /// One puts itself in, without condition, in this mode: at the back, or at the front if it was
     /// woken from the list before, so that it loses no turn.
     QueueSelf(Mode, Arrival),
-    /// One that waits takes itself out of this list, if it still stands there.
+    /// One that waits takes itself out of all lists, if it still stands in this one, which is its own.
     LeaveSelf(Which),
-    /// Those whom this takes leave the list of the variable. Where the lock is held they go to the
-    /// back of the lock list, in the order taken; else they are owed their wakes.
+    /// Those whom this takes from the list of the variable leave all lists of variables. Where the
+    /// lock is held they go to the back of the lock list, in the order taken; else they are owed their
+    /// wakes.
     WakeWaiters(Waking, u8),
     /// The lists are put back as they stood.
     Nothing,
@@ -67,9 +68,8 @@ pub enum Act<C> {
     StoreCell(u8, u64),
     /// Stores 1 into one's own flag.
     ArmFlag,
-    /// Stores this value into the flag of the first to whom a wake is owed: 0 where that one was
-    /// taken from the lock list, 2 where it was taken from the list of a variable.
-    PayWake(u8),
+    /// Pays the first of the wakes that are owed: stores its value into the flag of its seat.
+    PayWake,
     /// Loads one's own flag.
     LoadFlag,
     /// Looks at the note and the deadline of a wait. The flag tells whether the wait has come back:

@@ -1,8 +1,9 @@
 //! The laws by call: what a call has done at each of its places, and what its answer means.
 
-ghost use Rattle.std.specs.Prelude.{◌≡◌, ◌≢◌, ◌⊎◌, Bool, ℕ, true, false, if◌then◌else◌, List, [], ◌∷◌, ◌++◌, Option, None, Some, slice_get};
+ghost use Rattle.std.specs.Prelude.{◌≡◌, ◌≢◌, ◌<◌, ◌⊎◌, ◌||◌, ◌==◌, nat_lt, Bool, ℕ, true, false, if◌then◌else◌, List, [], ◌∷◌, ◌++◌, Option, None, Some, slice_get};
 ghost use Rattle.ns_model.specs.declared.event.Event.{Event};
 ghost use Rattle.ns_model.specs.Histories.{row_after};
+ghost use Rattle.ns_model.specs.Tallies.{Every};
 ghost use Rattle.ns_queue.specs.declared.waiter.Which.TheVariants.{Cv};
 ghost use Rattle.ns_queue.specs.Queues.{waiters_of};
 ghost use Rattle.ns_word.specs.declared.acquire_walk.AcquirePlace.TheVariants.{AcquireLoad, AwaitWake, Queue};
@@ -15,6 +16,7 @@ ghost use Rattle.ns_env.specs.declared.limits.Limits.{Limits};
 ghost use Rattle.ns_word.specs.declared.request.Request.TheVariants.{Await, Wake};
 ghost use Rattle.ns_model.specs.declared.event.Mode.{Mode};
 ghost use Rattle.ns_model.specs.declared.event.Mode.TheVariants.{Read};
+ghost use Rattle.ns_word.specs.declared.owed.Owed.{Owed};
 ghost use Rattle.ns_word.specs.declared.try_walk.TryPlace.{TryPlace};
 ghost use Rattle.ns_word.specs.declared.try_walk.TryPlace.TheVariants.{TryAcquire};
 ghost use Rattle.ns_word.specs.declared.view.Held.{Held};
@@ -35,11 +37,12 @@ ghost use Rattle.ns_word.specs.Begins.{IsFirst};
 ghost use Rattle.ns_word.specs.Courses.{course_after, CallGoes, SoFar};
 ghost use Rattle.ns_word.specs.Lawful.{IsLawful};
 ghost use Rattle.ns_word.specs.Meanings.{Course, course_from};
+ghost use Rattle.ns_word.specs.Owed.{Tells};
 ghost use Rattle.ns_word.specs.Steps.{LockState, Step, kept_by, taken_by, wake_of};
 ghost use Rattle.ns_env.specs.Walks.{is_limited};
 ghost use Rattle.ns_word.specs.Waits.{answer_of};
 ghost use Rattle.ns_word.specs.Walks.{want_of, got_of, calls_from_lock, walk_after, was_woken};
-ghost use Rattle.ns_word.specs.Words.{may_acquire, tries_of};
+ghost use Rattle.ns_word.specs.Words.{is_woken, may_acquire, tries_of};
 
 use ns_model::condition::Condition;
 
@@ -93,31 +96,39 @@ pub fn limited_waits_look_while_they_wait<C: Condition<N>, const N: usize>()
         (next : Walk C) × (walk_after (got_of N (InWait wait AwaitWakeInWait) (Flag 1)) ≡ Some next) × (want_of next ≡ Look wait.limits false) }
 {}
 
-/// Only who has found its flag at 0 acquires as woken: not who has left a list by itself. A wake of
-/// one taken from the lock list stores 0, and one of a variable's list doesn't
+/// Only who has found in its flag that it was taken from the lock list acquires as woken, by a value of 0
+/// or above 5: not who has left a list by itself, and not who was taken from a variable's list
 /// (`wakes_tell_where_they_come_from`).
 pub fn only_the_called_acquire_as_woken<C: Condition<N>, const N: usize>()
     ensures { (walk : Walk C) (found : Found) → was_woken (walk_after (got_of N walk found)) ≡ true →
-        (was_woken (Some walk) ≡ true) ⊎ ((want_of walk ≡ LoadFlag) × (found ≡ Flag 0)) }
+        (was_woken (Some walk) ≡ true) ⊎ ((value : ℕ) × (want_of walk ≡ LoadFlag) × (found ≡ Flag value) × ((value ≡ 0) ⊎ (5 < value))) }
 {}
 
-/// A wake stores 0 into the flag of one that was taken from the lock list, and 2 into that of one
-/// that was taken from a variable's list.
+/// A wake that is owed to one that was taken from the lock list stores what tells of that, and one that
+/// is owed to one that was taken from the lists of variables what doesn't; neither stores 1.
 pub fn wakes_tell_where_they_come_from<C: Condition<N>, const N: usize>()
-    ensures { (walk : Walk C) (value : ℕ) → want_of walk ≡ PayWake value → value ≡ (if calls_from_lock (Some walk) then 0 else 2) }
+    ensures { (seats : ℕ) (history : List (Event C N)) (s : LockState C N) (at : ℕ) (view : SeatView C N) →
+        IsLawful C.means seats history s → slice_get s.views at ≡ Some view → Every (Tells (calls_from_lock view.walk)) view.owed }
 {}
 
-/// Who finds its flag cleared goes to acquire.
+/// Who pays a wake pays the first that it owes: it stores what that tells into the flag of that seat, and
+/// owes the others still.
+pub fn wakes_are_paid_as_owed<C: Condition<N>, const N: usize>()
+    ensures { (old new : LockState C N) (view : SeatView C N) (found : Found) (commits : List (Event C N)) (step : Step C.means old view found new commits) → want_of step.walk ≡ PayWake →
+        (wake : Owed) × (view.owed ≡ wake ∷ step.owed) × (new.flags wake.seat ≡ wake.value) }
+{}
+
+/// Who finds its flag cleared goes to acquire: as woken where it is 0 or above 5, else fresh.
 pub fn who_was_woken_goes_to_acquire<C: Condition<N>, const N: usize>()
     ensures { (walk : Walk C) (flag : ℕ) → want_of walk ≡ LoadFlag → flag ≢ 1 →
-        (aim : Aim C) × (arrival : Arrival) × (got_of N walk (Flag flag) ≡ On (InAcquire aim (AcquireLoad arrival))) }
+        (aim : Aim C) × (arrival : Arrival) × (got_of N walk (Flag flag) ≡ On (InAcquire aim (AcquireLoad arrival))) × (is_woken arrival ≡ ((flag == 0) || nat_lt 5 flag)) }
 {}
 
 /// Who waits for the lock remembers how often it has failed: it waits with the tries with which it
 /// has queued, and is woken with those.
 pub fn failed_tries_are_remembered<C: Condition<N>, const N: usize>()
     ensures queues { (aim : Aim C) (arrival : Arrival) (last : Word) → got_of N (InAcquire aim (Queue arrival last)) Made ≡ On (InAcquire aim (AwaitWake (tries_of arrival))) }
-    ensures woken { (aim : Aim C) (tries : ℕ) → got_of N (InAcquire aim (AwaitWake tries)) (Flag 0) ≡ On (InAcquire aim (AcquireLoad (AsWoken tries))) }
+    ensures woken { (aim : Aim C) (tries flag : ℕ) → ((flag ≡ 0) ⊎ (5 < flag)) → got_of N (InAcquire aim (AwaitWake tries)) (Flag flag) ≡ On (InAcquire aim (AcquireLoad (AsWoken tries))) }
 {}
 
 /// A try is busy only where it has found a word by which it may not acquire, or its exchange has found

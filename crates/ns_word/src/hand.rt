@@ -1,17 +1,19 @@
 //! What a walk does to the queues in its hand, before it puts them back.
 
-ghost use Rattle.std.specs.Prelude.{◌≡◌, ◌<◌, ◌≤◌, ℕ, true, false, nat_lt, None, Some, [], if◌then◌else◌};
+ghost use Rattle.std.specs.Prelude.{◌≡◌, ◌<◌, ◌≤◌, ℕ, true, false, nat_lt, None, Some, [], ◌∷◌, ◌++◌, if◌then◌else◌};
 ghost use Rattle.ns_queue.specs.Queues.{IsList, cvs_without, times, waiters_of};
 ghost use Rattle.ns_queue.specs.Signals.{taken_set};
 ghost use Rattle.ns_queue.specs.Scans.{woken_of, tests_of};
 ghost use Rattle.ns_queue.specs.Waiters.{seats_of, times_in};
 ghost use Rattle.ns_word.specs.Lists.{bits_of, queued};
+ghost use Rattle.ns_word.specs.Owed.{wakes_of};
 ghost use Rattle.ns_word.specs.Places.{HasList, IsInRange};
 ghost use Rattle.ns_word.specs.Steps.{acquire_hand, release_hand, wait_hand, signal_hand, in_hand, changed, waits_at, waited_in, with_lock, taken_by, moved_to};
 ghost use Rattle.ns_word.specs.Walks.{acquire_has_queues, release_has_queues, wait_has_queues, has_queues, has_armed};
 
 use crate::acquire_walk::AcquirePlace;
 use crate::act::{Change, Waking};
+use crate::owed::{Owed, wakes};
 use crate::release_walk::ReleasePlace;
 use crate::show_walk::ShowPlace;
 use crate::signal_walk::SignalPlace;
@@ -24,7 +26,6 @@ use ns_model::event::Mode;
 use ns_queue::queues::Queues;
 use ns_queue::room::Queueable;
 use ns_queue::scan::Scan;
-use ns_queue::signal::seats;
 use ns_queue::waiter::{Waiter, Which};
 
 /// What the lock list holds.
@@ -44,7 +45,7 @@ pub fn bits<C: Queueable<N>, const N: usize>(queues: &Queues<C, N>) -> Bits
 fn queue<C: Queueable<N>, const N: usize>(queues: &mut Queues<C, N>, waiter: Waiter<C>, front: bool)
     requires below { waiter.seat < 64 }
     requires free { times waiter.seat queues.old ≡ 0 }
-    ensures { queues.new ≡ with_lock queues.old (queued waiter.seat waiter.mode waiter.cond waiter.tries front queues.old.lock) }
+    ensures { queues.new ≡ with_lock queues.old (if front then waiter ∷ queues.old.lock else queues.old.lock ++ waiter ∷ []) }
 {
     if front {
         queues.push_front(waiter);
@@ -70,6 +71,7 @@ pub fn queue_self<C: Queueable<N>, const N: usize>(
         mode,
         cond: None,
         tries: arrival.tries(),
+        via: None,
     };
     queue(queues, waiter, arrival.is_woken());
 }
@@ -111,6 +113,7 @@ fn enter<C: Queueable<N>, const N: usize>(
                 mode,
                 cond: Some(cond),
                 tries: 0,
+                via: None,
             };
             queue(queues, waiter, again);
         }
@@ -120,6 +123,7 @@ fn enter<C: Queueable<N>, const N: usize>(
                 mode,
                 cond: None,
                 tries: 0,
+                via: None,
             };
             queues.push_back(Which::Cv(k), waiter);
         }
@@ -247,9 +251,9 @@ pub fn wake_waiters<C: Queueable<N>, const N: usize>(
     waking: Waking,
     k: u8,
     held: bool,
-) -> ArrayVec<u8, 64>
+) -> ArrayVec<Owed, 64>
     requires { k < 4 }
-    ensures owed { result.items ≡ (if held then [] else seats_of (taken_by waking (waiters_of queues.old (Which.Cv k)))) }
+    ensures owed { result.items ≡ (if held then [] else wakes_of k (taken_by waking (waiters_of queues.old (Which.Cv k)))) }
     ensures lists { queues.new ≡ moved_to held (taken_by waking (waiters_of queues.old (Which.Cv k))) (cvs_without (taken_set (taken_by waking (waiters_of queues.old (Which.Cv k)))) queues.old) }
 {
     let taken = match waking {
@@ -260,7 +264,7 @@ pub fn wake_waiters<C: Queueable<N>, const N: usize>(
         queues.append(taken.as_slice());
         ArrayVec::new()
     } else {
-        seats(taken.as_slice())
+        wakes(k, taken.as_slice())
     }
 }
 

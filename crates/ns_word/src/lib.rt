@@ -36,6 +36,7 @@ pub mod codec;
 pub mod hand;
 pub mod law;
 pub mod number;
+pub mod owed;
 pub mod queue_law;
 pub mod release_walk;
 pub mod request;

@@ -1,8 +1,8 @@
 //! The lock word as its number alone, as a table of words keeps it: what is decided by it and made of it, with no
 //! word taken apart.
 //!
-//! Each function does what that of the same name of [`Word`] does, to the word that this is the number of. The
-//! values of the bits stand in `codec.rt`.
+//! What [`Word`] has a function for, the function of the same name does to the word that this is the number of. The
+//! others make the number of a word, read a part of it, or change one. The values of the bits stand in `codec.rt`.
 
 ghost use Rattle.std.specs.Prelude.{◌≡◌, ◌<◌, ◌+◌, ◌-◌};
 ghost use Rattle.ns_word.specs.Codec.{number_of, word_of, IsPackable};

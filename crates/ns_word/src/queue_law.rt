@@ -48,5 +48,5 @@ pub fn who_waits_stands_in_its_place<C: Condition<N>, const N: usize>()
 pub fn the_taken_are_moved_or_called<C: Condition<N>, const N: usize>()
     ensures { (old new : LockState C N) (view : SeatView C N) (commits : List (Event C N)) (waking : Waking) (k : ℕ) (last : Word) (owes : Bool) →
         (step : Step C.means old view (Woke owes) new commits) → step.walk ≡ InSignal waking k (WakeAndReturn last) →
-        AreCalled (is_held last) (taken_by waking (waiters_of old.lists (Cv k))) old.lists.lock new.lists.lock step.owed }
+        AreCalled (is_held last) k (taken_by waking (waiters_of old.lists (Cv k))) old.lists.lock new.lists.lock step.owed }
 {}

@@ -71,7 +71,7 @@ impl ReleasePlace {
             ReleasePlace::TakeToScan(last) => Act::TakeQueues(Taking::ToChange, last),
             ReleasePlace::ScanCells(_, i) => Act::LoadCell(i),
             ReleasePlace::ScanAndRelease(last) => Act::ReleaseReturning(releasing, last),
-            ReleasePlace::Pay => Act::PayWake(0),
+            ReleasePlace::Pay => Act::PayWake,
         }
     }
 

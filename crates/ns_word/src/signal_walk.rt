@@ -1,5 +1,5 @@
-//! A signal and a broadcast of a condition variable: the waiters are taken from its list, and moved
-//! to the lock list where the lock is held, else woken.
+//! A signal and a broadcast of a condition variable: waiters of its list are taken from all variables'
+//! lists, and moved to the lock list where the lock is held, else woken.
 
 ghost use Rattle.std.specs.Prelude.{◌≡◌};
 ghost use Rattle.ns_word.specs.Walks.{want_signaling, got_signaling, signal_by, pay_woken};
@@ -55,7 +55,7 @@ impl SignalPlace {
             SignalPlace::WakeAndReturn(last) => {
                 Act::ReturnQueues(Change::WakeWaiters(waking, k), last)
             }
-            SignalPlace::PayTheWoken => Act::PayWake(2),
+            SignalPlace::PayTheWoken => Act::PayWake,
         }
     }
 

@@ -2,6 +2,7 @@
 
 ghost use Rattle.std.specs.Prelude.{◌≡◌, ⊤};
 
+use crate::owed::Owed;
 use crate::wait::{Outcome, Subject};
 use crate::walk::Walk;
 use ns_model::event::Mode;
@@ -63,6 +64,6 @@ pub struct SeatView<C, const N: usize> {
     pub walk: Option<Walk<C>>,
     /// Its section, if it has one in hand.
     pub held: Option<Held<C, N>>,
-    /// The seats that it owes a wake, in the order in which it pays them.
-    pub owed: LinkedList<u8>,
+    /// The wakes that it owes, in the order in which it pays them.
+    pub owed: LinkedList<Owed>,
 }

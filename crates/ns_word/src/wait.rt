@@ -3,6 +3,7 @@
 ghost use Rattle.std.specs.Prelude.{◌≡◌, ⊤};
 ghost use Rattle.ns_word.specs.Waits.{answer_of, answer_of_wait, arrival_of, home_of, mode_for, outcome_taken, woken_by};
 
+use crate::owed::is_from_lock;
 use crate::word::{Arrival, Word};
 use ns_env::limits::{Cause, Limits};
 use ns_model::event::{Answer, Mode};
@@ -163,7 +164,7 @@ impl Outcome {
 pub fn arrival_of(tries: u8, flag: u8) -> Arrival
     ensures { result ≡ arrival_of tries flag }
 {
-    if flag == 0 {
+    if is_from_lock(flag) {
         Arrival::AsWoken(tries)
     } else {
         Arrival::AsFresh

@@ -14,7 +14,7 @@
 //! | | `LoadToScan` | waits for a variable, has the queues, its flag is set | load each cell | after the last `QueueToWait` |
 //! | | `QueueToWait` | has the queues, its flag is set | put back what a scan leaves, with oneself in the lock list, at the back, or at the front if again, or at the back of the variable's list; release, and commit if not again | `PayInWait` if the scan took somebody, else `AwaitWakeInWait` |
 //! | outside: waits | `PayInWait` | owes wakes | clear the flag of the next who is owed one | again while wakes are owed, then `AwaitWakeInWait` |
-//! | | `AwaitWakeInWait` | | load one's own flag | cleared: `AcquireLoad`, woken from the lock list if the flag is 0, else fresh, to come back; else `LookOut`, or idle and again if nothing may end the wait early |
+//! | | `AwaitWakeInWait` | | load one's own flag | cleared: `AcquireLoad`, as woken if the flag tells that it was taken from the lock list, else fresh, to come back; else `LookOut`, or idle and again if nothing may end the wait early |
 //! | | `LookOut` | | look | what is shown is kept: `LeaveLoad`; nothing: idle, and `AwaitWakeInWait` again |
 //! | **leaving**: waits, and has kept a cause | `LeaveLoad` | | load the word | `TakeToLeave`; idle, and again while another has the queues |
 //! | | `TakeToLeave` | nobody has the queues | set the spinlock bit | `Leave` |
@@ -280,7 +280,7 @@ impl WaitPlace {
             WaitPlace::TestCells(_, i) => Act::LoadCell(i),
             WaitPlace::TestLast(_, i) => judge(wait.on, i),
             WaitPlace::InQueuing(again, place) => place.want(wait, again),
-            WaitPlace::PayInWait => Act::PayWake(0),
+            WaitPlace::PayInWait => Act::PayWake,
             WaitPlace::AwaitWakeInWait => Act::LoadFlag,
             WaitPlace::LookOut => Act::Look(wait.limits, false),
             WaitPlace::InLeaving(_, place) => place.want(wait),

@@ -29,7 +29,7 @@
 //! | **signal**, and broadcast: a section or none | `SignalLoad` | | load the word | `TakeToWake`; idle, and again while another has the queues |
 //! | | `TakeToWake` | nobody has the queues | set the spinlock bit | `WakeAndReturn` |
 //! | | `WakeAndReturn` | has the queues | put back what is left once the waiters are taken, and commit whom it took: moved to the lock list where the word put back is held, else owed their wakes | `PayTheWoken` if wakes are owed, else `Succeeded` |
-//! | | `PayTheWoken` | owes wakes | clear the flag of the next who is owed one, to 2 | again while wakes are owed, then `Succeeded` |
+//! | | `PayTheWoken` | owes wakes | clear the flag of the next who is owed one, to 2 and the variable's number | again while wakes are owed, then `Succeeded` |
 //! | **show**: a section or none | `ShowLoad` | | load the word | `TakeToShow`; idle, and again while another has the queues |
 //! | | `TakeToShow` | nobody has the queues | set the spinlock bit | `ReturnShown`; what is shown is the word that this exchange compared, and the lists of that state |
 //! | | `ReturnShown` | has the queues | put them back as they were, and clear the spinlock bit | `Succeeded` |

@@ -3,6 +3,7 @@ use Rattle.std.proofs.Common.{◌≡◌, ℕ, ◌-◌, ◌<◌, ◌≤◌, Bool,
 use Rattle.std.proofs.lemmas.Bool.Decides.{nat_tests}
 use Rattle.ns_model.specs.declared.event.Mode.{Mode}
 use Rattle.ns_model.specs.declared.event.Mode.TheVariants.{Write, Read}
+use Rattle.ns_word.specs.declared.owed.Owed.{Owed}
 use Rattle.ns_word.specs.declared.view.Held.{Held}
 use Rattle.ns_word.specs.declared.word.Releasing.TheVariants.{Writer, Reader}
 use Rattle.ns_env.specs.declared.limits.Limits.{Limits}
@@ -38,7 +39,7 @@ StartFits {C} {N} truths notes (OnLock walk) held = IsFirst N walk × PlaceFits 
 StartFits truths notes (Ask walk) held = IsFirstAsk notes walk
 StartFits truths notes (OnObjects walk) held = Unit {0}
 
-owes_more : (few many : ℕ) (owed : List ℕ) → few ≤ many → OwesOne few owed → OwesOne many owed
+owes_more : (few many : ℕ) (owed : List Owed) → few ≤ many → OwesOne few owed → OwesOne many owed
 owes_more few many [] le p = p
 owes_more few many (x ∷ xs) le p = omega (arith, le, p)
 
@@ -125,6 +126,6 @@ module _ {C : Type 0} {N : ℕ} (truths : Truths C) where
   fits_more few many seat (JudgeMet i c) part le p = p
   fits_more few many seat (StoreCell i v) part le p = p
   fits_more few many seat ArmFlag part le p = omega (arith, le, p)
-  fits_more few many seat (PayWake value) part le p = owes_more few many part.owed le p
+  fits_more few many seat PayWake part le p = owes_more few many part.owed le p
   fits_more few many seat LoadFlag part le p = omega (arith, le, p)
   fits_more few many seat (Look limits again) part le p = p

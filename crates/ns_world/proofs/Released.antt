@@ -10,6 +10,9 @@ use Rattle.ns_queue.specs.declared.waiter.Which.TheVariants.{Lock}
 use Rattle.ns_queue.specs.Queues.{Lists, with_waiters}
 use Rattle.ns_queue.specs.Waiters.{seats_of}
 use Rattle.ns_queue.specs.Scans.{woken_of, left_of, tests_of}
+use Rattle.ns_word.specs.Owed.{called_by, called_of}
+use Rattle.ns_word.proofs.Scans.{called_seats}
+use Rattle.ns_word.specs.declared.owed.Owed.{Owed}
 use Rattle.ns_word.specs.declared.word.Word.{Word}
 use Rattle.ns_word.specs.declared.word.Bits.{Bits}
 use Rattle.ns_word.specs.declared.word.Releasing.{Releasing}
@@ -28,7 +31,15 @@ pub some_left : {A : Type 0} (xs : List A) → not (length xs == 0) ≡ has_some
 some_left [] = refl
 some_left (x ∷ xs) = rw (ne_eqb (length (x ∷ xs)) 0 (λ e. absurd (omega (arith, e)))) refl
 
-pub some_seats : {C : Type 0} (ws : List (Waiter C)) → has_some (seats_of ws) ≡ has_some ws
+-- those whom a scan told are owed wakes, and are as many
+pub some_called : (seats : List ℕ) (owed : List Owed) → owed ≡ called_by seats → has_some seats ≡ has_some owed
+some_called [] owed is = rw is refl
+some_called (seat ∷ seats) owed is = rw is refl
+
+pub are_called : {C : Type 0} (seats : List ℕ) (owed : List Owed) (ws : List (Waiter C)) → owed ≡ called_by seats → seats ≡ seats_of ws → owed ≡ called_of ws
+are_called seats owed ws is told = is ∙ ap called_by told ∙ called_seats ws
+
+pub some_seats : {C : Type 0} (ws : List (Waiter C)) → has_some (called_of ws) ≡ has_some ws
 some_seats [] = refl
 some_seats (w ∷ ws) = refl
 
@@ -38,7 +49,7 @@ can_some truths releasing None can = absurd can
 can_some truths releasing (Some held) can = refl
 
 module _ {C : Type 0} {N : ℕ} (truths : Truths C) (seat : ℕ) (releasing : Releasing) (last word word' : Word) (row : List ℕ) (flags : List ℕ) (h h' : List (Event C N)) where
-  pub released : (queues : Lists C) (owed : List ℕ) (held held' : Option (Held C N)) → CanLeave truths releasing held → IfSome held (λ section. h' ≡ h ++ section_of truths.holds seat section Plain ∷ []) →
+  pub released : (queues : Lists C) (owed : List Owed) (held held' : Option (Held C N)) → CanLeave truths releasing held → IfSome held (λ section. h' ≡ h ++ section_of truths.holds seat section Plain ∷ []) →
       word ≡ last → word' ≡ word_released releasing last → held' ≡ None →
       Makes truths seat (Release releasing last) (part word row queues flags held owed) h Made (part word' row queues flags held' owed) h'
   released queues owed None held' can grows same becomes over = absurd can
@@ -48,9 +59,9 @@ module _ {C : Type 0} {N : ℕ} (truths : Truths C) (seat : ℕ) (releasing : Re
     grows = grows;
   }
 
-  pub scanned : (queues queues' : Lists C) (owed owed' : List ℕ) (held held' : Option (Held C N)) (owes : Bool) (tests : ℕ) (bits : Bits) → CanLeave truths releasing held → IfSome held (λ section. h' ≡ h ++ section_of truths.holds seat section Plain ∷ []) →
+  pub scanned : (queues queues' : Lists C) (owed owed' : List Owed) (held held' : Option (Held C N)) (owes : Bool) (tests : ℕ) (bits : Bits) → CanLeave truths releasing held → IfSome held (λ section. h' ≡ h ++ section_of truths.holds seat section Plain ∷ []) →
       word ≡ last → word' ≡ word_released_returning releasing owes bits last → held' ≡ None →
-      queues' ≡ with_waiters queues Lock (left_of (meets_at truths row) queues.lock) → owed' ≡ seats_of (woken_of (meets_at truths row) queues.lock) →
+      queues' ≡ with_waiters queues Lock (left_of (meets_at truths row) queues.lock) → owed' ≡ called_of (woken_of (meets_at truths row) queues.lock) →
       owes ≡ has_some owed' → bits ≡ bits_of queues'.lock → tests ≡ tests_of truths.same (meets_at truths row) queues.lock →
       Makes truths seat (ReleaseReturning releasing last) (part word row queues flags held owed) h (Scanned owes tests) (part word' row queues' flags held' owed') h'
   scanned queues queues' owed owed' None held' owes tests bits can grows same becomes over left woken some tell count = absurd can
@@ -63,11 +74,11 @@ module _ {C : Type 0} {N : ℕ} (truths : Truths C) (seat : ℕ) (releasing : Re
       }
 
   -- one that failed
-  pub missed : (queues : Lists C) (owed : List ℕ) (held : Option (Held C N)) → word ≢ last →
+  pub missed : (queues : Lists C) (owed : List Owed) (held : Option (Held C N)) → word ≢ last →
       Makes truths seat (ReleaseReturning releasing last) (part word row queues flags held owed) h (Saw word) (part word row queues flags held owed) h
   missed queues owed held other = record { commits = []; effect = (refl, other, refl, refl); grows = sym (append-nil h) }
 
 -- a release without a scan that failed
-pub release_missed : {C : Type 0} {N : ℕ} (truths : Truths C) (seat : ℕ) (releasing : Releasing) (last word : Word) (row flags owed : List ℕ) (h : List (Event C N)) (queues : Lists C) (held : Option (Held C N)) → word ≢ last →
+pub release_missed : {C : Type 0} {N : ℕ} (truths : Truths C) (seat : ℕ) (releasing : Releasing) (last word : Word) (row flags : List ℕ) (owed : List Owed) (h : List (Event C N)) (queues : Lists C) (held : Option (Held C N)) → word ≢ last →
     Makes truths seat (Release releasing last) (part word row queues flags held owed) h (Saw word) (part word row queues flags held owed) h
 release_missed truths seat releasing last word row flags owed h queues held other = record { commits = []; effect = (refl, other, refl, refl); grows = sym (append-nil h) }

@@ -7,15 +7,15 @@ use Rattle.ns_word.specs.Walks.{has_queues}
 use Rattle.ns_model.specs.Truths.{Truths}
 use Rattle.ns_world.specs.declared.seat.Seat.{Seat}
 use Rattle.ns_world.specs.Performs.{view_of}
-use Rattle.ns_world.specs.Shows.{hand_of, lists_by, wakes_of, wakes_owed}
+use Rattle.ns_world.specs.Shows.{hand_of, lists_by, wakes_by, wakes_owed}
 
 module _ {C : Type 0} {N : ℕ} (seats : List (Seat C N)) (i : ℕ) (seat : Seat C N) (within : i < length seats) (is : seat ≡ get_or seats i seat) where
-  pub wakes_more : wakes_owed (map view_of (take (i + 1) seats)) ≡ wakes_owed (map view_of (take i seats)) ++ map (λ woken. (seat.number, woken)) seat.owed.items
+  pub wakes_more : wakes_owed (map view_of (take (i + 1) seats)) ≡ wakes_owed (map view_of (take i seats)) ++ map (λ wake. (seat.number, wake.seat)) seat.owed.items
   wakes_more =
       ap (λ xs. wakes_owed (map view_of xs)) (take_more seats i seat within ∙ ap (λ s. take i seats ++ s ∷ []) (sym is))
       ∙ ap wakes_owed (map-append view_of (take i seats) (seat ∷ []))
-      ∙ flat_map-append wakes_of (map view_of (take i seats)) (view_of seat ∷ [])
-      ∙ ap (λ ws. wakes_owed (map view_of (take i seats)) ++ ws) (append-nil (wakes_of (view_of seat)))
+      ∙ flat_map-append wakes_by (map view_of (take i seats)) (view_of seat ∷ [])
+      ∙ ap (λ ws. wakes_owed (map view_of (take i seats)) ++ ws) (append-nil (wakes_by (view_of seat)))
 
   module _ (truths : Truths C) (row : List ℕ) (lists : Lists C) where
     apart : drop i seats ≡ seat ∷ drop (suc i) seats
@@ -37,7 +37,7 @@ pub wakes_front : {C : Type 0} {N : ℕ} (seats : List (Seat C N)) (i : ℕ) →
 wakes_front seats i =
     let all : wakes_owed (map view_of seats) ≡ wakes_owed (map view_of (take i seats)) ++ wakes_owed (map view_of (drop i seats)) =
     ap (λ xs. wakes_owed (map view_of xs)) (sym (take-append-drop i seats)) ∙ ap wakes_owed (map-append view_of (take i seats) (drop i seats))
-    ∙ flat_map-append wakes_of (map view_of (take i seats)) (map view_of (drop i seats)) in
+    ∙ flat_map-append wakes_by (map view_of (take i seats)) (map view_of (drop i seats)) in
     let long : length (wakes_owed (map view_of seats)) ≡ length (wakes_owed (map view_of (take i seats))) + length (wakes_owed (map view_of (drop i seats))) = ap length all ∙ length-append _ _ in
     omega (arith, long)
 

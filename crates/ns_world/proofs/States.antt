@@ -9,11 +9,12 @@ use Rattle.ns_queue.specs.declared.waiter.Waiter.{Waiter}
 use Rattle.ns_queue.specs.Queues.{Lists, times}
 use Rattle.ns_queue.specs.Waiters.{times_in}
 use Rattle.ns_queue.proofs.Seats.{times_in-cons, few}
+use Rattle.ns_word.specs.declared.owed.Owed.{Owed}
 use Rattle.ns_word.specs.declared.word.Word.{Word}
 use Rattle.ns_word.specs.declared.view.SeatView.{SeatView}
 use Rattle.ns_word.specs.declared.walk.Walk.{Walk}
 use Rattle.ns_word.specs.Places.{HasList}
-use Rattle.ns_word.specs.Lists.{times_among}
+use Rattle.ns_word.specs.Owed.{times_among}
 use Rattle.ns_word.specs.Walks.{has_armed}
 use Rattle.ns_word.specs.Views.{owed_to, walk_at}
 use Rattle.ns_model.specs.Truths.{Truths}
@@ -63,15 +64,15 @@ module _ {C : Type 0} {N : ℕ} (truths : Truths C) (word : Word) (row : List �
 
 -- ---- the wakes that are owed
 
-abbrev wake : {C : Type 0} → ℕ → Waiter C
-wake woken = record { seat = woken; mode = Read; cond = None; tries = 0 }
+abbrev wake : {C : Type 0} → Owed → Waiter C
+wake owed = record { seat = owed.seat; mode = Read; cond = None; tries = 0; via = None }
 
 -- as many waiters as wakes
 owing : {C : Type 0} {N : ℕ} → List (SeatView C N) → List (Waiter C)
 owing [] = []
 owing (view ∷ views) = map wake view.owed ++ owing views
 
-times_front : {C : Type 0} (seat : ℕ) (owed : List ℕ) (rest : List (Waiter C)) → times_in seat (map wake owed ++ rest) ≡ times_among seat owed + times_in seat rest
+times_front : {C : Type 0} (seat : ℕ) (owed : List Owed) (rest : List (Waiter C)) → times_in seat (map wake owed ++ rest) ≡ times_among seat owed + times_in seat rest
 times_front seat [] rest = omega arith
 times_front {C} seat (x ∷ xs) rest =
     let more = times_in-cons seat (wake {C = C} x) (map (wake {C = C}) xs ++ rest) in
@@ -89,8 +90,8 @@ module _ {C : Type 0} {N : ℕ} where
   length_owing [] = refl
   length_owing (view ∷ views) =
       length-append (map (wake {C = C}) view.owed) (owing views) ∙ ap (λ n. length (map (wake {C = C}) view.owed) + n) (length_owing views)
-      ∙ ap (λ n. n + length (wakes_owed views)) (length-map view.owed (wake {C = C}) ∙ sym (length-map view.owed (λ woken. (view.seat, woken))))
-      ∙ sym (length-append (map (λ woken. (view.seat, woken)) view.owed) (wakes_owed views))
+      ∙ ap (λ n. n + length (wakes_owed views)) (length-map view.owed (wake {C = C}) ∙ sym (length-map view.owed (λ wake. (view.seat, wake.seat))))
+      ∙ sym (length-append (map (λ wake. (view.seat, wake.seat)) view.owed) (wakes_owed views))
 
   -- a number that is no seat's is owed nothing
   none_owed : (truths : Truths C) (seats : ℕ) (h : List (Event C N)) (s : LockState C N) → IsLawful truths seats h s → (seat : ℕ) → seats ≤ seat → owed_to seat s.views ≡ 0

@@ -12,6 +12,7 @@ use Rattle.ns_model.specs.Truths.{Truths}
 use Rattle.ns_model.specs.declared.environment.EnvEvent.{EnvEvent}
 use Rattle.ns_model.specs.declared.event.Event.{Event}
 use Rattle.ns_model.specs.declared.event.Mode.{Mode}
+use Rattle.ns_word.specs.declared.owed.Owed.{Owed}
 use Rattle.ns_word.proofs.Asked.{quiet_asks, test_asks}
 use Rattle.ns_word.proofs.Calls.{looks_by_asked}
 use Rattle.ns_word.proofs.Courses.{takes_on, begins_unchanged}
@@ -278,7 +279,7 @@ module _ (C : Type 0) (N : ℕ) (before : Now C N) (earlier : List EnvEvent) (se
   shows_not truths (JudgeMet i c) old shown new commits none e = e
   shows_not truths (StoreCell i v) old shown new commits none e = e
   shows_not truths ArmFlag old shown new commits none e = e
-  shows_not truths (PayWake value) old shown new commits none e = e
+  shows_not truths PayWake old shown new commits none e = e
   shows_not truths LoadFlag old shown new commits none e = e
   shows_not truths (Look limits again) old shown new commits none e = absurd (cc)
 
@@ -288,7 +289,7 @@ module _ (C : Type 0) (N : ℕ) (before : Now C N) (earlier : List EnvEvent) (se
 
   -- where a step of the seat leads a call on the lock, by the next place
   module _ (request : Request C) (events : List EnvEvent) (new : Now C N) (course : Course C N) (began : course.began ≡ held_at before seat) (added : own new.history seat ≡ own before.history seat ++ course.committed) (shown : WasShown earlier events (limits_of request) course.looked) (still : env_own events seat ≡ env_own earlier seat) where
-    goes_on : (number : ℕ) (walk : Walk C) (held : Option (Held C N)) (owed : List ℕ) → GoesOn new.truths seat request course walk held → slice_get new.state.views seat ≡ Some (record { seat = number; walk = Some walk; held = held; owed = owed }) →
+    goes_on : (number : ℕ) (walk : Walk C) (held : Option (Held C N)) (owed : List Owed) → GoesOn new.truths seat request course walk held → slice_get new.state.views seat ≡ Some (record { seat = number; walk = Some walk; held = held; owed = owed }) →
         slice_get new.asking seat ≡ Some (look_of (Some walk)) → LookSoFar earlier seat events (look_of (Some walk)) → LockUnderway request events new
     goes_on number walk held owed goes at asks looking = record {
       view = record { seat = number; walk = Some walk; held = held; owed = owed };
@@ -307,7 +308,7 @@ module _ (C : Type 0) (N : ℕ) (before : Now C N) (earlier : List EnvEvent) (se
       still = still;
     }
 
-    settles : (number : ℕ) (next : Next C) (held : Option (Held C N)) (owed : List ℕ) → CallGoes new.truths seat (row_after new.history) request course next held → slice_get new.state.views seat ≡ Some (record { seat = number; walk = walk_after next; held = held; owed = owed }) →
+    settles : (number : ℕ) (next : Next C) (held : Option (Held C N)) (owed : List Owed) → CallGoes new.truths seat (row_after new.history) request course next held → slice_get new.state.views seat ≡ Some (record { seat = number; walk = walk_after next; held = held; owed = owed }) →
         slice_get new.asking seat ≡ Some (look_of (walk_after next)) → LookSoFar earlier seat events (look_of (walk_after next)) → Outcome (OfLock request) (step_of next) events new
     settles number (On walk) held owed goes at asks looking = goes_on number walk held owed goes at asks looking
     settles number (TheNext.Idle walk) held owed goes at asks looking = goes_on number walk held owed goes at asks looking
@@ -367,7 +368,7 @@ module _ (C : Type 0) (N : ℕ) (before : Now C N) (earlier : List EnvEvent) (se
   is_look (JudgeMet i c) limits e = absurd (cc)
   is_look (StoreCell i v) limits e = absurd (cc)
   is_look ArmFlag limits e = absurd (cc)
-  is_look (PayWake value) limits e = absurd (cc)
+  is_look PayWake limits e = absurd (cc)
   is_look LoadFlag limits e = absurd (cc)
   is_look (Look by again) limits e = let same : by ≡ limits = cc in (again, ap (λ l. Look l again) same)
 

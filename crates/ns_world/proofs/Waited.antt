@@ -13,6 +13,8 @@ use Rattle.ns_queue.specs.Queues.{cvs_without, Lists, waiters_of, with_waiters}
 use Rattle.ns_queue.specs.Signals.{taken_set}
 use Rattle.ns_queue.specs.Waiters.{seats_of, times_in}
 use Rattle.ns_queue.specs.Scans.{woken_of, tests_of}
+use Rattle.ns_word.specs.Owed.{called_of, wakes_of}
+use Rattle.ns_word.specs.declared.owed.Owed.{Owed}
 use Rattle.ns_word.specs.declared.word.Word.{Word}
 use Rattle.ns_word.specs.declared.word.Bits.{Bits}
 use Rattle.ns_word.specs.declared.wait.Subject.{Subject}
@@ -35,13 +37,13 @@ use Rattle.ns_word.proofs.Scans.{some_seats}
 use Rattle.ns_world.specs.Performs.{part, Makes}
 
 -- one that queues put the queues back
-pub queued_back : {C : Type 0} {N : ℕ} (truths : Truths C) (seat : ℕ) (mode : Mode) (arrival : Arrival) (last word word' : Word) (row flags owed : List ℕ) (held : Option (Held C N)) (queues queues' : Lists C) (bits : Bits) →
+pub queued_back : {C : Type 0} {N : ℕ} (truths : Truths C) (seat : ℕ) (mode : Mode) (arrival : Arrival) (last word word' : Word) (row flags : List ℕ) (owed : List Owed) (held : Option (Held C N)) (queues queues' : Lists C) (bits : Bits) →
     last ≡ word → queues' ≡ changed seat (QueueSelf mode arrival) last queues → bits ≡ bits_of queues'.lock → word' ≡ word_returned false bits last →
     Effect truths seat (ReturnQueues (QueueSelf mode arrival) last) (part word row queues flags held owed) Made (part word' row queues' flags held owed) []
 queued_back truths seat mode arrival last word word' row flags owed held queues queues' bits same lists tell becomes = (refl, same, rw (becomes, tell, lists) refl, refl)
 
 -- one that has changed nothing put them back
-pub unchanged_back : {C : Type 0} {N : ℕ} (truths : Truths C) (seat : ℕ) (last word word' : Word) (row flags owed : List ℕ) (held : Option (Held C N)) (queues : Lists C) (bits : Bits) →
+pub unchanged_back : {C : Type 0} {N : ℕ} (truths : Truths C) (seat : ℕ) (last word word' : Word) (row flags : List ℕ) (owed : List Owed) (held : Option (Held C N)) (queues : Lists C) (bits : Bits) →
     last ≡ word → bits ≡ bits_of queues.lock → word' ≡ word_returned false bits last →
     Effect truths seat (ReturnQueues Nothing last) (part word row queues flags held owed) Made (part word' row queues flags held owed) []
 unchanged_back truths seat last word word' row flags owed held queues bits same tell becomes = (refl, same, rw (becomes, tell) refl, refl)
@@ -54,7 +56,7 @@ some_taken Broadcasting ws = refl
 
 module _ {C : Type 0} {N : ℕ} (truths : Truths C) (seat : ℕ) (last word : Word) (row flags : List ℕ) (h : List (Event C N)) where
   -- one that leaves put them back
-  pub left_back : (which : Which) (word' : Word) (h' : List (Event C N)) (owed : List ℕ) (held : Option (Held C N)) (queues queues' : Lists C) (stood : Bool) (bits : Bits) →
+  pub left_back : (which : Which) (word' : Word) (h' : List (Event C N)) (owed : List Owed) (held : Option (Held C N)) (queues queues' : Lists C) (stood : Bool) (bits : Bits) →
       last ≡ word → h' ≡ h ++ change_commits seat (LeaveSelf which) queues → stood ≡ nat_lt 0 (times_in seat (waiters_of queues which)) → queues' ≡ changed seat (LeaveSelf which) last queues → bits ≡ bits_of queues'.lock → word' ≡ word_returned false bits last →
       Makes truths seat (ReturnQueues (LeaveSelf which) last) (part word row queues flags held owed) h (Left stood) (part word' row queues' flags held owed) h'
   left_back which word' h' owed held queues queues' stood bits same grows stands lists tell becomes = record {
@@ -64,9 +66,9 @@ module _ {C : Type 0} {N : ℕ} (truths : Truths C) (seat : ℕ) (last word : Wo
   }
 
   -- and one that wakes
-  pub woken_back : (waking : Waking) (k : ℕ) (word' : Word) (h' : List (Event C N)) (owed owed' : List ℕ) (held : Option (Held C N)) (queues queues' : Lists C) (is some : Bool) (bits : Bits) →
+  pub woken_back : (waking : Waking) (k : ℕ) (word' : Word) (h' : List (Event C N)) (owed owed' : List Owed) (held : Option (Held C N)) (queues queues' : Lists C) (is some : Bool) (bits : Bits) →
       last ≡ word → h' ≡ h ++ change_commits seat (WakeWaiters waking k) queues → is ≡ is_held last → some ≡ has_some (waiters_of queues (Cv k)) →
-      owed' ≡ (if is then [] else seats_of (taken_by waking (waiters_of queues (Cv k)))) →
+      owed' ≡ (if is then [] else wakes_of k (taken_by waking (waiters_of queues (Cv k)))) →
       queues' ≡ moved_to is (taken_by waking (waiters_of queues (Cv k))) (cvs_without (taken_set (taken_by waking (waiters_of queues (Cv k)))) queues) →
       bits ≡ bits_of queues'.lock → word' ≡ word_returned (is && some) bits last →
       Makes truths seat (ReturnQueues (WakeWaiters waking k) last) (part word row queues flags held owed) h (Woke (not is && some)) (part word' row queues' flags held owed') h'
@@ -79,12 +81,12 @@ module _ {C : Type 0} {N : ℕ} (truths : Truths C) (seat : ℕ) (last word : Wo
       }
 
   -- an exchange that failed
-  pub change_missed : (change : Change) (owed : List ℕ) (held : Option (Held C N)) (queues : Lists C) → word ≢ last →
+  pub change_missed : (change : Change) (owed : List Owed) (held : Option (Held C N)) (queues : Lists C) → word ≢ last →
       Makes truths seat (ReturnQueues change last) (part word row queues flags held owed) h (Saw word) (part word row queues flags held owed) h
   change_missed change owed held queues other = record { commits = []; effect = (refl, other, refl, refl); grows = sym (append-nil h) }
 
 -- what a change needs is of the lists alone
-pub fits_there : {C : Type 0} {N : ℕ} (seat : ℕ) (change : Change) (word : Word) (row row' flags flags' : List ℕ) (held : Option (Held C N)) (owed : List ℕ) (queues : Lists C) → ChangeFits seat change (part word row queues flags held owed) → ChangeFits seat change (part word row' queues flags' held owed)
+pub fits_there : {C : Type 0} {N : ℕ} (seat : ℕ) (change : Change) (word : Word) (row row' flags flags' : List ℕ) (held : Option (Held C N)) (owed : List Owed) (queues : Lists C) → ChangeFits seat change (part word row queues flags held owed) → ChangeFits seat change (part word row' queues flags' held owed)
 fits_there seat (QueueSelf mode arrival) word row row' flags flags' held owed queues p = p
 fits_there seat (LeaveSelf which) word row row' flags flags' held owed queues p = p
 fits_there seat (WakeWaiters waking k) word row row' flags flags' held owed queues p = p
@@ -125,9 +127,9 @@ module _ {C : Type 0} {N : ℕ} (truths : Truths C) (seat : ℕ) (wait : Wait C)
   abbrev commits_of : Held C N → List (Event C N)
   commits_of held = if again then [] else section_of truths.holds seat held (exit_for wait.on) ∷ []
 
-  pub waited : (queues queues' : Lists C) (owed owed' : List ℕ) (held held' : Option (Held C N)) (owes : Bool) (tests : ℕ) (bits : Bits) → CanWait truths wait again held → IfSome held (λ section. h' ≡ h ++ commits_of section) →
+  pub waited : (queues queues' : Lists C) (owed owed' : List Owed) (held held' : Option (Held C N)) (owes : Bool) (tests : ℕ) (bits : Bits) → CanWait truths wait again held → IfSome held (λ section. h' ≡ h ++ commits_of section) →
       word ≡ last → word' ≡ word_released_returning (releasing_of wait.mode) owes bits last → held' ≡ None →
-      queues' ≡ waited_in truths seat wait again row queues → owed' ≡ seats_of (woken_of (meets_at truths row) queues.lock) →
+      queues' ≡ waited_in truths seat wait again row queues → owed' ≡ called_of (woken_of (meets_at truths row) queues.lock) →
       owes ≡ has_some owed' → bits ≡ bits_of queues'.lock → tests ≡ tests_of truths.same (meets_at truths row) queues.lock →
       Makes truths seat (WaitReturning wait again last) (part word row queues flags held owed) h (Scanned owes tests) (part word' row queues' flags held' owed') h'
   waited queues queues' owed owed' None held' owes tests bits can grows same becomes over lists woken some tell count = absurd can
@@ -140,6 +142,6 @@ module _ {C : Type 0} {N : ℕ} (truths : Truths C) (seat : ℕ) (wait : Wait C)
       }
 
   -- one that failed
-  pub wait_missed : (queues : Lists C) (owed : List ℕ) (held : Option (Held C N)) → word ≢ last →
+  pub wait_missed : (queues : Lists C) (owed : List Owed) (held : Option (Held C N)) → word ≢ last →
       Makes truths seat (WaitReturning wait again last) (part word row queues flags held owed) h (Saw word) (part word row queues flags held owed) h
   wait_missed queues owed held other = record { commits = []; effect = (refl, other, refl, refl); grows = sym (append-nil h) }

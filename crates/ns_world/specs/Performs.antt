@@ -2,6 +2,7 @@
 use Rattle.std.specs.Prelude.{◌≡◌, ℕ, List, ◌++◌, Option, get_or}
 use Rattle.ns_model.specs.declared.event.Event.{Event}
 use Rattle.ns_queue.specs.Queues.{Lists}
+use Rattle.ns_word.specs.declared.owed.Owed.{Owed}
 use Rattle.ns_word.specs.declared.word.Word.{Word}
 use Rattle.ns_word.specs.declared.view.Held.{Held}
 use Rattle.ns_word.specs.declared.view.SeatView.{SeatView}
@@ -31,7 +32,7 @@ abbrev pub flag_at : List ℕ → ℕ → ℕ
 flag_at flags seat = get_or flags seat 0
 
 -- the parts of a world that one step of one seat reads and writes, as the machine sees them
-abbrev pub part : {C : Type 0} {N : ℕ} → Word → List ℕ → Lists C → List ℕ → Option (Held C N) → List ℕ → Part C N
+abbrev pub part : {C : Type 0} {N : ℕ} → Word → List ℕ → Lists C → List ℕ → Option (Held C N) → List Owed → Part C N
 part word row queues flags held owed = record { word = word; row = row; lists = queues; flags = flag_at flags; held = held; owed = owed }
 
 -- the act was made, and what it commits stands at the end of the history

@@ -24,9 +24,9 @@ abbrev pub lists_shown : {C : Type 0} {N : ℕ} → Now C N → Lists C
 lists_shown world = lists_by world.truths world.state.row world.state.lists world.state.views
 
 -- the wakes that a seat owes, in the order in which it pays
-abbrev pub wakes_of : {C : Type 0} {N : ℕ} → SeatView C N → List (ℕ × ℕ)
-wakes_of view = map (λ woken. (view.seat, woken)) view.owed
+abbrev pub wakes_by : {C : Type 0} {N : ℕ} → SeatView C N → List (ℕ × ℕ)
+wakes_by view = map (λ wake. (view.seat, wake.seat)) view.owed
 
 -- the wakes that the seats owe, who and whom, seat by seat
 abbrev pub wakes_owed : {C : Type 0} {N : ℕ} → List (SeatView C N) → List (ℕ × ℕ)
-wakes_owed views = flat_map wakes_of views
+wakes_owed views = flat_map wakes_by views

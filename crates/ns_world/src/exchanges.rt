@@ -3,6 +3,7 @@
 
 ghost use Rattle.std.specs.Prelude.{◌≡◌, ◌<◌, ◌++◌, ◌∷◌, ℕ, true, false, None, List, [], IsSome, IfSome, IfOk, OnOk, OnErr, if◌then◌else◌};
 ghost use Rattle.ns_queue.specs.Queues.{IsList, times};
+ghost use Rattle.ns_word.specs.declared.owed.Owed.{Owed};
 ghost use Rattle.ns_word.specs.Places.{CanLeave, CanWait, ChangeFits, IsInRange};
 ghost use Rattle.ns_word.specs.Steps.{change_commits, entry_of, exit_for, opening_for, section_of, Effect};
 ghost use Rattle.ns_word.specs.Waits.{mode_for};
@@ -17,6 +18,7 @@ use ns_queue::queues::Queues;
 use ns_queue::waiter::Which;
 use ns_word::act::{Act, Change, Found, Waking};
 use ns_word::hand::{bits, leave_self, queue_self, scan_and_queue, wake_waiters};
+use ns_word::owed::called;
 use ns_word::view::{Held, Opening};
 use ns_word::wait::{Aim, Outcome, Subject, Wait, answer_of};
 use ns_word::word::{Arrival, Releasing, Taking, Word};
@@ -44,7 +46,7 @@ pub(crate) fn acquire<C: Seated<N>, const N: usize>(
     requires free { held.old ≡ None }
     requires may { may_acquire (mode_for aim) arrival last ≡ true }
     requires few { word.old.readers < 64 }
-    ensures { (seat : ℕ) (queues : _) (flags owed : List ℕ) → Effect C.means seat (Act.Acquire aim arrival last) (part word.old row.now queues flags held.old owed) result (part word.new row.now queues flags held.new owed) [] }
+    ensures { (seat : ℕ) (queues : _) (flags : List ℕ) (owed : List Owed) → Effect C.means seat (Act.Acquire aim arrival last) (part word.old row.now queues flags held.old owed) result (part word.new row.now queues flags held.new owed) [] }
 {
     let unchanged = word.is_same(last);
     if !unchanged {
@@ -68,7 +70,7 @@ pub(crate) fn take_queues<C: Seated<N>, const N: usize>(
     last: Word,
 ) -> Found
     requires { last.spin ≡ false }
-    ensures { (seat : ℕ) (queues : _) (row flags owed : List ℕ) (held : _) → Effect {N = N} C.means seat (Act.TakeQueues taking last) (part word.old row queues flags held owed) result (part word.new row queues flags held owed) [] }
+    ensures { (seat : ℕ) (queues : _) (row flags : List ℕ) (owed : List Owed) (held : _) → Effect {N = N} C.means seat (Act.TakeQueues taking last) (part word.old row queues flags held owed) result (part word.new row queues flags held owed) [] }
 {
     if !word.is_same(last) {
         return Found::Saw(*word);
@@ -88,7 +90,7 @@ fn return_queued<C: Seated<N>, const N: usize>(
 ) -> Found
     requires below { seat < 64 }
     requires free { times seat queues.old ≡ 0 }
-    ensures { (row flags owed : List ℕ) (held : _) → Effect {N = N} C.means seat (Act.ReturnQueues (Change.QueueSelf mode arrival) last) (part word.old row queues.old flags held owed) result (part word.new row queues.new flags held owed) [] }
+    ensures { (row flags : List ℕ) (owed : List Owed) (held : _) → Effect {N = N} C.means seat (Act.ReturnQueues (Change.QueueSelf mode arrival) last) (part word.old row queues.old flags held owed) result (part word.new row queues.new flags held owed) [] }
 {
     if !word.is_same(last) {
         return Found::Saw(*word);
@@ -130,7 +132,7 @@ fn return_left<C: Seated<N>, const N: usize>(
     last: Word,
 ) -> Result<Found, AllocError>
     requires { IsList which }
-    ensures ok { IfOk result (λ found. (row flags owed : List ℕ) (held : _) → Makes C.means seat (Act.ReturnQueues (Change.LeaveSelf which) last) (part word.old row queues.old flags held owed) history.old.items found (part word.new row queues.new flags held owed) history.new.items) }
+    ensures ok { IfOk result (λ found. (row flags : List ℕ) (owed : List Owed) (held : _) → Makes C.means seat (Act.ReturnQueues (Change.LeaveSelf which) last) (part word.old row queues.old flags held owed) history.old.items found (part word.new row queues.new flags held owed) history.new.items) }
     ensures err { OnErr result (IsEvent seat (Change.LeaveSelf which) queues.old × (last ≡ word.old) × (word.new ≡ word.old) × (queues.new ≡ queues.old) × (history.new.items ≡ history.old.items)) }
 {
     if !word.is_same(last) {
@@ -171,8 +173,8 @@ fn commit_wake<C: Seated<N>, const N: usize>(
     Ok(())
 }
 
-/// Takes those out of the list of the variable whom the call wakes, puts the queues back, which
-/// clears the spinlock bit, and commits the call. Where the lock is held they stand at the back of
+/// Takes those of the list of the variable whom the call wakes out of all variables' lists, puts the
+/// queues back, which clears the spinlock bit, and commits the call. Where the lock is held they stand at the back of
 /// the lock list then, else the seat owes them their wakes. Where the event is refused, nothing has
 /// changed.
 fn return_waking<C: Seated<N>, const N: usize>(
@@ -206,7 +208,7 @@ fn return_unchanged<C: Seated<N>, const N: usize>(
     queues: &Queues<C, N>,
     last: Word,
 ) -> Found
-    ensures { (seat : ℕ) (row flags owed : List ℕ) (held : _) → Effect {N = N} C.means seat (Act.ReturnQueues Change.Nothing last) (part word.old row queues.now flags held owed) result (part word.new row queues.now flags held owed) [] }
+    ensures { (seat : ℕ) (row flags : List ℕ) (owed : List Owed) (held : _) → Effect {N = N} C.means seat (Act.ReturnQueues Change.Nothing last) (part word.old row queues.now flags held owed) result (part word.new row queues.now flags held owed) [] }
 {
     if !word.is_same(last) {
         return Found::Saw(*word);
@@ -307,7 +309,7 @@ pub(crate) fn release<C: Seated<N>, const N: usize>(
     last: Word,
 ) -> Result<Found, AllocError>
     requires { CanLeave C.means releasing held.old }
-    ensures ok { IfOk result (λ found. (row flags owed : List ℕ) (queues : _) → Makes C.means seat (Act.Release releasing last) (part word.old row queues flags held.old owed) history.old.items found (part word.new row queues flags held.new owed) history.new.items) }
+    ensures ok { IfOk result (λ found. (row flags : List ℕ) (owed : List Owed) (queues : _) → Makes C.means seat (Act.Release releasing last) (part word.old row queues flags held.old owed) history.old.items found (part word.new row queues flags held.new owed) history.new.items) }
     ensures err { OnErr result ((last ≡ word.old) × (word.new ≡ word.old) × (held.new ≡ held.old) × (history.new.items ≡ history.old.items)) }
 {
     let is_last = word.is_same(last);
@@ -343,7 +345,7 @@ pub(crate) fn release_returning<C: Seated<N>, const N: usize>(
     let scan = queues.scan(row);
     let owes = !scan.woken.is_empty();
     *word = last.released_returning(releasing, owes, bits(queues));
-    seat.owed = scan.woken;
+    seat.owed = called(scan.woken.as_slice());
     Ok(Found::Scanned {
         owes,
         tests: scan.tests,
@@ -409,7 +411,7 @@ pub(crate) fn wait_returning<C: Seated<N>, const N: usize>(
     let scan = scan_and_queue(queues, row, seat.number, wait, again);
     let owes = !scan.woken.is_empty();
     *word = last.released_returning(Releasing::of(wait.mode), owes, bits(queues));
-    seat.owed = scan.woken;
+    seat.owed = called(scan.woken.as_slice());
     Ok(Found::Scanned {
         owes,
         tests: scan.tests,

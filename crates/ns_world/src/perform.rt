@@ -2,6 +2,7 @@
 
 ghost use Rattle.std.specs.Prelude.{◌≡◌, ◌<◌, ◌≤◌, Some, None, IsSome, IfOk, OnErr, ℕ, List, []};
 ghost use Rattle.ns_model.specs.declared.event.Mode.TheVariants.{Write};
+ghost use Rattle.ns_word.specs.declared.owed.Owed.{Owed};
 ghost use Rattle.ns_word.specs.Places.{ActFits, HasMode, OwesOne};
 ghost use Rattle.ns_word.specs.Steps.{Effect};
 ghost use Rattle.ns_word.specs.Walks.{want_of, walk_after};
@@ -21,6 +22,7 @@ use ns_env::walk::{Chain, EnvWalk};
 use ns_model::event::Event;
 use ns_queue::queues::Queues;
 use ns_word::act::{Act, Found};
+use ns_word::owed::Owed;
 use ns_word::view::Held;
 use ns_word::walk::{Next, Walk};
 use ns_word::word::Word;
@@ -35,7 +37,7 @@ fn store<C: Seated<N>, const N: usize>(
 ) -> Found
     requires mode { HasMode Write held.old }
     requires cell { i < N }
-    ensures { (seat : ℕ) (word queues : _) (flags owed : List ℕ) → Effect C.means seat (Act.StoreCell i value) (part word row.old queues flags held.old owed) result (part word row.new queues flags held.new owed) [] }
+    ensures { (seat : ℕ) (word queues : _) (flags : List ℕ) (owed : List Owed) → Effect C.means seat (Act.StoreCell i value) (part word row.old queues flags held.old owed) result (part word row.new queues flags held.new owed) [] }
 {
     let Some(mut section) = *held else {
         unreachable!()
@@ -49,7 +51,7 @@ fn store<C: Seated<N>, const N: usize>(
 /// Whether the section in hand is quiet.
 fn judge<C: Seated<N>, const N: usize>(held: &Option<Held<C, N>>, i: u8) -> Found
     requires { HasMode Write held.now }
-    ensures { (seat : ℕ) (word row queues : _) (flags owed : List ℕ) → Effect C.means seat (Act.JudgeQuiet i) (part word row queues flags held.now owed) result (part word row queues flags held.now owed) [] }
+    ensures { (seat : ℕ) (word row queues : _) (flags : List ℕ) (owed : List Owed) → Effect C.means seat (Act.JudgeQuiet i) (part word row queues flags held.now owed) result (part word row queues flags held.now owed) [] }
 {
     let Some(section) = *held else { unreachable!() };
     Found::Quiet(C::quiet(&section.before, &section.row))
@@ -58,23 +60,22 @@ fn judge<C: Seated<N>, const N: usize>(held: &Option<Held<C, N>>, i: u8) -> Foun
 /// Whether the condition is true of the row in hand.
 fn judge_met<C: Seated<N>, const N: usize>(held: &Option<Held<C, N>>, i: u8, cond: C) -> Found
     requires { IsSome held.now }
-    ensures { (seat : ℕ) (word row queues : _) (flags owed : List ℕ) → Effect C.means seat (Act.JudgeMet i cond) (part word row queues flags held.now owed) result (part word row queues flags held.now owed) [] }
+    ensures { (seat : ℕ) (word row queues : _) (flags : List ℕ) (owed : List Owed) → Effect C.means seat (Act.JudgeMet i cond) (part word row queues flags held.now owed) result (part word row queues flags held.now owed) [] }
 {
     let Some(section) = *held else { unreachable!() };
     Found::Tested(cond.test(&section.row))
 }
 
-/// Stores this value into the flag of the first to whom a wake is owed.
+/// Pays the first of the wakes that are owed.
 fn pay_wake<C: Seated<N>, const N: usize>(
     flags: &mut [u8; 64],
-    owed: &mut ArrayVec<u8, 64>,
-    value: u8,
+    owed: &mut ArrayVec<Owed, 64>,
 ) -> Found
     requires { OwesOne 64 owed.old.items }
-    ensures { (seat : ℕ) (word row queues held : _) → Effect {N = N} C.means seat (Act.PayWake value) (part word row queues flags.old held owed.old.items) result (part word row queues flags.new held owed.new.items) [] }
+    ensures { (seat : ℕ) (word row queues held : _) → Effect {N = N} C.means seat Act.PayWake (part word row queues flags.old held owed.old.items) result (part word row queues flags.new held owed.new.items) [] }
 {
-    let woken = owed.remove(0);
-    flags[woken as usize] = value;
+    let wake = owed.remove(0);
+    flags[wake.seat as usize] = wake.value;
     Found::Paid {
         owes: !owed.is_empty(),
     }
@@ -83,7 +84,7 @@ fn pay_wake<C: Seated<N>, const N: usize>(
 /// Sets the seat's own flag.
 fn arm_flag<C: Seated<N>, const N: usize>(flags: &mut [u8; 64], seat: u8) -> Found
     requires { seat < 64 }
-    ensures { (word row queues held : _) (owed : List ℕ) → Effect {N = N} C.means seat Act.ArmFlag (part word row queues flags.old held owed) result (part word row queues flags.new held owed) [] }
+    ensures { (word row queues held : _) (owed : List Owed) → Effect {N = N} C.means seat Act.ArmFlag (part word row queues flags.old held owed) result (part word row queues flags.new held owed) [] }
 {
     flags[seat as usize] = 1;
     Found::Made
@@ -126,7 +127,7 @@ fn make<C: Seated<N>, const N: usize>(
         Act::JudgeMet(i, cond) => judge_met(&seat.held, i, cond),
         Act::StoreCell(i, value) => store(row, &mut seat.held, i, value),
         Act::ArmFlag => arm_flag::<C, N>(flags, seat.number),
-        Act::PayWake(value) => pay_wake::<C, N>(flags, &mut seat.owed, value),
+        Act::PayWake => pay_wake::<C, N>(flags, &mut seat.owed),
         Act::LoadFlag => Found::Flag(flags[seat.number as usize]),
         Act::Look(_, _) => unreachable!(),
     };

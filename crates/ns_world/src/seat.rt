@@ -2,6 +2,7 @@
 
 use arrayvec::ArrayVec;
 use ns_env::walk::EnvWalk;
+use ns_word::owed::Owed;
 use ns_word::view::Held;
 use ns_word::walk::Walk;
 
@@ -17,8 +18,8 @@ pub(crate) struct Seat<C, const N: usize> {
     pub(crate) asking: Option<EnvWalk>,
     /// Its section, if it has one in hand.
     pub(crate) held: Option<Held<C, N>>,
-    /// Whom it owes a wake, in the order in which it pays.
-    pub(crate) owed: ArrayVec<u8, 64>,
+    /// The wakes that it owes, in the order in which it pays.
+    pub(crate) owed: ArrayVec<Owed, 64>,
     /// How many conditions the scan of its call tested, of its last one where none is in progress.
     pub(crate) tests: u32,
 }

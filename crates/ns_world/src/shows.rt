@@ -13,6 +13,7 @@ use crate::seat::Seat;
 use arrayvec::ArrayVec;
 use ns_queue::queues::Queues;
 use ns_word::hand::{change_in_hand, has_queues};
+use ns_word::owed::Owed;
 use ns_word::walk::Walk;
 
 /// The queues as a seat at this place has them in hand.
@@ -54,12 +55,12 @@ pub(crate) fn shown_queues<C: Seated<N>, const N: usize>(
 }
 
 /// Adds the wakes that a seat owes.
-fn push_wakes(all: &mut ArrayVec<(u8, u8), 64>, seat: u8, owed: &[u8])
+fn push_wakes(all: &mut ArrayVec<(u8, u8), 64>, seat: u8, owed: &[Owed])
     requires { length all.old.items + length owed.now ≤ 64 }
-    ensures { all.new.items ≡ all.old.items ++ map (λ woken. (seat, woken)) owed.now }
+    ensures { all.new.items ≡ all.old.items ++ map (λ wake. (seat, wake.seat)) owed.now }
 {
-    for woken in owed {
-        all.push((seat, *woken));
+    for wake in owed {
+        all.push((seat, wake.seat));
     }
 }
 

@@ -3,10 +3,12 @@ use Rattle.ns_queue.specs.declared.waiter.Waiter.{Waiter}
 use Rattle.ns_queue.specs.declared.waiter.Which.TheVariants.{Cv, Lock}
 use Rattle.ns_queue.specs.Queues.{Lists, IsOrderly, cvs_without, times, waiters_of, with_waiters}
 use Rattle.ns_queue.specs.Signals.{taken_set}
-use Rattle.ns_queue.specs.Waiters.{HaveSeats, seats_of, times_in}
+use Rattle.ns_queue.specs.Waiters.{HaveSeats, times_in}
 use Rattle.ns_queue.proofs.Outside.{gone_those}
 use Rattle.ns_queue.proofs.Parts.{below_in, once_in}
 use Rattle.ns_queue.proofs.Taken.{times_signaled}
+use Rattle.ns_word.specs.declared.owed.Owed.{Owed}
+use Rattle.ns_word.specs.Owed.{wakes_of}
 use Rattle.ns_word.specs.Steps.{moved_to}
 use Rattle.ns_word.proofs.hand.wake_waiters.Goals.{in-Signaling, in-Broadcasting}
 use Rattle.ns_word.proofs.hand.wake_waiters.Goals as goal
@@ -40,8 +42,8 @@ were_moved held lists mid new ws taken is same there becomes = rw (is, ← same,
 were_left : {C : Type 0} (held : Bool) (lists mid : Lists C) (taken : List (Waiter C)) → held ≡ false → mid ≡ lists → mid ≡ moved_to held taken lists
 were_left held lists mid taken is there = rw is there
 
-are_owed : {C : Type 0} (held : Bool) (owed : List ℕ) (ws taken : List (Waiter C)) → held ≡ false → owed ≡ seats_of ws → ws ≡ taken → owed ≡ (if held then [] else seats_of taken)
-are_owed held owed ws taken is seats same = rw is (seats ∙ ap seats_of same)
+are_owed : {C : Type 0} (held : Bool) (k : ℕ) (owed : List Owed) (ws taken : List (Waiter C)) → held ≡ false → owed ≡ wakes_of k ws → ws ≡ taken → owed ≡ (if held then [] else wakes_of k taken)
+are_owed held k owed ws taken is seats same = rw is (seats ∙ ap (wakes_of k) same)
 
 pub returns-then-held-clause-lists : goal.returns-then-held-clause-lists
 returns-then-held-clause-lists g c = elim c.match-waking.branch [
@@ -51,8 +53,8 @@ returns-then-held-clause-lists g c = elim c.match-waking.branch [
 
 pub returns-else-held-clause-owed : goal.returns-else-held-clause-owed
 returns-else-held-clause-owed g c = elim c.match-waking.branch [
-  | in-Signaling w ↦ rw w.in-Signaling.is (are_owed c.args.held _ c.as_slice-else-held.result.now _ c.if-held.false c.seats.ensures (c.as_slice-else-held.ensures.value ∙ ap (λ v. v.items) w.taken-is ∙ w.take_signal-taken.ensures.taken))
-  | in-Broadcasting w ↦ rw w.in-Broadcasting.is (are_owed c.args.held _ c.as_slice-else-held.result.now _ c.if-held.false c.seats.ensures (c.as_slice-else-held.ensures.value ∙ ap (λ v. v.items) w.taken-is ∙ w.take_all-taken.ensures.taken))
+  | in-Signaling w ↦ rw w.in-Signaling.is (are_owed c.args.held c.args.k _ c.as_slice-else-held.result.now _ c.if-held.false c.wakes.ensures (c.as_slice-else-held.ensures.value ∙ ap (λ v. v.items) w.taken-is ∙ w.take_signal-taken.ensures.taken))
+  | in-Broadcasting w ↦ rw w.in-Broadcasting.is (are_owed c.args.held c.args.k _ c.as_slice-else-held.result.now _ c.if-held.false c.wakes.ensures (c.as_slice-else-held.ensures.value ∙ ap (λ v. v.items) w.taken-is ∙ w.take_all-taken.ensures.taken))
 ]
 
 pub returns-else-held-clause-lists : goal.returns-else-held-clause-lists

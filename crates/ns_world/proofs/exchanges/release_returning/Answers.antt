@@ -1,6 +1,7 @@
 use Rattle.std.proofs.Common.{refl, sym, ◌∙◌, ap, not, rules}
 use Rattle.std.proofs.lemmas.Result.{err_from_is_err_and}
-use Rattle.ns_world.proofs.Released.{scanned, missed, some_left, can_some}
+use Rattle.ns_word.specs.Owed.{called_by}
+use Rattle.ns_world.proofs.Released.{are_called, some_called, scanned, missed, some_left, can_some}
 use Rattle.ns_world.proofs.exchanges.release_returning.Goals as goal
 
 pub returns-then-not-is_same-clause-ok : goal.returns-then-not-is_same-clause-ok
@@ -20,9 +21,9 @@ returns-in_err-commit-clause-err g c =
 pub returns-clause-ok : goal.returns-clause-ok
 returns-clause-ok g c = λ flags.
     scanned _ c.args.seat.now.number c.args.releasing c.args.last c.args.word.now c.released_returning.result c.args.row.now flags c.args.history.now.items c.commit.new.history.items
-    c.args.queues.now c.scan-scan.new.self c.args.seat.now.owed.items c.scan-scan.result.woken.items c.args.seat.now.held c.commit.new.held (not c.is_empty-owes.result) c.scan-scan.result.tests c.bits.result
+    c.args.queues.now c.scan-scan.new.self c.args.seat.now.owed.items c.called-seat.result.items c.args.seat.now.held c.commit.new.held (not c.is_empty-owes.result) c.scan-scan.result.tests c.bits.result
     c.requires c.in_ok-commit.ensures.ok (c.if-not-is_same.ensures.same refl) c.released_returning.ensures c.in_ok-commit.ensures.over
-    c.scan-scan.ensures.left c.scan-scan.ensures.woken (ap not c.is_empty-owes.ensures ∙ some_left _) c.bits.ensures c.scan-scan.ensures.tests
+    c.scan-scan.ensures.left (are_called c.scan-scan.result.woken.items c.called-seat.result.items _ (c.called-seat.ensures ∙ ap called_by c.as_slice.ensures.value) c.scan-scan.ensures.woken) (ap not c.is_empty-owes.ensures ∙ some_left _ ∙ some_called c.scan-scan.result.woken.items c.called-seat.result.items (c.called-seat.ensures ∙ ap called_by c.as_slice.ensures.value)) c.bits.ensures c.scan-scan.ensures.tests
 
 pub returns-then-not-is_same-clause-kept : goal.returns-then-not-is_same-clause-kept
 returns-then-not-is_same-clause-kept g c = record { number = refl; walk = refl; asking = refl; tests = refl }

@@ -3,6 +3,8 @@ use Rattle.ns_gate.specs.Prelude.{TableId, HasSince, HasReached, Lists, armed_pl
 use Rattle.ns_gate.specs.declared.queues.Returning.TheVariants.{Waited}
 use Rattle.ns_gate.proofs.Calls.{since_then, works}
 use Rattle.ns_gate.proofs.Room.{queues_fit}
+use Rattle.ns_word.specs.Owed.{called_by}
+use Rattle.ns_word.proofs.Scans.{called_seats}
 use Rattle.ns_monitor.proofs.Locks.{HasArmed}
 use Rattle.ns_monitor.proofs.Releases.{hand_scanned, scans_at_hand, took_some, woken_is}
 use Rattle.ns_monitor.specs.Prelude.{HasRow}
@@ -43,7 +45,7 @@ put_back-requires g c = let t = g.C.Condition.means in let scan = c.scan_and_que
 pub pay-requires : goal.pay-requires
 pay-requires g c = let t = g.C.Condition.means in let scan = c.scan_and_queue_in_hand-scan in let now = c.put_back.new.seat.me in let walk = InWait c.args.wait (InQueuing c.args.again (QueueToWait c.parts-parts.result)) in
     let owed = c.put_back.ensures.owes in
-    (omega arith, (queues_fit g.row.C g.row.N g.met.C.Condition.has_room g.C.Condition, (omega arith, (c.put_back.ensures.seat, (record { pays = refl; free = refl; more = refl }, (subst (λ ns. HasReached t (Await c.args.wait) (pay_waiting c.args.wait (has_some ns)) now) (sym owed) c.put_back.ensures.returned, owed ∙ sym (woken_is t walk c.load_to_scan.new.row scan.result.0.woken.items c.load_to_scan.new.seat.me scan.new.seat.me c.load_to_scan.ensures.ready scan.ensures.seat.1 scan.ensures.woken)))))))
+    (omega arith, (queues_fit g.row.C g.row.N g.met.C.Condition.has_room g.C.Condition, (omega arith, (c.put_back.ensures.seat, (record { pays = refl; free = refl; more = refl }, (subst (λ ns. HasReached t (Await c.args.wait) (pay_waiting c.args.wait (has_some ns)) now) (sym owed) c.put_back.ensures.returned, owed ∙ sym (c.called-owed.ensures ∙ (ap called_by (c.as_slice.ensures.value ∙ woken_is t walk c.load_to_scan.new.row scan.result.0.woken.items c.load_to_scan.new.seat.me scan.new.seat.me c.load_to_scan.ensures.ready scan.ensures.seat.1 scan.ensures.woken) ∙ called_seats _))))))))
 
 pub returns : goal.returns
 returns g c = record {

@@ -1,31 +1,35 @@
 use Rattle.std.proofs.Common.{◌∙◌, ◌+◌, arith, drop, get_or, refl, sym, None}
 use Rattle.std.proofs.lemmas.List.{drop_all, drop_more}
-use Rattle.ns_gate.specs.Prelude.{TableId, the, owes_more, PayWake}
+use Rattle.ns_gate.specs.Prelude.{Owed, TableId, the, owes_more, PayWake}
 use Rattle.ns_gate.proofs.Calls.{can_go, since, since_itself, since_then}
 use Rattle.ns_gate.proofs.Room.{queues_fit}
 use Rattle.ns_monitor.proofs.Standing.{all_paid, can_pay, is_paid, owes_next}
 use Rattle.ns_monitor.proofs.monitor.Monitor.pay.Goals as goal
 
-pub loop-number-init : goal.loop-number-init
-loop-number-init g c = (refl, c.requires.owed ∙ sym c.as_slice-number-items.ensures.value, since_itself (the c.args.seat.now.me.0), c.requires.at)
+-- none but a default
+abbrev none : Owed
+none = record { seat = 0; value = 0 }
+
+pub loop-wake-init : goal.loop-wake-init
+loop-wake-init g c = (refl, c.requires.owed ∙ sym c.as_slice-wake-items.ensures.value, since_itself (the c.args.seat.now.me.0), c.requires.at)
 
 pub pay_wake-requires : goal.pay_wake-requires
-pay_wake-requires g c = let t = g.C.Condition.means in let inv = c.loop-number.invariant in let i = c.loop-number.number-index in let items = c.as_slice-number-items.result.now in
-    let some = inv.1 ∙ drop_more items i 0 c.loop-number-test.true in
-    let at = can_pay t c.args._walk c.args.value (get_or items i 0) (drop (i + 1) items) c.loop-number.seat.me c.requires.pays some inv.3 in
-    (omega arith, (queues_fit g.row.C g.row.N g.met.C.Condition.has_room g.C.Condition, (omega arith, (◌∙◌ {A = TableId} inv.0 (◌∙◌ {A = TableId} c.requires.of (sym c.self.view_is)), (owes_next t (get_or items i 0) (drop (i + 1) items) c.loop-number.seat.me some at.owes, can_go t c.args._walk (PayWake c.args.value) c.loop-number.seat.me c.requires.pays.pays at)))))
+pay_wake-requires g c = let t = g.C.Condition.means in let inv = c.loop-wake.invariant in let i = c.loop-wake.wake-index in let items = c.as_slice-wake-items.result.now in
+    let some = inv.1 ∙ drop_more items i none c.loop-wake-test.true in
+    let at = can_pay t c.args._walk (get_or items i none) (drop (i + 1) items) c.loop-wake.seat.me c.requires.pays some inv.3 in
+    (omega arith, (queues_fit g.row.C g.row.N g.met.C.Condition.has_room g.C.Condition, (omega arith, (◌∙◌ {A = TableId} inv.0 (◌∙◌ {A = TableId} c.requires.of (sym c.self.view_is)), (owes_next t (get_or items i none) (drop (i + 1) items) c.loop-wake.seat.me some at.owes, can_go t c.args._walk PayWake c.loop-wake.seat.me c.requires.pays.pays at)))))
 
-pub loop-number-preserved : goal.loop-number-preserved
-loop-number-preserved g c = let t = g.C.Condition.means in let inv = c.loop-number.invariant in let i = c.loop-number.number-index in let items = c.as_slice-number-items.result.now in let me = c.loop-number.seat.me in let now = c.pay_wake.new.seat.me in
-    let some = inv.1 ∙ drop_more items i 0 c.loop-number-test.true in
-    let at = can_pay t c.args._walk c.args.value (get_or items i 0) (drop (i + 1) items) me c.requires.pays some inv.3 in
-    let paid = is_paid t c.args._walk c.args.value (get_or items i 0) (drop (i + 1) items) me now c.requires.pays some at c.pay_wake.ensures.did in
-    (◌∙◌ {A = TableId} c.pay_wake.ensures.seat inv.0, paid.0, since_then None _ _ _ inv.2 (since t None (PayWake c.args.value) (owes_more (the me.0).at.owed) me now c.pay_wake.ensures.did), paid.1)
+pub loop-wake-preserved : goal.loop-wake-preserved
+loop-wake-preserved g c = let t = g.C.Condition.means in let inv = c.loop-wake.invariant in let i = c.loop-wake.wake-index in let items = c.as_slice-wake-items.result.now in let me = c.loop-wake.seat.me in let now = c.pay_wake.new.seat.me in
+    let some = inv.1 ∙ drop_more items i none c.loop-wake-test.true in
+    let at = can_pay t c.args._walk (get_or items i none) (drop (i + 1) items) me c.requires.pays some inv.3 in
+    let paid = is_paid t c.args._walk (get_or items i none) (drop (i + 1) items) me now c.requires.pays some at c.pay_wake.ensures.did in
+    (◌∙◌ {A = TableId} c.pay_wake.ensures.seat inv.0, paid.0, since_then None _ _ _ inv.2 (since t None PayWake (owes_more (the me.0).at.owed) me now c.pay_wake.ensures.did), paid.1)
 
 pub returns : goal.returns
 returns g c = record {
-  seat = ◌∙◌ {A = TableId} c.loop-number.invariant.0 c.requires.of;
-  since = c.loop-number.invariant.2;
-  paid = let inv = c.loop-number.invariant in
-      all_paid g.C.Condition.means c.args._walk c.loop-number.seat.me (inv.1 ∙ drop_all c.loop-number.number-index c.as_slice-number-items.result.now (omega arith)) inv.3;
+  seat = ◌∙◌ {A = TableId} c.loop-wake.invariant.0 c.requires.of;
+  since = c.loop-wake.invariant.2;
+  paid = let inv = c.loop-wake.invariant in
+      all_paid g.C.Condition.means c.args._walk c.loop-wake.seat.me (inv.1 ∙ drop_all c.loop-wake.wake-index c.as_slice-wake-items.result.now (omega arith)) inv.3;
 }

@@ -3,6 +3,8 @@ use Rattle.ns_gate.specs.Prelude.{TableId, IsAtPlace, HasReached, the, woken_of,
 use Rattle.ns_gate.specs.declared.queues.Returning.TheVariants.{Released}
 use Rattle.ns_gate.proofs.Calls.{since_then, works}
 use Rattle.ns_gate.proofs.Room.{queues_fit}
+use Rattle.ns_word.specs.Owed.{called_by}
+use Rattle.ns_word.proofs.Scans.{called_seats}
 use Rattle.ns_monitor.proofs.Releases.{hand_scanned, scans_plain, took_some, woken_is}
 use Rattle.ns_monitor.proofs.Standing.{still_since}
 use Rattle.ns_word.specs.declared.request.Request.TheVariants as TheRequest
@@ -21,7 +23,7 @@ put_back-requires g c = let t = g.C.Condition.means in let scan = c.scan_in_hand
 pub pay-requires : goal.pay-requires
 pay-requires g c = let t = g.C.Condition.means in let scan = c.scan_in_hand-scan in let now = c.put_back.new.seat.me in let walk = InRelease c.args.releasing (ScanAndRelease c.parts-parts.result) in
     let owed = c.put_back.ensures.owes in
-    (omega arith, (queues_fit g.row.C g.row.N g.met.C.Condition.has_room g.C.Condition, (omega arith, (c.put_back.ensures.seat, (record { pays = refl; free = refl; more = refl }, (subst (λ ns. HasReached t (TheRequest.Release c.args.releasing) (pay_releasing c.args.releasing (has_some ns)) now) (sym owed) c.put_back.ensures.returned, owed ∙ sym (woken_is t walk c.load_to_scan.new.row scan.result.0.woken.items c.load_to_scan.new.seat.me scan.new.seat.me c.load_to_scan.ensures.ready scan.ensures.seat.1 scan.ensures.woken)))))))
+    (omega arith, (queues_fit g.row.C g.row.N g.met.C.Condition.has_room g.C.Condition, (omega arith, (c.put_back.ensures.seat, (record { pays = refl; free = refl; more = refl }, (subst (λ ns. HasReached t (TheRequest.Release c.args.releasing) (pay_releasing c.args.releasing (has_some ns)) now) (sym owed) c.put_back.ensures.returned, owed ∙ sym (c.called-owed.ensures ∙ (ap called_by (c.as_slice.ensures.value ∙ woken_is t walk c.load_to_scan.new.row scan.result.0.woken.items c.load_to_scan.new.seat.me scan.new.seat.me c.load_to_scan.ensures.ready scan.ensures.seat.1 scan.ensures.woken) ∙ called_seats _))))))))
 
 pub returns : goal.returns
 returns g c = record {

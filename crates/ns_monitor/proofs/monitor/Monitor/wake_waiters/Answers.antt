@@ -2,6 +2,7 @@ use Rattle.std.proofs.Common.{◌≡◌, ◌∙◌, ap, sym, subst, refl, arith,
 use Rattle.ns_gate.specs.Prelude.{TableId, HasReached, InSignal, IsOrderly, WakeAndReturn, has_some, owed_woken, seats_of, taken_from, the}
 use Rattle.ns_gate.proofs.Calls.{since_itself, since_then, works}
 use Rattle.ns_gate.proofs.Room.{queues_fit}
+use Rattle.ns_word.specs.Owed.{wakes_of}
 use Rattle.ns_monitor.proofs.Standing.{still_since}
 use Rattle.ns_monitor.proofs.Wakes.{hand_made}
 use Rattle.ns_monitor.specs.Prelude.{HasWokenInHand}
@@ -42,13 +43,13 @@ return_woken-moved-requires g c = let t = g.C.Condition.means in let taken = c.r
 )
 
 -- those to whom it pays are those to whom it owes a wake
-paid : (g : Over) (c : Joined-moved g) → c.if-moved.woken.items ≡ owed_woken c.args.waking c.args.k c.return_woken-moved.result (the c.wake_in_hand-taken.new.seat.me.0).stood
+paid : (g : Over) (c : Joined-moved g) → c.if-moved.owed.items ≡ owed_woken c.args.waking c.args.k c.return_woken-moved.result (the c.wake_in_hand-taken.new.seat.me.0).stood
 paid g c = let made = c.wake_in_hand-taken in let waking = c.args.waking in let k = c.args.k in let same = made.ensures.seat.1 in
     let owed = λ (b : Bool). owed_woken waking k b (the made.new.seat.me.0).stood in
     let taken = made.ensures.taken ∙ (λ i. taken_from waking k (the (sym same i)).stood) in
     elim c.if-moved.branch [
-      | then-moved w ↦ (λ i. (w.woken-is i).items) ∙ (w.new-woken.ensures ∙ ap owed (sym w.if-moved.true))
-      | else-moved w ↦ (λ i. (w.woken-is i).items) ∙ (w.seats-woken.ensures ∙ (ap seats_of (w.as_slice-else-moved.ensures.value ∙ taken) ∙ ap owed (sym w.if-moved.false)))
+      | then-moved w ↦ (λ i. (w.owed-is i).items) ∙ (w.new-owed.ensures ∙ ap owed (sym w.if-moved.true))
+      | else-moved w ↦ (λ i. (w.owed-is i).items) ∙ (w.wakes-owed.ensures ∙ (ap (wakes_of k) (w.as_slice-else-moved.ensures.value ∙ taken) ∙ ap owed (sym w.if-moved.false)))
     ]
 
 pub pay-requires : goal.pay-requires

@@ -1,11 +1,11 @@
-use Rattle.std.proofs.Common.{arith}
+use Rattle.std.proofs.Common.{rules}
 use Rattle.ns_queue.proofs.Appended.{next_free}
 use Rattle.ns_queue.proofs.Taken.{low_at}
 use Rattle.ns_queue.proofs.queues.Queues.append.Goals as goal
 
 pub push_back-requires : goal.push_back-requires
 push_back-requires g c = (
-  omega (arith, g.met.C.Queueable.list_fits),
+  search rules,
   (
     tt,
     (

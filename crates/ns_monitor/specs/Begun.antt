@@ -1,18 +1,15 @@
--- A call that could not go at once, in the midst of it.
+-- A call that has begun, and has tried to go at once.
 use Rattle.std.specs.Prelude.{◌≡◌, ℕ, Some}
 use Rattle.atomic_table.specs.Seated.{TableId}
 use Rattle.ns_gate.specs.Calls.{HasSince, SeatOf}
 use Rattle.ns_gate.specs.Steps.{the}
-use Rattle.ns_word.specs.Codec.{IsPackable}
 use Rattle.ns_word.specs.declared.walk.Walk.{Walk}
-use Rattle.ns_word.specs.declared.word.Word.{Word}
 use Rattle.ns_monitor.specs.Known.{Known, known_of}
 use Rattle.ns_monitor.specs.Standing.{IsNumberOf}
 
--- Its caller, of whom this was known, began so, and has come here since: with its number at hand, and the word that it saw last, which has a number.
-pub record HasStopped {C : Type 0} {N : ℕ} (first : Walk C) (old : Known C N) (monitor : TableId) (number : ℕ) (last : Word) (me : SeatOf C N) : Type 0 where
+-- Its caller, of whom this was known, began so, and has come here since, with its number at hand.
+pub record HasBegun {C : Type 0} {N : ℕ} (first : Walk C) (old : Known C N) (monitor : TableId) (number : ℕ) (me : SeatOf C N) : Type 0 where
   pub own : IsNumberOf number me
-  pub packs : IsPackable last
   pub was : SeatOf C N
   pub view : known_of monitor was ≡ old
   pub since : HasSince (Some first) (the was.0) (the me.0)

@@ -1,0 +1,27 @@
+use Rattle.std.proofs.Common.{◌≡◌, sym, ◌∙◌, arith, ap, rules}
+use Rattle.ns_queue.specs.Queues.{with_each}
+use Rattle.ns_queue.proofs.Orders.{free_beside}
+use Rattle.ns_queue.proofs.Parts.{each_beside, each_less, each_more}
+use Rattle.ns_queue.proofs.queues.Queues.push_any.Goals.{then-contains, else-contains}
+use Rattle.ns_queue.proofs.queues.Queues.push_any.Goals as goal
+
+pub push_to-requires : goal.push_to-requires
+push_to-requires g c = (
+  search rules,
+  (
+    c.loop-k-test.true,
+    (
+      c.requires.below,
+      each_beside c.loop-k.k c.args.waiter.seat c.args.cvs c.args.waiter c.args.self.now c.loop-k.self c.loop-k.invariant ∙ free_beside c.args.self.now c.args.waiter.seat c.loop-k.k c.requires.free,
+    ),
+  ),
+)
+
+pub loop-k-preserved : goal.loop-k-preserved
+loop-k-preserved g c = elim c.if-contains.branch [
+  | then-contains w ↦ rw w.self-is (each_more c.loop-k.k c.args.cvs c.args.waiter c.args.self.now c.loop-k.self w.push_to.new.self (sym c.contains.ensures ∙ w.if-contains.true) c.loop-k.invariant w.push_to.ensures)
+  | else-contains w ↦ rw w.self-is (each_less c.loop-k.k c.args.cvs c.args.waiter c.args.self.now c.loop-k.self (sym c.contains.ensures ∙ w.if-contains.false) c.loop-k.invariant)
+]
+
+pub returns : goal.returns
+returns g c = let last : c.loop-k.k ≡ 4 = omega (arith, c.loop-k-test.false, c.loop-k.auto.k-end) in c.loop-k.invariant ∙ ap (λ n. with_each n c.args.cvs c.args.waiter c.args.self.now) last
