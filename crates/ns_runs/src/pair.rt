@@ -47,6 +47,7 @@ fn waiter<C: Tagged>(entry: Entry) -> Waiter<C>
             None => None,
         },
         tries: entry.tries,
+        via: None,
     }
 }
 
