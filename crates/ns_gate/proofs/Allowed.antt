@@ -39,7 +39,7 @@ taken_spin (ToQueue mode arrival) w = refl
 -- who puts the queues back has none
 carried_returned : {C : Type 0} (seat : ℕ) (change : Change) (last : Word) (lists stood : Lists C) (cs : List (ℕ × Lists C)) → carried_by (ReturnQueues change last) (change_found seat change last lists) stood cs ≡ rest cs
 carried_returned seat (QueueSelf mode arrival) last lists stood cs = refl
-carried_returned seat (LeaveSelf which) last lists stood cs = refl
+carried_returned seat (LeaveSelf home) last lists stood cs = refl
 carried_returned seat (WakeWaiters waking k) last lists stood cs = refl
 carried_returned seat Nothing last lists stood cs = refl
 
@@ -51,7 +51,7 @@ returned seat change last old =
 
 returned_effect : {C : Type 0} {N : ℕ} (truths : Truths C) (seat : ℕ) (change : Change) (last : Word) (old : Part C N) → last ≡ old.word → Effect truths seat (ReturnQueues change last) old (change_found seat change last old.lists) (returned seat change last old) (change_commits seat change old.lists)
 returned_effect truths seat (QueueSelf mode arrival) last old same = (refl, same, refl, refl)
-returned_effect truths seat (LeaveSelf which) last old same = (refl, same, refl, refl)
+returned_effect truths seat (LeaveSelf home) last old same = (refl, same, refl, refl)
 returned_effect truths seat (WakeWaiters waking k) last old same = (refl, same, refl, refl)
 returned_effect truths seat Nothing last old same = (refl, same, refl, refl)
 

@@ -23,11 +23,12 @@ pub use Rattle.ns_model.specs.declared.event.Event.{Event}
 pub use Rattle.ns_model.specs.declared.event.Exit.TheVariants.{CondWait}
 pub use Rattle.ns_model.specs.declared.event.Mode.{Mode}
 pub use Rattle.ns_model.specs.declared.event.Mode.TheVariants.{Read, Write}
-pub use Rattle.ns_queue.specs.Queues.{IsList, IsOrderly, Lists, times, waiters_of, with_waiters, without}
+pub use Rattle.ns_queue.specs.Queues.{IsOrderly, Lists, times, waiters_of, with_waiters, without}
 pub use Rattle.ns_queue.specs.Scans.{is_eligible, is_satisfied, left_of, tests_of, woken_of}
 pub use Rattle.ns_queue.specs.Waiters.{HaveSeats, has_condition, reads, seats_of, times_in, writes}
 pub use Rattle.ns_queue.specs.declared.waiter.Waiter.{Waiter}
-pub use Rattle.ns_queue.specs.declared.waiter.Which.{Which}
+pub use Rattle.ns_word.specs.declared.wait.Home.{Home}
+pub use Rattle.ns_word.specs.declared.wait.Home.TheVariants.{AtLock, AtVariables}
 pub use Rattle.ns_seats.specs.Sights.{HasSight}
 pub use Rattle.ns_seats.specs.Views.{ArePair, IsOne, first_of, rest_of}
 pub use Rattle.ns_word.specs.Asked.{asked_of}
@@ -36,7 +37,7 @@ pub use Rattle.ns_word.specs.Codec.{IsPackable, number_of, word_of}
 pub use Rattle.ns_word.specs.Courses.{CallGoes, SoFar, course_after}
 pub use Rattle.ns_word.specs.Finds.{before_in, exchanged, found_of, owes_more, row_in, scanned}
 pub use Rattle.ns_word.specs.Lawful.{IsLawful, OneWriter, SectionFits, ViewFits}
-pub use Rattle.ns_word.specs.Lists.{bits_of, has_some}
+pub use Rattle.ns_word.specs.Lists.{bits_of, has_some, stands_at}
 pub use Rattle.ns_word.specs.Meanings.{ConditionWaitMeans, Course, HasWaited, InHand, Unchanged, WaitMeans, course_from}
 pub use Rattle.ns_word.specs.Places.{ActFits, CanLeave, CanWait, HasMode, IsInRange, IsSettled, OwesOne, PlaceFits, Tests}
 pub use Rattle.ns_word.specs.Steps.{Effect, LockState, MayShow, Part, Step, change_commits, change_found, changed, exit_for, flags_with, held_after, held_by, kept_by, meets_at, moved_to, moves, newly_held, owed_after, part_of, section_of, taken_by, waited_in, waits_at, with_lock}

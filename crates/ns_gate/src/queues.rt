@@ -1,17 +1,16 @@
 //! The steps on the waiter queues, and what is done to the queues in a hand between them.
 
-ghost use Rattle.std.specs.Prelude.{◌≡◌, ◌<◌, ⊤, nat_lt, IfErr};
-ghost use Rattle.ns_gate.specs.Prelude.{IsList, times, waiters_of, woken_of, tests_of, seats_of, times_in, IsPackable, row_in, bits_of, IsInRange, changed, meets_at, waited_in, CanStep, Carries, HasUnchangedQueues, Performed, act_returning, found_returned, lists_returned, lists_scanned, some_returned, the, tried, tried_for, word_returning};
+ghost use Rattle.std.specs.Prelude.{◌≡◌, ◌<◌, ⊤, map, IfErr};
+ghost use Rattle.ns_gate.specs.Prelude.{stands_at, times, woken_of, tests_of, seats_of, IsPackable, row_in, bits_of, IsInRange, changed, meets_at, waited_in, CanStep, Carries, HasUnchangedQueues, Performed, act_returning, found_returned, lists_returned, lists_scanned, some_returned, the, tried, tried_for, word_returning};
 
 use crate::gate::{Gate, GateSeat};
 use ns_model::condition::Condition;
 use ns_model::event::Mode;
 use ns_queue::scan::Scan;
-use ns_queue::waiter::Which;
 use ns_word::act::{Act, Change};
 use ns_word::hand::{bits, leave_self, queue_self, scan_and_queue};
 use ns_word::number::LockWord;
-use ns_word::wait::Wait;
+use ns_word::wait::{Home, Wait};
 use ns_word::word::{Arrival, Bits, Releasing, Taking};
 use std::alloc::AllocError;
 
@@ -137,21 +136,20 @@ impl<C: Condition<N>, const N: usize> Gate<C, N> {
         bits(queues)
     }
 
-    /// Takes the seat of this number out of all lists in hand, if it stands in this one. Tells whether
+    /// Takes the seat of this number out of all lists in hand, if it stands here. Tells whether
     /// it stood there, and what the lock list holds then.
     ///
-    /// Needs a seat of this gate, which has the queues in hand as they stood, and a list that there is.
-    pub fn leave_in_hand(&self, seat: &mut GateSeat<C, N>, number: u8, which: Which) -> (bool, Bits)
+    /// Needs a seat of this gate, which has the queues in hand as they stood.
+    pub fn leave_in_hand(&self, seat: &mut GateSeat<C, N>, number: u8, home: Home) -> (bool, Bits)
         requires of { seat.old.table_id ≡ self.now }
         requires has { HasUnchangedQueues seat.old.me }
-        requires list { IsList which }
         ensures seat { (seat.new.table_id ≡ seat.old.table_id) × (seat.new.me.0 ≡ seat.old.me.0) }
-        ensures stood { result.0 ≡ nat_lt 0 (times_in number (waiters_of (the seat.old.me.0).stood which)) }
-        ensures lists { (last : _) → Carries (changed number (Change.LeaveSelf which) last (the seat.old.me.0).stood) seat.new.me }
-        ensures bits { (last : _) → result.1 ≡ bits_of (changed number (Change.LeaveSelf which) last (the seat.old.me.0).stood).lock }
+        ensures stood { result.0 ≡ stands_at number home (the seat.old.me.0).stood }
+        ensures lists { (last : _) → Carries (changed number (Change.LeaveSelf home) last (the seat.old.me.0).stood) seat.new.me }
+        ensures bits { (last : _) → result.1 ≡ bits_of (changed number (Change.LeaveSelf home) last (the seat.old.me.0).stood).lock }
     {
         let queues = seat.slot_mut(&self.table.shared, 0);
-        let stood = leave_self(queues, number, which);
+        let stood = leave_self(queues, number, home);
         (stood, bits(queues))
     }
 
@@ -164,6 +162,7 @@ impl<C: Condition<N>, const N: usize> Gate<C, N> {
         requires has { HasUnchangedQueues seat.old.me }
         ensures seat { (seat.new.table_id ≡ seat.old.table_id) × (seat.new.me.0 ≡ seat.old.me.0) }
         ensures woken { result.0.woken.items ≡ seats_of (woken_of (meets_at C.means row.now) (the seat.old.me.0).stood.lock) }
+        ensures vias { result.0.vias.items ≡ map (λ w. w.via) (woken_of (meets_at C.means row.now) (the seat.old.me.0).stood.lock) }
         ensures tests { result.0.tests ≡ tests_of C.means.same (meets_at C.means row.now) (the seat.old.me.0).stood.lock }
         ensures lists { Carries (lists_scanned C.means row.now (the seat.old.me.0).stood) seat.new.me }
         ensures bits { result.1 ≡ bits_of (lists_scanned C.means row.now (the seat.old.me.0).stood).lock }
@@ -192,6 +191,7 @@ impl<C: Condition<N>, const N: usize> Gate<C, N> {
         requires free { times number (the seat.old.me.0).stood ≡ 0 }
         ensures seat { (seat.new.table_id ≡ seat.old.table_id) × (seat.new.me.0 ≡ seat.old.me.0) }
         ensures woken { result.0.woken.items ≡ seats_of (woken_of (meets_at C.means row.now) (the seat.old.me.0).stood.lock) }
+        ensures vias { result.0.vias.items ≡ map (λ w. w.via) (woken_of (meets_at C.means row.now) (the seat.old.me.0).stood.lock) }
         ensures tests { result.0.tests ≡ tests_of C.means.same (meets_at C.means row.now) (the seat.old.me.0).stood.lock }
         ensures lists { Carries (waited_in C.means number wait again row.now (the seat.old.me.0).stood) seat.new.me }
         ensures bits { result.1 ≡ bits_of (waited_in C.means number wait again row.now (the seat.old.me.0).stood).lock }

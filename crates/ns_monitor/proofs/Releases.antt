@@ -1,8 +1,11 @@
 -- A scan of the lock list with the queues in hand, by a release or by a wait: what it takes and leaves.
-use Rattle.std.proofs.Common.{◌≡◌, ℕ, ◌==◌, Bool, true, false, not, ◌&&◌, ◌||◌, cond, List, [], ◌∷◌, length, filter, Option, None, Some, is_some, refl, ap, sym, ◌∙◌, ne_eqb, arith}
+use Rattle.std.proofs.Common.{◌≡◌, ℕ, ◌==◌, Bool, true, false, not, ◌&&◌, ◌||◌, cond, List, [], ◌∷◌, length, filter, map, Option, None, Some, is_some, refl, ap, sym, ◌∙◌, ne_eqb, arith}
 use Rattle.std.specs.List.{list_any}
 use Rattle.ns_gate.specs.Prelude.{SeatOf, the, Carries, lists_returned, Subject, OnCondition, OnVariable, some_returned, Truths, Lists, is_eligible, is_satisfied, left_of, woken_of, has_condition, reads, seats_of, writes, Waiter, row_in, bits_of, has_some, meets_at, waits_at, with_lock, Walk, Bits, Word}
 use Rattle.ns_gate.specs.declared.queues.Returning.{Returning}
+use Rattle.ns_word.specs.declared.owed.Owed.{Owed}
+use Rattle.ns_word.specs.Owed.{called_by, called_of}
+use Rattle.ns_word.proofs.Scans.{are_called}
 use Rattle.ns_gate.specs.declared.queues.Returning.TheVariants.{Changed, Released, Waited}
 use Rattle.ns_monitor.specs.Prelude.{HasInHand, HasRow, IsReady, ScansAs, lacks_row}
 
@@ -72,6 +75,7 @@ module _ {C : Type 0} {N : ℕ} (truths : Truths C) where
     left : (last : Word) → lists_returned truths number returning last row (the me.0).stood ≡ lists_returned truths (the now.0).at.seat returning last (row_in (the now.0).at.held) (the now.0).stood
     left last = (same_hand truths returning number last row (row_in (the me.0).at.held) (the me.0).stood ready.scans).0 ∙ ((λ i. lists_returned truths (is i) returning last (row_in (the me.0).at.held) (the me.0).stood) ∙ (λ i. lists_returned truths (the (sym same i)).at.seat returning last (row_in (the (sym same i)).at.held) (the (sym same i)).stood))
 
-  -- and it took those whom it told
-  pub woken_is : (walk : Walk C) (row items : List ℕ) (me now : SeatOf C N) → IsReady truths walk row me → now.0 ≡ me.0 → items ≡ seats_of (woken_of (meets_at truths row) (the me.0).stood.lock) → items ≡ seats_of (woken_of (meets_at truths (row_in (the now.0).at.held)) (the now.0).stood.lock)
-  woken_is walk row items me now ready same is = is ∙ (ap seats_of ready.scans.woken ∙ (λ i. seats_of (woken_of (meets_at truths (row_in (the (sym same i)).at.held)) (the (sym same i)).stood.lock)))
+  -- and the wakes of those whom it told are those that a scan at the row in hand owes
+  pub calls_are : (walk : Walk C) (row seats : List ℕ) (vias : List (Option ℕ)) (owed : List Owed) (me now : SeatOf C N) → IsReady truths walk row me → now.0 ≡ me.0 → owed ≡ called_by seats vias
+      → seats ≡ seats_of (woken_of (meets_at truths row) (the me.0).stood.lock) → vias ≡ map (λ (w : Waiter C). w.via) (woken_of (meets_at truths row) (the me.0).stood.lock) → owed ≡ called_of (woken_of (meets_at truths (row_in (the now.0).at.held)) (the now.0).stood.lock)
+  calls_are walk row seats vias owed me now ready same is told names = are_called (woken_of (meets_at truths row) (the me.0).stood.lock) seats vias owed is told names ∙ (ap called_of ready.scans.woken ∙ (λ i. called_of (woken_of (meets_at truths (row_in (the (sym same i)).at.held)) (the (sym same i)).stood.lock)))

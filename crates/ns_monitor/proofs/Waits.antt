@@ -2,7 +2,7 @@
 use Rattle.std.proofs.Common.{◌≡◌, ◌≢◌, ℕ, Bool, true, false, cond, nat_lt, ne_eqb, Option, None, Some, refl, ap, sym, ◌∙◌, subst}
 use Rattle.std.proofs.lemmas.Bool.{cond_both}
 use Rattle.ns_gate.proofs.Calls.{goes}
-use Rattle.ns_gate.specs.Prelude.{SeatOf, IsAtPlace, HasReached, the, Performed, Truths, IsList, waiters_of, times_in, Which, IsInRange, arrival_of, home_of, is_limited, outcome_taken, armed_place, got_of, AcquireLoad, ArmFlag, LoadFlag, Look, LeaveSelf, Flag, Looked, Made, Cause, Await, ForWait, AwaitWakeToLeave, Leave, LeaveLoad, Outcome, Ended, ArmToWait, Load, QueueToWait, Subject, OnCondition, OnVariable, Wait, AwaitWakeInWait, InLeaving, InQueuing, LookOut, Idle, On, InAcquire, InWait, Arrival, AsFresh, Word, LoadToScan, wait_has_queues}
+use Rattle.ns_gate.specs.Prelude.{SeatOf, IsAtPlace, HasReached, the, Performed, Truths, Home, stands_at, arrival_of, home_of, is_limited, outcome_taken, armed_place, got_of, AcquireLoad, ArmFlag, LoadFlag, Look, LeaveSelf, Flag, Looked, Made, Cause, Await, ForWait, AwaitWakeToLeave, Leave, LeaveLoad, Outcome, Ended, ArmToWait, Load, QueueToWait, Subject, OnCondition, OnVariable, Wait, AwaitWakeInWait, InLeaving, InQueuing, LookOut, Idle, On, InAcquire, InWait, Arrival, AsFresh, Word, LoadToScan, wait_has_queues}
 use Rattle.ns_gate.specs.declared.queues.Returning.TheVariants.{Changed}
 use Rattle.ns_word.specs.Waits.{woken_by}
 use Rattle.ns_word.specs.Walks.{load_place, rest_or_look}
@@ -20,11 +20,6 @@ module _ {C : Type 0} where
   armed_has : (N : ℕ) (again : Bool) (on : Subject C) (last : Word) → wait_has_queues (InQueuing again (armed_place N on last)) ≡ true
   armed_has N again (OnCondition c) last = refl
   armed_has N again (OnVariable k) last = cond_both _ (load_place N last 0) (QueueToWait last) (λ place. wait_has_queues (InQueuing again place) ≡ true) (λ _. cond_both _ (LoadToScan last 0) (QueueToWait last) (λ place. wait_has_queues (InQueuing again place) ≡ true) (λ _. refl) (λ _. refl)) (λ _. refl)
-
-  -- it stands in a list that there is
-  pub home_there : (on : Subject C) → IsInRange on → IsList (home_of on)
-  home_there (OnCondition c) is = tt
-  home_there (OnVariable k) is = is
 
   -- one that was taken while it left was ended by this cause, if it was ended
   pub taken_ended : (on : Subject C) (cause : Cause) (flag : ℕ) (outcome : Outcome) → outcome ≡ outcome_taken on cause flag → IfEnded outcome (λ other. other ≡ cause)
@@ -46,11 +41,11 @@ module _ {C : Type 0} {N : ℕ} (truths : Truths C) where
   -- ---- it leaves its list
 
   -- whether it still stood there is what it learned as it took itself out
-  pub left_next : (wait : Wait C) (cause : Cause) (word : Word) (home : Which) (number : ℕ) (stood b : Bool) (me now : SeatOf C N) → home ≡ home_of wait.on → number ≡ (the me.0).at.seat → now.0 ≡ me.0 → stood ≡ nat_lt 0 (times_in number (waiters_of (the me.0).stood home)) → stood ≡ b
+  pub left_next : (wait : Wait C) (cause : Cause) (word : Word) (home : Home) (number : ℕ) (stood b : Bool) (me now : SeatOf C N) → home ≡ home_of wait.on → number ≡ (the me.0).at.seat → now.0 ≡ me.0 → stood ≡ stands_at number home (the me.0).stood → stood ≡ b
       → got_of N (InWait wait (InLeaving cause (Leave word))) (found_back truths (Changed (LeaveSelf home)) word now) ≡ cond b (On (InAcquire (ForWait wait (Ended cause)) (AcquireLoad AsFresh))) (On (InWait wait (InLeaving cause AwaitWakeToLeave)))
   left_next wait cause word home number stood b me now at_home is same tells so =
       ap (λ (x : Bool). cond x (On (InAcquire (ForWait wait (Ended cause)) (AcquireLoad AsFresh))) (On (InWait wait (InLeaving cause AwaitWakeToLeave))))
-      ((λ i. nat_lt 0 (times_in (the (same i)).at.seat (waiters_of (the (same i)).stood home))) ∙ ((λ i. nat_lt 0 (times_in (sym is i) (waiters_of (the me.0).stood home))) ∙ (sym tells ∙ so)))
+      ((λ i. stands_at (the (same i)).at.seat home (the (same i)).stood) ∙ (ap (λ who. stands_at who home (the me.0).stood) (sym is) ∙ (sym tells ∙ so)))
 
   -- one that was taken before is woken, and comes back
   pub taken_next : (wait : Wait C) (cause : Cause) (flag : ℕ) (outcome : Outcome) (arrival : Arrival) (me : SeatOf C N) → flag ≢ 1 → outcome ≡ outcome_taken wait.on cause flag → arrival ≡ arrival_of 0 flag → HasReached truths (Await wait) (got_of N (InWait wait (InLeaving cause AwaitWakeToLeave)) (Flag flag)) me

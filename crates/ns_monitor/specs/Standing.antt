@@ -10,7 +10,7 @@ use Rattle.ns_queue.specs.Queues.{IsOrderly}
 use Rattle.ns_queue.specs.Scans.{woken_of}
 use Rattle.ns_word.specs.Owed.{called_of}
 use Rattle.ns_word.specs.declared.owed.Owed.{Owed}
-use Rattle.ns_queue.specs.declared.waiter.Which.TheVariants.{Lock}
+use Rattle.ns_word.specs.declared.wait.Home.TheVariants.{AtLock}
 use Rattle.ns_word.specs.Finds.{row_in}
 use Rattle.ns_word.specs.Steps.{meets_at}
 use Rattle.ns_word.specs.declared.act.Change.TheVariants.{QueueSelf, LeaveSelf, Nothing}
@@ -176,7 +176,7 @@ returning_of (InRelease releasing place) = Released releasing
 returning_of (InWait wait (InQueuing again place)) = Waited wait again
 returning_of (InWait wait place) = Changed (LeaveSelf (home_of wait.on))
 returning_of (InShow place) = Changed Nothing
-returning_of walk = Changed (LeaveSelf Lock)
+returning_of walk = Changed (LeaveSelf AtLock)
 
 -- the same place, by another word
 abbrev pub returning_at : {C : Type 0} → Walk C → Word → Walk C

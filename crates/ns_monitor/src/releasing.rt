@@ -71,7 +71,7 @@ impl<C: Condition<N>, const N: usize> Monitor<C, N> {
         let place = Walk::InRelease(releasing, ReleasePlace::ScanAndRelease(parts));
         self.put_back(rt, seat, returning, place, word, Turned { some, bits });
         let place = Walk::InRelease(releasing, ReleasePlace::Pay);
-        let owed = called(scan.woken.as_slice());
+        let owed = called(scan.woken.as_slice(), scan.vias.as_slice());
         self.pay(seat, place, &owed);
     }
 }

@@ -94,7 +94,7 @@ impl<C: Condition<N>, const N: usize> Monitor<C, N> {
         );
         self.put_back(rt, seat, returning, place, word, Turned { some, bits });
         let place = Walk::InWait(wait, WaitPlace::PayInWait);
-        let owed = called(scan.woken.as_slice());
+        let owed = called(scan.woken.as_slice(), scan.vias.as_slice());
         self.pay(seat, place, &owed);
     }
 

@@ -156,7 +156,7 @@ module _ {C : Type 0} where
 
   -- ---- the entries
 
-  seated_first : (w : Waiter C) (ws : List (Waiter C)) → seated w.seat (w ∷ ws) ≡ Some w
+  pub seated_first : (w : Waiter C) (ws : List (Waiter C)) → seated w.seat (w ∷ ws) ≡ Some w
   seated_first w ws = rw (eq-eqb w.seat w.seat refl) refl
 
   pub seated_rest : (s : ℕ) (w : Waiter C) (ws : List (Waiter C)) → w.seat ≢ s → seated s (w ∷ ws) ≡ seated s ws

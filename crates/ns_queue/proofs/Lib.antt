@@ -11,6 +11,7 @@ pub mod Seats
 pub mod Seeking
 pub mod Shown
 pub mod Taken
+pub mod Vias
 pub mod Wakes
 pub mod Woken
 pub mod Hops

@@ -9,7 +9,7 @@ use Rattle.ns_queue.specs.declared.waiter.Which.TheVariants.{Lock, Cv}
 use Rattle.ns_queue.specs.Waiters.{times_in, without_in, HaveSeats}
 use Rattle.ns_model.specs.Cvs.{is_in}
 use Rattle.ns_model.specs.declared.cvs.Cvs.{Cvs}
-use Rattle.ns_queue.specs.Queues.{Lists, IsList, IsOrderly, beside, times, waiters_of, with_each, with_waiters, without}
+use Rattle.ns_queue.specs.Queues.{Lists, IsList, IsOrderly, beside, named_for, times, waiters_of, with_each, with_waiters, without}
 use Rattle.ns_queue.proofs.Seats.{none_without}
 use Rattle.ns_queue.proofs.Orders.{times_set, lock_times, cv_times}
 
@@ -64,7 +64,7 @@ module _ {C : Type 0} where
       let none = none_in_each seat lists.cvs (λ k low. let within : k < 4 = omega (arith, low, orderly.four) in omega (arith, here, orderly.once seat k within)) in
       omega (arith, none, orderly.once seat 0 (omega arith))
 
-  lists_without : (seat : ℕ) (lists : List (List (Waiter C))) → sum_by (times_in seat) lists ≡ 0 → map (without_in seat) lists ≡ lists
+  pub lists_without : (seat : ℕ) (lists : List (List (Waiter C))) → sum_by (times_in seat) lists ≡ 0 → map (without_in seat) lists ≡ lists
   lists_without seat [] none = refl
   lists_without seat (ws ∷ lists) none =
       let sum = sum_by-cons (times_in seat) ws lists in
@@ -113,8 +113,8 @@ module _ {C : Type 0} where
   each_beside n seat cvs w lists now is = ap (λ (x : Lists C). beside x seat n) is ∙ (λ i. times_in seat (each_lock n cvs w lists i) + times_in seat (each_apart n n cvs w lists (omega arith) i))
 
   -- one list further
-  pub each_more : (n : ℕ) (cvs : Cvs) (w : Waiter C) (lists now new : Lists C) → is_in cvs n ≡ true → now ≡ with_each n cvs w lists → new ≡ with_waiters now (Cv n) (waiters_of now (Cv n) ++ w ∷ []) → new ≡ with_each (n + 1) cvs w lists
-  each_more n cvs w lists now new has is pushed = rw (add-one, has) (pushed ∙ ap (λ (x : Lists C). with_waiters x (Cv n) (waiters_of x (Cv n) ++ w ∷ [])) is)
+  pub each_more : (n : ℕ) (cvs : Cvs) (w : Waiter C) (lists now new : Lists C) → is_in cvs n ≡ true → now ≡ with_each n cvs w lists → new ≡ with_waiters now (Cv n) (waiters_of now (Cv n) ++ named_for n w ∷ []) → new ≡ with_each (n + 1) cvs w lists
+  each_more n cvs w lists now new has is pushed = rw (add-one, has) (pushed ∙ ap (λ (x : Lists C). with_waiters x (Cv n) (waiters_of x (Cv n) ++ named_for n w ∷ [])) is)
 
   pub each_less : (n : ℕ) (cvs : Cvs) (w : Waiter C) (lists now : Lists C) → is_in cvs n ≡ false → now ≡ with_each n cvs w lists → now ≡ with_each (n + 1) cvs w lists
   each_less n cvs w lists now has is = rw (add-one, has) is

@@ -1,5 +1,5 @@
 -- The five lists.
-use Rattle.std.specs.Prelude.{◌≡◌, ℕ, zero, suc, ◌+◌, ◌<◌, ◌≤◌, if◌then◌else◌, List, [], ◌∷◌, ◌++◌, map, length, sum_by, slice_index_or, slice_set}
+use Rattle.std.specs.Prelude.{Some, ◌≡◌, ℕ, zero, suc, ◌+◌, ◌<◌, ◌≤◌, if◌then◌else◌, List, [], ◌∷◌, ◌++◌, map, length, sum_by, slice_index_or, slice_set}
 use Rattle.ns_queue.specs.declared.waiter.Waiter.{Waiter}
 use Rattle.ns_queue.specs.declared.waiter.Which.{Which}
 use Rattle.ns_queue.specs.declared.waiter.Which.TheVariants.{Lock, Cv}
@@ -28,10 +28,14 @@ abbrev pub with_waiters : {C : Type 0} → Lists C → Which → List (Waiter C)
 with_waiters lists Lock ws = record { lock = ws; cvs = lists.cvs }
 with_waiters lists (Cv k) ws = record { lock = lists.lock; cvs = slice_set lists.cvs k ws }
 
+-- the waiter, as it stands in the list of this variable
+abbrev pub named_for : {C : Type 0} → ℕ → Waiter C → Waiter C
+named_for k w = record w { via = Some k }
+
 -- the lists with a waiter behind the others in each list of those variables of a set whose numbers are below n
 abbrev pub with_each : {C : Type 0} → ℕ → Cvs → Waiter C → Lists C → Lists C
 with_each zero cvs w lists = lists
-with_each (suc n) cvs w lists = if is_in cvs n then with_waiters (with_each n cvs w lists) (Cv n) (waiters_of (with_each n cvs w lists) (Cv n) ++ w ∷ []) else with_each n cvs w lists
+with_each (suc n) cvs w lists = if is_in cvs n then with_waiters (with_each n cvs w lists) (Cv n) (waiters_of (with_each n cvs w lists) (Cv n) ++ named_for n w ∷ []) else with_each n cvs w lists
 
 -- how often a seat stands in the lists
 abbrev pub times : {C : Type 0} → ℕ → Lists C → ℕ

@@ -10,6 +10,11 @@ abbrev pub seated : {C : Type 0} → ℕ → List (Waiter C) → Option (Waiter 
 seated seat [] = None
 seated seat (w ∷ ws) = if w.seat == seat then Some w else seated seat ws
 
+-- the variable that a waiter names, if there is one and it does
+abbrev pub via_in : {C : Type 0} → Option (Waiter C) → Option ℕ
+via_in None = None
+via_in (Some w) = w.via
+
 -- those in front of a seat, which is everybody where it stands not
 abbrev pub ahead : {C : Type 0} → ℕ → List (Waiter C) → List (Waiter C)
 ahead seat [] = []

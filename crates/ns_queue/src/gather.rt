@@ -1,6 +1,7 @@
 //! What is found along the links, from the first waiter to the last.
 
-ghost use Rattle.std.specs.Prelude.{◌≡◌, map};
+ghost use Rattle.std.specs.Prelude.{◌≡◌, ◌≤◌, length, map};
+ghost use Rattle.ns_queue.specs.Rings.{seated, via_in};
 ghost use Rattle.ns_queue.specs.Waiters.{shown_of};
 
 use crate::ring::Ring;
@@ -34,4 +35,29 @@ pub(crate) fn shown_ring<C: Queueable<N>, const N: usize>(ring: &Ring<C, N>) -> 
         at = ring.next(at);
     }
     all
+}
+
+/// The variable that the waiter of this seat names, if it stands here and names one.
+fn via_at<C: Queueable<N>, const N: usize>(ring: &Ring<C, N>, seat: u8) -> Option<u8>
+    ensures { result ≡ via_in (seated seat ring.now) }
+{
+    match ring.get(seat) {
+        Some(waiter) => waiter.via,
+        None => None,
+    }
+}
+
+/// For each of these seats, in order, the variable that its waiter names.
+pub(crate) fn vias_of<C: Queueable<N>, const N: usize>(
+    ring: &Ring<C, N>,
+    seats: &[u8],
+) -> ArrayVec<Option<u8>, 64>
+    requires { length seats.now ≤ 64 }
+    ensures { result.items ≡ map (λ seat. via_in (seated seat ring.now)) seats.now }
+{
+    let mut vias = ArrayVec::new();
+    for seat in seats {
+        vias.push(via_at(ring, *seat));
+    }
+    vias
 }

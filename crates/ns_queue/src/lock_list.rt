@@ -10,7 +10,7 @@ ghost use Rattle.ns_queue.specs.Rings.{IsRow, without_all};
 ghost use Rattle.ns_queue.specs.Runs.{head_of, last_run, place_of, sought_seat};
 
 use crate::alike::{is_met, joins, tests_for};
-use crate::gather::{gathered, shown_ring};
+use crate::gather::{gathered, shown_ring, vias_of};
 use crate::remake::{mend, remake};
 use crate::ring::{END, Ring, take_out};
 use crate::room::Queueable;
@@ -237,14 +237,20 @@ impl<C: Queueable<N>, const N: usize> LockList<C, N> {
     /// Equivalent conditions of neighbours are tested once, and only where their truth is needed.
     pub fn scan(&mut self, row: &[u64; N]) -> Scan
         ensures woken { result.woken.items ≡ seats_of (woken_of (λ c. C.means.holds c row.now) self.old) }
+        ensures vias { result.vias.items ≡ map (λ w. w.via) (woken_of (λ c. C.means.holds c row.now) self.old) }
         ensures left { self.new ≡ left_of (λ c. C.means.holds c row.now) self.old }
         ensures tests { result.tests ≡ tests_of C.means.same (λ c. C.means.holds c row.now) self.old }
         ensures at_most_runs { result.tests ≤ length (runs_of C.means.same (λ w. w.cond) self.old) }
     {
         let sought = self.seek(row);
-        let scan = choose(&self.ring, sought, row);
+        let chosen = choose(&self.ring, sought, row);
+        let vias = vias_of(&self.ring, chosen.woken.as_slice());
         // Where nobody is taken, as at most releases, nothing is touched.
-        self.remove_all(scan.woken.as_slice());
-        scan
+        self.remove_all(chosen.woken.as_slice());
+        Scan {
+            woken: chosen.woken,
+            vias,
+            tests: chosen.tests,
+        }
     }
 }

@@ -100,6 +100,13 @@ impl<C: Queueable<N>, const N: usize> Queues<C, N> {
         self.lock.holds(seat) || stands_in_any(&self.cvs, seat)
     }
 
+    /// Whether the seat stands in the list of any variable.
+    pub fn stands_for_variable(&self, seat: u8) -> bool
+        ensures { result ≡ nat_lt 0 (sum_by (times_in seat) self.now.cvs) }
+    {
+        stands_in_any(&self.cvs, seat)
+    }
+
     /// Whether the seat stands in that list.
     ///
     /// Needs a list that there is: a variable's number below 4.

@@ -1,6 +1,6 @@
 //! Whom a release of the lock wakes.
 
-ghost use Rattle.std.specs.Prelude.{◌≡◌, ◌<◌, ◌&&◌, ◌++◌, ◌∷◌, [], None, if◌then◌else◌, true, unwrap_or, ◌≤◌, length};
+ghost use Rattle.std.specs.Prelude.{◌≡◌, ◌<◌, ◌&&◌, ◌++◌, ◌∷◌, [], None, if◌then◌else◌, true, unwrap_or, ◌≤◌, length, map};
 ghost use Rattle.std.specs.Option.{option_copied};
 ghost use Rattle.arrayvec.specs.ArrayVec.{array_vec_len};
 ghost use Rattle.ns_queue.specs.Stages.{asked_for, asking, tests_seeking};
@@ -17,14 +17,23 @@ use crate::room::Queueable;
 use crate::waiter::{Waiter, Which};
 use arrayvec::ArrayVec;
 
-/// What a scan did: the seats that it took out of the list, in order, and how many conditions it
-/// tested.
+/// What a scan did: the seats that it took out of the list, in order, by whose wakes they had come
+/// there, and how many conditions it tested.
 #[derive(Drop)]
 pub struct Scan {
     /// The seats of those whom it took out, in list order.
     pub woken: ArrayVec<u8, 64>,
+    /// For each of them, in that order, the condition variable whose wake had moved it to the list.
+    pub vias: ArrayVec<Option<u8>, 64>,
     /// How many conditions it tested.
     pub tests: u32,
+}
+
+/// Whom a scan takes, by their seats, in order, and how many conditions were tested to find that out.
+#[derive(Drop)]
+pub(crate) struct Chosen {
+    pub(crate) woken: ArrayVec<u8, 64>,
+    pub(crate) tests: u32,
 }
 
 /// The seat of the first that is taken, or [`crate::ring::END`] where nobody is, and how many
@@ -98,7 +107,7 @@ pub(crate) fn choose<C: Queueable<N>, const N: usize>(
     ring: &Ring<C, N>,
     sought: Sought,
     row: &[u64; N],
-) -> Scan
+) -> Chosen
     requires seat { sought.seat ≡ sought_seat (λ c. C.means.holds c row.now) ring.now }
     requires tests { sought.tests ≡ tests_seeking C.means.same (λ c. C.means.holds c row.now) None ring.now }
     ensures woken { result.woken.items ≡ seats_of (woken_of (λ c. C.means.holds c row.now) ring.now) }
@@ -108,12 +117,12 @@ pub(crate) fn choose<C: Queueable<N>, const N: usize>(
     let mut woken = ArrayVec::new();
     let mut tests = sought.tests;
     let Some(found) = ring.get(sought.seat) else {
-        return Scan { woken, tests };
+        return Chosen { woken, tests };
     };
     woken.push(sought.seat);
     if found.mode.is_write() {
         // Behind a writer that is taken nobody else is, so no condition is looked at.
-        return Scan { woken, tests };
+        return Chosen { woken, tests };
     }
     let mut first = found.cond.as_ref();
     let mut truth = Some(true);
@@ -129,7 +138,7 @@ pub(crate) fn choose<C: Queueable<N>, const N: usize>(
         push_if(&mut woken, seen.taken, at);
         at = ring.next(at);
     }
-    Scan { woken, tests }
+    Chosen { woken, tests }
 }
 
 impl<C: Queueable<N>, const N: usize> Queues<C, N> {
@@ -140,6 +149,7 @@ impl<C: Queueable<N>, const N: usize> Queues<C, N> {
     /// Equivalent conditions of neighbours are tested once, and only where their truth is needed.
     pub fn scan(&mut self, row: &[u64; N]) -> Scan
         ensures woken { result.woken.items ≡ seats_of (woken_of (λ c. C.means.holds c row.now) self.old.lock) }
+        ensures vias { result.vias.items ≡ map (λ w. w.via) (woken_of (λ c. C.means.holds c row.now) self.old.lock) }
         ensures left { self.new ≡ with_waiters self.old Which.Lock (left_of (λ c. C.means.holds c row.now) self.old.lock) }
         ensures tests { result.tests ≡ tests_of C.means.same (λ c. C.means.holds c row.now) self.old.lock }
         ensures at_most_runs { result.tests ≤ length (runs_of C.means.same (λ w. w.cond) self.old.lock) }

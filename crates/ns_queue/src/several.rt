@@ -9,8 +9,8 @@ use crate::waiter::Waiter;
 use ns_model::cvs::Cvs;
 
 impl<C: Queueable<N>, const N: usize> Queues<C, N> {
-    /// Puts a waiter at the back of the list of each variable of the set; the others stay as they
-    /// are.
+    /// Puts a waiter at the back of the list of each variable of the set, with that variable named; the
+    /// others stay as they are.
     ///
     /// Needs a set that has only numbers below 4, and a seat below 64 that stands in no list, which
     /// [`Queues::holds`] tells.
@@ -22,7 +22,7 @@ impl<C: Queueable<N>, const N: usize> Queues<C, N> {
     {
         for k in 0..4 {
             if cvs.contains(k) {
-                self.push_to(k, waiter);
+                self.push_to(k, waiter.named(k));
             }
         }
     }

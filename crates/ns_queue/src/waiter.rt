@@ -6,7 +6,7 @@ use ns_model::event::Mode;
 pub const LONG_TRIES: u8 = 30;
 
 /// One who waits: its seat, the mode that it waits in, the condition that it waits for, if any, how
-/// often it has failed, and a place for the variable whose wake has moved it to the lock list.
+/// often it has failed, and the variable in whose list it stands, or whose wake has moved it from there.
 #[derive(Clone, Copy)]
 pub struct Waiter<C> {
     /// A number below 64.
@@ -18,8 +18,8 @@ pub struct Waiter<C> {
     /// How often it has queued again in one acquire, after it was woken and could not acquire: at
     /// most [`LONG_TRIES`].
     pub tries: u8,
-    /// The condition variable whose signal or broadcast has moved it to the lock list. Nobody fills it in
-    /// yet.
+    /// The condition variable in whose list it stands, or stood before that one's signal or broadcast moved
+    /// it to the lock list.
     pub via: Option<u8>,
 }
 
@@ -70,7 +70,21 @@ impl Default for Shown {
 
 impl<C: Copy> Waiter<C> {
     ghost use Rattle.std.specs.Prelude.{◌≡◌};
+    ghost use Rattle.ns_queue.specs.Queues.{named_for};
     ghost use Rattle.ns_queue.specs.Waiters.{shown_of};
+
+    /// The same waiter, as it stands in the list of this variable.
+    pub(crate) fn named(self, k: u8) -> Waiter<C>
+        ensures { result ≡ named_for k self }
+    {
+        Waiter {
+            seat: self.seat,
+            mode: self.mode,
+            cond: self.cond,
+            tries: self.tries,
+            via: Some(k),
+        }
+    }
 
     /// The form in which the waiter is shown.
     pub fn shown(&self) -> Shown

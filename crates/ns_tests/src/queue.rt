@@ -157,6 +157,15 @@ fn seats<'a>(waiters: &ArrayVec<Waiter<AtLeast<'a>>, 64>) -> ArrayVec<u8, 64> {
     seats
 }
 
+/// The variables that waiters name.
+fn vias<'a>(waiters: &ArrayVec<Waiter<AtLeast<'a>>, 64>) -> ArrayVec<Option<u8>, 64> {
+    let mut vias = ArrayVec::new();
+    for waiter in waiters.as_slice() {
+        let _ = vias.try_push(waiter.via);
+    }
+    vias
+}
+
 #[test]
 fn scan_table(rt: HostRuntime) {
     for (given, row, woken, left, tests) in SCANS.iter() {
@@ -247,6 +256,7 @@ fn stands_in_several(rt: HostRuntime) {
     );
     let signaled = queues.take_signal(3);
     assert_eq!(rt; seats(&signaled).as_slice(), [7].as_slice());
+    assert_eq!(rt; vias(&signaled).as_slice(), [Some(3)].as_slice());
     assert!(rt; !queues.holds(7));
     assert!(rt; queues.remove(8));
     assert!(rt; !queues.holds(8));

@@ -2,7 +2,7 @@
 use Rattle.std.proofs.Common.{◌≡◌, ℕ, ◌+◌, ◌<◌, ◌≤◌, Bool, true, false, List, [], ◌∷◌, ◌++◌, sum_by, Option, None, Some, IsSome, refl, ap, ◌∙◌, subst, arith, eq-eqb}
 use Rattle.ns_model.specs.declared.event.Event.{Event}
 use Rattle.ns_model.specs.Histories.{standing_after}
-use Rattle.ns_queue.specs.Queues.{IsList, times}
+use Rattle.ns_queue.specs.Queues.{times}
 use Rattle.ns_queue.specs.Waiters.{times_in}
 use Rattle.ns_queue.specs.Scans.{left_of}
 use Rattle.ns_word.specs.Owed.{times_among}
@@ -25,7 +25,6 @@ use Rattle.ns_word.specs.declared.signal_walk.SignalPlace.TheVariants.{SignalLoa
 use Rattle.ns_word.specs.declared.walk.Walk.{Walk}
 use Rattle.ns_word.specs.declared.walk.Walk.TheVariants.{InTry, InAcquire, InRelease, InCells, InWait, InSignal, InShow}
 use Rattle.ns_word.specs.Lists.{has_some}
-use Rattle.ns_word.specs.Waits.{home_of}
 use Rattle.ns_word.specs.Walks.{judge_of, want_waiting, want_of, awaits, pays}
 use Rattle.ns_word.specs.Views.{walk_at, AreApart}
 use Rattle.ns_model.specs.Truths.{Truths}
@@ -48,10 +47,6 @@ module _ {C : Type 0} where
   unmet_in_range : (truths : Truths C) (on : Subject C) (row : List ℕ) → IsUnmet truths on row → IsInRange on
   unmet_in_range truths (OnCondition c) row p = tt
   unmet_in_range truths (OnVariable k) row p = p
-
-  home_is_list : (on : Subject C) → IsInRange on → IsList (home_of on)
-  home_is_list (OnCondition c) p = tt
-  home_is_list (OnVariable k) p = p
 
 module _ {C : Type 0} {N : ℕ} (truths : Truths C) where
   can_in_range : (wait : Wait C) (again : Bool) (held : Option (Held C N)) → CanWait truths wait again held → IsInRange wait.on
@@ -119,7 +114,7 @@ module _ {C : Type 0} {N : ℕ} (truths : Truths C) (seats : ℕ) (few : seats �
   waiting_at wait LookOut e place owes = tt
   waiting_at wait (InLeaving cause LeaveLoad) e place owes = tt
   waiting_at wait (InLeaving cause (TakeToLeave last)) e place owes = place.1
-  waiting_at wait (InLeaving cause (Leave last)) e place owes = (view_fits.in_range, home_is_list wait.on place.2)
+  waiting_at wait (InLeaving cause (Leave last)) e place owes = (view_fits.in_range, tt)
   waiting_at wait (InLeaving cause AwaitWakeToLeave) e place owes = view_fits.in_range
 
   fits_at : (walk : Walk C) → view.walk ≡ Some walk → PlaceFits truths (Some walk) view.held → has_some view.owed ≡ pays (Some walk) → ActFits truths seats view.seat (want_of walk) (part_of s view.held view.owed)

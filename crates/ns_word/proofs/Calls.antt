@@ -8,14 +8,13 @@ use Rattle.ns_model.specs.declared.event.Answer.TheVariants.{Met}
 use Rattle.ns_model.specs.declared.event.Event.{Event}
 use Rattle.ns_model.specs.declared.event.Mode.{Mode}
 use Rattle.ns_queue.proofs.Outside.{broadcast_outside, signal_outside}
-use Rattle.ns_queue.proofs.Parts.{times_at_most}
 use Rattle.ns_queue.specs.Signals.{taken_set}
 use Rattle.ns_queue.specs.Waiters.{outside, times_in}
 use Rattle.std.proofs.lemmas.Bool.{cases_eq, ltb-true, ne_eqb}
 use Rattle.std.proofs.lemmas.List.{get_or-map}
-use Rattle.ns_word.proofs.Ranges.{stands_once}
+use Rattle.ns_word.proofs.CountsIn.{OnceInEach}
 use Rattle.ns_word.specs.declared.act.Waking.TheVariants.{Broadcasting, Signaling}
-use Rattle.ns_queue.specs.Queues.{Lists, cvs_without, times, waiters_of}
+use Rattle.ns_queue.specs.Queues.{Lists, cvs_without, waiters_of}
 use Rattle.ns_queue.specs.declared.waiter.Waiter.{Waiter}
 use Rattle.ns_queue.specs.declared.waiter.Which.TheVariants.{Cv}
 use Rattle.ns_word.proofs.Answers.{acquire_looks_not, cells_look_not, judge_looks_not, leaver_looks_not, look_of_act, release_looks_not, signal_looks_not, show_looks_not, try_looks_not}
@@ -96,9 +95,9 @@ owed_tells truths seats h s at view lawful here =
 -- ---- whom a call wakes
 
 module _ (C : Type 0) (N : ℕ) (truths : Truths C) (seat : ℕ) (waking : Waking) (k : ℕ) where
-  -- there are four variables, and no seat stands in the lists twice
+  -- there are four variables, and no seat stands in the list of one twice
   abbrev IsWhole : Lists C → Type 0
-  IsWhole lists = (length lists.cvs ≡ 4) × ((seat : ℕ) → times seat lists ≤ 1)
+  IsWhole lists = (length lists.cvs ≡ 4) × OnceInEach lists
 
   -- what a step of such a call commits, and what it leaves of the lists
   abbrev WakesBy : Part C N → Part C N → List (Event C N) → Type 0
@@ -120,7 +119,7 @@ module _ (C : Type 0) (N : ℕ) (truths : Truths C) (seat : ℕ) (waking : Wakin
   kept_there last lists below whole =
       let taken = taken_by waking (waiters_of lists (Cv k)) in
       moved_reads (is_held last) taken (cvs_without (taken_set taken) lists)
-      ∙ get_or-map (outside (taken_set taken)) lists.cvs k [] [] (omega (arith, below, whole.0)) ∙ left_there waking (waiters_of lists (Cv k)) (λ seat. omega (arith, times_at_most lists (Cv k) seat whole.0 below, whole.1 seat))
+      ∙ get_or-map (outside (taken_set taken)) lists.cvs k [] [] (omega (arith, below, whole.0)) ∙ left_there waking (waiters_of lists (Cv k)) (λ seat. whole.1 seat k below)
 
   wakes_at : (place : SignalPlace) (found : Found) (old new : Part C N) (commits : List (Event C N)) → k < 4 → IsWhole old.lists → Effect truths seat (want_signaling waking k place) old found new commits → WakesBy old new commits
   wakes_at SignalLoad (Saw word) old new commits below four e = inl (e.2, ap (λ p. p.lists) e.1)
@@ -162,7 +161,7 @@ pub wakes_by_rule : {C : Type 0} {N : ℕ} (truths : Truths C) (seats : ℕ) (h 
     WakesBy C N truths view.seat waking k (part_of old view.held view.owed) (part_of new step.held step.owed) commits
 wakes_by_rule {C} {N} truths seats h old new view found commits waking k step lawful asked =
     let fits = (each_parts truths seats (standing_after h) old.row step.front view step.back (subst (λ vs. EachFits truths seats (standing_after h) old.row vs) step.was lawful.one_history.each)).1 in
-    wakes_by C N truths view.seat waking k step.walk found (part_of old view.held view.owed) (part_of new step.held step.owed) commits asked (subst (λ w. PlaceFits truths w view.held) step.walks fits.place) (lawful.waiters_placed.four, stands_once truths seats h old lawful.waiters_placed lawful.one_history.each) step.effect
+    wakes_by C N truths view.seat waking k step.walk found (part_of old view.held view.owed) (part_of new step.held step.owed) commits asked (subst (λ w. PlaceFits truths w view.held) step.walks fits.place) (lawful.waiters_placed.four, lawful.waiters_placed.once) step.effect
 
 -- ---- looks
 

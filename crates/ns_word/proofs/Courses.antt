@@ -13,13 +13,12 @@ use Rattle.ns_model.specs.declared.event.Exit.TheVariants.{CondWait, CvWait, Pla
 use Rattle.ns_model.specs.declared.event.Mode.{Mode}
 use Rattle.ns_model.specs.declared.event.Mode.TheVariants.{Read, Write}
 use Rattle.ns_queue.specs.Queues.{waiters_of}
-use Rattle.ns_queue.specs.Waiters.{times_in}
 use Rattle.ns_queue.specs.declared.waiter.Which.TheVariants.{Cv}
 use Rattle.ns_word.proofs.Asked.{Asks}
 use Rattle.ns_word.specs.Answers.{cause_by, place_cause_kept}
 use Rattle.ns_word.specs.Asked.{asked_in_cells, asked_of, asked_to_judge}
 use Rattle.ns_word.specs.Courses.{AcquireSoFar, CallGoes, HasLeft, HasLookedFor, IsComing, KeptFits, QueuesAfter, QueuesSoFar, ReleaseSoFar, SignalSoFar, SoFar, TestsSoFar, WaitSoFar, course_after, left_by, looked_after}
-use Rattle.ns_word.specs.Lists.{has_some}
+use Rattle.ns_word.specs.Lists.{has_some, stands_at}
 use Rattle.ns_word.specs.Meanings.{ConditionWaitMeans, Course, HasLocked, HasReleased, HasWoken, InHand, IsQuietSection, MayAnswer, Means, Unchanged, VariableWaitMeans, leave_told, new_section}
 use Rattle.ns_word.specs.Places.{AimFits, CanLeave, CanWait, CellFits, ComesBack, IsForCondition, IsLeft, MayWait, PlaceFits, QueueFits, ReleaseFits, Tests, WaitFits}
 use Rattle.ns_word.specs.Steps.{LockState, Step, part_of, Effect, MayShow, Part, entry_of, exit_for, held_after, held_by, leave_of, newly_held, opening_by, section_of, taken_by, wake_of}
@@ -531,8 +530,8 @@ module _ (C : Type 0) (N : ℕ) (truths : Truths C) (seat : ℕ) (row : List ℕ
         Comes (Await wait) (course_after (Left stood) commits course) (got_leaving wait cause (Leave last) (Left stood)) next.held
     withdrawn_on mode on limits cause last stood e so_far = go stood on (e.3 ∙ ap (leave_of seat (home_of on)) same) so_far.0
       where
-        same : ltb 0 (times_in seat (waiters_of part.lists (home_of on))) ≡ stood
-        same = let found : Left (ltb 0 (times_in seat (waiters_of part.lists (home_of on)))) ≡ Left stood = e.0 in cc
+        same : stands_at seat (home_of on) part.lists ≡ stood
+        same = let found : Left (stands_at seat (home_of on) part.lists) ≡ Left stood = e.0 in cc
 
         go : (stood : Bool) (on : Subject C) → commits ≡ leave_of seat (home_of on) stood → HasLeft truths seat (record { mode = mode; on = on; limits = limits }) None course →
             Comes (Await (record { mode = mode; on = on; limits = limits })) (course_after (Left stood) commits course) (got_leaving (record { mode = mode; on = on; limits = limits }) cause (Leave last) (Left stood)) next.held
@@ -563,8 +562,8 @@ module _ (C : Type 0) (N : ℕ) (truths : Truths C) (seat : ℕ) (row : List ℕ
     leaves_on wait cause (TakeToLeave last) Made e so_far = finds (Await wait) Made (On (InWait wait (InLeaving cause (Leave (word_taken ToChange last))))) refl (ap (λ p. p.held) e.2) e.3 so_far
     leaves_on wait cause (Leave last) (Saw word) e so_far = finds (Await wait) (Saw word) (On (InWait wait (InLeaving cause (Leave word)))) refl (held_in part e.2) e.3 so_far
     leaves_on wait cause (Leave last) (Left stood) e so_far = withdrawn_on wait.mode wait.on wait.limits cause last stood e so_far
-    leaves_on wait cause (Leave last) Made e so_far = let other : Left (ltb 0 (times_in seat (waiters_of part.lists (home_of wait.on)))) ≡ Made = e.0 in absurd (cc)
-    leaves_on wait cause (Leave last) (Woke owes) e so_far = let other : Left (ltb 0 (times_in seat (waiters_of part.lists (home_of wait.on)))) ≡ Woke owes = e.0 in absurd (cc)
+    leaves_on wait cause (Leave last) Made e so_far = let other : Left (stands_at seat (home_of wait.on) part.lists) ≡ Made = e.0 in absurd (cc)
+    leaves_on wait cause (Leave last) (Woke owes) e so_far = let other : Left (stands_at seat (home_of wait.on) part.lists) ≡ Woke owes = e.0 in absurd (cc)
     leaves_on wait cause AwaitWakeToLeave (Flag v) e so_far =
         finds (Await wait) (Flag v) _ refl (held_in part e.1) e.2 (either (Await wait) course part.held (eqb v 1) (Idle (InWait wait (InLeaving cause AwaitWakeToLeave))) (On (InAcquire (ForWait wait (outcome_taken wait.on cause v)) (AcquireLoad (arrival_of 0 v))))
         (λ b. so_far) (λ b. taken_comes wait.mode wait.on wait.limits cause v so_far))

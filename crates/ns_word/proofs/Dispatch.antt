@@ -1,7 +1,8 @@
 -- A step keeps the law: which kind of step it is, by the place in the walk and what was found.
-use Rattle.std.proofs.Common.{◌≡◌, ◌⊎◌, inl, inr, ℕ, ◌+◌, ◌<◌, ◌≤◌, Bool, true, false, not, cond, eqb, ltb, ◌&&◌, ◌||◌, List, [], ◌∷◌, ◌++◌, length, Option, None, Some, is_some, slice_set, refl, ap, sym, ◌∙◌, subst, arith, eq-eqb}
-use Rattle.std.proofs.lemmas.Bool.{eqb-true, ltb-true, ltb-false, both_ways}
-use Rattle.std.proofs.lemmas.List.{append-nil, set-get_or}
+use Rattle.std.proofs.Common.{◌≡◌, ◌⊎◌, inl, inr, ℕ, ◌+◌, ◌<◌, ◌≤◌, Bool, true, false, not, cond, eqb, ltb, ◌&&◌, ◌||◌, List, [], ◌∷◌, ◌++◌, Option, None, Some, is_some, slice_set, refl, ap, sym, ◌∙◌, subst, arith, eq-eqb}
+use Rattle.std.proofs.lemmas.Bool.{eqb-true, ltb-true, both_ways}
+use Rattle.std.specs.List.{sum_by}
+use Rattle.std.proofs.lemmas.List.{append-nil}
 use Rattle.ns_model.specs.declared.event.Mode.{Mode}
 use Rattle.ns_model.specs.declared.event.Mode.TheVariants.{Write, Read}
 use Rattle.ns_model.specs.declared.event.Exit.{Exit}
@@ -10,23 +11,21 @@ use Rattle.ns_model.specs.declared.event.Event.{Event}
 use Rattle.ns_model.specs.declared.event.Event.TheVariants as TheEvent
 use Rattle.ns_model.specs.declared.phase.Phase.{Phase}
 use Rattle.ns_model.specs.declared.cvs.Variables.{Variables}
-use Rattle.ns_model.specs.declared.cvs.Variables.TheVariants.{Only}
+use Rattle.ns_model.specs.declared.cvs.Variables.TheVariants.{Any, Only}
 use Rattle.ns_model.specs.declared.phase.Phase.TheVariants.{Cond, Waiting, Woken}
 use Rattle.ns_model.specs.Histories.{standing_after, standing_next, IsLegalEvent, who_of}
 use Rattle.ns_model.specs.Tallies.{Every}
 use Rattle.ns_model.proofs.Tallies.{every_parts, every_join}
 use Rattle.ns_queue.specs.declared.waiter.Waiter.{Waiter}
-use Rattle.ns_queue.specs.declared.waiter.Which.{Which}
-use Rattle.ns_queue.specs.declared.waiter.Which.TheVariants.{Lock, Cv}
-use Rattle.ns_queue.specs.Queues.{Lists, IsList, IsOrderly, cvs_without, times, waiters_of, with_waiters, without}
-use Rattle.ns_queue.specs.Waiters.{outside, times_in, without_in}
+use Rattle.ns_word.specs.declared.wait.Home.{Home}
+use Rattle.ns_word.specs.declared.wait.Home.TheVariants.{AtLock, AtVariables}
+use Rattle.ns_queue.specs.declared.waiter.Which.TheVariants.{Cv}
+use Rattle.ns_queue.specs.Queues.{cvs_without, waiters_of, without}
+use Rattle.ns_queue.specs.Waiters.{times_in, without_in}
 use Rattle.ns_queue.specs.Scans.{woken_of, left_of}
 use Rattle.ns_queue.specs.Signals.{taken_set}
 use Rattle.ns_queue.specs.Wakes.{AreWaiting, woken_phases}
-use Rattle.ns_queue.proofs.Outside.{broadcast_outside, signal_outside, taken_alone}
-use Rattle.ns_queue.proofs.Parts.{once_in, removed_of}
-use Rattle.ns_queue.proofs.Seats.{none_without}
-use Rattle.ns_queue.proofs.Taken.{times_signaled, every_signaled, every_unsignaled}
+use Rattle.ns_queue.proofs.Taken.{times_signaled, every_signaled}
 use Rattle.ns_queue.proofs.Wakes.{signal_legal, broadcast_legal}
 use Rattle.ns_word.specs.Owed.{Tells, called_of, is_from_lock, times_among, wakes_of}
 use Rattle.ns_word.specs.declared.owed.Owed.{Owed}
@@ -71,7 +70,7 @@ use Rattle.ns_word.specs.declared.act.Found.TheVariants.{Saw, Made, Cell, Quiet,
 use Rattle.ns_word.specs.declared.walk.Next.{Next}
 use Rattle.ns_word.specs.declared.walk.Next.TheVariants.{On, Idle}
 use Rattle.ns_word.specs.Words.{is_held, is_woken, tries_of, mode_released, releasing_of, may_acquire, needs_scan, word_acquired, word_released, word_taken, word_returned, word_released_returning}
-use Rattle.ns_word.specs.Lists.{has_some, bits_of, queued}
+use Rattle.ns_word.specs.Lists.{counts_in, has_some, bits_of, queued, stands_at}
 use Rattle.ns_word.specs.Waits.{IsWokenBy, OutcomeFits, arrival_of, cause_in, home_of, mode_for, outcome_taken, phase_for, phase_kept, variable_by, woken_by}
 use Rattle.ns_word.specs.Walks.{want_waiting, want_signaling, want_showing, judge_of, want_of, got_waiting, got_leaving, got_signaling, got_showing, got_of, walk_after, acquired_for, armed_place, pay_waiting, pay_woken, rest_or_look, pay_releasing, wait_has_queues, place_awaits, has_queues, is_queuing, has_armed, waits_in, awaits, was_woken, calls_from_lock, pays, is_on_way, phase_by, expected_for}
 use Rattle.ns_word.specs.Views.{NoneIs}
@@ -86,7 +85,8 @@ use Rattle.ns_word.proofs.Knows.{nothing_called, rests as known_rests, takes as 
 use Rattle.ns_word.proofs.Views.{view_of, each_parts}
 use Rattle.ns_word.proofs.Variables.{are_waiting}
 use Rattle.ns_word.proofs.Owns.{long_eligible}
-use Rattle.ns_word.proofs.Ranges.{lists_orderly, stands_once}
+use Rattle.ns_word.proofs.CountsIn.{counts_somewhere, cvs_left, out_of_cvs, out_of_lock}
+use Rattle.ns_word.proofs.Ranges.{counts_once, lists_orderly}
 use Rattle.ns_word.proofs.Safes.{section, same_section}
 use Rattle.ns_word.proofs.Seen.{packable, found_fits, seen_next}
 use Rattle.ns_word.proofs.Scans.{some_wakes}
@@ -119,39 +119,19 @@ abbrev owes_in : Found → Bool
 owes_in (Woke owes) = owes
 owes_in _ = false
 
-is_list : {C : Type 0} (on : Subject C) → IsInRange on → IsList (home_of on)
-is_list (OnCondition c) range = tt
-is_list (OnVariable k) range = range
-
-not_left : {C : Type 0} {N : ℕ} (who : ℕ) (which : Which) → leave_of {C = C} {N = N} who which false ≡ []
-not_left who Lock = refl
-not_left who (Cv k) = refl
-
--- lists without one who stands not in the list that it leaves
-same_lists : {C : Type 0} (who : ℕ) (lists : Lists C) (which : Which) → length lists.cvs ≡ 4 → IsList which → times_in who (waiters_of lists which) ≡ 0 → with_waiters lists which (without_in who (waiters_of lists which)) ≡ lists
-same_lists who lists Lock four low none = ap (λ ws. record lists { lock = ws }) (none_without who lists.lock none)
-same_lists who lists (Cv k) four low none = ap (λ ws. record lists { cvs = slice_set lists.cvs k ws }) (none_without who (waiters_of lists (Cv k)) none) ∙ ap (λ cvs. record lists { cvs = cvs }) (set-get_or lists.cvs k [])
+not_left : {C : Type 0} {N : ℕ} (who : ℕ) (home : Home) → leave_of {C = C} {N = N} who home false ≡ []
+not_left who AtLock = refl
+not_left who (AtVariables (Only k)) = refl
+not_left who (AtVariables (Any cvs)) = refl
 
 -- what a call takes and what it leaves is all
 parts_of : {C : Type 0} (waking : Waking) (ws : List (Waiter C)) (seat : ℕ) → times_in seat (taken_by waking ws) + times_in seat (kept_by waking ws) ≡ times_in seat ws
 parts_of Signaling ws seat = times_signaled ws seat
 parts_of Broadcasting ws seat = omega arith
 
--- where nobody stands in the lists twice, one that leaves is out of its own list alone
-left_alone : {C : Type 0} (who : ℕ) (lists : Lists C) (which : Which) (b : Bool) → IsOrderly lists → times who lists ≤ 1 → IsList which → ltb 0 (times_in who (waiters_of lists which)) ≡ b →
-    cond (ltb 0 (times_in who (waiters_of lists which))) (without who lists) lists ≡ with_waiters lists which (without_in who (waiters_of lists which))
-left_alone who lists which true orderly alone is stands = rw stands (removed_of lists which who orderly alone is (ltb-true 0 (times_in who (waiters_of lists which)) stands))
-left_alone who lists which false orderly alone is stands = let absent = ltb-false 0 (times_in who (waiters_of lists which)) stands in rw stands (sym (same_lists who lists which orderly.four is (omega (arith, absent))))
-
--- and those whom a wake takes are out of their list alone
-woken_alone : {C : Type 0} (waking : Waking) (k : ℕ) (lists : Lists C) → IsOrderly lists → ((seat : ℕ) → times seat lists ≤ 1) → k < 4 →
-    cvs_without (taken_set (taken_by waking (waiters_of lists (Cv k)))) lists ≡ with_waiters lists (Cv k) (kept_by waking (waiters_of lists (Cv k)))
-woken_alone {C = C} waking k lists orderly alone low =
-    let ws = waiters_of lists (Cv k) in
-    taken_alone lists k (taken_by waking ws) (kept_by waking ws) orderly.four low alone (λ seat. omega (arith, parts_of waking ws seat)) (left waking ws (once_in lists (Cv k) orderly low)) where
-      left : (waking : Waking) (ws : List (Waiter C)) → ((seat : ℕ) → times_in seat ws ≤ 1) → outside (taken_set (taken_by waking ws)) ws ≡ kept_by waking ws
-      left Signaling ws once = signal_outside ws once
-      left Broadcasting ws once = broadcast_outside ws
+-- whom a call takes stands in its list
+part_of_list : {C : Type 0} (waking : Waking) (ws : List (Waiter C)) (seat : ℕ) → times_in seat (taken_by waking ws) ≤ times_in seat ws
+part_of_list waking ws seat = omega (arith, parts_of waking ws seat)
 
 -- those whom a call that wakes owes wakes were not taken from the lock list
 from_by : (C : Type 0) (waking : Waking) (k : ℕ) (owes : Bool) (owed : List Owed) → owes ≡ has_some owed → (calls_from_lock {C = C} (walk_after (pay_woken waking k owes)) ≡ false) ⊎ (owed ≡ [])
@@ -288,33 +268,33 @@ module _ {C : Type 0} {N : ℕ} (truths : Truths C) (seats : ℕ) (h : List (Eve
       let left = subst (λ x. CanLeave truths releasing x) e can in (in_its_mode walk part held (mode_released releasing) e m p, left.1, left.2)
 
   -- a wait with the queues takes itself from its list
-  withdrawn : (mode : Mode) (on : Subject C) (limits : Limits) (cause : Cause) (last : Word) (stood : Bool) (part next : Part C N) (commits : List (Event C N)) → ltb 0 (times_in who (waiters_of part.lists (home_of on))) ≡ stood → last ≡ part.word →
+  withdrawn : (mode : Mode) (on : Subject C) (limits : Limits) (cause : Cause) (last : Word) (stood : Bool) (part next : Part C N) (commits : List (Event C N)) → stands_at who (home_of on) part.lists ≡ stood → last ≡ part.word →
       let wait : Wait C = record { mode = mode; on = on; limits = limits } in
-      let lists = with_waiters part.lists (home_of on) (without_in who (waiters_of part.lists (home_of on))) in
-      next ≡ record part { word = word_returned false (bits_of lists.lock) last; lists = lists } → commits ≡ leave_of who (home_of on) (ltb 0 (times_in who (waiters_of part.lists (home_of on)))) → part.held ≡ None → MayShow limits (Some cause) → IsInRange on → seats ≤ 64 →
+      let lists = cond stood (without who part.lists) part.lists in
+      next ≡ record part { word = word_returned false (bits_of lists.lock) last; lists = lists } → commits ≡ leave_of who (home_of on) (stands_at who (home_of on) part.lists) → part.held ≡ None → MayShow limits (Some cause) → IsInRange on → seats ≤ 64 → counts_in who part.lists ≤ 1 →
       Groups truths seats h (at part (Some (InWait wait (InLeaving cause (Leave last))))) → Kept commits next (walk_after (got_leaving wait cause (Leave last) (Left stood)))
-  withdrawn mode (OnCondition c) limits cause last true part next commits stands same e f none given range few p =
+  withdrawn mode (OnCondition c) limits cause last true part next commits stands same e f none given range few most p =
       let wait : Wait C = record { mode = mode; on = OnCondition c; limits = limits } in
       let lock = without_in who part.lists.lock in
+      let out = out_of_lock who part.lists most (ltb-true 0 (times_in who part.lists.lock) stands) in
       moved (Some (InAcquire (ForWait wait (Ended cause)) (AcquireLoad AsFresh))) (record part { word = word_returned false (bits_of lock) part.word; lists = with_lock part.lists lock; held = None }) next [] commits
-      (e ∙ ap (λ word. record part { word = word_returned false (bits_of lock) word; lists = with_lock part.lists lock }) same ∙ ap (λ x. record part { word = word_returned false (bits_of lock) part.word; lists = with_lock part.lists lock; held = x }) none) f
+      (e ∙ (λ i. record part { word = word_returned false (bits_of (out i).lock) (same i); lists = out i }) ∙ ap (λ x. record part { word = word_returned false (bits_of lock) part.word; lists = with_lock part.lists lock; held = x }) none) f
       (none_more _ (withdraws truths seats h front who (Some (InWait wait (InLeaving cause (Leave last)))) (Some (InAcquire (ForWait wait (Ended cause)) (AcquireLoad AsFresh))) back part.word part.row part.lists part.flags part.owed refl
       (ltb-true 0 (times_in who part.lists.lock) stands) (refl, tt, (tt, given)) refl refl refl refl refl refl refl refl refl (with_held (InWait wait (InLeaving cause (Leave last))) part None none p)))
-  withdrawn mode (OnVariable k) limits cause last true part next commits stands same e f none given range few p =
+  withdrawn mode (OnVariable k) limits cause last true part next commits stands same e f none given range few most p =
       let wait : Wait C = record { mode = mode; on = OnVariable k; limits = limits } in
-      let lists = with_waiters part.lists (Cv k) (without_in who (waiters_of part.lists (Cv k))) in
+      let lists = cvs_left who part.lists in
+      let here = ltb-true 0 (sum_by (times_in who) part.lists.cvs) stands in
+      let out = out_of_cvs who part.lists (let there = counts_somewhere who part.lists here in omega (arith, there, most)) in
       moved (Some (InAcquire (ForWait wait (Ended cause)) (AcquireLoad AsFresh))) (record part { word = word_returned false (bits_of part.lists.lock) part.word; lists = lists; held = None }) next (TheEvent.Leave who k ∷ []) commits
-      (e ∙ ap (λ word. record part { word = word_returned false (bits_of part.lists.lock) word; lists = lists }) same ∙ ap (λ x. record part { word = word_returned false (bits_of part.lists.lock) part.word; lists = lists; held = x }) none)
-      (f ∙ ap (leave_of who (Cv k)) stands)
-      (leaves_variable truths seats h front who (Some (InWait wait (InLeaving cause (Leave last)))) (Some (InAcquire (ForWait wait (Ended cause)) (AcquireLoad AsFresh))) back k mode part.word part.row part.lists part.flags part.owed few range refl
-      (ltb-true 0 (times_in who (waiters_of part.lists (Cv k))) stands) refl (refl, tt, (tt, given)) refl refl refl refl refl refl refl refl refl (with_held (InWait wait (InLeaving cause (Leave last))) part None none p))
-  withdrawn mode on limits cause last false part next commits stands same e f none given range few p =
+      (e ∙ (λ i. record part { word = word_returned false (bits_of (out i).lock) (same i); lists = out i }) ∙ ap (λ x. record part { word = word_returned false (bits_of part.lists.lock) part.word; lists = lists; held = x }) none)
+      (f ∙ ap (leave_of who (AtVariables (Only k))) stands)
+      (leaves_variable truths seats h front who (Some (InWait wait (InLeaving cause (Leave last)))) (Some (InAcquire (ForWait wait (Ended cause)) (AcquireLoad AsFresh))) back k mode part.word part.row part.lists part.flags part.owed few refl
+      here refl (refl, tt, (tt, given)) refl refl refl refl refl refl refl refl refl (with_held (InWait wait (InLeaving cause (Leave last))) part None none p))
+  withdrawn mode on limits cause last false part next commits stands same e f none given range few most p =
       let wait : Wait C = record { mode = mode; on = on; limits = limits } in
-      let lists = with_waiters part.lists (home_of on) (without_in who (waiters_of part.lists (home_of on))) in
-      let absent = ltb-false 0 (times_in who (waiters_of part.lists (home_of on))) stands in
-      let unchanged : lists ≡ part.lists = same_lists who part.lists (home_of on) p.placed.four (is_list on range) (omega (arith, absent)) in
       moved (Some (InWait wait (InLeaving cause AwaitWakeToLeave))) (record part { word = word_returned false (bits_of part.lists.lock) part.word }) next [] commits
-      (e ∙ ap (λ word. record part { word = word_returned false (bits_of lists.lock) word; lists = lists }) same ∙ ap (λ x. record part { word = word_returned false (bits_of x.lock) part.word; lists = x }) unchanged)
+      (e ∙ ap (λ word. record part { word = word_returned false (bits_of part.lists.lock) word }) same)
       (f ∙ ap (leave_of who (home_of on)) stands ∙ not_left who (home_of on))
       (none_more _ (returns truths seats h front who (Some (InWait wait (InLeaving cause (Leave last)))) (Some (InWait wait (InLeaving cause AwaitWakeToLeave))) back part.word part.row part.lists part.flags part.held part.owed refl
       ((none, tt, range), given) refl refl refl refl refl refl refl (λ flag n g. g) (λ n. refl) p))
@@ -394,10 +374,6 @@ module _ {C : Type 0} {N : ℕ} (truths : Truths C) (seats : ℕ) (h : List (Eve
   taken_fit Signaling part walk k ws all = every_signaled (Fitting part walk k) ws all
   taken_fit Broadcasting part walk k ws all = all
 
-  kept_fit : (waking : Waking) (part : Part C N) (walk : Option (Walk C)) (k : ℕ) (ws : List (Waiter C)) → Every (Fitting part walk k) ws → Every (Fitting part walk k) (kept_by waking ws)
-  kept_fit Signaling part walk k ws all = every_unsignaled (Fitting part walk k) ws all
-  kept_fit Broadcasting part walk k ws all = tt
-
   -- the event of a call that wakes is legal, and wakes just those
   wake_legal : (waking : Waking) (k : ℕ) (ws : List (Waiter C)) → who < 64 → AreWaiting k (standing_after h).phases ws → IsLegalEvent truths.holds (standing_after h) (wake_of {C = C} {N = N} who waking k (taken_by waking ws))
   wake_legal Signaling k ws low are = (low, signal_legal k (standing_after h).phases ws are)
@@ -413,7 +389,7 @@ module _ {C : Type 0} {N : ℕ} (truths : Truths C) (seats : ℕ) (h : List (Eve
 
   -- where those go who were taken: to the back of the lock list, or they are owed their wakes
   woken_to : (waking : Waking) (k : ℕ) (last : Word) (owes : Bool) (part : Part C N) (moved : Bool) (lock' : List (Waiter C)) (owed' : List Owed) → seats ≤ 64 →
-      let took = taken_by waking (waiters_of part.lists (Cv k)) in let put = with_waiters part.lists (Cv k) (kept_by waking (waiters_of part.lists (Cv k))) in
+      let took = taken_by waking (waiters_of part.lists (Cv k)) in let put = cvs_without (taken_set took) part.lists in
       ((moved ≡ true) × (is_held part.word ≡ true) × (has_some took ≡ true) × (lock' ≡ part.lists.lock ++ took) × (owed' ≡ [])) ⊎ ((moved ≡ false) × (lock' ≡ part.lists.lock) × (owed' ≡ wakes_of k took)) → owes ≡ has_some owed' →
       Groups truths seats h (at part (Some (InSignal waking k (WakeAndReturn last)))) →
       Kept (wake_of who waking k took ∷ []) (record part { word = word_returned moved (bits_of lock') part.word; lists = with_lock put lock'; owed = owed' }) (walk_after (pay_woken waking k owes))
@@ -425,12 +401,12 @@ module _ {C : Type 0} {N : ℕ} (truths : Truths C) (seats : ℕ) (h : List (Eve
       let to = pay_woken_leads truths waking k part.held owes in
       let orderly = lists_orderly truths seats h (at part (Some walk)) p.placed p.safe.one_history.each few in
       let fits = p.told.own k here.1 in
-      wakes_waiters truths seats h front who (Some walk) (walk_after (pay_woken waking k owes)) back (wake_of who waking k (taken_by waking ws)) k (taken_by waking ws) (kept_by waking ws) part.word part.row part.lists part.flags part.held part.owed owed' lock' moved few here.1
+      wakes_waiters truths seats h front who (Some walk) (walk_after (pay_woken waking k owes)) back (wake_of who waking k (taken_by waking ws)) k (taken_by waking ws) part.word part.row part.lists part.flags part.held part.owed owed' lock' moved few here.1
       (wake_by waking k (taken_by waking ws)) (wake_legal waking k ws (omega (arith, few, fit.in_range)) (are_waiting (standing_after h).phases part.lists _ k orderly here.1 p.told)) (wake_leaves waking k (taken_by waking ws))
-      (λ seat. parts_of waking ws seat) (taken_fit waking part (Some walk) k ws fits) (kept_fit waking part (Some walk) k ws fits) orderly refl ways (to.0 here.1 here.2) (to.1 ∙ is) (from_by C waking k owes owed' is) refl to.2 refl to.3 to.4 refl to.5 to.6 (λ none. to.7) p
+      (λ seat. part_of_list waking ws seat) (taken_fit waking part (Some walk) k ws fits) refl ways (to.0 here.1 here.2) (to.1 ∙ is) (from_by C waking k owes owed' is) refl to.2 refl to.3 to.4 refl to.5 to.6 (λ none. to.7) p
 
   woken_at : (waking : Waking) (k : ℕ) (last : Word) (owes : Bool) (part : Part C N) (held some : Bool) → seats ≤ 64 →
-      let took = taken_by waking (waiters_of part.lists (Cv k)) in let put = with_waiters part.lists (Cv k) (kept_by waking (waiters_of part.lists (Cv k))) in
+      let took = taken_by waking (waiters_of part.lists (Cv k)) in let put = cvs_without (taken_set took) part.lists in
       is_held part.word ≡ held → has_some took ≡ some → (not held && some) ≡ owes →
       Groups truths seats h (at part (Some (InSignal waking k (WakeAndReturn last)))) →
       Kept (wake_of who waking k took ∷ []) (record part { word = word_returned (held && some) (bits_of (moved_to held took put).lock) part.word; lists = moved_to held took put; owed = cond held [] (wakes_of k took) }) (walk_after (pay_woken waking k owes))
@@ -450,9 +426,7 @@ module _ {C : Type 0} {N : ℕ} (truths : Truths C) (seats : ℕ) (h : List (Eve
       let same = subst (λ word. (change_found who change word part.lists ≡ Woke owes) × (next ≡ record part { word = word_returned (moves change word part.lists) (bits_of (changed who change word part.lists).lock) word; lists = changed who change word part.lists; owed = owed_after change word part.lists part.owed })) e.1 (e.0, e.2) in
       moved (walk_after (pay_woken waking k owes)) (record part { word = word_returned (moves change part.word part.lists) (bits_of (changed who change part.word part.lists).lock) part.word; lists = changed who change part.word part.lists; owed = owed_after change part.word part.lists part.owed }) next
       (wake_of who waking k took ∷ []) commits same.1 e.3
-      (subst (λ (put : Lists C). Kept (wake_of who waking k took ∷ []) (record part { word = word_returned (moves change part.word part.lists) (bits_of (moved_to (is_held part.word) took put).lock) part.word; lists = moved_to (is_held part.word) took put; owed = owed_after change part.word part.lists part.owed }) (walk_after (pay_woken waking k owes)))
-      (sym (woken_alone waking k part.lists (lists_orderly truths seats h (at part (Some (InSignal waking k (WakeAndReturn last)))) p.placed p.safe.one_history.each few) (stands_once truths seats h (at part (Some (InSignal waking k (WakeAndReturn last)))) p.placed p.safe.one_history.each) (place (InSignal waking k (WakeAndReturn last)) part p).1))
-      (woken_at waking k last owes part (is_held part.word) (has_some took) few refl refl (ap owes_in same.0) p))
+      (woken_at waking k last owes part (is_held part.word) (has_some took) few refl refl (ap owes_in same.0) p)
 
   by_wait : (wait : Wait C) (at_place : WaitPlace) (found : Found) (part next : Part C N) (commits : List (Event C N)) → seats ≤ 64 → 0 < N →
       Effect truths who (want_waiting wait at_place) part found next commits → Groups truths seats h (at part (Some (InWait wait at_place))) → Kept commits next (walk_after (got_waiting N wait at_place found))
@@ -508,10 +482,10 @@ module _ {C : Type 0} {N : ℕ} (truths : Truths C) (seats : ℕ) (h : List (Eve
   by_wait wait (InLeaving cause (Leave last)) (Left stood) part next commits few some e p =
       let here = place (InWait wait (InLeaving cause (Leave last))) part p in
       let whole = at part (Some (InWait wait (InLeaving cause (Leave last)))) in
-      let alone = left_alone who part.lists (home_of wait.on) stood (lists_orderly truths seats h whole p.placed p.safe.one_history.each few) (stands_once truths seats h whole p.placed p.safe.one_history.each who) (is_list wait.on here.0.2) (ap stood_in e.0) in
-      withdrawn wait.mode wait.on wait.limits cause last stood part next commits (ap stood_in e.0) e.1 (e.2 ∙ ap (λ (lists : Lists C). record part { word = word_returned false (bits_of lists.lock) last; lists = lists }) alone) e.3 here.0.0 here.1 here.0.2 few p
-  by_wait wait (InLeaving cause (Leave last)) Made part next commits few some e p = let never : Left (ltb 0 (times_in who (waiters_of part.lists (home_of wait.on)))) ≡ Made = e.0 in absurd (cc)
-  by_wait wait (InLeaving cause (Leave last)) (Woke owes) part next commits few some e p = let never : Left (ltb 0 (times_in who (waiters_of part.lists (home_of wait.on)))) ≡ Woke owes = e.0 in absurd (cc)
+      let stands = ap stood_in e.0 in
+      withdrawn wait.mode wait.on wait.limits cause last stood part next commits stands e.1 (e.2 ∙ ap (λ b. record part { word = word_returned false (bits_of (cond b (without who part.lists) part.lists).lock) last; lists = cond b (without who part.lists) part.lists }) stands) e.3 here.0.0 here.1 here.0.2 few (counts_once truths seats h whole p.placed p.safe.one_history.each who) p
+  by_wait wait (InLeaving cause (Leave last)) Made part next commits few some e p = let never : Left (stands_at who (home_of wait.on) part.lists) ≡ Made = e.0 in absurd (cc)
+  by_wait wait (InLeaving cause (Leave last)) (Woke owes) part next commits few some e p = let never : Left (stands_at who (home_of wait.on) part.lists) ≡ Woke owes = e.0 in absurd (cc)
   by_wait wait _ _ part next commits few some e p = absurd e
 
   not_made : (waking : Waking) (k : ℕ) (last : Word) (part : Part C N) → change_found who (WakeWaiters waking k) last part.lists ≡ Made → ⊥

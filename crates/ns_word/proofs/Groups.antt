@@ -1,4 +1,4 @@
--- The law in four groups, as its proof goes by them.
+-- The law in groups, as its proof goes by them.
 use Rattle.std.proofs.Common.{◌≡◌, ℕ, Bool, false, List}
 use Rattle.ns_model.specs.declared.event.Event.{Event}
 use Rattle.ns_model.specs.Histories.{standing_after}
@@ -9,7 +9,7 @@ use Rattle.ns_word.specs.Lists.{has_some, bits_of}
 use Rattle.ns_word.specs.Views.{queuers, AreApart}
 use Rattle.ns_model.specs.Truths.{Truths}
 use Rattle.ns_word.specs.Steps.{LockState}
-use Rattle.ns_word.specs.Lawful.{OneWriter, ReadersCounted, OneHistory, SpinHeldOnce, bits_in, WaitersPlaced, WaitersOwn, VariablesTell, DesigOnItsWay, IdleWaitersFalse, AllFalseTrue, WordsSeen, IsLawful}
+use Rattle.ns_word.specs.Lawful.{OneWriter, ReadersCounted, OneHistory, SpinHeldOnce, bits_in, WaitersPlaced, WaitersOwn, VariablesTell, TakenTold, DesigOnItsWay, IdleWaitersFalse, AllFalseTrue, WordsSeen, IsLawful}
 
 -- the sections
 pub record Safe {C : Type 0} {N : ℕ} (truths : Truths C) (seats : ℕ) (history : List (Event C N)) (word : Word) (row : List ℕ) (views : List (SeatView C N)) : Type 0 where
@@ -36,6 +36,7 @@ pub record Groups {C : Type 0} {N : ℕ} (truths : Truths C) (seats : ℕ) (hist
   pub placed : WaitersPlaced s.lists s.flags s.views
   pub own : WaitersOwn s.lists.lock s.views
   pub told : VariablesTell (standing_after history).phases s.lists s.views
+  pub taken : TakenTold (standing_after history).phases s.flags s.lists.lock s.views
   pub known : Known truths.holds s.word (standing_after history).row s.lists.lock s.flags s.views
 
 module _ {C : Type 0} {N : ℕ} (truths : Truths C) (seats : ℕ) (history : List (Event C N)) (s : LockState C N) where
@@ -46,6 +47,7 @@ module _ {C : Type 0} {N : ℕ} (truths : Truths C) (seats : ℕ) (history : Lis
     placed = p.waiters_placed;
     own = p.waiters_own;
     told = p.variables_tell;
+    taken = p.taken_told;
     known = record { on_way = p.desig_on_its_way; idle = p.all_false_true; free = p.idle_waiters_false; empty = p.bits_tell.nobody };
   }
 
@@ -59,6 +61,7 @@ module _ {C : Type 0} {N : ℕ} (truths : Truths C) (seats : ℕ) (history : Lis
     waiters_placed = p.placed;
     waiters_own = p.own;
     variables_tell = p.told;
+    taken_told = p.taken;
     desig_on_its_way = p.known.on_way;
     idle_waiters_false = p.known.free;
     all_false_true = p.known.idle;

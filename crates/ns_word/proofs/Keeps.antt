@@ -1,5 +1,7 @@
 -- Each kind of step keeps what holds of a lock and its seats.
 use Rattle.std.proofs.Common.{◌≡◌, ◌≢◌, ◌⊎◌, inl, inr, ℕ, ◌+◌, ◌-◌, ◌<◌, ◌≤◌, Bool, true, false, not, cond, eqb, ◌&&◌, List, [], ◌∷◌, ◌++◌, length, Option, None, Some, is_some, slice_set, refl, ap, sym, ◌∙◌, subst, arith, eq-eqb}
+use Rattle.std.specs.List.{sum_by}
+use Rattle.std.proofs.lemmas.List.{length-map}
 use Rattle.std.proofs.lemmas.Bool.{ne_eqb, eqb-true, and_parts, not-true, both_ways}
 use Rattle.ns_model.specs.declared.event.Mode.{Mode}
 use Rattle.ns_model.specs.declared.event.Mode.TheVariants.{Write, Read}
@@ -21,15 +23,15 @@ use Rattle.ns_model.specs.Truths.{Truths}
 use Rattle.ns_model.proofs.Histories.{standing_from-append}
 use Rattle.ns_queue.specs.declared.waiter.Waiter.{Waiter}
 use Rattle.ns_queue.specs.declared.waiter.Which.TheVariants.{Cv}
-use Rattle.ns_queue.specs.Queues.{Lists, IsOrderly, times, waiters_of, with_waiters}
-use Rattle.ns_queue.specs.Waiters.{times_in, without_in, is_of}
+use Rattle.ns_queue.specs.Queues.{Lists, cvs_without, times, waiters_of, with_waiters}
+use Rattle.ns_queue.specs.Waiters.{outside, times_in, without_in, is_of}
 use Rattle.ns_queue.specs.Scans.{woken_of, left_of}
 use Rattle.ns_queue.specs.Signals.{taken_set}
 use Rattle.ns_queue.specs.Wakes.{woken_phases}
 use Rattle.ns_queue.proofs.Seats.{times_in-cons, times_in-append}
 use Rattle.ns_queue.proofs.Taken.{in_stands}
 use Rattle.ns_queue.proofs.Wakes.{stands_waits}
-use Rattle.ns_queue.proofs.Parts.{four_kept, times_with, times_at_most}
+use Rattle.ns_queue.proofs.Parts.{four_kept, times_at_most}
 use Rattle.ns_word.specs.Owed.{Tells, called_of, times_among, wakes_of}
 use Rattle.ns_word.specs.declared.owed.Owed.{Owed}
 use Rattle.ns_word.specs.declared.word.Word.{Word}
@@ -38,24 +40,26 @@ use Rattle.ns_word.specs.declared.word.Releasing.TheVariants.{Writer, QuietWrite
 use Rattle.ns_word.specs.declared.word.Arrival.{Arrival}
 use Rattle.ns_word.specs.declared.word.Taking.{Taking}
 use Rattle.ns_word.specs.declared.word.Taking.TheVariants.{ToChange, ToQueue}
+use Rattle.ns_word.specs.declared.wait.Subject.{Subject}
 use Rattle.ns_word.specs.declared.wait.Subject.TheVariants.{OnCondition, OnVariable}
 use Rattle.ns_word.specs.declared.view.Opening.{Opening}
 use Rattle.ns_word.specs.declared.view.Held.{Held}
 use Rattle.ns_word.specs.declared.view.SeatView.{SeatView}
 use Rattle.ns_word.specs.declared.walk.Walk.{Walk}
 use Rattle.ns_word.specs.Words.{is_held, is_woken, tries_of, mode_released, may_acquire, needs_scan, word_acquired, word_released, word_taken, word_returned, word_released_returning}
-use Rattle.ns_word.specs.Lists.{has_some, has_eligible, bits_of, queued}
+use Rattle.ns_word.specs.Lists.{counts_in, has_some, has_eligible, bits_of, queued}
 use Rattle.ns_word.specs.Walks.{Stance, has_queues, is_queuing, has_armed, waits_in, awaits, pays, was_woken, calls_from_lock, is_on_way, phase_by}
-use Rattle.ns_word.specs.Views.{called_to, walk_at, NoneIs}
+use Rattle.ns_word.specs.Views.{called_to, owed_to, walk_at, NoneIs}
 use Rattle.ns_word.specs.Steps.{LockState, section_of, flags_with, meets_at, with_lock}
 use Rattle.ns_word.specs.Places.{IsSettledBy, PlaceFits}
-use Rattle.ns_word.specs.Lawful.{OwesAs, IsExpected, is_armed, is_unwoken, ViewFits, WaitersOwn, VariableWaiterFits, VariablesTell, lock_stance, bits_in, phase_before}
+use Rattle.ns_word.specs.Lawful.{IsNamed, OwesAs, TakenTold, WaiterNames, WaitersPlaced, IsExpected, is_armed, is_unwoken, ViewFits, WaitersOwn, VariableWaiterFits, VariablesTell, lock_stance, bits_in, phase_before}
 use Rattle.ns_word.proofs.Groups.{Safe, Homed, Known, Groups}
 use Rattle.ns_word.proofs.Knows.{bool_cases, is_loud, due_flag, nothing_called, rests as known_rests, acquires as known_acquires, arms as known_arms, puts, withdraws as known_withdraws, moves_in as known_moves, releases as known_releases, scans as known_scans, pays_one as known_pays, sees_wake as known_sees}
 use Rattle.ns_word.proofs.Views.{view_of, apart_parts, each_parts, called_most, walk_here}
 use Rattle.ns_word.proofs.Waits.{not_due, cleared, placed_here, rested, armed, taken, entered, withdraws as withdrawn, woke, seen}
 use Rattle.ns_word.proofs.Owns.{own_stays, own_same, nowhere, own_queued, own_scanned, own_waited, own_without, own_moved}
-use Rattle.ns_word.proofs.Ranges.{stands_once}
+use Rattle.ns_word.proofs.CountsIn.{counts_entered, counts_gone, counts_lock, counts_none, counts_others, counts_somewhere, counts_taken, cvs_left, once_entered, once_left, once_taken, some_list}
+use Rattle.ns_word.proofs.TakenTold.{left_stays, listed_left, listed_queued, listed_without, listed_woken, same_stays, told_arms, told_enters, told_pays, told_stays, told_wakes}
 use Rattle.ns_word.proofs.Variables.{one_of, tell_same, tell_moves, tell_enters, tell_leaves, tell_lists, tell_taken, waits_of}
 use Rattle.ns_word.proofs.Scans.{calls_tell, tells_clear, tells_few, tells_from, times_wakes, wakes_tell, times_queued, times_seats, times_scan, times_without, times_others, filter_eligible, queued_eligible}
 use Rattle.ns_word.proofs.Homes.{at_home, away, back_home}
@@ -135,19 +139,28 @@ abbrev stance_mode : {C : Type 0} → Option (Stance C) → Mode
 stance_mode None = Write
 stance_mode (Some stance) = stance.mode
 
+-- and for which variable, if it is for one
+abbrev variable_on : {C : Type 0} → Option (Subject C) → ℕ
+variable_on (Some (OnVariable k)) = k
+variable_on on = 0
+
+abbrev stance_variable : {C : Type 0} → Option (Stance C) → ℕ
+stance_variable None = 0
+stance_variable (Some stance) = variable_on stance.on
+
 pub none_of : {A : Type 0} (xs : List A) → has_some xs ≡ false → xs ≡ []
 none_of [] e = refl
 none_of (x ∷ xs) e = absurd (cc)
+
+not_waiting : {C : Type 0} (stance : Option (Stance C)) → is_some stance ≡ false → stance ≡ None
+not_waiting None e = refl
+not_waiting (Some stance) e = absurd (cc)
 
 -- one that owes no wake owes none at another place of that kind
 still_owes : {C : Type 0} (walk walk' : Option (Walk C)) (owed : List Owed) → pays walk ≡ false → pays walk' ≡ pays walk → OwesAs walk owed → OwesAs walk' owed
 still_owes walk walk' owed idle same owes =
     let none = none_of owed (owes.0 ∙ idle) in
     subst (λ xs. OwesAs walk' xs) (sym none) (sym (same ∙ idle), tt)
-
--- how often a seat stands in lists with another lock list
-times_lock : {C : Type 0} (lists : Lists C) (lock : List (Waiter C)) (seat : ℕ) → times seat (with_lock lists lock) + times_in seat lists.lock ≡ times seat lists + times_in seat lock
-times_lock lists lock seat = omega arith
 
 module _ {C : Type 0} {N : ℕ} (truths : Truths C) (seats : ℕ) (h : List (Event C N)) (front : List (SeatView C N)) (who : ℕ) (walk walk' : Option (Walk C)) (back : List (SeatView C N)) where
   abbrev st : Option (Walk C) → Word → List ℕ → Lists C → (ℕ → ℕ) → Option (Held C N) → List Owed → LockState C N
@@ -181,6 +194,21 @@ module _ {C : Type 0} {N : ℕ} (truths : Truths C) (seats : ℕ) (h : List (Eve
   lock_nowhere : (lists : Lists C) → times who lists ≡ 0 → times_in who lists.lock ≡ 0
   lock_nowhere lists none = omega (arith, none)
 
+  -- what the taken are told, where the seat waits as before, and where it waits no more, or did not
+  taken_still : (held held' : Option (Held C N)) (owed : List Owed) (phases : ℕ → Phase C) (flags : ℕ → ℕ) (lock : List (Waiter C)) → NoneIs who front → waits_in walk' ≡ waits_in walk → TakenTold phases flags lock (front ++ view_of who walk held owed ∷ back) → TakenTold phases flags lock (front ++ view_of who walk' held' owed ∷ back)
+  taken_still held held' owed phases flags lock apart same p = told_stays front who walk held owed walk' held' owed back phases phases flags lock lock (same_stays front who walk held owed walk' held' owed back phases apart same) (λ due listed. due) (λ listed. listed) p
+
+  taken_gone : (held held' : Option (Held C N)) (owed : List Owed) (phases phases' : ℕ → Phase C) (flags : ℕ → ℕ) (lock : List (Waiter C)) → NoneIs who front → waits_in walk' ≡ None → ((seat : ℕ) → who ≢ seat → phases' seat ≡ phases seat) →
+      TakenTold phases flags lock (front ++ view_of who walk held owed ∷ back) → TakenTold phases' flags lock (front ++ view_of who walk' held' owed ∷ back)
+  taken_gone held held' owed phases phases' flags lock apart none others p = told_stays front who walk held owed walk' held' owed back phases phases' flags lock lock (left_stays front who walk held owed walk' held' owed back phases phases' apart none others) (λ due listed. due) (λ listed. listed) p
+
+  -- one that doesn't wait is owed no wake, and one that is about to queue has set its flag
+  unowed : (lists : Lists C) (flags : ℕ → ℕ) (held : Option (Held C N)) (owed : List Owed) → NoneIs who front → awaits walk ≡ false → WaitersPlaced lists flags (front ++ view_of who walk held owed ∷ back) → owed_to who (front ++ view_of who walk held owed ∷ back) ≡ 0
+  unowed lists flags held owed apart a p = let here = placed_here front who walk held owed walk' held owed back lists flags apart p in let none = ap one_if (not_due walk (flags who) a) in omega (arith, here, none)
+
+  armed_now : (lists : Lists C) (flags : ℕ → ℕ) (held : Option (Held C N)) (owed : List Owed) → NoneIs who front → has_armed walk ≡ true → WaitersPlaced lists flags (front ++ view_of who walk held owed ∷ back) → flags who ≡ 1
+  armed_now lists flags held owed apart set p = p.armed who (ap has_armed (walk_here front (view_of who walk held owed) back apart) ∙ set)
+
   -- the place in the call changes, and no more of the section in hand than how it is said to have begun
   pub rests : (word : Word) (row : List ℕ) (lists : Lists C) (flags : ℕ → ℕ) (held held' : Option (Held C N)) (owed : List Owed) → pays walk ≡ false → PlaceFits truths walk' held' → Same walk walk' → is_queuing walk' ≡ is_queuing walk → Way walk walk' → SameSection walk held walk' held' →
       Groups truths seats h (st walk word row lists flags held owed) → Groups truths seats h (st walk' word row lists flags held' owed)
@@ -193,6 +221,7 @@ module _ {C : Type 0} {N : ℕ} (truths : Truths C) (seats : ℕ) (h : List (Eve
         placed = rested front who walk held owed walk' held' owed back lists flags apart refl (due same.2 (flags who)) (λ f. sym same.3 ∙ f) p.placed;
         own = own_same front who walk held owed walk' held' owed back lists.lock apart same.2 p.own;
         told = tell_same front who walk held owed walk' held' owed back (standing_after h).phases lists lists apart refl same.2 p.told;
+        taken = taken_still held held' owed (standing_after h).phases flags lists.lock apart same.2 p.taken;
         known = known_rests truths.holds front who walk held owed walk' held' owed back word word (standing_after h).row lists.lock flags apart (calls word row held owed idle p.safe) refl refl refl refl refl q o p.known;
       }
 
@@ -211,6 +240,7 @@ module _ {C : Type 0} {N : ℕ} (truths : Truths C) (seats : ℕ) (h : List (Eve
         placed = rested front who walk None owed walk' held' owed back lists flags apart refl (due same.2 (flags who)) (λ f. sym same.3 ∙ f) p.placed;
         own = own_same front who walk None owed walk' held' owed back lists.lock apart same.2 p.own;
         told = tell_same front who walk None owed walk' held' owed back (standing_after h).phases lists lists apart refl same.2 p.told;
+        taken = taken_still None held' owed (standing_after h).phases flags lists.lock apart same.2 p.taken;
         known = known_acquires truths.holds front who walk None owed walk' held' owed back Write arrival word (standing_after h).row lists.lock flags apart (calls word row None owed idle p.safe) q o p.known;
       }
   acquires Read entry arrival word row lists flags owed idle may phase place same q o p =
@@ -224,6 +254,7 @@ module _ {C : Type 0} {N : ℕ} (truths : Truths C) (seats : ℕ) (h : List (Eve
         placed = rested front who walk None owed walk' held' owed back lists flags apart refl (due same.2 (flags who)) (λ f. sym same.3 ∙ f) p.placed;
         own = own_same front who walk None owed walk' held' owed back lists.lock apart same.2 p.own;
         told = tell_same front who walk None owed walk' held' owed back (standing_after h).phases lists lists apart refl same.2 p.told;
+        taken = taken_still None held' owed (standing_after h).phases flags lists.lock apart same.2 p.taken;
         known = known_acquires truths.holds front who walk None owed walk' held' owed back Read arrival word (standing_after h).row lists.lock flags apart (calls word row None owed idle p.safe) q o p.known;
       }
 
@@ -243,6 +274,7 @@ module _ {C : Type 0} {N : ℕ} (truths : Truths C) (seats : ℕ) (h : List (Eve
         placed = rested front who walk held owed walk' held' owed back lists flags apart refl (due same.2 (flags who)) (λ f. sym same.3 ∙ f) p.placed;
         own = own_same front who walk held owed walk' held' owed back lists.lock apart same.2 p.own;
         told = tell_same front who walk held owed walk' held' owed back (standing_after h).phases lists lists apart refl same.2 p.told;
+        taken = taken_still held held' owed (standing_after h).phases flags lists.lock apart same.2 p.taken;
         known = known_rests truths.holds front who walk held owed walk' held' owed back word word (standing_after h).row lists.lock flags apart (calls word row held owed idle p.safe) refl refl refl refl refl q o p.known;
       }
 
@@ -285,6 +317,7 @@ module _ {C : Type 0} {N : ℕ} (truths : Truths C) (seats : ℕ) (h : List (Eve
         own = own_same front who walk held owed walk' None owed back lists.lock apart same.2 p.own;
         told = tell_moves front who walk held owed walk' None owed back (standing_after h).phases (standing_after (h ++ section_of truths.holds who section_is Plain ∷ [])).phases lists lists p.placed.four refl (stands_not word row lists flags held owed a p)
             (phases_there section_is Plain) (λ k m e. let clash : Idle ≡ Waiting k m = sym (phases_here section_is Plain) ∙ e in absurd (cc)) p.told;
+        taken = taken_gone held None owed (standing_after h).phases (standing_after (h ++ section_of truths.holds who section_is Plain ∷ [])).phases flags lists.lock apart (same.2 ∙ not_waiting (waits_in walk) a) (phases_there section_is Plain) p.taken;
         known = known_releases truths.holds front who walk held owed walk' None owed back releasing word (standing_after h).row (standing_after (h ++ section_of truths.holds who section_is Plain ∷ [])).row lists.lock flags apart (calls word row held owed idle p.safe) calm
             (λ soft e. subst (λ r. has_eligible (meets_at truths r) lists.lock ≡ false) (sym left)
             (quiet (ap length starts ∙ p.safe.one_history.cells_after) (ap length fit.section.cells ∙ p.safe.one_history.cells) fit.section.reads soft lists.lock
@@ -306,6 +339,7 @@ module _ {C : Type 0} {N : ℕ} (truths : Truths C) (seats : ℕ) (h : List (Eve
         placed = rested front who walk held owed walk' held owed back lists flags apart refl (due wait (flags who)) (λ f. absurd (cc)) p.placed;
         own = own_same front who walk held owed walk' held owed back lists.lock apart wait p.own;
         told = tell_same front who walk held owed walk' held owed back (standing_after h).phases lists lists apart refl wait p.told;
+        taken = taken_still held held owed (standing_after h).phases flags lists.lock apart wait p.taken;
         known = knows apart p.homed p.known;
       }
 
@@ -322,6 +356,7 @@ module _ {C : Type 0} {N : ℕ} (truths : Truths C) (seats : ℕ) (h : List (Eve
         placed = armed front who walk held owed walk' held owed back lists flags apart refl a (ap is_some wait ∙ a) p.placed;
         own = own_same front who walk held owed walk' held owed back lists.lock apart wait p.own;
         told = tell_same front who walk held owed walk' held owed back (standing_after h).phases lists lists apart refl wait p.told;
+        taken = told_arms front who walk held owed walk' held owed back (standing_after h).phases flags lists.lock apart wait refl p.taken;
         known = known_arms truths.holds front who walk held owed walk' held owed back word (standing_after h).row lists.lock flags apart (calls word row held owed idle p.safe) q o p.known;
       }
 
@@ -339,10 +374,12 @@ module _ {C : Type 0} {N : ℕ} (truths : Truths C) (seats : ℕ) (h : List (Eve
       record {
         safe = unchanged truths seats h front who walk owed walk' owed back word (word_returned false (bits_of lock') word) row held held refl refl place (still_owes walk walk' owed idle pay fit.owes) (same_section walk walk' held stays) p.safe;
         homed = back_home front who walk held owed walk' held owed back word (word_returned false (bits_of lock') word) lists.lock lock' refl refl s s' p.homed;
-        placed = entered front who walk held owed walk' held owed back lists (with_lock lists lock') flags apart p.placed.four owing
-            (λ seat. let more = times_queued seat who mode None (tries_of arrival) (is_woken arrival) lists.lock in let nothing : times_among seat owed ≡ 0 = rw owing refl in omega (arith, times_lock lists lock' seat, more, nothing)) set a (ap is_some a') set' p.placed;
+        placed = entered front who walk held owed walk' held owed back lists (with_lock lists lock') flags apart p.placed.four p.placed.once owing
+            (λ seat. let more = times_queued seat who mode None (tries_of arrival) (is_woken arrival) lists.lock in let nothing : times_among seat owed ≡ 0 = rw owing refl in omega (arith, counts_lock lists lock' seat, more, nothing)) set a (ap is_some a') set' p.placed;
         own = own_queued front who walk held owed walk' held owed back mode None (tries_of arrival) (is_woken arrival) lists.lock apart (lock_nowhere lists none) (ap lock_stance a') p.own;
         told = tell_moves front who walk held owed walk' held owed back (standing_after h).phases (standing_after h).phases lists (with_lock lists lock') p.placed.four refl none (λ seat ne. refl) (waits_not lists _ p.placed.four none p.told) p.told;
+        taken = told_enters front who walk held owed walk' held owed back (standing_after h).phases (standing_after h).phases flags lists.lock lock' (λ seat ne. refl) (lock_nowhere lists none) (unowed lists flags held owed apart a p.placed) (armed_now lists flags held owed apart set p.placed)
+            (λ due listed. due) (λ listed. listed_queued (WaiterNames (standing_after h).phases (front ++ view_of who walk' held owed ∷ back)) who mode None (tries_of arrival) (is_woken arrival) lists.lock (subst (λ s. IsNamed s ((standing_after h).phases who) None) (sym (ap waits_in (walk_here front (view_of who walk' held owed) back apart) ∙ a')) refl) listed) p.taken;
         known = puts truths.holds front who walk held owed walk' held owed back mode None (tries_of arrival) (is_woken arrival) word (standing_after h).row lists.lock flags apart (calls word row held owed idle p.safe) q o p.known;
       }
 
@@ -360,9 +397,9 @@ module _ {C : Type 0} {N : ℕ} (truths : Truths C) (seats : ℕ) (h : List (Eve
       let most = one_most (is_unwoken walk (flags who)) in
       let flag : flags who ≡ 1 = due_flag walk (flags who) (omega (arith, here, most, stood)) in
       let unowed : called_to who (front ++ view_of who walk None owed ∷ back) ≡ 0 = let few = called_most who (front ++ view_of who walk None owed ∷ back) in omega (arith, here, most, stood, few) in
-      let placed = withdrawn front who walk None owed walk' None owed back lists (with_lock lists lock') (times_in who lists.lock) flags apart p.placed.four refl set'
-      (omega (arith, times_lock lists lock' who, gone)) (λ seat ne. let same = times_others seat who lists.lock ne in omega (arith, times_lock lists lock' seat, same)) (λ some. a') (λ z. absurd (omega (arith, stood, z))) p.placed in
-      let nowhere_now : times who (with_lock lists lock') ≡ 0 = omega (arith, times_lock lists lock' who, gone, here, most, stood) in
+      let placed = withdrawn front who walk None owed walk' None owed back lists (with_lock lists lock') (times_in who lists.lock) flags apart p.placed.four p.placed.once refl set'
+      (omega (arith, counts_lock lists lock' who, gone)) (λ seat ne. let same = times_others seat who lists.lock ne in omega (arith, counts_lock lists lock' seat, same)) (λ some. a') (λ z. absurd (omega (arith, stood, z))) p.placed in
+      let nowhere_now : times who (with_lock lists lock') ≡ 0 = counts_none who (with_lock lists lock') (omega (arith, counts_lock lists lock' who, gone, here, most, stood)) in
       record {
         safe = unchanged truths seats h front who walk owed walk' owed back word (word_returned false (bits_of lock') word) row None None refl refl place (still_owes walk walk' owed idle pay fit.owes) (same_section walk walk' None (λ none. stays)) p.safe;
         homed = back_home front who walk None owed walk' None owed back word (word_returned false (bits_of lock') word) lists.lock lock' refl refl s s' p.homed;
@@ -370,6 +407,8 @@ module _ {C : Type 0} {N : ℕ} (truths : Truths C) (seats : ℕ) (h : List (Eve
         own = own_without front who walk None owed walk' None owed back lists.lock p.own;
         told = let as_put = tell_lists (standing_after h).phases lists (with_lock lists lock') (front ++ view_of who walk None owed ∷ back) refl p.told in
             tell_moves front who walk None owed walk' None owed back (standing_after h).phases (standing_after h).phases (with_lock lists lock') (with_lock lists lock') p.placed.four refl nowhere_now (λ seat ne. refl) (waits_not (with_lock lists lock') _ p.placed.four nowhere_now as_put) as_put;
+        taken = told_stays front who walk None owed walk' None owed back (standing_after h).phases (standing_after h).phases flags lists.lock lock' (left_stays front who walk None owed walk' None owed back (standing_after h).phases (standing_after h).phases apart (not_waiting (waits_in walk') a') (λ seat ne. refl))
+            (λ due listed. due) (λ listed. listed_without (WaiterNames (standing_after h).phases (front ++ view_of who walk' None owed ∷ back)) who lists.lock listed) p.taken;
         known = known_withdraws truths.holds front who walk None owed walk' None owed back word (standing_after h).row lists.lock lock' flags apart (calls word row None owed idle p.safe) s q q'
             (λ f. absurd (both_ways (is_on_way walk 1 0) o (subst (λ n. is_on_way walk 1 n ≡ true) unowed (subst (λ n. is_on_way walk n (called_to who (front ++ view_of who walk None owed ∷ back)) ≡ true) flag f))))
             (filter_eligible (meets_at truths (standing_after h).row) (λ w. not (is_of who w)) lists.lock) p.homed p.known;
@@ -388,38 +427,41 @@ module _ {C : Type 0} {N : ℕ} (truths : Truths C) (seats : ℕ) (h : List (Eve
         placed = rested front who walk held owed walk' held owed back lists flags apart refl (due wait (flags who)) (λ f. absurd (cc)) p.placed;
         own = own_same front who walk held owed walk' held owed back lists.lock apart wait p.own;
         told = tell_same front who walk held owed walk' held owed back (standing_after h).phases lists lists apart refl wait p.told;
+        taken = taken_still held held owed (standing_after h).phases flags lists.lock apart wait p.taken;
         known = known_withdraws truths.holds front who walk held owed walk' held owed back word (standing_after h).row lists.lock lists.lock flags apart (calls word row held owed idle p.safe) s q q' (λ f. o (flags who) (called_to who (front ++ view_of who walk held owed ∷ back)) f) (λ e. e) p.homed p.known;
       }
 
-  -- a seat that leaves takes itself out of the list of its variable, and commits that
-  pub leaves : (k : ℕ) (mode : Mode) (word : Word) (row : List ℕ) (lists : Lists C) (flags : ℕ → ℕ) (owed : List Owed) → seats ≤ 64 → k < 4 → pays walk ≡ false → 1 ≤ times_in who (waiters_of lists (Cv k)) → waits_in walk ≡ Some (record { mode = mode; on = Some (OnVariable k); tries = 0 }) →
+  -- a seat that leaves takes itself out of the lists of variables, and commits that
+  pub leaves : (k : ℕ) (mode : Mode) (word : Word) (row : List ℕ) (lists : Lists C) (flags : ℕ → ℕ) (owed : List Owed) → seats ≤ 64 → pays walk ≡ false → 1 ≤ sum_by (times_in who) lists.cvs → waits_in walk ≡ Some (record { mode = mode; on = Some (OnVariable k); tries = 0 }) →
       PlaceFits {C = C} {N = N} truths walk' None → pays walk' ≡ pays walk → has_queues walk ≡ true → has_queues walk' ≡ false → has_armed walk' ≡ false → is_queuing walk ≡ false → is_queuing walk' ≡ false → awaits walk' ≡ false → is_on_way walk 1 0 ≡ false → IsExpected (phase_by walk') (Left (Only k) mode) →
-      let lists' = with_waiters lists (Cv k) (without_in who (waiters_of lists (Cv k))) in
+      let lists' = cvs_left who lists in
       Groups truths seats h (st walk word row lists flags None owed) → Groups truths seats (h ++ Leave who k ∷ []) (st walk' (word_returned false (bits_of lists.lock) word) row lists' flags None owed)
-  leaves k mode word row lists flags owed few low idle stood wait place pay s s' set' q q' a' o phase p =
+  leaves k mode word row lists flags owed few idle stood wait place pay s s' set' q q' a' o phase p =
       let fit = fits word row None owed p.safe in
       let apart = others word row None owed p.safe in
-      let waiting = waiters_of lists (Cv k) in
-      let lists' = with_waiters lists (Cv k) (without_in who waiting) in
-      let gone : times_in who (without_in who waiting) ≡ 0 = times_without who waiting in
+      let lists' = cvs_left who lists in
       let four = p.placed.four in
       let here = placed_here front who walk None owed walk' None owed back lists flags apart p.placed in
-      let within = times_at_most lists (Cv k) who four low in
+      let there = counts_somewhere who lists stood in
+      let list = some_list who lists four stood in
       let most = one_most (is_unwoken walk (flags who)) in
-      let flag : flags who ≡ 1 = due_flag walk (flags who) (omega (arith, here, most, stood, within)) in
-      let unowed : called_to who (front ++ view_of who walk None owed ∷ back) ≡ 0 = let less = called_most who (front ++ view_of who walk None owed ∷ back) in omega (arith, here, most, stood, within, less) in
-      let waiter = one_of (VariableWaiterFits (standing_after h).phases (front ++ view_of who walk None owed ∷ back) k) who waiting stood (p.told.own k low) in
-      let same_mode : waiter.0.mode ≡ mode = sym (ap stance_mode waiter.2.stands) ∙ ap (λ seat. stance_mode (waits_in (walk_at seat (front ++ view_of who walk None owed ∷ back)))) waiter.1 ∙ ap (λ w. stance_mode (waits_in w)) (walk_here front (view_of who walk None owed) back apart) ∙ ap stance_mode wait in
-      let was : (standing_after h).phases who ≡ Waiting (Only k) mode = subst (λ seat. (standing_after h).phases seat ≡ Waiting (Only k) waiter.0.mode) waiter.1 waiter.2.waits ∙ ap (Waiting (Only k)) same_mode in
+      let flag : flags who ≡ 1 = due_flag walk (flags who) (omega (arith, here, most, there)) in
+      let unowed : called_to who (front ++ view_of who walk None owed ∷ back) ≡ 0 = let less = called_most who (front ++ view_of who walk None owed ∷ back) in omega (arith, here, most, there, less) in
+      let waiter = one_of (VariableWaiterFits (standing_after h).phases (front ++ view_of who walk None owed ∷ back) list.0) who (waiters_of lists (Cv list.0)) list.2 (p.told.own list.0 list.1) in
+      let stance : Some (record { mode = waiter.0.mode; on = Some (OnVariable list.0); tries = 0 }) ≡ Some (record { mode = mode; on = Some (OnVariable k); tries = 0 }) = sym waiter.2.stands ∙ ap (λ seat. waits_in (walk_at seat (front ++ view_of who walk None owed ∷ back))) waiter.1 ∙ ap waits_in (walk_here front (view_of who walk None owed) back apart) ∙ wait in
+      let same_mode : waiter.0.mode ≡ mode = ap stance_mode stance in
+      let same_list : list.0 ≡ k = ap stance_variable stance in
+      let was : (standing_after h).phases who ≡ Waiting (Only k) mode = subst (λ seat. (standing_after h).phases seat ≡ Waiting (Only list.0) waiter.0.mode) waiter.1 waiter.2.waits ∙ (λ i. Waiting (Only (same_list i)) (same_mode i)) in
       let row_same : (standing_after (h ++ Leave who k ∷ [])).row ≡ (standing_after h).row = ap (λ (s : Standing C). s.row) (standing_from-append (first_standing N) h (Leave who k ∷ [])) in
       record {
         safe = left_variable truths seats h front who walk owed walk' owed back k mode word (word_returned false (bits_of lists.lock) word) row few was phase refl refl place (still_owes walk walk' owed idle pay fit.owes) p.safe;
         homed = back_home front who walk None owed walk' None owed back word (word_returned false (bits_of lists.lock) word) lists.lock lists.lock refl refl s s' p.homed;
-        placed = withdrawn front who walk None owed walk' None owed back lists lists' (times_in who waiting) flags apart (four_kept lists (Cv k) (without_in who waiting) ∙ four) refl set'
-            (omega (arith, times_with lists (Cv k) (without_in who waiting) who four low, gone)) (λ seat ne. let same = times_others seat who waiting ne in omega (arith, times_with lists (Cv k) (without_in who waiting) seat four low, same)) (λ some. a') (λ z. absurd (omega (arith, stood, z))) p.placed;
-        own = own_stays front who walk None owed walk' None owed back lists.lock (let other = times_with lists (Cv k) (without_in who waiting) who four low in omega (arith, other, gone, here, most, stood, within)) p.own;
-        told = tell_leaves front who walk None owed walk' None owed back (standing_after h).phases (standing_after (h ++ Leave who k ∷ [])).phases lists k four low (omega (arith, here, most)) stood
+        placed = withdrawn front who walk None owed walk' None owed back lists lists' 1 flags apart (length-map lists.cvs (without_in who) ∙ four) (once_left who lists four p.placed.once) refl set'
+            (omega (arith, counts_gone who lists, there)) (λ seat ne. counts_others seat who lists ne) (λ some. a') (λ z. absurd (omega (arith, z))) p.placed;
+        own = own_stays front who walk None owed walk' None owed back lists.lock (omega (arith, here, most, there)) p.own;
+        told = tell_leaves front who walk None owed walk' None owed back (standing_after h).phases (standing_after (h ++ Leave who k ∷ [])).phases lists four
             (left_there k) (λ j m e. let now_is : Left (Only k) mode ≡ Waiting j m = sym (left_here k mode was) ∙ e in absurd (cc)) p.told;
+        taken = taken_gone None None owed (standing_after h).phases (standing_after (h ++ Leave who k ∷ [])).phases flags lists.lock apart (not_waiting (waits_in walk') a') (left_there k) p.taken;
         known = subst (λ r. Known truths.holds (word_returned false (bits_of lists.lock) word) r lists.lock flags (front ++ view_of who walk' None owed ∷ back)) (sym row_same)
             (known_withdraws truths.holds front who walk None owed walk' None owed back word (standing_after h).row lists.lock lists.lock flags apart (calls word row None owed idle p.safe) s q q'
             (λ f. absurd (both_ways (is_on_way walk 1 0) o (subst (λ n. is_on_way walk 1 n ≡ true) unowed (subst (λ n. is_on_way walk n (called_to who (front ++ view_of who walk None owed ∷ back)) ≡ true) flag f))))
@@ -429,8 +471,8 @@ module _ {C : Type 0} {N : ℕ} (truths : Truths C) (seats : ℕ) (h : List (Eve
   -- ---- with a scan
 
   -- what a scan takes and leaves
-  scan_parts : (meets : C → Bool) (lists : Lists C) (seat : ℕ) → times seat (with_lock lists (left_of meets lists.lock)) + times_among seat (called_of (woken_of meets lists.lock)) ≡ times seat lists
-  scan_parts meets lists seat = omega (arith, times_scan seat meets lists.lock, times_seats seat (woken_of meets lists.lock), times_lock lists (left_of meets lists.lock) seat)
+  scan_parts : (meets : C → Bool) (lists : Lists C) (seat : ℕ) → counts_in seat (with_lock lists (left_of meets lists.lock)) + times_among seat (called_of (woken_of meets lists.lock)) ≡ counts_in seat lists
+  scan_parts meets lists seat = omega (arith, times_scan seat meets lists.lock, times_seats seat (woken_of meets lists.lock), counts_lock lists (left_of meets lists.lock) seat)
 
   -- a seat puts the queues back as a scan leaves them, and releases its section
   pub scans : (releasing : Releasing) (word : Word) (row : List ℕ) (lists : Lists C) (flags : ℕ → ℕ) (entry : Opening C) (before cells : List ℕ) (owed : List Owed) → seats ≤ 64 → IsSettledBy truths.holds before entry → let meets : C → Bool = meets_at truths row in
@@ -454,10 +496,12 @@ module _ {C : Type 0} {N : ℕ} (truths : Truths C) (seats : ℕ) (h : List (Eve
         safe = released truths seats h front who walk owed walk' took back (mode_released releasing) Plain word word' row entry before cells few settled tt phase
             (released_write releasing word) (kept_write releasing word) (kept_readers releasing word) (released_readers releasing word) place (sym pay', calls_told walk' (woken_of meets lists.lock) from) p.safe;
         homed = back_home front who walk held owed walk' None took back word word' lists.lock stay refl refl s s' p.homed;
-        placed = taken front who walk held owed walk' None took back lists (with_lock lists stay) flags apart p.placed.four owing (scan_parts meets lists) a a' set' p.placed;
+        placed = taken front who walk held owed walk' None took back lists (with_lock lists stay) flags apart p.placed.four p.placed.once owing (scan_parts meets lists) a a' set' p.placed;
         own = own_scanned front who walk held owed walk' None took back meets lists.lock (lock_nowhere lists none) p.own;
         told = tell_moves front who walk held owed walk' None took back (standing_after h).phases (standing_after (h ++ section_of truths.holds who section_is Plain ∷ [])).phases lists (with_lock lists stay) p.placed.four refl none
             (phases_there section_is Plain) (λ k m e. let clash : Idle ≡ Waiting k m = sym (phases_here section_is Plain) ∙ e in absurd (cc)) p.told;
+        taken = told_stays front who walk held owed walk' None took back (standing_after h).phases (standing_after (h ++ section_of truths.holds who section_is Plain ∷ [])).phases flags lists.lock stay (left_stays front who walk held owed walk' None took back (standing_after h).phases (standing_after (h ++ section_of truths.holds who section_is Plain ∷ [])).phases apart (not_waiting (waits_in walk') a') (phases_there section_is Plain))
+            (λ due listed. listed_woken (standing_after (h ++ section_of truths.holds who section_is Plain ∷ [])).phases (front ++ view_of who walk' None took ∷ back) meets lists.lock listed) (λ listed. listed_left (WaiterNames (standing_after (h ++ section_of truths.holds who section_is Plain ∷ [])).phases (front ++ view_of who walk' None took ∷ back)) meets lists.lock listed) p.taken;
         known = subst (λ r. Known truths.holds word' r stay flags (front ++ view_of who walk' None took ∷ back)) (sym fit.section.cells ∙ sym (ap (λ s. s.row) (left_by truths seats h who section_is Plain)))
             (known_scans truths.holds front who walk held owed walk' None took back releasing word (standing_after h).row row lists stay flags apart s q' a o owing refl from (λ e. e) p.homed p.placed p.known);
       }
@@ -480,10 +524,12 @@ module _ {C : Type 0} {N : ℕ} (truths : Truths C) (seats : ℕ) (h : List (Eve
       record {
         safe = safe;
         homed = back_home front who walk held owed walk' None took back word word' lists.lock lock' refl refl s s' p.homed;
-        placed = entered front who walk held owed walk' None took back lists (with_lock lists lock') flags apart p.placed.four owing
-            (λ seat. omega (arith, times_scan seat meets lists.lock, times_seats seat (woken_of meets lists.lock), times_lock lists lock' seat, times_queued seat who mode (Some c) 0 again (left_of meets lists.lock))) set a (ap is_some a') set' p.placed;
+        placed = entered front who walk held owed walk' None took back lists (with_lock lists lock') flags apart p.placed.four p.placed.once owing
+            (λ seat. omega (arith, times_scan seat meets lists.lock, times_seats seat (woken_of meets lists.lock), counts_lock lists lock' seat, times_queued seat who mode (Some c) 0 again (left_of meets lists.lock))) set a (ap is_some a') set' p.placed;
         own = own_waited front who walk held owed walk' None took back meets mode (Some c) 0 again lists.lock apart (lock_nowhere lists none) (ap lock_stance a') p.own;
         told = tell_moves front who walk held owed walk' None took back (standing_after h).phases (standing_after h').phases lists (with_lock lists lock') p.placed.four refl none there idles p.told;
+        taken = told_enters front who walk held owed walk' None took back (standing_after h).phases (standing_after h').phases flags lists.lock lock' there (lock_nowhere lists none) (unowed lists flags held owed apart a p.placed) (armed_now lists flags held owed apart set p.placed)
+            (λ due listed. listed_woken (standing_after h').phases (front ++ view_of who walk' None took ∷ back) meets lists.lock listed) (λ listed. listed_queued (WaiterNames (standing_after h').phases (front ++ view_of who walk' None took ∷ back)) who mode (Some c) 0 again (left_of meets lists.lock) (subst (λ s. IsNamed s ((standing_after h').phases who) None) (sym (ap waits_in (walk_here front (view_of who walk' None took) back apart) ∙ a')) refl) (listed_left (WaiterNames (standing_after h').phases (front ++ view_of who walk' None took ∷ back)) meets lists.lock listed)) p.taken;
         known = subst (λ r. Known truths.holds word' r lock' flags (front ++ view_of who walk' None took ∷ back)) now
             (known_scans truths.holds front who walk held owed walk' None took back releasing word (standing_after h).row row lists lock' flags apart s q' a o owing refl from
             (λ e. queued_eligible meets who mode c 0 again (left_of meets lists.lock) unmet e) p.homed p.placed p.known);
@@ -535,7 +581,7 @@ module _ {C : Type 0} {N : ℕ} (truths : Truths C) (seats : ℕ) (h : List (Eve
   -- a wait for a variable leaves its section, commits it, and goes to the back of the variable's list
   pub waits_for : (releasing : Releasing) (mode : Mode) (j : ℕ) (word : Word) (row : List ℕ) (lists : Lists C) (flags : ℕ → ℕ) (entry : Opening C) (before cells : List ℕ) (owed : List Owed) → seats ≤ 64 → j < 4 → IsSettledBy truths.holds before entry →
       let meets : C → Bool = meets_at truths row in let stay = with_lock lists (left_of meets lists.lock) in
-      let lists' = with_waiters stay (Cv j) (waiters_of lists (Cv j) ++ record { seat = who; mode = mode; cond = None; tries = 0; via = None } ∷ []) in
+      let lists' = with_waiters stay (Cv j) (waiters_of lists (Cv j) ++ record { seat = who; mode = mode; cond = None; tries = 0; via = Some j } ∷ []) in
       mode_released releasing ≡ mode → IsExpected (phase_by walk') (Waiting (Only j) mode) →
       PlaceFits {C = C} {N = N} truths walk' None → pays walk ≡ false → pays walk' ≡ has_some (called_of (woken_of meets lists.lock)) → calls_from_lock walk' ≡ true → has_queues walk ≡ true → has_queues walk' ≡ false → awaits walk ≡ false → waits_in walk' ≡ Some (record { mode = mode; on = Some (OnVariable j); tries = 0 }) → has_armed walk ≡ true → has_armed walk' ≡ false → is_queuing walk' ≡ false → NoWay walk →
       Groups truths seats h (st walk word row lists flags (Some (section mode entry before cells)) owed) →
@@ -548,21 +594,25 @@ module _ {C : Type 0} {N : ℕ} (truths : Truths C) (seats : ℕ) (h : List (Eve
       let apart = others word row (Some held) owed p.safe in
       let took = called_of (woken_of meets lists.lock) in
       let stay = with_lock lists (left_of meets lists.lock) in
-      let one : Waiter C = record { seat = who; mode = mode; cond = None; tries = 0; via = None } in
+      let one : Waiter C = record { seat = who; mode = mode; cond = None; tries = 0; via = Some j } in
       let queue = waiters_of lists (Cv j) ++ one ∷ [] in
       let lists' = with_waiters stay (Cv j) queue in
+      let more : (seat : ℕ) → times_in seat queue ≡ times_in seat (waiters_of stay (Cv j)) + one_if (eqb who seat) = λ seat. omega (arith, times_in-append seat (waiters_of lists (Cv j)) (one ∷ []), times_in-cons seat one []) in
       let owing = owes_none word row (Some held) owed idle p.safe in
       let none = stands_not word row lists flags (Some held) owed a p in
+      let out : times who stay ≡ 0 = omega (arith, none, times_scan who meets lists.lock) in
       let word' = word_released_returning releasing (has_some (woken_of meets lists.lock)) (bits_of (left_of meets lists.lock)) word in
       record {
         safe = released truths seats h front who walk owed walk' took back mode (CvWait j) word word' row entry before cells few settled tt phase
             (λ m. released_write releasing word (is ∙ m)) (λ m. kept_write releasing word (is ∙ m)) (λ m. kept_readers releasing word (is ∙ m)) (λ m. released_readers releasing word (is ∙ m)) place (sym pay', calls_told walk' (woken_of meets lists.lock) from) p.safe;
         homed = back_home front who walk (Some held) owed walk' None took back word word' lists.lock (left_of meets lists.lock) refl refl s s' p.homed;
-        placed = entered front who walk (Some held) owed walk' None took back lists lists' flags apart (four_kept stay (Cv j) queue ∙ p.placed.four) owing
-            (λ seat. omega (arith, scan_parts meets lists seat, times_with stay (Cv j) queue seat p.placed.four low, times_in-append seat (waiters_of lists (Cv j)) (one ∷ []), times_in-cons seat one [])) set a (ap is_some a') set' p.placed;
+        placed = entered front who walk (Some held) owed walk' None took back lists lists' flags apart (four_kept stay (Cv j) queue ∙ p.placed.four) (once_entered stay j who queue p.placed.four low out more p.placed.once) owing
+            (λ seat. omega (arith, scan_parts meets lists seat, counts_entered stay j who queue seat p.placed.four low out (more seat) (eqb-true who seat))) set a (ap is_some a') set' p.placed;
         own = own_scanned front who walk (Some held) owed walk' None took back meets lists.lock (lock_nowhere lists none) p.own;
         told = tell_enters front who walk (Some held) owed walk' None took back (standing_after h).phases (standing_after (h ++ section_of truths.holds who held (CvWait j) ∷ [])).phases lists lists' j mode apart p.placed.four (four_kept stay (Cv j) queue ∙ p.placed.four) low none refl a'
             (phases_here held (CvWait j)) (phases_there held (CvWait j)) p.told;
+        taken = told_enters front who walk (Some held) owed walk' None took back (standing_after h).phases (standing_after (h ++ section_of truths.holds who held (CvWait j) ∷ [])).phases flags lists.lock (left_of meets lists.lock) (phases_there held (CvWait j)) (lock_nowhere lists none) (unowed lists flags (Some held) owed apart a p.placed) (armed_now lists flags (Some held) owed apart set p.placed)
+            (λ due listed. listed_woken (standing_after (h ++ section_of truths.holds who held (CvWait j) ∷ [])).phases (front ++ view_of who walk' None took ∷ back) meets lists.lock listed) (λ listed. listed_left (WaiterNames (standing_after (h ++ section_of truths.holds who held (CvWait j) ∷ [])).phases (front ++ view_of who walk' None took ∷ back)) meets lists.lock listed) p.taken;
         known = subst (λ r. Known truths.holds word' r (left_of meets lists.lock) flags (front ++ view_of who walk' None took ∷ back)) (sym fit.section.cells ∙ sym (ap (λ s. s.row) (left_by truths seats h who held (CvWait j))))
             (known_scans truths.holds front who walk (Some held) owed walk' None took back releasing word (standing_after h).row row lists (left_of meets lists.lock) flags apart s q' a o owing refl from (λ e. e) p.homed p.placed p.known);
       }
@@ -583,6 +633,7 @@ module _ {C : Type 0} {N : ℕ} (truths : Truths C) (seats : ℕ) (h : List (Eve
         placed = woke front who walk held (wake ∷ rest) walk' held rest back wake lists flags apart refl (tells_clear (calls_from_lock walk) wake tells.0) (tells_few (calls_from_lock walk) wake tells.0) (ap is_some a) set' p.placed;
         own = own_same front who walk held (wake ∷ rest) walk' held rest back lists.lock apart a p.own;
         told = tell_same front who walk held (wake ∷ rest) walk' held rest back (standing_after h).phases lists lists apart refl a p.told;
+        taken = told_pays front who walk held (wake ∷ rest) walk' held rest back (standing_after h).phases flags lists.lock wake apart a refl p.taken;
         known = known_pays truths.holds front who walk held (wake ∷ rest) walk' held rest back word (standing_after h).row lists flags wake apart refl from (λ seat. after_all seat ∙ ap (λ b. cond b (times_among seat rest) 0) from) q (ap is_some a) w p.placed p.known;
       }
 
@@ -602,26 +653,27 @@ module _ {C : Type 0} {N : ℕ} (truths : Truths C) (seats : ℕ) (h : List (Eve
         placed = seen front who walk None owed walk' None owed back lists flags apart refl clear a' set' p.placed;
         own = own_stays front who walk None owed walk' None owed back lists.lock (lock_nowhere lists none) p.own;
         told = tell_moves front who walk None owed walk' None owed back (standing_after h).phases (standing_after h).phases lists lists p.placed.four refl none (λ seat ne. refl) waits p.told;
+        taken = taken_gone None None owed (standing_after h).phases (standing_after h).phases flags lists.lock apart (gone) (λ seat ne. refl) p.taken;
         known = known_sees truths.holds front who walk None owed walk' None owed back word (standing_after h).row lists flags apart (calls word row None owed idle p.safe) q clear o p.placed p.known;
       }
 
   -- A call takes waiters from the list of a variable and puts the queues back: they are owed wakes, or stand at the back of the lock list, if the lock is held. What it takes, and that its event is legal, is told.
-  pub wakes_waiters : (e : Event C N) (k : ℕ) (took left : List (Waiter C)) (word : Word) (row : List ℕ) (lists : Lists C) (flags : ℕ → ℕ) (held : Option (Held C N)) (owed owed' : List Owed) (lock' : List (Waiter C)) (moved : Bool) → seats ≤ 64 → k < 4 → who_of e ≡ who →
+  pub wakes_waiters : (e : Event C N) (k : ℕ) (took : List (Waiter C)) (word : Word) (row : List ℕ) (lists : Lists C) (flags : ℕ → ℕ) (held : Option (Held C N)) (owed owed' : List Owed) (lock' : List (Waiter C)) (moved : Bool) → seats ≤ 64 → k < 4 → who_of e ≡ who →
       IsLegalEvent truths.holds (standing_after h) e → standing_next (standing_after h) e ≡ record { row = (standing_after h).row; phases = woken_phases k (taken_set took) (standing_after h).phases } →
-      ((seat : ℕ) → times_in seat took + times_in seat left ≡ times_in seat (waiters_of lists (Cv k))) →
-      Every (VariableWaiterFits (standing_after h).phases (front ++ view_of who walk held owed ∷ back) k) took → Every (VariableWaiterFits (standing_after h).phases (front ++ view_of who walk held owed ∷ back) k) left →
-      IsOrderly lists → pays walk ≡ false →
+      ((seat : ℕ) → times_in seat took ≤ times_in seat (waiters_of lists (Cv k))) →
+      Every (VariableWaiterFits (standing_after h).phases (front ++ view_of who walk held owed ∷ back) k) took → pays walk ≡ false →
       -- moved, or owed
       ((moved ≡ true) × (is_held word ≡ true) × (has_some took ≡ true) × (lock' ≡ lists.lock ++ took) × (owed' ≡ [])) ⊎ ((moved ≡ false) × (lock' ≡ lists.lock) × (owed' ≡ wakes_of k took)) →
       PlaceFits truths walk' held → pays walk' ≡ has_some owed' → calls_from_lock walk' ≡ false ⊎ (owed' ≡ []) → has_queues walk ≡ true → has_queues walk' ≡ false → waits_in walk ≡ None → waits_in walk' ≡ None → has_armed walk' ≡ false → is_queuing walk ≡ false → is_queuing walk' ≡ false → Way walk walk' → Stays walk walk' held →
       Groups truths seats h (st walk word row lists flags held owed) →
-      Groups truths seats (h ++ e ∷ []) (st walk' (word_returned moved (bits_of lock') word) row (with_lock (with_waiters lists (Cv k) left) lock') flags held owed')
-  wakes_waiters e k took left word row lists flags held owed owed' lock' moved few low by legal after_it parts takes keeps orderly idle ways place pay from s s' a a' set' q q' o stays p =
+      Groups truths seats (h ++ e ∷ []) (st walk' (word_returned moved (bits_of lock') word) row (with_lock (cvs_without (taken_set took) lists) lock') flags held owed')
+  wakes_waiters e k took word row lists flags held owed owed' lock' moved few low by legal after_it part takes idle ways place pay from s s' a a' set' q q' o stays p =
       let fit = fits word row held owed p.safe in
       let apart = others word row held owed p.safe in
       let owing = owes_none word row held owed idle p.safe in
       let none = stands_not word row lists flags held owed (ap is_some a) p in
-      let put = with_waiters lists (Cv k) left in
+      let four = p.placed.four in
+      let put = cvs_without (taken_set took) lists in
       let lists' = with_lock put lock' in
       let word' = word_returned moved (bits_of lock') word in
       let standing : standing_after (h ++ e ∷ []) ≡ standing_next (standing_after h) e = standing_from-append (first_standing N) h (e ∷ []) in
@@ -631,17 +683,17 @@ module _ {C : Type 0} {N : ℕ} (truths : Truths C) (seats : ℕ) (h : List (Eve
         | inl other ↦ ap (λ b. cond b (times_among seat owed') 0) other ∙ sym (nothing_called walk owed seat owing)
         | inr empty ↦ nothing_called walk' owed' seat empty ∙ sym (nothing_called walk owed seat owing)
       ] in
-      let counts : (seat : ℕ) → times seat lists' + times_among seat owed' ≡ times seat lists = λ seat.
-      let at_cv = times_with lists (Cv k) left seat orderly.four low in let at_lock = times_lock put lock' seat in let sum = parts seat in
+      let counts : (seat : ℕ) → counts_in seat lists' + times_among seat owed' ≡ counts_in seat lists = λ seat.
+      let at_cv = counts_taken took k lists seat four low p.placed.once (part seat) in let at_lock = counts_lock put lock' seat in
       elim ways [
         | inl move ↦
             let more : times_in seat lock' ≡ times_in seat lists.lock + times_in seat took = ap (times_in seat) move.3 ∙ times_in-append seat lists.lock took in
             let nothing : times_among seat owed' ≡ 0 = ap (times_among seat) move.4 in
-            omega (arith, at_cv, at_lock, sum, more, nothing)
+            omega (arith, at_cv, at_lock, more, nothing)
         | inr owe ↦
             let same : times_in seat lock' ≡ times_in seat lists.lock = ap (times_in seat) owe.1 in
             let due_now : times_among seat owed' ≡ times_in seat took = ap (times_among seat) owe.2 ∙ times_wakes seat k took in
-            omega (arith, at_cv, at_lock, sum, same, due_now)
+            omega (arith, at_cv, at_lock, same, due_now)
       ] in
       record {
         safe = woken truths seats h front who walk owed walk' owed' back e k word word' row held by legal (ap (λ (x : Standing C). x.row) after_it)
@@ -651,14 +703,16 @@ module _ {C : Type 0} {N : ℕ} (truths : Truths C) (seats : ℕ) (h : List (Eve
             ])
             refl refl place (sym pay, wakes_told (calls_from_lock walk') k took owed' low (elim ways [ inl move ↦ inl move.4 | inr owe ↦ inr owe.2 ]) from) ((same_section walk walk' held stays).fits (standing_after h) row who) p.safe;
         homed = back_home front who walk held owed walk' held owed' back word word' lists.lock lock' refl refl s s' p.homed;
-        placed = taken front who walk held owed walk' held owed' back lists lists' flags apart (four_kept lists (Cv k) left ∙ orderly.four) owing counts (ap is_some a) (ap is_some a') set' p.placed;
+        placed = taken front who walk held owed walk' held owed' back lists lists' flags apart (length-map lists.cvs (outside (taken_set took)) ∙ four) (once_taken (taken_set took) lists four p.placed.once) owing counts (ap is_some a) (ap is_some a') set' p.placed;
         own = elim ways [
           | inl move ↦ subst (λ ws. WaitersOwn ws (front ++ view_of who walk' held owed' ∷ back)) (sym move.3)
               (own_same front who walk held owed walk' held owed' back (lists.lock ++ took) apart (a' ∙ sym a) (own_moved (standing_after h).phases (front ++ view_of who walk held owed ∷ back) k lists.lock took p.own takes))
           | inr owe ↦ subst (λ ws. WaitersOwn ws (front ++ view_of who walk' held owed' ∷ back)) (sym owe.1) (own_same front who walk held owed walk' held owed' back lists.lock apart (a' ∙ sym a) p.own)
         ];
         told = subst (λ ph. VariablesTell ph lists' (front ++ view_of who walk' held owed' ∷ back)) (sym phases)
-            (tell_taken front who walk held owed walk' held owed' back (standing_after h).phases lists lists' k took left orderly (stands_once truths seats h (st walk word row lists flags held owed) p.placed p.safe.one_history.each) low none refl parts takes keeps p.told);
+            (tell_taken front who walk held owed walk' held owed' back (standing_after h).phases lists lists' k took four none refl p.told);
+        taken = subst (λ ph. TakenTold ph flags lock' (front ++ view_of who walk' held owed' ∷ back)) (sym phases)
+            (told_wakes front who walk held owed walk' held owed' back (standing_after h).phases k took low takes apart (a' ∙ sym a) flags lists.lock lock' (elim ways [ inl move ↦ inl (move.3, move.4) | inr owe ↦ inr (owe.1, owe.2) ]) p.taken);
         known = subst (λ r. Known truths.holds word' r lock' flags (front ++ view_of who walk' held owed' ∷ back)) (sym row_same) (elim ways [
           | inl move ↦ subst (λ b. Known truths.holds (word_returned b (bits_of lock') word) (standing_after h).row lock' flags (front ++ view_of who walk' held owed' ∷ back)) (sym move.0)
               (subst (λ ws. Known truths.holds (word_returned true (bits_of ws) word) (standing_after h).row ws flags (front ++ view_of who walk' held owed' ∷ back)) (sym move.3)

@@ -5,7 +5,7 @@ use Rattle.std.proofs.lemmas.Bool.{ne_eqb, eqb-true, cases_eq, and_parts, or_cas
 use Rattle.ns_model.specs.declared.event.Mode.{Mode}
 use Rattle.ns_model.specs.declared.event.Mode.TheVariants.{Write, Read}
 use Rattle.ns_queue.specs.declared.waiter.Waiter.{Waiter}
-use Rattle.ns_queue.specs.Queues.{Lists, times}
+use Rattle.ns_queue.specs.Queues.{Lists}
 use Rattle.ns_queue.specs.Waiters.{is_long, times_in}
 use Rattle.ns_word.specs.Owed.{called_of, is_from_lock, times_among}
 use Rattle.ns_word.specs.declared.owed.Owed.{Owed}
@@ -20,7 +20,7 @@ use Rattle.ns_word.specs.declared.view.SeatView.{SeatView}
 use Rattle.ns_word.specs.declared.walk.Walk.{Walk}
 use Rattle.ns_word.specs.declared.walk.Walk.TheVariants.{InAcquire}
 use Rattle.ns_word.specs.Words.{is_held, is_woken, may_acquire, needs_scan, word_acquired, word_released, word_taken, word_returned, word_released_returning}
-use Rattle.ns_word.specs.Lists.{has_some, has_eligible, bits_of, queued}
+use Rattle.ns_word.specs.Lists.{counts_in, has_some, has_eligible, bits_of, queued}
 use Rattle.ns_word.specs.Walks.{awaits, has_queues, is_queuing, was_woken, calls_from_lock, is_on_way}
 use Rattle.ns_word.specs.Views.{takers, queuers, owed_to, called_to, walk_at, NoneIs}
 use Rattle.ns_word.specs.Lawful.{WaitersPlaced, NobodyCouldGoOn, is_armed, is_unwoken}
@@ -333,7 +333,7 @@ module _ {C : Type 0} {N : ℕ} (holds : C → List ℕ → Bool) (front : List 
           | inl t ↦
               let one = woken_some meets lock t in
               let seat = one.0 in
-              let sum : times seat lists + _ ≡ one_if (is_unwoken (walk_at seat olds) (flags seat)) = placed.placed seat in
+              let sum : counts_in seat lists + _ ≡ one_if (is_unwoken (walk_at seat olds) (flags seat)) = placed.placed seat in
               let part = times_scan seat meets lock in
               let waits : awaits (walk_at seat olds) ≡ true = due_awaits (walk_at seat olds) (flags seat) (omega (arith, sum, part, one.1)) in
               let other : who ≢ seat = λ f. both_ways (awaits walk) a (subst (λ w. awaits w ≡ true) (walk_here front (view_of who walk held owed) back apart) (subst (λ s. awaits (walk_at s olds) ≡ true) (sym f) waits)) in (
@@ -399,7 +399,7 @@ module _ {C : Type 0} {N : ℕ} (holds : C → List ℕ → Bool) (front : List 
       Known holds word now lists.lock flags olds → Known holds word now lists.lock flags news
   sees_wake word now lists flags apart calls q clear o placed p =
       let same = same_queuers q in
-      let sum : times who lists + owed_to who olds ≡ 0 = placed_here front who walk held owed walk' held' owed' back lists flags apart placed ∙ rw (cleared walk (flags who) clear) refl in
+      let sum : counts_in who lists + owed_to who olds ≡ 0 = placed_here front who walk held owed walk' held' owed' back lists flags apart placed ∙ rw (cleared walk (flags who) clear) refl in
       let none : called_to who olds ≡ 0 = let most = called_most who olds in omega (arith, sum, most) in
       record {
         on_way = λ e. way flags flags apart

@@ -1,8 +1,10 @@
 pub mod Acts
 pub mod Answers
 pub mod Asked
+pub mod Called
 pub mod Calls
 pub mod Codes
+pub mod CountsIn
 pub mod Courses
 pub mod Dispatch
 pub mod Finds
@@ -28,7 +30,9 @@ pub mod Same
 pub mod Scans
 pub mod Seen
 pub mod Stands
+pub mod StandsOnce
 pub mod Starts
+pub mod TakenTold
 pub mod ToldAfter
 pub mod Variables
 pub mod Views

@@ -17,7 +17,8 @@ use Rattle.ns_word.specs.declared.view.SeatView.{SeatView}
 use Rattle.ns_word.specs.declared.acquire_walk.AcquirePlace.TheVariants.{AwaitWake}
 use Rattle.ns_word.specs.declared.walk.Walk.{Walk}
 use Rattle.ns_word.specs.declared.walk.Walk.TheVariants.{InAcquire, InWait}
-use Rattle.ns_word.specs.Lists.{queued, has_eligible}
+use Rattle.ns_word.specs.Lists.{counts_in, queued, has_eligible}
+use Rattle.ns_word.proofs.CountsIn.{counts_none}
 use Rattle.ns_word.specs.Walks.{place_awaits, waits_in}
 use Rattle.ns_word.specs.Views.{owed_to, walk_at, NoneIs}
 use Rattle.ns_word.specs.Lawful.{lock_stance, is_unwoken, WaitersPlaced, WaiterFits, WaitersOwn, VariableWaiterFits}
@@ -77,8 +78,8 @@ module _ {C : Type 0} {N : ℕ} (front : List (SeatView C N)) (who : ℕ) (walk 
   -- one that isn't due stands nowhere
   pub nowhere : (lists : Lists C) (flags : ℕ → ℕ) → NoneIs who front → is_unwoken walk (flags who) ≡ false → WaitersPlaced lists flags olds → times who lists ≡ 0
   nowhere lists flags apart undue p =
-      let sum : times who lists + owed_to who olds ≡ 0 = p.placed who ∙ ap (λ w. one_if (is_unwoken w (flags who))) (walk_here front (view_of who walk held owed) back apart) ∙ ap one_if undue in
-      omega (arith, sum)
+      let sum : counts_in who lists + owed_to who olds ≡ 0 = p.placed who ∙ ap (λ w. one_if (is_unwoken w (flags who))) (walk_here front (view_of who walk held owed) back apart) ∙ ap one_if undue in
+      counts_none who lists (omega (arith, sum))
 
   -- a seat puts itself in
   pub own_queued : (mode : Mode) (c : Option C) (tries : ℕ) (first : Bool) (ws : List (Waiter C)) → NoneIs who front → times_in who ws ≡ 0 → lock_stance (waits_in walk') ≡ Some (mode, c, tries) →

@@ -1,5 +1,5 @@
 -- What a paid wake stores.
-use Rattle.std.proofs.Common.{◌≡◌, ℕ, Bool, true, cond, eqb, List, ◌∷◌, refl, ap, sym, ◌∙◌, eq-eqb}
+use Rattle.std.proofs.Common.{◌≡◌, ℕ, cond, List, ◌∷◌, refl, ap, sym, ◌∙◌, eq-eqb}
 use Rattle.ns_model.specs.declared.event.Event.{Event}
 use Rattle.ns_model.specs.Truths.{Truths}
 use Rattle.ns_word.specs.declared.act.Act.TheVariants.{PayWake}

@@ -1,5 +1,5 @@
 -- Which seats the law speaks of, and how many: those that wait or are owed a wake are seats, each stands once, and not all of 64 read while one asks to.
-use Rattle.std.proofs.Common.{◌≡◌, ◌≢◌, ℕ, ◌+◌, ◌<◌, ◌≤◌, true, false, cond, eqb, ◌⊎◌, inl, inr, List, [], ◌∷◌, ◌++◌, length, None, get_or, set, refl, ap, sym, ◌∙◌, subst, arith, eq-eqb}
+use Rattle.std.proofs.Common.{◌≡◌, ℕ, ◌+◌, ◌<◌, ◌≤◌, true, false, cond, eqb, inl, inr, List, [], ◌∷◌, ◌++◌, length, None, get_or, set, refl, ap, sym, ◌∙◌, subst, arith, eq-eqb}
 use Rattle.std.proofs.lemmas.Bool.{ne_eqb, cases_eq}
 use Rattle.std.proofs.lemmas.List.{get_or-set_same, get_or-set_other}
 use Rattle.ns_model.specs.declared.event.Mode.TheVariants.{Read}
@@ -7,14 +7,13 @@ use Rattle.ns_model.specs.declared.event.Event.{Event}
 use Rattle.ns_model.specs.Histories.{Standing, standing_after}
 use Rattle.ns_queue.specs.declared.waiter.Waiter.{Waiter}
 use Rattle.ns_queue.specs.declared.waiter.Which.{Which}
-use Rattle.ns_queue.specs.declared.waiter.Which.TheVariants.{Lock}
-use Rattle.ns_queue.specs.Queues.{Lists, IsList, IsOrderly, times, waiters_of}
+use Rattle.ns_queue.specs.declared.waiter.Which.TheVariants.{Cv, Lock}
+use Rattle.ns_queue.specs.Queues.{Lists, IsList, IsOrderly, beside, times, waiters_of}
 use Rattle.ns_queue.specs.Waiters.{times_in}
-use Rattle.ns_queue.proofs.Orders.{beside_most}
-use Rattle.ns_queue.proofs.Parts.{times_at_most}
 use Rattle.ns_queue.proofs.Seats.{times_in-cons, few, room_for}
 use Rattle.ns_word.specs.Owed.{times_among}
 use Rattle.ns_word.specs.declared.view.SeatView.{SeatView}
+use Rattle.ns_word.specs.Lists.{counts_in}
 use Rattle.ns_word.specs.Walks.{awaits}
 use Rattle.ns_word.specs.Views.{is_reading, readers, owed_to, walk_at, NoneIs, AreApart}
 use Rattle.ns_model.specs.Truths.{Truths}
@@ -22,6 +21,7 @@ use Rattle.ns_word.specs.Steps.{LockState, flags_with}
 use Rattle.ns_word.specs.Lawful.{EachFits, WaitersPlaced, IsLawful, is_unwoken}
 use Rattle.ns_model.specs.Tallies.{one_if}
 use Rattle.ns_model.proofs.Tallies.{one_most}
+use Rattle.ns_word.proofs.CountsIn.{counts_none, counts_there}
 use Rattle.ns_word.proofs.Views.{owed_at, none_parts, each_parts}
 use Rattle.ns_word.proofs.Knows.{due_awaits}
 
@@ -36,62 +36,53 @@ module _ {C : Type 0} {N : ℕ} (truths : Truths C) (seats : ℕ) (now : Standin
   ]
 
 module _ {C : Type 0} {N : ℕ} (lists : Lists C) (flags : ℕ → ℕ) (views : List (SeatView C N)) where
-  -- a seat that waits is in one of three ways
-  pub waits_so : (seat : ℕ) → WaitersPlaced lists flags views → awaits (walk_at seat views) ≡ true →
-      ((times seat lists ≡ 1) × (owed_to seat views ≡ 0) × (flags seat ≡ 1))
-      ⊎ ((times seat lists ≡ 0) × (owed_to seat views ≡ 1) × (flags seat ≡ 1))
-      ⊎ ((times seat lists ≡ 0) × (owed_to seat views ≡ 0) × (flags seat ≢ 1))
-  waits_so seat p a =
-      let sum : times seat lists + owed_to seat views ≡ one_if (is_unwoken (walk_at seat views) (flags seat)) = p.placed seat in
-      elim (cases_eq (flags seat) 1) [
-        | inl e ↦ let one : one_if (is_unwoken (walk_at seat views) (flags seat)) ≡ 1 = rw a (rw e refl) in
-            elim (cases_eq (times seat lists) 0) [
-              | inl none ↦ inr (inl (none, omega (arith, sum, one, none), e))
-              | inr some ↦ inl (omega (arith, sum, one, some), omega (arith, sum, one, some), e)
-            ]
-        | inr ne ↦ let zero : one_if (is_unwoken (walk_at seat views) (flags seat)) ≡ 0 = rw a (rw (ne_eqb (flags seat) 1 ne) refl) in
-            inr (inr (omega (arith, sum, zero), omega (arith, sum, zero), ne))
-      ]
-
   -- any other stands nowhere, and is owed nothing
   pub else_not : (seat : ℕ) → WaitersPlaced lists flags views → awaits (walk_at seat views) ≡ false → (times seat lists ≡ 0) × (owed_to seat views ≡ 0)
   else_not seat p a =
-      let sum : times seat lists + owed_to seat views ≡ 0 = p.placed seat ∙ rw a refl in (omega (arith, sum), omega (arith, sum))
+      let sum : counts_in seat lists + owed_to seat views ≡ 0 = p.placed seat ∙ rw a refl in (counts_none seat lists (omega (arith, sum)), omega (arith, sum))
 
   -- so one that stands somewhere or is owed a wake waits
-  pub placed_awaits : (seat : ℕ) → WaitersPlaced lists flags views → 1 ≤ times seat lists + owed_to seat views → awaits (walk_at seat views) ≡ true
+  pub placed_awaits : (seat : ℕ) → WaitersPlaced lists flags views → 1 ≤ counts_in seat lists + owed_to seat views → awaits (walk_at seat views) ≡ true
   placed_awaits seat p some =
-      let sum : times seat lists + owed_to seat views ≡ one_if (is_unwoken (walk_at seat views) (flags seat)) = p.placed seat in
+      let sum : counts_in seat lists + owed_to seat views ≡ one_if (is_unwoken (walk_at seat views) (flags seat)) = p.placed seat in
       due_awaits (walk_at seat views) (flags seat) (omega (arith, sum, some))
 
 module _ {C : Type 0} {N : ℕ} (truths : Truths C) (seats : ℕ) (h : List (Event C N)) (s : LockState C N) (placed : WaitersPlaced s.lists s.flags s.views) (each : EachFits truths seats (standing_after h) s.row s.views) where
-  -- no seat stands in the lists twice
-  pub stands_once : (seat : ℕ) → times seat s.lists ≤ 1
-  stands_once seat =
-      let sum : times seat s.lists + owed_to seat s.views ≡ one_if (is_unwoken (walk_at seat s.views) (s.flags seat)) = placed.placed seat in
+  -- no seat counts twice in the lists
+  pub counts_once : (seat : ℕ) → counts_in seat s.lists ≤ 1
+  counts_once seat =
+      let sum : counts_in seat s.lists + owed_to seat s.views ≡ one_if (is_unwoken (walk_at seat s.views) (s.flags seat)) = placed.placed seat in
       let most = one_most (is_unwoken (walk_at seat s.views) (s.flags seat)) in
       omega (arith, sum, most)
 
-  -- so none does in one of them
-  pub once_in_list : (which : Which) → IsList which → (seat : ℕ) → times_in seat (waiters_of s.lists which) ≤ 1
-  once_in_list which is seat = omega (arith, times_at_most s.lists which seat placed.four is, stands_once seat)
-
+  -- so none stands twice in one of them
   pub once_in_lock : (seat : ℕ) → times_in seat s.lists.lock ≤ 1
-  once_in_lock seat = once_in_list Lock tt seat
+  once_in_lock seat = omega (arith, counts_once seat)
 
-  pub placed_below : (seat : ℕ) → 1 ≤ times seat s.lists + owed_to seat s.views → seat < seats
+  pub once_in_list : (which : Which) → IsList which → (seat : ℕ) → times_in seat (waiters_of s.lists which) ≤ 1
+  once_in_list Lock is seat = once_in_lock seat
+  once_in_list (Cv k) is seat = placed.once seat k is
+
+  pub placed_below : (seat : ℕ) → 1 ≤ counts_in seat s.lists + owed_to seat s.views → seat < seats
   placed_below seat some = waiting_below truths seats (standing_after h) s.row seat s.views each (placed_awaits s.lists s.flags s.views seat placed some)
 
   -- and only seats do
   pub stands_below : (seat : ℕ) → seats ≤ seat → times seat s.lists ≡ 0
-  stands_below seat high = elim (cases_eq (times seat s.lists) 0) [
+  stands_below seat high = counts_none seat s.lists (elim (cases_eq (counts_in seat s.lists) 0) [
     | inl none ↦ none
     | inr some ↦ let low = placed_below seat (omega (arith, some)) in absurd (omega (arith, low, high))
+  ])
+
+  -- nor does one stand in the lock list and in that of a variable
+  beside_once : (seat k : ℕ) → k < 4 → beside s.lists seat k ≤ 1
+  beside_once seat k low = elim (cases_eq (times_in seat (waiters_of s.lists (Cv k))) 0) [
+    | inl none ↦ omega (arith, none, once_in_lock seat)
+    | inr some ↦ let there = counts_there seat k s.lists placed.four low (omega (arith, some)) in omega (arith, there, counts_once seat, placed.once seat k low)
   ]
 
   -- so the lists are as they are kept
   pub lists_orderly : seats ≤ 64 → IsOrderly s.lists
-  lists_orderly few = record { four = placed.four; once = λ seat k low. omega (arith, beside_most s.lists seat k placed.four low, stands_once seat); below = λ seat high. stands_below seat (omega (arith, few, high)) }
+  lists_orderly few = record { four = placed.four; once = beside_once; below = λ seat high. stands_below seat (omega (arith, few, high)) }
 
   -- a seat that a view owes a wake is one
   pub owed_below : (front : List (SeatView C N)) (view : SeatView C N) (back : List (SeatView C N)) → s.views ≡ front ++ view ∷ back → (seat : ℕ) → 1 ≤ times_among seat view.owed → seat < seats

@@ -1,7 +1,8 @@
 -- How often a seat stands in the lists that a scan makes of one, or one that queues or leaves, and who is in them.
-use Rattle.std.proofs.Common.{◌≡◌, ◌≢◌, ℕ, ◌+◌, ◌<◌, ◌≤◌, Bool, true, false, not, ◌&&◌, ◌||◌, cond, eqb, inl, inr, List, [], ◌∷◌, length, Option, None, Some, refl, ap, sym, ◌∙◌, subst, arith, eq-eqb}
+use Rattle.std.proofs.Common.{◌≡◌, ◌≢◌, ℕ, ◌+◌, ◌<◌, ◌≤◌, Bool, true, false, not, ◌&&◌, ◌||◌, cond, eqb, inl, inr, List, [], ◌∷◌, length, map, Option, None, Some, ltb, ◌⊎◌, refl, ap, sym, ◌∙◌, subst, arith, eq-eqb}
 use Rattle.std.specs.List.{filter, list_any}
-use Rattle.std.proofs.lemmas.Bool.{ne_eqb, or_parts, both_ways, cases_eq, false_from_ne_true, le-ltb}
+use Rattle.std.proofs.lemmas.Bool.{ne_eqb, or_parts, both_ways, cases_Bool, cases_eq, false_from_ne_true, le-ltb, lt-ltb, ltb-true}
+use Rattle.std.proofs.lemmas.List.{length-map}
 use Rattle.ns_model.specs.declared.event.Mode.{Mode}
 use Rattle.ns_queue.specs.declared.waiter.Waiter.{Waiter}
 use Rattle.ns_queue.specs.Waiters.{is_long, times_in, without_in, reads, writes, has_condition}
@@ -10,8 +11,16 @@ use Rattle.ns_model.specs.Tallies.{Every, one_if}
 use Rattle.ns_queue.proofs.Seats.{times_in-cons, times_in-append}
 use Rattle.ns_word.specs.Lists.{has_some, has_eligible, bits_of, queued}
 use Rattle.ns_queue.specs.Waiters.{seats_of}
-use Rattle.ns_word.specs.Owed.{called_by, Tells, called_of, is_from_lock, times_among, wakes_of}
+use Rattle.ns_word.specs.Owed.{called_by, Tells, called_of, is_from_lock, times_among, value_of, wakes_of}
 use Rattle.ns_word.specs.declared.owed.Owed.{Owed}
+
+-- what a wake from the lock list tells is 0, or of 6 to 9
+value_tells : (via : Option ℕ) → (value_of via ≡ 0) ⊎ ((6 ≤ value_of via) × (value_of via < 10))
+value_tells None = inl refl
+value_tells (Some k) = elim (cases_Bool (ltb k 4)) [
+  | inl low ↦ let is : value_of (Some k) ≡ 6 + k = ap (λ b. cond b (6 + k) 0) low in let few = ltb-true k 4 low in inr (omega (arith, is), omega (arith, is, few))
+  | inr high ↦ inl (ap (λ b. cond b (6 + k) 0) high)
+]
 
 -- whether a list has somebody, by its length
 pub some_length : {A : Type 0} (xs : List A) (b : Bool) → (b ≡ true → 0 < length xs) → (0 < length xs → b ≡ true) → b ≡ has_some xs
@@ -34,10 +43,21 @@ module _ {C : Type 0} where
   times_seats seat [] = refl
   times_seats seat (w ∷ ws) = let rest = times_seats seat ws in omega (arith, rest, times_in-cons seat w ws)
 
-  -- the wakes of the seats of waiters are the waiters' own
-  pub called_seats : (ws : List (Waiter C)) → called_by (seats_of ws) ≡ called_of ws
+  -- the wakes of the seats of waiters, by what these name, are the waiters' own
+  pub called_seats : (ws : List (Waiter C)) → called_by (seats_of ws) (map (λ (w : Waiter C). w.via) ws) ≡ called_of ws
   called_seats [] = refl
-  called_seats (w ∷ ws) = ap (λ owed. record { seat = w.seat; value = 0 } ∷ owed) (called_seats ws)
+  called_seats (w ∷ ws) = ap (λ owed. record { seat = w.seat; value = value_of w.via } ∷ owed) (called_seats ws)
+
+  -- the wakes of those whom a scan told
+  pub are_called : (ws : List (Waiter C)) (seats : List ℕ) (vias : List (Option ℕ)) (owed : List Owed) → owed ≡ called_by seats vias → seats ≡ seats_of ws → vias ≡ map (λ (w : Waiter C). w.via) ws → owed ≡ called_of ws
+  are_called ws seats vias owed is told names = is ∙ (λ i. called_by (told i) (names i)) ∙ called_seats ws
+
+  pub as_many : (ws : List (Waiter C)) (seats : List ℕ) (vias : List (Option ℕ)) → seats ≡ seats_of ws → vias ≡ map (λ (w : Waiter C). w.via) ws → length vias ≡ length seats
+  as_many ws seats vias told names = ap length names ∙ length-map ws (λ (w : Waiter C). w.via) ∙ sym (ap length told ∙ length-map ws (λ (w : Waiter C). w.seat))
+
+  pub some_called : (ws : List (Waiter C)) (seats : List ℕ) (owed : List Owed) → seats ≡ seats_of ws → owed ≡ called_of ws → has_some seats ≡ has_some owed
+  some_called [] seats owed told is = ap has_some told ∙ sym (ap has_some is)
+  some_called (w ∷ ws) seats owed told is = ap has_some told ∙ sym (ap has_some is)
 
   pub times_wakes : (seat k : ℕ) (ws : List (Waiter C)) → times_among seat (wakes_of k ws) ≡ times_in seat ws
   times_wakes seat k [] = refl
@@ -54,7 +74,7 @@ module _ {C : Type 0} where
   -- each tells from where its seat was taken
   pub calls_tell : (ws : List (Waiter C)) → Every (Tells true) (called_of ws)
   calls_tell [] = tt
-  calls_tell (w ∷ ws) = (refl, calls_tell ws)
+  calls_tell (w ∷ ws) = (value_tells w.via, calls_tell ws)
 
   pub wakes_tell : (k : ℕ) (ws : List (Waiter C)) → k < 4 → Every (Tells false) (wakes_of k ws)
   wakes_tell k [] low = tt
@@ -62,15 +82,18 @@ module _ {C : Type 0} where
 
 -- what a wake tells is no 1, is few, and says whether its seat was taken from the lock list
 pub tells_clear : (b : Bool) (wake : Owed) → Tells b wake → wake.value ≢ 1
-tells_clear true wake is e = absurd (omega (arith, is, e))
+tells_clear true wake (inl is) e = absurd (omega (arith, is, e))
+tells_clear true wake (inr is) e = absurd (omega (arith, is.0, e))
 tells_clear false wake is e = absurd (omega (arith, is.0, e))
 
 pub tells_few : (b : Bool) (wake : Owed) → Tells b wake → wake.value < 10
-tells_few true wake is = omega (arith, is)
+tells_few true wake (inl is) = omega (arith, is)
+tells_few true wake (inr is) = omega (arith, is.1)
 tells_few false wake is = omega (arith, is.1)
 
 pub tells_from : (b : Bool) (wake : Owed) → Tells b wake → b ≡ is_from_lock wake.value
-tells_from true wake is = rw is refl
+tells_from true wake (inl is) = rw is refl
+tells_from true wake (inr is) = rw (ne_eqb wake.value 0 (λ e. absurd (omega (arith, is.0, e))), lt-ltb 5 wake.value (omega (arith, is.0))) refl
 tells_from false wake is = rw (ne_eqb wake.value 0 (λ e. absurd (omega (arith, is.0, e))), le-ltb 5 wake.value (omega (arith, is.1))) refl
 
 module _ {C : Type 0} where

@@ -50,13 +50,13 @@ one_more tries false e = let most = ltb-false tries 30 e in omega (arith, most)
 module _ (C : Type 0) (N : ℕ) (truths : Truths C) (seat : ℕ) where
   queues_for : (mode : Mode) (arrival : Arrival) (lock : List (Waiter C)) → QueuesFor seat mode arrival lock (queued seat mode None (tries_of arrival) (is_woken arrival) lock)
   queues_for mode AsFresh lock = refl
-  queues_for mode (AsWoken tries) lock = ap (λ n. waiter seat mode None n ∷ lock) (one_more tries (ltb tries 30) refl)
+  queues_for mode (AsWoken tries) lock = ap (λ n. waiter seat mode None n None ∷ lock) (one_more tries (ltb tries 30) refl)
 
   waits_for : (mode : Mode) (on : Subject C) (again : Bool) (row : List ℕ) (lists : Lists C) → length lists.cvs ≡ 4 → IsInRange on → WaitsFor truths seat mode on again row lists (waits_at on seat mode again (with_lock lists (left_of (meets_at truths row) lists.lock)))
   waits_for mode (OnCondition c) false row lists four range = (refl, refl)
   waits_for mode (OnCondition c) true row lists four range = (refl, refl)
   waits_for mode (OnVariable k) again row lists four range =
-      (read_back (with_lock lists (left_of (meets_at truths row) lists.lock)) (Cv k) (waiters_of lists (Cv k) ++ waiter seat mode None 0 ∷ []) four range, refl)
+      (read_back (with_lock lists (left_of (meets_at truths row) lists.lock)) (Cv k) (waiters_of lists (Cv k) ++ waiter seat mode None 0 (Some k) ∷ []) four range, refl)
 
   are_called : (waking : Waking) (k : ℕ) (held : Bool) (lists : Lists C) → let taken = taken_by waking (waiters_of lists (Cv k)) in
       AreCalled held k taken lists.lock (moved_to held taken (cvs_without (taken_set taken) lists)).lock (cond held [] (wakes_of k taken))

@@ -10,6 +10,7 @@ use Rattle.ns_model.proofs.Tallies.{every_parts, every_join}
 use Rattle.ns_queue.specs.declared.waiter.Waiter.{Waiter}
 use Rattle.ns_queue.specs.declared.waiter.Which.TheVariants.{Cv}
 use Rattle.ns_queue.specs.Queues.{waiters_of}
+use Rattle.ns_queue.specs.Waiters.{times_in}
 use Rattle.ns_word.specs.declared.view.SeatView.{SeatView}
 use Rattle.ns_word.specs.declared.wait.Subject.{Subject}
 use Rattle.ns_word.specs.declared.wait.Subject.TheVariants.{OnCondition, OnVariable}
@@ -29,12 +30,12 @@ use Rattle.ns_word.specs.declared.cell_walk.CellPlace.TheVariants.{QuietCells, Q
 use Rattle.ns_word.specs.declared.walk.Walk.{Walk}
 use Rattle.ns_word.specs.declared.walk.Walk.TheVariants.{InTry, InAcquire, InRelease, InCells, InWait, InSignal, InShow}
 use Rattle.ns_word.specs.Walks.{has_armed, quiet_first, first_for, wait_first}
-use Rattle.ns_word.specs.Views.{writers, readers, takers, queuers, owed_to, walk_at, NoneIs, AreApart}
+use Rattle.ns_word.specs.Views.{writers, readers, takers, queuers, owed_in, owed_to, walk_at, NoneIs, AreApart}
 use Rattle.ns_model.specs.Truths.{Truths}
 use Rattle.ns_word.specs.Steps.{LockState}
 use Rattle.ns_word.specs.Places.{PlaceFits, Tests, CanWait}
 use Rattle.ns_word.specs.Seen.{HasNumber, word_seen}
-use Rattle.ns_word.specs.Lawful.{WordsSeen, EachFits, VariableWaiterFits, IsLawful}
+use Rattle.ns_word.specs.Lawful.{WordsSeen, EachFits, VariableWaiterFits, WakeTells, IsLawful}
 use Rattle.ns_word.specs.Begins.{fresh_views, fresh_state, IsForVariable, IsFirst, Begins}
 use Rattle.ns_word.proofs.Firsts.{first_is_bare}
 use Rattle.ns_word.proofs.Groups.{groups_of, lawful_by}
@@ -91,9 +92,20 @@ module _ (C : Type 0) (N : ℕ) where
   nobody_waits P (suc (suc (suc zero))) = tt
   nobody_waits P (suc (suc (suc (suc k)))) = tt
 
+  none_listed : (seat k : ℕ) → times_in seat (waiters_of {C = C} (record { lock = []; cvs = replicate 4 [] }) (Cv k)) ≤ 1
+  none_listed seat zero = omega arith
+  none_listed seat (suc zero) = omega arith
+  none_listed seat (suc (suc zero)) = omega arith
+  none_listed seat (suc (suc (suc zero))) = omega arith
+  none_listed seat (suc (suc (suc (suc k)))) = omega arith
+
   none_seen : (first n : ℕ) → WordsSeen (fresh first n)
   none_seen first zero = tt
   none_seen first (suc n) = (tt, none_seen (first + 1) n)
+
+  none_owed_in : (first n : ℕ) → owed_in (fresh first n) ≡ []
+  none_owed_in first zero = refl
+  none_owed_in first (suc n) = none_owed_in (first + 1) n
 
   pub lawful_fresh : (truths : Truths C) (seats : ℕ) → seats ≤ 64 → IsLawful truths seats [] (fresh_state {C = C} {N = N} seats)
   lawful_fresh truths seats few = record {
@@ -111,12 +123,14 @@ module _ (C : Type 0) (N : ℕ) where
     bits_tell = record { at_home = λ e. refl; nobody = λ e. (refl, no_queuers 0 seats) };
     waiters_placed = record {
       four = refl;
+      once = λ seat k low. none_listed seat k;
       placed = λ seat. let none = none_owed seat 0 seats in rw (no_walk seat 0 seats) (omega (arith, none));
       armed = λ seat e. absurd (both_ways (has_armed (walk_at seat (fresh 0 seats))) (rw (no_walk seat 0 seats) refl) e);
       flag = λ seat. omega arith;
     };
     waiters_own = tt;
     variables_tell = record { own = λ k low. nobody_waits (VariableWaiterFits (λ seat. Idle) (fresh 0 seats) k) k; all = λ vs k seat mode e is. absurd (cc); some = λ vs seat mode e. absurd (cc) };
+    taken_told = record { flag = λ seat clear. rw (no_walk seat 0 seats) tt; owed = subst (Every (WakeTells (λ seat. Idle) (fresh 0 seats))) (sym (none_owed_in 0 seats)) tt; listed = tt };
     desig_on_its_way = λ e. absurd (cc);
     idle_waiters_false = λ e f g. (refl, no_queuers 0 seats);
     all_false_true = λ e. absurd (cc);

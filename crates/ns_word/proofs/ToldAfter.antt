@@ -9,7 +9,9 @@ use Rattle.ns_model.specs.Histories.{IsLegal, IsBySeats, own, who_of}
 use Rattle.ns_word.specs.declared.view.SeatView.{SeatView}
 use Rattle.ns_word.specs.declared.walk.Walk.{Walk}
 use Rattle.ns_queue.specs.Queues.{Lists}
-use Rattle.ns_queue.specs.declared.waiter.Which.{Which}
+use Rattle.ns_model.specs.declared.cvs.Variables.TheVariants.{Any, Only}
+use Rattle.ns_word.specs.declared.wait.Home.{Home}
+use Rattle.ns_word.specs.declared.wait.Home.TheVariants.{AtLock, AtVariables}
 use Rattle.ns_queue.specs.declared.waiter.Which.TheVariants.{Lock, Cv}
 use Rattle.ns_queue.specs.declared.waiter.Waiter.{Waiter}
 use Rattle.ns_word.specs.declared.act.Waking.{Waking}
@@ -47,10 +49,12 @@ led_from : {C : Type 0} (N : ℕ) (earlier : List (Walk C)) (first : Walk C) (fo
 led_from N earlier first found next e = led_at N (earlier ++ first ∷ []) next earlier first (found ∷ []) refl e
 
 -- what is committed as the queues are put back is the seat's
-left_by : (C : Type 0) (N : ℕ) (seat : ℕ) (which : Which) (stood : Bool) → AreBy seat (leave_of {C = C} {N = N} seat which stood)
-left_by C N seat Lock stood = tt
-left_by C N seat (Cv k) true = (refl, tt)
-left_by C N seat (Cv k) false = tt
+left_by : (C : Type 0) (N : ℕ) (seat : ℕ) (home : Home) (stood : Bool) → AreBy seat (leave_of {C = C} {N = N} seat home stood)
+left_by C N seat AtLock stood = tt
+left_by C N seat (AtVariables (Only k)) true = (refl, tt)
+left_by C N seat (AtVariables (Any cvs)) true = (refl, tt)
+left_by C N seat (AtVariables (Only k)) false = tt
+left_by C N seat (AtVariables (Any cvs)) false = tt
 
 woken_by : {C : Type 0} (N : ℕ) (seat : ℕ) (waking : Waking) (k : ℕ) (taken : List (Waiter C)) → who_of (wake_of {C = C} {N = N} seat waking k taken) ≡ seat
 woken_by N seat Signaling k taken = refl
@@ -58,7 +62,7 @@ woken_by N seat Broadcasting k taken = refl
 
 change_by : {C : Type 0} (N : ℕ) (seat : ℕ) (change : Change) (lists : Lists C) → AreBy seat (change_commits {C = C} {N = N} seat change lists)
 change_by N seat (QueueSelf mode arrival) lists = tt
-change_by {C} N seat (LeaveSelf which) lists = left_by C N seat which _
+change_by {C} N seat (LeaveSelf home) lists = left_by C N seat home _
 change_by N seat (WakeWaiters waking k) lists = (woken_by N seat waking k _, tt)
 change_by N seat Nothing lists = tt
 

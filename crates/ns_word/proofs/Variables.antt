@@ -1,6 +1,6 @@
 -- What the steps leave of the lists of the variables.
-use Rattle.std.proofs.Common.{◌≡◌, ◌≢◌, ℕ, ◌+◌, ◌<◌, ◌≤◌, inl, inr, Bool, true, false, not, cond, eqb, List, [], ◌∷◌, ◌++◌, length, Option, None, Some, refl, ap, sym, ◌∙◌, subst, arith, eq-eqb}
-use Rattle.std.proofs.lemmas.Bool.{ne_eqb, eqb-true, both_ways, cases_eq}
+use Rattle.std.proofs.Common.{◌≡◌, ◌≢◌, ℕ, ◌<◌, ◌≤◌, inl, inr, Bool, true, false, not, cond, eqb, List, [], ◌∷◌, ◌++◌, length, Option, None, Some, refl, ap, sym, ◌∙◌, subst, arith, eq-eqb}
+use Rattle.std.proofs.lemmas.Bool.{ne_eqb, eqb-true, cases_Bool, cases_eq}
 use Rattle.ns_model.specs.declared.event.Mode.{Mode}
 use Rattle.ns_model.specs.declared.phase.Phase.{Phase}
 use Rattle.ns_model.specs.Cvs.{has}
@@ -9,17 +9,18 @@ use Rattle.ns_model.specs.declared.cvs.Variables.TheVariants.{Only}
 use Rattle.ns_model.specs.declared.phase.Phase.TheVariants.{Idle, Cond, Waiting, Woken, Left}
 use Rattle.ns_model.specs.Phases.{is_waiting, woken_phase}
 use Rattle.ns_model.specs.Seats.{is_in}
+use Rattle.ns_model.specs.declared.seats.Seats.{Seats}
 use Rattle.ns_model.specs.Tallies.{one_if, Every}
 use Rattle.ns_queue.specs.declared.waiter.Waiter.{Waiter}
 use Rattle.ns_queue.specs.declared.waiter.Which.TheVariants.{Cv}
-use Rattle.ns_queue.specs.Queues.{Lists, IsOrderly, times, waiters_of, with_waiters}
-use Rattle.ns_queue.specs.Waiters.{times_in, without_in, is_of}
+use Rattle.ns_queue.specs.Queues.{Lists, IsOrderly, cvs_without, times, waiters_of, with_waiters}
+use Rattle.ns_queue.specs.Waiters.{outside, times_in, without_in, is_of}
 use Rattle.ns_queue.proofs.Seats.{times_in-cons, times_in-append}
-use Rattle.ns_queue.proofs.Parts.{read_back, read_apart, four_kept, times_with, times_at_most, once_in, below_in}
+use Rattle.ns_queue.proofs.Outside.{gone_outside, times_outside}
+use Rattle.ns_queue.proofs.Parts.{read_back, read_apart, times_at_most, once_in, below_in}
+use Rattle.ns_queue.proofs.Vias.{every_filter}
 use Rattle.ns_queue.specs.Signals.{taken_set}
 use Rattle.ns_queue.specs.Wakes.{WaitFor, AreWaiting, woken_phases}
-use Rattle.ns_queue.proofs.Taken.{in_list}
-use Rattle.ns_queue.proofs.Woken.{untaken_stays}
 use Rattle.ns_word.specs.declared.owed.Owed.{Owed}
 use Rattle.ns_word.specs.declared.wait.Subject.TheVariants.{OnVariable}
 use Rattle.ns_word.specs.declared.view.Held.{Held}
@@ -28,6 +29,7 @@ use Rattle.ns_word.specs.declared.walk.Walk.{Walk}
 use Rattle.ns_word.specs.Walks.{waits_in}
 use Rattle.ns_word.specs.Views.{walk_at, NoneIs}
 use Rattle.ns_word.specs.Lawful.{VariableWaiterFits, VariablesTell}
+use Rattle.ns_word.proofs.CountsIn.{cvs_left, left_at, outside_same, taken_at}
 use Rattle.ns_word.proofs.Scans.{times_without, times_others}
 use Rattle.ns_word.proofs.Views.{view_of, walk_here, walk_there}
 
@@ -51,15 +53,6 @@ module _ {C : Type 0} where
     | inr ne ↦ let none : one_if (eqb w.seat seat) ≡ 0 = rw (ne_eqb w.seat seat ne) refl in one_of P seat ws (omega (arith, times_in-cons seat w ws, some, none)) p.1
   ]
 
-  -- a seat that stands in one of the lists stands in no other
-  apart_in : (lists : Lists C) → length lists.cvs ≡ 4 → (who k j : ℕ) → k < 4 → j < 4 → k ≢ j → times who lists ≤ 1 → 1 ≤ times_in who (CvOf lists j) → times_in who (CvOf lists k) ≡ 0
-  apart_in lists four who k j few low ne once stood =
-      let emptied = with_waiters lists (Cv j) [] in
-      let gone = times_with lists (Cv j) [] who four low in
-      let most = times_at_most emptied (Cv k) who (four_kept lists (Cv j) [] ∙ four) few in
-      let same : times_in who (CvOf emptied k) ≡ times_in who (CvOf lists k) = ap (times_in who) (read_apart lists j k [] ne) in
-      omega (arith, gone, most, same, once, stood)
-
 module _ {C : Type 0} {N : ℕ} where
   -- a list whose waiters' seats go where they were, by place and by history
   every_moves : (phases phases' : ℕ → Phase C) (views views' : List (SeatView C N)) (k : ℕ) (ws : List (Waiter C)) →
@@ -68,7 +61,7 @@ module _ {C : Type 0} {N : ℕ} where
   every_moves phases phases' views views' k [] same p = tt
   every_moves phases phases' views views' k (w ∷ ws) same p =
       let here = same w.seat (let one : one_if (eqb w.seat w.seat) ≡ 1 = rw (eq-eqb w.seat w.seat refl) refl in omega (arith, times_in-cons w.seat w ws, one)) in (
-        record { stands = here.0 ∙ p.0.stands; waits = here.1 ∙ p.0.waits; plain = p.0.plain; untried = p.0.untried },
+        record { stands = here.0 ∙ p.0.stands; waits = here.1 ∙ p.0.waits; plain = p.0.plain; untried = p.0.untried; names = p.0.names },
         every_moves phases phases' views views' k ws (λ seat some. same seat (omega (arith, times_in-cons seat w ws, some))) p.1,
       )
 
@@ -117,12 +110,12 @@ module _ {C : Type 0} {N : ℕ} where
 
     -- the seat goes to the back of a variable's list
     pub tell_enters : (phases phases' : ℕ → Phase C) (lists lists' : Lists C) (j : ℕ) (mode : Mode) → NoneIs who front → length lists.cvs ≡ 4 → length lists'.cvs ≡ 4 → j < 4 → times who lists ≡ 0 →
-        lists'.cvs ≡ (with_waiters lists (Cv j) (CvOf lists j ++ record { seat = who; mode = mode; cond = None; tries = 0; via = None } ∷ [])).cvs →
+        lists'.cvs ≡ (with_waiters lists (Cv j) (CvOf lists j ++ record { seat = who; mode = mode; cond = None; tries = 0; via = Some j } ∷ [])).cvs →
         waits_in walk' ≡ Some (record { mode = mode; on = Some (OnVariable j); tries = 0 }) → phases' who ≡ Waiting (Only j) mode → ((seat : ℕ) → who ≢ seat → phases' seat ≡ phases seat) →
         VariablesTell phases lists olds → VariablesTell phases' lists' news
     tell_enters phases phases' lists lists' j mode apart four four' low none cvs stance phase others p =
         let just : (seat : ℕ) (vs : Variables) (m : Mode) → phases' seat ≡ Waiting vs m → who ≡ seat → vs ≡ Only j = λ seat vs m e same. let is : Waiting vs m ≡ Waiting (Only j) mode = sym e ∙ subst (λ s. phases' s ≡ Waiting (Only j) mode) same phase in cc in
-        let w : Waiter C = record { seat = who; mode = mode; cond = None; tries = 0; via = None } in
+        let w : Waiter C = record { seat = who; mode = mode; cond = None; tries = 0; via = Some j } in
         let put = with_waiters lists (Cv j) (CvOf lists j ++ w ∷ []) in
         let at_k : (k : ℕ) → CvOf lists' k ≡ CvOf put k = λ k. ap (λ (c : List (List (Waiter C))). waiters_of (record { lock = lists.lock; cvs = c }) (Cv k)) cvs in
         let at_j : CvOf lists' j ≡ CvOf lists j ++ w ∷ [] = at_k j ∙ read_back lists (Cv j) (CvOf lists j ++ w ∷ []) four low in
@@ -133,7 +126,7 @@ module _ {C : Type 0} {N : ℕ} where
           own = λ k few. elim (cases_eq k j) [
             | inl e ↦ subst (λ i. Every (VariableWaiterFits phases' news i) (CvOf lists' i)) (sym e)
                 (subst (λ ws. Every (VariableWaiterFits phases' news j) ws) (sym at_j) (every_push (VariableWaiterFits phases' news j) (CvOf lists j) w (moved j low)
-                (record { stands = ap waits_in (walk_here front (view_of who walk' held' owed') back apart) ∙ stance; waits = phase; plain = refl; untried = refl })))
+                (record { stands = ap waits_in (walk_here front (view_of who walk' held' owed') back apart) ∙ stance; waits = phase; plain = refl; untried = refl; names = refl })))
             | inr ne ↦ subst (λ ws. Every (VariableWaiterFits phases' news k) ws) (sym (at_other k ne)) (moved k few)
           ];
           all = λ vs k seat m e has_k. elim (cases_eq who seat) [
@@ -157,43 +150,23 @@ module _ {C : Type 0} {N : ℕ} where
           ];
         }
 
-    -- the seat takes itself out of a variable's list, and waits for none after that
-    pub tell_leaves : (phases phases' : ℕ → Phase C) (lists : Lists C) (j : ℕ) → length lists.cvs ≡ 4 → j < 4 → times who lists ≤ 1 → 1 ≤ times_in who (CvOf lists j) →
-        ((seat : ℕ) → who ≢ seat → phases' seat ≡ phases seat) → ((vs : Variables) (mode : Mode) → phases' who ≡ Waiting vs mode → ⊥) →
-        VariablesTell phases lists olds → VariablesTell phases' (with_waiters lists (Cv j) (without_in who (CvOf lists j))) news
-    tell_leaves phases phases' lists j four low once stood others idle p =
-        let lists' = with_waiters lists (Cv j) (without_in who (CvOf lists j)) in
-        let at_j : CvOf lists' j ≡ without_in who (CvOf lists j) = read_back lists (Cv j) (without_in who (CvOf lists j)) four low in
-        let at_other : (k : ℕ) → k ≢ j → CvOf lists' k ≡ CvOf lists k = λ k ne. read_apart lists j k (without_in who (CvOf lists j)) ne in
-        let gone : (k : ℕ) → k < 4 → k ≢ j → times_in who (CvOf lists k) ≡ 0 = λ k few ne. apart_in lists four who k j few low ne once stood in
-        record {
-          own = λ k few. elim (cases_eq k j) [
-            | inl e ↦ subst (λ i. Every (VariableWaiterFits phases' news i) (CvOf lists' i)) (sym e)
-                (subst (λ ws. Every (VariableWaiterFits phases' news j) ws) (sym at_j)
-                (every_moves phases phases' olds news j (without_in who (CvOf lists j))
-                (λ seat some. let other : who ≢ seat = λ same. let zero : times_in seat (without_in who (CvOf lists j)) ≡ 0 = subst (λ s. times_in s (without_in who (CvOf lists j)) ≡ 0) same (times_without who (CvOf lists j)) in absurd (omega (arith, zero, some)) in (there seat other, others seat other))
-                (every_without (VariableWaiterFits phases olds j) who (CvOf lists j) (p.own j low))))
-            | inr ne ↦ subst (λ ws. Every (VariableWaiterFits phases' news k) ws) (sym (at_other k ne))
-                (every_moves phases phases' olds news k (CvOf lists k)
-                (λ seat some. let other : who ≢ seat = λ same. let zero : times_in seat (CvOf lists k) ≡ 0 = subst (λ s. times_in s (CvOf lists k) ≡ 0) same (gone k few ne) in absurd (omega (arith, zero, some)) in (there seat other, others seat other)) (p.own k few))
-          ];
-          all = λ vs k seat m e is. elim (cases_eq who seat) [
-            | inl same ↦ absurd (idle vs m (subst (λ s. phases' s ≡ Waiting vs m) (sym same) e))
-            | inr ne ↦
-                let was = p.all vs k seat m (sym (others seat ne) ∙ e) is in (
-                  was.0,
-                  elim (cases_eq k j) [
-                    | inl number ↦ subst (λ i. 1 ≤ times_in seat (CvOf lists' i)) (sym number) (subst (λ ws. 1 ≤ times_in seat ws) (sym at_j)
-                        (rw (times_others seat who (CvOf lists j) ne) (subst (λ i. 1 ≤ times_in seat (CvOf lists i)) number was.1)))
-                    | inr other ↦ subst (λ ws. 1 ≤ times_in seat ws) (sym (at_other k other)) was.1
-                  ],
-                )
-          ];
-          some = λ vs seat mode e. elim (cases_eq who seat) [
-            | inl same ↦ absurd (idle vs mode (subst (λ s. phases' s ≡ Waiting vs mode) (sym same) e))
-            | inr ne ↦ p.some vs seat mode (sym (others seat ne) ∙ e)
-          ];
-        }
+    -- the seat takes itself out of the lists of variables, and waits for none after that
+    pub tell_leaves : (phases phases' : ℕ → Phase C) (lists : Lists C) → length lists.cvs ≡ 4 → ((seat : ℕ) → who ≢ seat → phases' seat ≡ phases seat) → ((vs : Variables) (mode : Mode) → phases' who ≡ Waiting vs mode → ⊥) →
+        VariablesTell phases lists olds → VariablesTell phases' (cvs_left who lists) news
+    tell_leaves phases phases' lists four others idle p = record {
+      own = λ k few. subst (λ ws. Every (VariableWaiterFits phases' news k) ws) (sym (left_at who k lists four few))
+          (every_moves phases phases' olds news k (without_in who (CvOf lists k))
+          (λ seat some. let other : who ≢ seat = λ same. let zero : times_in seat (without_in who (CvOf lists k)) ≡ 0 = subst (λ s. times_in s (without_in who (CvOf lists k)) ≡ 0) same (times_without who (CvOf lists k)) in absurd (omega (arith, zero, some)) in (there seat other, others seat other))
+          (every_without (VariableWaiterFits phases olds k) who (CvOf lists k) (p.own k few)));
+      all = λ vs k seat m e is. elim (cases_eq who seat) [
+        | inl same ↦ absurd (idle vs m (subst (λ s. phases' s ≡ Waiting vs m) (sym same) e))
+        | inr ne ↦ let was = p.all vs k seat m (sym (others seat ne) ∙ e) is in (was.0, subst (λ ws. 1 ≤ times_in seat ws) (sym (left_at who k lists four was.0)) (rw (times_others seat who (CvOf lists k) ne) was.1))
+      ];
+      some = λ vs seat mode e. elim (cases_eq who seat) [
+        | inl same ↦ absurd (idle vs mode (subst (λ s. phases' s ≡ Waiting vs mode) (sym same) e))
+        | inr ne ↦ p.some vs seat mode (sym (others seat ne) ∙ e)
+      ];
+    }
 
 -- ---- a call wakes some of a variable's waiters
 
@@ -238,49 +211,31 @@ module _ {C : Type 0} {N : ℕ} where
     waiting_for (Left j mode) k e = absurd (cc)
 
   module _ (front : List (SeatView C N)) (who : ℕ) (walk : Option (Walk C)) (held : Option (Held C N)) (owed : List Owed) (walk' : Option (Walk C)) (held' : Option (Held C N)) (owed' : List Owed) (back : List (SeatView C N)) where
-    -- those who are taken from the list of k are woken, and the others stay
-    pub tell_taken : (phases : ℕ → Phase C) (lists lists' : Lists C) (k : ℕ) (taken kept : List (Waiter C)) → IsOrderly lists → ((seat : ℕ) → times seat lists ≤ 1) → k < 4 → times who lists ≡ 0 →
-        lists'.cvs ≡ (with_waiters lists (Cv k) kept).cvs → ((seat : ℕ) → times_in seat taken + times_in seat kept ≡ times_in seat (CvOf lists k)) →
-        Every (VariableWaiterFits phases (front ++ view_of who walk held owed ∷ back) k) taken → Every (VariableWaiterFits phases (front ++ view_of who walk held owed ∷ back) k) kept →
+    -- those who are taken from the list of k are out of all variables' lists, and woken, and the others stay
+    pub tell_taken : (phases : ℕ → Phase C) (lists lists' : Lists C) (k : ℕ) (taken : List (Waiter C)) → length lists.cvs ≡ 4 → times who lists ≡ 0 → lists'.cvs ≡ (cvs_without (taken_set taken) lists).cvs →
         VariablesTell phases lists (front ++ view_of who walk held owed ∷ back) →
         VariablesTell (woken_phases k (taken_set taken) phases) lists' (front ++ view_of who walk' held' owed' ∷ back)
-    tell_taken phases lists lists' k taken kept orderly most low none cvs parts takes keeps p =
-        let four = orderly.four in
-        let put = with_waiters lists (Cv k) kept in
-        let at_i : (i : ℕ) → CvOf lists' i ≡ CvOf put i = λ i. ap (λ (c : List (List (Waiter C))). waiters_of (record { lock = lists.lock; cvs = c }) (Cv i)) cvs in
-        let at_k : CvOf lists' k ≡ kept = at_i k ∙ read_back lists (Cv k) kept four low in
-        let at_other : (i : ℕ) → i ≢ k → CvOf lists' i ≡ CvOf lists i = λ i ne. at_i i ∙ read_apart lists k i kept ne in
-        let once : (seat : ℕ) → times_in seat (CvOf lists k) ≤ 1 = once_in lists (Cv k) orderly low in
-        let stays : (seat : ℕ) → times_in seat taken ≡ 0 → woken_phases k (taken_set taken) phases seat ≡ phases seat = untaken_stays k phases taken in
+    tell_taken phases lists lists' k taken four none cvs p =
+        let set = taken_set taken in
+        let at : (i : ℕ) → i < 4 → CvOf lists' i ≡ outside set (CvOf lists i) = λ i few. ap (λ (c : List (List (Waiter C))). waiters_of (record { lock = lists.lock; cvs = c }) (Cv i)) cvs ∙ taken_at set i lists four few in
         let apart_who : (i : ℕ) → i < 4 → (seat : ℕ) → 1 ≤ times_in seat (CvOf lists i) → who ≢ seat = λ i few seat some e. let most = times_at_most lists (Cv i) seat four few in let zero : times seat lists ≡ 0 = subst (λ s. times s lists ≡ 0) e none in absurd (omega (arith, most, zero, some)) in
         record {
-          own = λ i few. elim (cases_eq i k) [
-            | inl e ↦ subst (λ n. Every (VariableWaiterFits (woken_phases k (taken_set taken) phases) (front ++ view_of who walk' held' owed' ∷ back) n) (CvOf lists' n)) (sym e)
-                (subst (λ ws. Every (VariableWaiterFits (woken_phases k (taken_set taken) phases) (front ++ view_of who walk' held' owed' ∷ back) k) ws) (sym at_k)
-                (every_moves phases (woken_phases k (taken_set taken) phases) (front ++ view_of who walk held owed ∷ back) (front ++ view_of who walk' held' owed' ∷ back) k kept
-                (λ seat some. (there front who walk held owed walk' held' owed' back seat (apart_who k low seat (omega (arith, parts seat, some))), stays seat (omega (arith, parts seat, once seat, some)))) keeps))
-            | inr ne ↦ subst (λ ws. Every (VariableWaiterFits (woken_phases k (taken_set taken) phases) (front ++ view_of who walk' held' owed' ∷ back) i) ws) (sym (at_other i ne))
-                (every_moves phases (woken_phases k (taken_set taken) phases) (front ++ view_of who walk held owed ∷ back) (front ++ view_of who walk' held' owed' ∷ back) i (CvOf lists i)
-                (λ seat some. (
-                  there front who walk held owed walk' held' owed' back seat (apart_who i few seat some),
-                  stays seat (let sum = parts seat in let alone : times_in seat (CvOf lists k) ≡ 0 = apart_in lists four seat k i low few (λ e. ne (sym e)) (most seat) some in omega (arith, sum, alone)),
-                )) (p.own i few))
-          ];
-          some = λ vs seat mode e. p.some vs seat mode (still_waiting (is_in (taken_set taken) seat) k (phases seat) vs mode e).1;
+          own = λ i few. subst (λ ws. Every (VariableWaiterFits (woken_phases k set phases) (front ++ view_of who walk' held' owed' ∷ back) i) ws) (sym (at i few))
+              (every_moves phases (woken_phases k set phases) (front ++ view_of who walk held owed ∷ back) (front ++ view_of who walk' held' owed' ∷ back) i (outside set (CvOf lists i))
+              (λ seat some. (
+                there front who walk held owed walk' held' owed' back seat (apart_who i few seat (omega (arith, some, times_outside set (CvOf lists i) seat))),
+                ap (λ b. cond b (woken_phase k (phases seat)) (phases seat)) (left_out set (CvOf lists i) seat some),
+              ))
+              (every_filter (VariableWaiterFits phases (front ++ view_of who walk held owed ∷ back) i) (λ w. not (is_in set w.seat)) (CvOf lists i) (p.own i few)));
+          some = λ vs seat mode e. p.some vs seat mode (still_waiting (is_in set seat) k (phases seat) vs mode e).1;
           all = λ vs i seat mode e is.
-              let was = still_waiting (is_in (taken_set taken) seat) k (phases seat) vs mode e in
-              let stood = p.all vs i seat mode was.1 is in (
-                stood.0,
-                elim (cases_eq i k) [
-                  | inl number ↦ subst (λ n. 1 ≤ times_in seat (CvOf lists' n)) (sym number) (subst (λ ws. 1 ≤ times_in seat ws) (sym at_k)
-                      (let zero : times_in seat taken ≡ 0 = untaken seat taken was.0 in let some : 1 ≤ times_in seat (CvOf lists k) = subst (λ n. 1 ≤ times_in seat (CvOf lists n)) number stood.1 in omega (arith, parts seat, zero, some)))
-                  | inr other ↦ subst (λ ws. 1 ≤ times_in seat ws) (sym (at_other i other)) stood.1
-                ],
-              );
+              let was = still_waiting (is_in set seat) k (phases seat) vs mode e in
+              let stood = p.all vs i seat mode was.1 is in (stood.0, subst (λ ws. 1 ≤ times_in seat ws) (sym (at i stood.0)) (omega (arith, stood.1, outside_same set (CvOf lists i) seat was.0)));
         }
       where
-        untaken : (seat : ℕ) (ws : List (Waiter C)) → is_in (taken_set ws) seat ≡ false → times_in seat ws ≡ 0
-        untaken seat ws e = elim (cases_eq (times_in seat ws) 0) [
-          | inl zero ↦ zero
-          | inr some ↦ absurd (both_ways (is_in (taken_set ws) seat) e (in_list ws seat (omega (arith, some))))
+        -- who is left isn't of the set
+        left_out : (set : Seats) (ws : List (Waiter C)) (seat : ℕ) → 1 ≤ times_in seat (outside set ws) → is_in set seat ≡ false
+        left_out set ws seat some = elim (cases_Bool (is_in set seat)) [
+          | inl is ↦ absurd (omega (arith, some, gone_outside set ws seat is))
+          | inr out ↦ out
         ]

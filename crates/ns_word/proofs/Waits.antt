@@ -1,7 +1,7 @@
 -- What the steps leave of the waiters: each stands where it did, or where it ought to.
 use Rattle.std.proofs.Common.{◌≡◌, ◌≢◌, ℕ, ◌+◌, ◌≤◌, ◌<◌, Bool, true, false, ◌&&◌, cond, eqb, inl, inr, List, [], ◌∷◌, ◌++◌, length, Option, Some, refl, ap, sym, ◌∙◌, subst, arith, eq-eqb}
 use Rattle.std.proofs.lemmas.Bool.{ne_eqb, cases_eq}
-use Rattle.ns_queue.specs.Queues.{Lists, times}
+use Rattle.ns_queue.specs.Queues.{Lists}
 use Rattle.ns_word.specs.declared.view.Held.{Held}
 use Rattle.ns_word.specs.declared.view.SeatView.{SeatView}
 use Rattle.ns_word.specs.declared.wait.WaitPlace.TheVariants.{InQueuing}
@@ -15,6 +15,8 @@ use Rattle.ns_word.specs.Walks.{awaits, has_armed}
 use Rattle.ns_word.specs.Views.{owed_to, walk_at, NoneIs}
 use Rattle.ns_word.specs.Steps.{flags_with}
 use Rattle.ns_word.specs.Lawful.{is_armed, is_unwoken, WaitersPlaced}
+use Rattle.ns_word.specs.Lists.{counts_in}
+use Rattle.ns_word.proofs.CountsIn.{OnceInEach}
 use Rattle.ns_model.specs.Tallies.{one_if}
 use Rattle.ns_model.proofs.Tallies.{one_most}
 use Rattle.ns_word.proofs.Views.{view_of, owed_at, walk_here, walk_there}
@@ -43,33 +45,33 @@ module _ {C : Type 0} {N : ℕ} where
     news = front ++ view_of who walk' held' owed' ∷ back
 
     balance : (seat : ℕ) (lists lists' : Lists C) (b b' : Bool) →
-        times seat lists' + times_among seat owed' + cond b 1 0 ≡ times seat lists + times_among seat owed + cond b' 1 0 →
-        times seat lists + owed_to seat olds ≡ cond b 1 0 →
-        times seat lists' + owed_to seat news ≡ cond b' 1 0
+        counts_in seat lists' + times_among seat owed' + cond b 1 0 ≡ counts_in seat lists + times_among seat owed + cond b' 1 0 →
+        counts_in seat lists + owed_to seat olds ≡ cond b 1 0 →
+        counts_in seat lists' + owed_to seat news ≡ cond b' 1 0
     balance seat lists lists' b b' e p =
         let was = owed_at seat front (view_of who walk held owed) back in
         let is = owed_at seat front (view_of who walk' held' owed') back in
         omega (arith, e, p, was, is)
 
-    pub balanced : (lists lists' : Lists C) (flags flags' : ℕ → ℕ) → NoneIs who front → length lists'.cvs ≡ 4 →
+    pub balanced : (lists lists' : Lists C) (flags flags' : ℕ → ℕ) → NoneIs who front → length lists'.cvs ≡ 4 → OnceInEach lists' →
         -- the seat of the view
-        times who lists' + times_among who owed' + one_if (is_unwoken walk (flags who)) ≡ times who lists + times_among who owed + one_if (is_unwoken walk' (flags' who)) →
+        counts_in who lists' + times_among who owed' + one_if (is_unwoken walk (flags who)) ≡ counts_in who lists + times_among who owed + one_if (is_unwoken walk' (flags' who)) →
         (has_armed walk' ≡ true → flags' who ≡ 1) →
         -- every other
         ((seat : ℕ) → who ≢ seat →
-        times seat lists' + times_among seat owed' + one_if (is_unwoken (walk_at seat olds) (flags seat)) ≡ times seat lists + times_among seat owed + one_if (is_unwoken (walk_at seat olds) (flags' seat))) →
+        counts_in seat lists' + times_among seat owed' + one_if (is_unwoken (walk_at seat olds) (flags seat)) ≡ counts_in seat lists + times_among seat owed + one_if (is_unwoken (walk_at seat olds) (flags' seat))) →
         ((seat : ℕ) → who ≢ seat → has_armed (walk_at seat olds) ≡ true → flags' seat ≡ 1) →
         ((seat : ℕ) → flags' seat < 10) →
         WaitersPlaced lists flags olds → WaitersPlaced lists' flags' news
-    balanced lists lists' flags flags' apart four here set there sets bound p =
+    balanced lists lists' flags flags' apart four once here set there sets bound p =
         let was : walk_at who olds ≡ walk = walk_here front (view_of who walk held owed) back apart in
         let is : walk_at who news ≡ walk' = walk_here front (view_of who walk' held' owed') back apart in
         let stays : (seat : ℕ) → who ≢ seat → walk_at seat news ≡ walk_at seat olds = λ seat ne. walk_there seat front (view_of who walk held owed) (view_of who walk' held' owed') back ne refl in
         record {
           placed = λ seat. elim (cases_eq who seat) [
-            | inl e ↦ subst (λ s. times s lists' + owed_to s news ≡ one_if (is_unwoken (walk_at s news) (flags' s))) e
+            | inl e ↦ subst (λ s. counts_in s lists' + owed_to s news ≡ one_if (is_unwoken (walk_at s news) (flags' s))) e
                 (rw is (balance who lists lists' (is_unwoken walk (flags who)) (is_unwoken walk' (flags' who)) here
-                (subst (λ w. times who lists + owed_to who olds ≡ one_if (is_unwoken w (flags who))) was (p.placed who))))
+                (subst (λ w. counts_in who lists + owed_to who olds ≡ one_if (is_unwoken w (flags who))) was (p.placed who))))
             | inr ne ↦ rw (stays seat ne) (balance seat lists lists' (is_unwoken (walk_at seat olds) (flags seat)) (is_unwoken (walk_at seat olds) (flags' seat)) (there seat ne) (p.placed seat))
           ];
           armed = λ seat f. elim (cases_eq who seat) [
@@ -78,10 +80,11 @@ module _ {C : Type 0} {N : ℕ} where
           ];
           flag = bound;
           four = four;
+          once = once;
         }
 
     -- how the seat itself is placed
-    pub placed_here : (lists : Lists C) (flags : ℕ → ℕ) → NoneIs who front → WaitersPlaced lists flags olds → times who lists + owed_to who olds ≡ one_if (is_unwoken walk (flags who))
+    pub placed_here : (lists : Lists C) (flags : ℕ → ℕ) → NoneIs who front → WaitersPlaced lists flags olds → counts_in who lists + owed_to who olds ≡ one_if (is_unwoken walk (flags who))
     placed_here lists flags apart p = p.placed who ∙ ap (λ w. one_if (is_unwoken w (flags who))) (walk_here front (view_of who walk held owed) back apart)
 
     -- ---- the kinds
@@ -92,7 +95,7 @@ module _ {C : Type 0} {N : ℕ} where
         WaitersPlaced lists flags olds → WaitersPlaced lists flags news
     rested lists flags apart owes due set p =
         let was : walk_at who olds ≡ walk = walk_here front (view_of who walk held owed) back apart in
-        balanced lists lists flags flags apart p.four
+        balanced lists lists flags flags apart p.four p.once
         (rw owes (omega (arith, due)))
         (λ f. p.armed who (rw was (set f)))
         (λ seat ne. rw owes refl)
@@ -102,7 +105,7 @@ module _ {C : Type 0} {N : ℕ} where
     -- a seat sets its flag
     pub armed : (lists : Lists C) (flags : ℕ → ℕ) → NoneIs who front → owed' ≡ owed → awaits walk ≡ false → awaits walk' ≡ false →
         WaitersPlaced lists flags olds → WaitersPlaced lists (flags_with flags who 1) news
-    armed lists flags apart owes a a' p = balanced lists lists flags (flags_with flags who 1) apart p.four
+    armed lists flags apart owes a a' p = balanced lists lists flags (flags_with flags who 1) apart p.four p.once
         (rw owes (rw (not_due walk (flags who) a) (rw (not_due walk' (flags_with flags who 1 who) a') refl)))
         (λ f. rw (eq-eqb who who refl) refl)
         (λ seat ne. rw owes (rw (ne_eqb who seat ne) refl))
@@ -110,12 +113,12 @@ module _ {C : Type 0} {N : ℕ} where
         (λ seat. elim (eqb who seat) as (λ b. cond b 1 (flags seat) < 10) [ true ↦ omega arith | false ↦ p.flag seat ]) p
 
     -- some go from the lists to those who are owed wakes, or within the lists, and the seat doesn't wait
-    pub taken : (lists lists' : Lists C) (flags : ℕ → ℕ) → NoneIs who front → length lists'.cvs ≡ 4 → owed ≡ [] → ((seat : ℕ) → times seat lists' + times_among seat owed' ≡ times seat lists) →
+    pub taken : (lists lists' : Lists C) (flags : ℕ → ℕ) → NoneIs who front → length lists'.cvs ≡ 4 → OnceInEach lists' → owed ≡ [] → ((seat : ℕ) → counts_in seat lists' + times_among seat owed' ≡ counts_in seat lists) →
         awaits walk ≡ false → awaits walk' ≡ false → has_armed walk' ≡ false →
         WaitersPlaced lists flags olds → WaitersPlaced lists' flags news
-    taken lists lists' flags apart four none all a a' set' p =
-        let sum : (seat : ℕ) → times seat lists' + times_among seat owed' ≡ times seat lists + times_among seat owed = λ seat. let was : times_among seat owed ≡ 0 = rw none refl in omega (arith, all seat, was) in
-        balanced lists lists' flags flags apart four
+    taken lists lists' flags apart four once none all a a' set' p =
+        let sum : (seat : ℕ) → counts_in seat lists' + times_among seat owed' ≡ counts_in seat lists + times_among seat owed = λ seat. let was : times_among seat owed ≡ 0 = rw none refl in omega (arith, all seat, was) in
+        balanced lists lists' flags flags apart four once
         (rw (not_due walk (flags who) a) (rw (not_due walk' (flags who) a') (ap (λ n. n + 0) (sum who))))
         (λ f. absurd (cc))
         (λ seat ne. ap (λ n. n + one_if (is_unwoken (walk_at seat olds) (flags seat))) (sum seat))
@@ -123,14 +126,14 @@ module _ {C : Type 0} {N : ℕ} where
         p.flag p
 
     -- the same, and the seat puts itself in
-    pub entered : (lists lists' : Lists C) (flags : ℕ → ℕ) → NoneIs who front → length lists'.cvs ≡ 4 → owed ≡ [] → ((seat : ℕ) → times seat lists' + times_among seat owed' ≡ one_if (eqb who seat) + times seat lists) →
+    pub entered : (lists lists' : Lists C) (flags : ℕ → ℕ) → NoneIs who front → length lists'.cvs ≡ 4 → OnceInEach lists' → owed ≡ [] → ((seat : ℕ) → counts_in seat lists' + times_among seat owed' ≡ one_if (eqb who seat) + counts_in seat lists) →
         has_armed walk ≡ true → awaits walk ≡ false → awaits walk' ≡ true → has_armed walk' ≡ false →
         WaitersPlaced lists flags olds → WaitersPlaced lists' flags news
-    entered lists lists' flags apart four none all set a a' set' p =
+    entered lists lists' flags apart four once none all set a a' set' p =
         let was : walk_at who olds ≡ walk = walk_here front (view_of who walk held owed) back apart in
         let one : flags who ≡ 1 = p.armed who (rw was set) in
         let nothing : (seat : ℕ) → times_among seat owed ≡ 0 = λ seat. rw none refl in
-        balanced lists lists' flags flags apart four
+        balanced lists lists' flags flags apart four once
         (let before : one_if (is_unwoken walk (flags who)) ≡ 0 = ap one_if (not_due walk (flags who) a) in
         let after_all : one_if (is_unwoken walk' (flags who)) ≡ 1 = rw a' (rw one refl) in
         let self : one_if (eqb who who) ≡ 1 = ap one_if (eq-eqb who who refl) in
@@ -141,15 +144,15 @@ module _ {C : Type 0} {N : ℕ} where
         p.flag p
 
     -- a seat takes itself out of a list where it stands there, and else waits on
-    pub withdraws : (lists lists' : Lists C) (n : ℕ) (flags : ℕ → ℕ) → NoneIs who front → length lists'.cvs ≡ 4 → owed' ≡ owed → has_armed walk' ≡ false →
-        times who lists' + n ≡ times who lists → ((seat : ℕ) → who ≢ seat → times seat lists' ≡ times seat lists) →
+    pub withdraws : (lists lists' : Lists C) (n : ℕ) (flags : ℕ → ℕ) → NoneIs who front → length lists'.cvs ≡ 4 → OnceInEach lists' → owed' ≡ owed → has_armed walk' ≡ false →
+        counts_in who lists' + n ≡ counts_in who lists → ((seat : ℕ) → who ≢ seat → counts_in seat lists' ≡ counts_in seat lists) →
         (1 ≤ n → awaits walk' ≡ false) → (n ≡ 0 → awaits walk' ≡ awaits walk) →
         WaitersPlaced lists flags olds → WaitersPlaced lists' flags news
-    withdraws lists lists' n flags apart four owes set' gone others goes stays p =
+    withdraws lists lists' n flags apart four once owes set' gone others goes stays p =
         let same : times_among who owed' ≡ times_among who owed = ap (times_among who) owes in
         let sum = placed_here lists flags apart p in
         let most = one_most (is_unwoken walk (flags who)) in
-        balanced lists lists' flags flags apart four
+        balanced lists lists' flags flags apart four once
         (elim (cases_eq n 0) [
           | inl none ↦ let due : one_if (is_unwoken walk' (flags who)) ≡ one_if (is_unwoken walk (flags who)) = ap (λ b. one_if (b && is_armed (flags who))) (stays none) in omega (arith, gone, same, none, due)
           | inr some ↦ let due : one_if (is_unwoken walk' (flags who)) ≡ 0 = ap one_if (not_due walk' (flags who) (goes (omega (arith, some)))) in omega (arith, gone, same, sum, most, some, due)
@@ -168,7 +171,7 @@ module _ {C : Type 0} {N : ℕ} where
         let here : times_among seat owed ≤ owed_to seat olds = owed_here seat in
         let one : times_among seat owed ≡ 1 + times_among seat owed' = ap (times_among seat) owes ∙ rw (eq-eqb wake.seat seat e) refl in
         let most = one_most (is_unwoken (walk_at seat olds) (flags seat)) in
-        let sum : times seat lists + owed_to seat olds ≡ one_if (is_unwoken (walk_at seat olds) (flags seat)) = p.placed seat in
+        let sum : counts_in seat lists + owed_to seat olds ≡ one_if (is_unwoken (walk_at seat olds) (flags seat)) = p.placed seat in
         omega (arith, here, one, most, sum)
 
     -- a seat clears the flag of one that is owed a wake
@@ -179,15 +182,15 @@ module _ {C : Type 0} {N : ℕ} where
         let was : walk_at who olds ≡ walk = walk_here front (view_of who walk held owed) back apart in
         let count : (seat : ℕ) → times_among seat owed ≡ one_if (eqb target seat) + times_among seat owed' = λ seat. ap (times_among seat) owes in
         let due : (seat : ℕ) → target ≡ seat → one_if (is_unwoken (walk_at seat olds) (flags seat)) ≡ 1 = λ seat e. due_of wake seat lists flags owes e p in
-        let each : (seat : ℕ) → times seat lists + times_among seat owed' + one_if (is_unwoken (walk_at seat olds) (flags seat)) ≡ times seat lists + times_among seat owed + one_if (is_unwoken (walk_at seat olds) (flags_with flags target value seat)) =
+        let each : (seat : ℕ) → counts_in seat lists + times_among seat owed' + one_if (is_unwoken (walk_at seat olds) (flags seat)) ≡ counts_in seat lists + times_among seat owed + one_if (is_unwoken (walk_at seat olds) (flags_with flags target value seat)) =
         λ seat. elim (cases_eq target seat) [
           | inl e ↦ let one : times_among seat owed ≡ 1 + times_among seat owed' = count seat ∙ rw (eq-eqb target seat e) refl in
               let none : one_if (is_unwoken (walk_at seat olds) (flags_with flags target value seat)) ≡ 0 = rw (eq-eqb target seat e) (rw (cleared (walk_at seat olds) value clear) refl) in
               omega (arith, one, none, due seat e)
           | inr ne ↦ rw (ne_eqb target seat ne) (let same : times_among seat owed ≡ times_among seat owed' = count seat ∙ rw (ne_eqb target seat ne) (omega arith) in omega (arith, same))
         ] in
-        balanced lists lists flags (flags_with flags target value) apart p.four
-        (rw a (subst (λ w. times who lists + times_among who owed' + one_if (is_unwoken w (flags who)) ≡ times who lists + times_among who owed + one_if (is_unwoken w (flags_with flags target value who))) was (each who)))
+        balanced lists lists flags (flags_with flags target value) apart p.four p.once
+        (rw a (subst (λ w. counts_in who lists + times_among who owed' + one_if (is_unwoken w (flags who)) ≡ counts_in who lists + times_among who owed + one_if (is_unwoken w (flags_with flags target value who))) was (each who)))
         (λ f. absurd (cc))
         (λ seat ne. each seat)
         (λ seat ne f. elim (cases_eq target seat) [

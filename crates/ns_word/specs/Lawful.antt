@@ -1,5 +1,5 @@
 -- The law: what holds of a lock and its seats between any two steps.
-use Rattle.std.specs.Prelude.{◌≡◌, ℕ, ◌+◌, ◌<◌, ◌≤◌, Bool, true, false, ◌&&◌, ◌==◌, ◌⊎◌, if◌then◌else◌, List, length, Option, None, Some}
+use Rattle.std.specs.Prelude.{◌≡◌, ◌≢◌, ℕ, ◌+◌, ◌<◌, ◌≤◌, Bool, true, false, ◌&&◌, ◌==◌, ◌⊎◌, if◌then◌else◌, List, length, Option, None, Some}
 use Rattle.ns_model.specs.declared.event.Mode.{Mode}
 use Rattle.ns_model.specs.declared.event.Mode.TheVariants.{Read}
 use Rattle.ns_model.specs.declared.event.Event.{Event}
@@ -7,13 +7,13 @@ use Rattle.ns_model.specs.declared.phase.Phase.{Phase}
 use Rattle.ns_model.specs.Cvs.{has}
 use Rattle.ns_model.specs.declared.cvs.Variables.{Variables}
 use Rattle.ns_model.specs.declared.cvs.Variables.TheVariants.{Only}
-use Rattle.ns_model.specs.declared.phase.Phase.TheVariants.{Idle, Waiting}
+use Rattle.ns_model.specs.declared.phase.Phase.TheVariants.{Idle, Waiting, Woken}
 use Rattle.ns_model.specs.Phases.{is_waiting, woken_phase}
 use Rattle.ns_model.specs.Tallies.{Every}
 use Rattle.ns_model.specs.Histories.{Standing, IsLegal, IsBySeats, standing_after}
 use Rattle.ns_queue.specs.declared.waiter.Waiter.{Waiter}
 use Rattle.ns_queue.specs.declared.waiter.Which.TheVariants.{Cv}
-use Rattle.ns_queue.specs.Queues.{Lists, times, waiters_of}
+use Rattle.ns_queue.specs.Queues.{Lists, waiters_of}
 use Rattle.ns_queue.specs.Waiters.{times_in}
 use Rattle.ns_word.specs.declared.word.Word.{Word}
 use Rattle.ns_word.specs.declared.word.Bits.{Bits}
@@ -24,12 +24,12 @@ use Rattle.ns_word.specs.declared.view.Opening.TheVariants.{Locked, CameBack}
 use Rattle.ns_word.specs.declared.view.Held.{Held}
 use Rattle.ns_word.specs.declared.view.SeatView.{SeatView}
 use Rattle.ns_word.specs.declared.walk.Walk.{Walk}
-use Rattle.ns_word.specs.Lists.{has_some, has_eligible, bits_of}
+use Rattle.ns_word.specs.Lists.{counts_in, has_some, has_eligible, bits_of}
 use Rattle.ns_word.specs.Owed.{Tells}
 use Rattle.ns_word.specs.Walks.{Stance, Expected, calls_from_lock, has_armed, waits_in, awaits, pays, is_on_way, phase_by}
 use Rattle.ns_word.specs.declared.owed.Owed.{Owed}
 use Rattle.ns_word.specs.Waits.{phase_kept}
-use Rattle.ns_word.specs.Views.{writers, readers, takers, queuers, owed_to, called_to, walk_at, AreApart}
+use Rattle.ns_word.specs.Views.{writers, readers, takers, queuers, owed_in, owed_to, called_to, walk_at, AreApart}
 use Rattle.ns_word.specs.Seen.{HasNumber, word_seen}
 use Rattle.ns_word.specs.Places.{PlaceFits}
 use Rattle.ns_model.specs.Truths.{Truths}
@@ -120,9 +120,10 @@ is_armed flag = flag == 1
 abbrev pub is_unwoken : {C : Type 0} → Option (Walk C) → ℕ → Bool
 is_unwoken walk flag = awaits walk && is_armed flag
 
--- Each seat that waits stands in one list, once, or is owed one wake by one seat, or has its flag cleared and neither; every other seat stands nowhere and is owed nothing. Before it queues, a seat has set its flag. There are four variables.
+-- Each seat that waits stands once in the lock list, or in lists of variables, in each once, or is owed one wake by one seat, or has its flag cleared and neither; every other seat stands nowhere and is owed nothing. Before it queues, a seat has set its flag. There are four variables.
 pub record WaitersPlaced {C : Type 0} {N : ℕ} (lists : Lists C) (flags : ℕ → ℕ) (views : List (SeatView C N)) : Type 0 where
-  pub placed : (seat : ℕ) → times seat lists + owed_to seat views ≡ (if is_unwoken (walk_at seat views) (flags seat) then 1 else 0)
+  pub placed : (seat : ℕ) → counts_in seat lists + owed_to seat views ≡ (if is_unwoken (walk_at seat views) (flags seat) then 1 else 0)
+  pub once : (seat k : ℕ) → k < 4 → times_in seat (waiters_of lists (Cv k)) ≤ 1
   pub armed : (seat : ℕ) → has_armed (walk_at seat views) ≡ true → flags seat ≡ 1
   pub flag : (seat : ℕ) → flags seat < 10
   pub four : length lists.cvs ≡ 4
@@ -145,18 +146,54 @@ WaiterFits views w = lock_stance (waits_in (walk_at w.seat views)) ≡ Some (w.m
 abbrev pub WaitersOwn : {C : Type 0} {N : ℕ} → List (Waiter C) → List (SeatView C N) → Type 0
 WaitersOwn lock views = Every (WaiterFits views) lock
 
--- A waiter of a variable's list is its seat's own, and waits for that variable alone, by its place and by the history; it has no condition, and no tries.
+-- A waiter of a variable's list is its seat's own, and waits for that variable alone, by its place and by the history; it has no condition, and no tries, and names the variable.
 pub record VariableWaiterFits {C : Type 0} {N : ℕ} (phases : ℕ → Phase C) (views : List (SeatView C N)) (k : ℕ) (w : Waiter C) : Type 0 where
   pub stands : waits_in (walk_at w.seat views) ≡ Some (record { mode = w.mode; on = Some (OnVariable k); tries = 0 })
   pub waits : phases w.seat ≡ Waiting (Only k) w.mode
   pub plain : w.cond ≡ None
   pub untried : w.tries ≡ 0
+  pub names : w.via ≡ Some k
 
 -- The list of each variable has just the seats that wait for it, by the history, in their modes; and whoever waits waits for some variable.
 pub record VariablesTell {C : Type 0} {N : ℕ} (phases : ℕ → Phase C) (lists : Lists C) (views : List (SeatView C N)) : Type 0 where
   pub own : (k : ℕ) → k < 4 → Every (VariableWaiterFits phases views k) (waiters_of lists (Cv k))
   pub all : (variables : Variables) (k seat : ℕ) (mode : Mode) → phases seat ≡ Waiting variables mode → has variables k ≡ true → (k < 4) × (1 ≤ times_in seat (waiters_of lists (Cv k)))
   pub some : (variables : Variables) (seat : ℕ) (mode : Mode) → phases seat ≡ Waiting variables mode → (k : ℕ) × (has variables k ≡ true)
+
+-- ---- what the taken are told
+
+-- What a flag of this value tells one that waits so, in this phase, and was taken from a list: one that waits for a variable was woken by that, and finds its number in one of two values; any other finds 0. Which of the two it is says whence it was taken, and that is said of the wakes that are owed (`OwesAs`).
+abbrev pub ToldOn : {C : Type 0} → Option (Subject C) → Mode → Phase C → ℕ → Type 0
+ToldOn None mode phase value = value ≡ 0
+ToldOn (Some (OnCondition c)) mode phase value = value ≡ 0
+ToldOn (Some (OnVariable k)) mode phase value = (phase ≡ Woken k mode) × (k < 4) × ((value ≡ 2 + k) ⊎ (value ≡ 6 + k))
+
+abbrev pub IsToldSo : {C : Type 0} → Option (Stance C) → Phase C → ℕ → Type 0
+IsToldSo None phase value = Unit {0}
+IsToldSo (Some stance) phase value = ToldOn stance.on stance.mode phase value
+
+-- a wake tells its seat what is so
+abbrev pub WakeTells : {C : Type 0} {N : ℕ} → (ℕ → Phase C) → List (SeatView C N) → Owed → Type 0
+WakeTells phases views wake = IsToldSo (waits_in (walk_at wake.seat views)) (phases wake.seat) wake.value
+
+-- What one names that stands in the lock list, waits so and is in this phase: one that waits for a variable was woken by that, which moved it there, and names it; any other names none.
+abbrev pub NamesOn : {C : Type 0} → Option (Subject C) → Mode → Phase C → Option ℕ → Type 0
+NamesOn None mode phase via = via ≡ None
+NamesOn (Some (OnCondition c)) mode phase via = via ≡ None
+NamesOn (Some (OnVariable k)) mode phase via = (phase ≡ Woken k mode) × (k < 4) × (via ≡ Some k)
+
+abbrev pub IsNamed : {C : Type 0} → Option (Stance C) → Phase C → Option ℕ → Type 0
+IsNamed None phase via = Unit {0}
+IsNamed (Some stance) phase via = NamesOn stance.on stance.mode phase via
+
+abbrev pub WaiterNames : {C : Type 0} {N : ℕ} → (ℕ → Phase C) → List (SeatView C N) → Waiter C → Type 0
+WaiterNames phases views w = IsNamed (waits_in (walk_at w.seat views)) (phases w.seat) w.via
+
+-- Who waits and finds its flag cleared is told what is so; and it will be by each wake that is owed. Each in the lock list names the variable that its scan will tell of.
+pub record TakenTold {C : Type 0} {N : ℕ} (phases : ℕ → Phase C) (flags : ℕ → ℕ) (lock : List (Waiter C)) (views : List (SeatView C N)) : Type 0 where
+  pub flag : (seat : ℕ) → flags seat ≢ 1 → IsToldSo (waits_in (walk_at seat views)) (phases seat) (flags seat)
+  pub owed : Every (WakeTells phases views) (owed_in views)
+  pub listed : Every (WaiterNames phases views) lock
 
 -- ---- nobody is forgotten
 
@@ -190,6 +227,7 @@ pub record IsLawful {C : Type 0} {N : ℕ} (truths : Truths C) (seats : ℕ) (hi
   pub waiters_placed : WaitersPlaced s.lists s.flags s.views
   pub waiters_own : WaitersOwn s.lists.lock s.views
   pub variables_tell : VariablesTell (standing_after history).phases s.lists s.views
+  pub taken_told : TakenTold (standing_after history).phases s.flags s.lists.lock s.views
   pub desig_on_its_way : DesigOnItsWay s.word s.flags s.views
   pub idle_waiters_false : IdleWaitersFalse truths.holds (standing_after history).row s.word s.lists.lock s.views
   pub all_false_true : AllFalseTrue truths.holds (standing_after history).row s.word s.lists.lock s.views

@@ -1,10 +1,13 @@
--- The lock list, and lists of seats.
-use Rattle.std.specs.Prelude.{ℕ, Bool, true, false, not, ◌&&◌, ◌||◌, if◌then◌else◌, List, [], ◌∷◌, ◌++◌, Option, None}
+-- The lock list, lists of seats, and how often a seat counts in the lists.
+use Rattle.std.specs.Prelude.{ℕ, ◌+◌, nat_lt, sum_by, Bool, true, false, not, ◌&&◌, ◌||◌, if◌then◌else◌, List, [], ◌∷◌, ◌++◌, Option, None}
 use Rattle.std.specs.List.{list_any}
 use Rattle.ns_model.specs.declared.event.Mode.{Mode}
 use Rattle.ns_queue.specs.declared.waiter.Waiter.{Waiter}
-use Rattle.ns_queue.specs.Waiters.{has_condition, is_long, writes}
+use Rattle.ns_queue.specs.Queues.{Lists}
+use Rattle.ns_queue.specs.Waiters.{has_condition, is_long, times_in, writes}
 use Rattle.ns_queue.specs.Scans.{is_eligible}
+use Rattle.ns_word.specs.declared.wait.Home.{Home}
+use Rattle.ns_word.specs.declared.wait.Home.TheVariants.{AtLock, AtVariables}
 use Rattle.ns_word.specs.declared.word.Bits.{Bits}
 
 -- whether the list has anything
@@ -31,3 +34,12 @@ abbrev pub queued : {C : Type 0} → ℕ → Mode → Option C → ℕ → Bool 
 queued seat mode cond tries front lock =
     if front then record { seat = seat; mode = mode; cond = cond; tries = tries; via = None } ∷ lock
     else lock ++ record { seat = seat; mode = mode; cond = cond; tries = tries; via = None } ∷ []
+
+-- whether a seat stands where a wait does that has this home: in the lock list, or in any variable's
+abbrev pub stands_at : {C : Type 0} → ℕ → Home → Lists C → Bool
+stands_at seat AtLock lists = nat_lt 0 (times_in seat lists.lock)
+stands_at seat (AtVariables variables) lists = nat_lt 0 (sum_by (times_in seat) lists.cvs)
+
+-- how often a seat counts in the lists: as often as it stands in the lock's, and once if it stands in some variable's, in however many of those
+abbrev pub counts_in : {C : Type 0} → ℕ → Lists C → ℕ
+counts_in seat lists = times_in seat lists.lock + (if nat_lt 0 (sum_by (times_in seat) lists.cvs) then 1 else 0)

@@ -1,15 +1,22 @@
 -- Wakes that are owed, and what a flag tells that a wake has set.
-use Rattle.std.specs.Prelude.{◌≡◌, ◌≤◌, ◌<◌, ◌+◌, ℕ, Bool, true, false, ◌==◌, ◌||◌, nat_lt, List, [], ◌∷◌, map, if◌then◌else◌}
+use Rattle.std.specs.Prelude.{◌≡◌, ◌⊎◌, ◌≤◌, ◌<◌, ◌+◌, ℕ, Bool, true, false, ◌==◌, ◌||◌, nat_lt, List, [], ◌∷◌, map, if◌then◌else◌, Option, None, Some}
 use Rattle.ns_queue.specs.declared.waiter.Waiter.{Waiter}
 use Rattle.ns_word.specs.declared.owed.Owed.{Owed}
 
--- the wakes of those seats, taken from the lock list
-abbrev pub called_by : List ℕ → List Owed
-called_by seats = map (λ seat. record { seat = seat; value = 0 }) seats
+-- what the wake of one taken from the lock list sets the flag to: it tells the variable whose wake had moved it there, if one had
+abbrev pub value_of : Option ℕ → ℕ
+value_of None = 0
+value_of (Some k) = if nat_lt k 4 then 6 + k else 0
+
+-- the wakes of those seats, taken from the lock list, where these variables' wakes had moved them
+abbrev pub called_by : List ℕ → List (Option ℕ) → List Owed
+called_by [] vias = []
+called_by (seat ∷ seats) [] = []
+called_by (seat ∷ seats) (via ∷ vias) = record { seat = seat; value = value_of via } ∷ called_by seats vias
 
 -- the wakes of those whom a scan takes from the lock list
 abbrev pub called_of : {C : Type 0} → List (Waiter C) → List Owed
-called_of ws = map (λ w. record { seat = w.seat; value = 0 }) ws
+called_of ws = map (λ w. record { seat = w.seat; value = value_of w.via }) ws
 
 -- the wakes of those whom a call takes from the list of the variable k
 abbrev pub wakes_of : {C : Type 0} → ℕ → List (Waiter C) → List Owed
@@ -26,5 +33,5 @@ times_among seat (wake ∷ wakes) = (if wake.seat == seat then 1 else 0) + times
 
 -- a wake of one taken from the lock list, or from that of one of four variables, tells so
 abbrev pub Tells : Bool → Owed → Type 0
-Tells true wake = wake.value ≡ 0
+Tells true wake = (wake.value ≡ 0) ⊎ ((6 ≤ wake.value) × (wake.value < 10))
 Tells false wake = (2 ≤ wake.value) × (wake.value < 6)

@@ -2,7 +2,7 @@
 use Rattle.std.specs.Prelude.{◌≡◌, ℕ, ◌+◌, ◌<◌, ◌≤◌, Bool, true, false, List, [], ◌∷◌, Option, None, Some, IsSome}
 use Rattle.ns_model.specs.declared.event.Mode.{Mode}
 use Rattle.ns_model.specs.declared.event.Mode.TheVariants.{Write}
-use Rattle.ns_queue.specs.Queues.{IsList, times}
+use Rattle.ns_queue.specs.Queues.{times}
 use Rattle.ns_word.specs.declared.owed.Owed.{Owed}
 use Rattle.ns_word.specs.declared.word.Releasing.{Releasing}
 use Rattle.ns_word.specs.declared.word.Releasing.TheVariants.{Writer, QuietWriter, Reader}
@@ -204,7 +204,7 @@ OwesOne seats (wake ∷ rest) = wake.seat < seats
 -- a seat that puts itself in stands nowhere yet, and a list is one that there is
 abbrev pub ChangeFits : {C : Type 0} {N : ℕ} → ℕ → Change → Part C N → Type 0
 ChangeFits seat (QueueSelf mode arrival) part = times seat part.lists ≡ 0
-ChangeFits seat (LeaveSelf which) part = IsList which
+ChangeFits seat (LeaveSelf home) part = Unit {0}
 ChangeFits seat (WakeWaiters waking k) part = k < 4
 ChangeFits seat Nothing part = Unit {0}
 

@@ -14,19 +14,19 @@ use Rattle.ns_word.specs.declared.wait.Subject.TheVariants.{OnCondition, OnVaria
 use Rattle.ns_word.specs.Steps.{meets_at}
 
 -- a waiter, part by part
-abbrev pub waiter : {C : Type 0} → ℕ → Mode → Option C → ℕ → Waiter C
-waiter seat mode cond tries = record { seat = seat; mode = mode; cond = cond; tries = tries; via = None }
+abbrev pub waiter : {C : Type 0} → ℕ → Mode → Option C → ℕ → Option ℕ → Waiter C
+waiter seat mode cond tries via = record { seat = seat; mode = mode; cond = cond; tries = tries; via = via }
 
 -- Who queues for the lock fresh stands behind all others, and hasn't failed; who was woken stands before them all, and has failed once more, of which 30 are counted.
 abbrev pub QueuesFor : {C : Type 0} → ℕ → Mode → Arrival → List (Waiter C) → List (Waiter C) → Type 0
-QueuesFor seat mode AsFresh old new = new ≡ old ++ waiter seat mode None 0 ∷ []
-QueuesFor seat mode (AsWoken tries) old new = new ≡ waiter seat mode None (min (tries + 1) 30) ∷ old
+QueuesFor seat mode AsFresh old new = new ≡ old ++ waiter seat mode None 0 None ∷ []
+QueuesFor seat mode (AsWoken tries) old new = new ≡ waiter seat mode None (min (tries + 1) 30) None ∷ old
 
--- A wait for a condition stands with it behind all whom the scan has left, and before them where it queues again. One for a variable stands behind all that wait for that.
+-- A wait for a condition stands with it behind all whom the scan has left, and before them where it queues again. One for a variable stands behind all that wait for that, and names it.
 abbrev pub WaitsFor : {C : Type 0} → Truths C → ℕ → Mode → Subject C → Bool → List ℕ → Lists C → Lists C → Type 0
-WaitsFor truths seat mode (OnCondition c) false row old new = (new.lock ≡ left_of (meets_at truths row) old.lock ++ waiter seat mode (Some c) 0 ∷ []) × (new.cvs ≡ old.cvs)
-WaitsFor truths seat mode (OnCondition c) true row old new = (new.lock ≡ waiter seat mode (Some c) 0 ∷ left_of (meets_at truths row) old.lock) × (new.cvs ≡ old.cvs)
-WaitsFor truths seat mode (OnVariable k) again row old new = (waiters_of new (Cv k) ≡ waiters_of old (Cv k) ++ waiter seat mode None 0 ∷ []) × (new.lock ≡ left_of (meets_at truths row) old.lock)
+WaitsFor truths seat mode (OnCondition c) false row old new = (new.lock ≡ left_of (meets_at truths row) old.lock ++ waiter seat mode (Some c) 0 None ∷ []) × (new.cvs ≡ old.cvs)
+WaitsFor truths seat mode (OnCondition c) true row old new = (new.lock ≡ waiter seat mode (Some c) 0 None ∷ left_of (meets_at truths row) old.lock) × (new.cvs ≡ old.cvs)
+WaitsFor truths seat mode (OnVariable k) again row old new = (waiters_of new (Cv k) ≡ waiters_of old (Cv k) ++ waiter seat mode None 0 (Some k) ∷ []) × (new.lock ≡ left_of (meets_at truths row) old.lock)
 
 -- Those whom a call takes from a variable stand behind all others in the lock list, in their order, where the lock is held, and nobody is owed a wake; else that list stays, and they are owed their wakes in that order.
 abbrev pub AreCalled : {C : Type 0} → Bool → ℕ → List (Waiter C) → List (Waiter C) → List (Waiter C) → List Owed → Type 0

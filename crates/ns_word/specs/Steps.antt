@@ -13,7 +13,9 @@ use Rattle.ns_model.specs.declared.event.Event.TheVariants.{Section, Signal, Bro
 use Rattle.ns_model.specs.declared.event.Event.TheVariants as TheEvent
 use Rattle.ns_model.specs.Truths.{Truths}
 use Rattle.ns_queue.specs.declared.waiter.Waiter.{Waiter}
-use Rattle.ns_queue.specs.declared.waiter.Which.{Which}
+use Rattle.ns_model.specs.declared.cvs.Variables.TheVariants.{Any, Only}
+use Rattle.ns_word.specs.declared.wait.Home.{Home}
+use Rattle.ns_word.specs.declared.wait.Home.TheVariants.{AtVariables}
 use Rattle.ns_queue.specs.declared.waiter.Which.TheVariants.{Cv}
 use Rattle.ns_queue.specs.Queues.{Lists, cvs_without, waiters_of, with_waiters, without}
 use Rattle.ns_queue.specs.Signals.{signaled_of, unsignaled_of, taken_set}
@@ -57,7 +59,7 @@ use Rattle.ns_word.specs.declared.act.Found.{Found}
 use Rattle.ns_word.specs.declared.act.Found.TheVariants.{Saw, Made, Cell, Quiet, Tested, Scanned, Paid, Left, Woke, Flag, Looked}
 use Rattle.ns_word.specs.Words.{is_held, is_woken, tries_of, mode_released, releasing_of, may_acquire, word_acquired, word_taken, word_returned, word_released, word_released_returning}
 use Rattle.ns_word.specs.Waits.{answer_of, answer_of_wait, home_of, mode_for}
-use Rattle.ns_word.specs.Lists.{has_some, bits_of, queued}
+use Rattle.ns_word.specs.Lists.{has_some, bits_of, queued, stands_at}
 use Rattle.ns_word.specs.Walks.{want_of, got_of, walk_after}
 
 -- the lock word, the row's cells, the lists as they last stood at home, each seat's flag, and each seat's view
@@ -148,10 +150,10 @@ kept_by Broadcasting ws = []
 abbrev pub moved_to : {C : Type 0} → Bool → List (Waiter C) → Lists C → Lists C
 moved_to held taken lists = if held then with_lock lists (lists.lock ++ taken) else lists
 
--- The lists that are put back, where this is the word last seen: one that leaves is out of all lists, if it still stood in this one; those whom a wake takes are out of all lists of variables.
+-- The lists that are put back, where this is the word last seen: one that leaves is out of all lists, if it still stood there; those whom a wake takes are out of all lists of variables.
 abbrev pub changed : {C : Type 0} → ℕ → Change → Word → Lists C → Lists C
 changed seat (QueueSelf mode arrival) last lists = with_lock lists (queued seat mode None (tries_of arrival) (is_woken arrival) lists.lock)
-changed seat (LeaveSelf which) last lists = if nat_lt 0 (times_in seat (waiters_of lists which)) then without seat lists else lists
+changed seat (LeaveSelf home) last lists = if stands_at seat home lists then without seat lists else lists
 changed seat (WakeWaiters waking k) last lists =
     moved_to (is_held last) (taken_by waking (waiters_of lists (Cv k))) (cvs_without (taken_set (taken_by waking (waiters_of lists (Cv k)))) lists)
 changed seat Nothing last lists = lists
@@ -169,7 +171,7 @@ owed_after change last lists owed = owed
 -- what is found where they were put back: one that leaves learns whether it still stood there
 abbrev pub change_found : {C : Type 0} → ℕ → Change → Word → Lists C → Found
 change_found seat (QueueSelf mode arrival) last lists = Made
-change_found seat (LeaveSelf which) last lists = Left (nat_lt 0 (times_in seat (waiters_of lists which)))
+change_found seat (LeaveSelf home) last lists = Left (stands_at seat home lists)
 change_found seat (WakeWaiters waking k) last lists = Woke (not (is_held last) && has_some (taken_by waking (waiters_of lists (Cv k))))
 change_found seat Nothing last lists = Made
 
@@ -179,21 +181,22 @@ wake_of seat Signaling k taken = Signal seat k (taken_set taken)
 wake_of seat Broadcasting k taken = Broadcast seat k (taken_set taken)
 
 -- that a wait for a variable was left, if it still stood there
-abbrev pub leave_of : {C : Type 0} {N : ℕ} → ℕ → Which → Bool → List (Event C N)
-leave_of seat (Cv k) true = TheEvent.Leave seat k ∷ []
-leave_of seat which stood = []
+abbrev pub leave_of : {C : Type 0} {N : ℕ} → ℕ → Home → Bool → List (Event C N)
+leave_of seat (AtVariables (Only k)) true = TheEvent.Leave seat k ∷ []
+leave_of seat (AtVariables (Any cvs)) true = TheEvent.LeaveAny seat cvs ∷ []
+leave_of seat home stood = []
 
 -- what is committed as they are put back
 abbrev pub change_commits : {C : Type 0} {N : ℕ} → ℕ → Change → Lists C → List (Event C N)
 change_commits seat (QueueSelf mode arrival) lists = []
-change_commits seat (LeaveSelf which) lists = leave_of seat which (nat_lt 0 (times_in seat (waiters_of lists which)))
+change_commits seat (LeaveSelf home) lists = leave_of seat home (stands_at seat home lists)
 change_commits seat (WakeWaiters waking k) lists = wake_of seat waking k (taken_by waking (waiters_of lists (Cv k))) ∷ []
 change_commits seat Nothing lists = []
 
 -- a waiter of its own list, with its condition if it waits for one
 abbrev pub waits_at : {C : Type 0} → Subject C → ℕ → Mode → Bool → Lists C → Lists C
 waits_at (OnCondition c) seat mode again lists = with_lock lists (queued seat mode (Some c) 0 again lists.lock)
-waits_at (OnVariable k) seat mode again lists = with_waiters lists (Cv k) (waiters_of lists (Cv k) ++ record { seat = seat; mode = mode; cond = None; tries = 0; via = None } ∷ [])
+waits_at (OnVariable k) seat mode again lists = with_waiters lists (Cv k) (waiters_of lists (Cv k) ++ record { seat = seat; mode = mode; cond = None; tries = 0; via = Some k } ∷ [])
 
 -- the lists that a wait puts back: as a scan leaves them, with itself in its own
 abbrev pub waited_in : {C : Type 0} → Truths C → ℕ → Wait C → Bool → List ℕ → Lists C → Lists C

@@ -1,11 +1,12 @@
 -- What is counted over the seats' views, and one of them among the others.
-use Rattle.std.specs.Prelude.{◌≡◌, ◌≢◌, ℕ, ◌+◌, ◌==◌, Bool, false, not, if◌then◌else◌, List, [], ◌∷◌, Option, None, Some}
+use Rattle.std.specs.Prelude.{◌≡◌, ◌≢◌, ℕ, ◌+◌, ◌==◌, Bool, false, not, if◌then◌else◌, List, [], ◌∷◌, ◌++◌, Option, None, Some}
 use Rattle.ns_model.specs.Phases.{is_write}
 use Rattle.ns_model.specs.Tallies.{total, one_if}
 use Rattle.ns_word.specs.declared.view.Held.{Held}
 use Rattle.ns_word.specs.declared.view.SeatView.{SeatView}
 use Rattle.ns_word.specs.declared.walk.Walk.{Walk}
 use Rattle.ns_word.specs.Owed.{times_among}
+use Rattle.ns_word.specs.declared.owed.Owed.{Owed}
 use Rattle.ns_word.specs.Walks.{has_queues, is_queuing, calls_from_lock}
 
 -- whether the section in hand, if there is one, is a write section
@@ -33,6 +34,11 @@ takers views = total (λ view. one_if (has_queues view.walk)) views
 -- how many have taken the queues to queue without a condition
 abbrev pub queuers : {C : Type 0} {N : ℕ} → List (SeatView C N) → ℕ
 queuers views = total (λ view. one_if (is_queuing view.walk)) views
+
+-- the wakes that are owed, by all seats
+abbrev pub owed_in : {C : Type 0} {N : ℕ} → List (SeatView C N) → List Owed
+owed_in [] = []
+owed_in (view ∷ views) = view.owed ++ owed_in views
 
 -- how many wakes a seat is owed, by all seats
 abbrev pub owed_to : {C : Type 0} {N : ℕ} → ℕ → List (SeatView C N) → ℕ

@@ -8,8 +8,8 @@ use Rattle.ns_model.specs.declared.cvs.Variables.TheVariants.{Only}
 use Rattle.ns_model.specs.declared.phase.Phase.TheVariants.{Idle, Cond, Woken, Left}
 use Rattle.ns_env.specs.declared.limits.Cause.{Cause}
 use Rattle.ns_env.specs.declared.limits.Cause.TheVariants.{Expired, Notified}
-use Rattle.ns_queue.specs.declared.waiter.Which.{Which}
-use Rattle.ns_queue.specs.declared.waiter.Which.TheVariants.{Lock, Cv}
+use Rattle.ns_word.specs.declared.wait.Home.{Home}
+use Rattle.ns_word.specs.declared.wait.Home.TheVariants.{AtLock, AtVariables}
 use Rattle.ns_word.specs.Owed.{is_from_lock}
 use Rattle.ns_word.specs.declared.word.Arrival.{Arrival}
 use Rattle.ns_word.specs.declared.word.Arrival.TheVariants.{AsFresh, AsWoken}
@@ -40,10 +40,10 @@ answer_of_wait (Ended cause) = answer_of cause
 abbrev pub arrival_of : ℕ → ℕ → Arrival
 arrival_of tries flag = if is_from_lock flag then AsWoken tries else AsFresh
 
--- the list in which such a wait stands
-abbrev pub home_of : {C : Type 0} → Subject C → Which
-home_of (OnCondition c) = Lock
-home_of (OnVariable k) = Cv k
+-- where such a wait stands
+abbrev pub home_of : {C : Type 0} → Subject C → Home
+home_of (OnCondition c) = AtLock
+home_of (OnVariable k) = AtVariables (Only k)
 
 -- the variable whose wake such a wait has found by this value in its flag, if it is for one: the list in which it stood tells that already
 abbrev pub variable_by : {C : Type 0} → Subject C → ℕ → Option ℕ

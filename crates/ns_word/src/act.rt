@@ -2,11 +2,10 @@
 
 ghost use Rattle.std.specs.Prelude.{◌≡◌, ⊤};
 
-use crate::wait::{Aim, Wait};
+use crate::wait::{Aim, Home, Wait};
 use crate::word::{Arrival, Releasing, Taking, Word};
 use ns_env::limits::{Cause, Limits};
 use ns_model::event::Mode;
-use ns_queue::waiter::Which;
 use std::alloc::AllocError;
 
 /// What is done to the lists in hand before they are put back.
@@ -15,8 +14,8 @@ pub enum Change {
     /// One puts itself in, without condition, in this mode: at the back, or at the front if it was
     /// woken from the list before, so that it loses no turn.
     QueueSelf(Mode, Arrival),
-    /// One that waits takes itself out of all lists, if it still stands in this one, which is its own.
-    LeaveSelf(Which),
+    /// One that waits takes itself out of all lists, if it still stands here.
+    LeaveSelf(Home),
     /// Those whom this takes from the list of the variable leave all lists of variables. Where the
     /// lock is held they go to the back of the lock list, in the order taken; else they are owed their
     /// wakes.

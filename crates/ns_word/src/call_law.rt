@@ -2,7 +2,7 @@
 
 ghost use Rattle.std.specs.Prelude.{◌≡◌, ◌≢◌, ◌<◌, ◌⊎◌, ◌||◌, ◌==◌, nat_lt, Bool, ℕ, true, false, if◌then◌else◌, List, [], ◌∷◌, ◌++◌, Option, None, Some, slice_get};
 ghost use Rattle.ns_model.specs.declared.event.Event.{Event};
-ghost use Rattle.ns_model.specs.Histories.{row_after};
+ghost use Rattle.ns_model.specs.Histories.{row_after, standing_after};
 ghost use Rattle.ns_model.specs.Tallies.{Every};
 ghost use Rattle.ns_queue.specs.declared.waiter.Which.TheVariants.{Cv};
 ghost use Rattle.ns_queue.specs.Queues.{waiters_of};
@@ -35,13 +35,14 @@ ghost use Rattle.ns_word.specs.Answers.{cause_kept, has_come_back};
 ghost use Rattle.ns_word.specs.Asked.{asked_of};
 ghost use Rattle.ns_word.specs.Begins.{IsFirst};
 ghost use Rattle.ns_word.specs.Courses.{course_after, CallGoes, SoFar};
-ghost use Rattle.ns_word.specs.Lawful.{IsLawful};
+ghost use Rattle.ns_word.specs.Lawful.{IsLawful, IsToldSo};
 ghost use Rattle.ns_word.specs.Meanings.{Course, course_from};
 ghost use Rattle.ns_word.specs.Owed.{Tells};
 ghost use Rattle.ns_word.specs.Steps.{LockState, Step, kept_by, taken_by, wake_of};
 ghost use Rattle.ns_env.specs.Walks.{is_limited};
 ghost use Rattle.ns_word.specs.Waits.{answer_of};
-ghost use Rattle.ns_word.specs.Walks.{want_of, got_of, calls_from_lock, walk_after, was_woken};
+ghost use Rattle.ns_word.specs.Views.{walk_at};
+ghost use Rattle.ns_word.specs.Walks.{want_of, got_of, calls_from_lock, waits_in, walk_after, was_woken};
 ghost use Rattle.ns_word.specs.Words.{is_woken, may_acquire, tries_of};
 
 use ns_model::condition::Condition;
@@ -109,6 +110,15 @@ pub fn only_the_called_acquire_as_woken<C: Condition<N>, const N: usize>()
 pub fn wakes_tell_where_they_come_from<C: Condition<N>, const N: usize>()
     ensures { (seats : ℕ) (history : List (Event C N)) (s : LockState C N) (at : ℕ) (view : SeatView C N) →
         IsLawful C.means seats history s → slice_get s.views at ≡ Some view → Every (Tells (calls_from_lock view.walk)) view.owed }
+{}
+
+/// Who waits, and finds its flag cleared, is told what is so: a wait for a variable was woken by that,
+/// and finds its number in one of two values; any other was taken from the lock list, where nobody had
+/// moved it, and finds 0. Which of the two says from where it was taken
+/// (`wakes_tell_where_they_come_from`, `wakes_are_paid_as_owed`).
+pub fn the_taken_are_told_what_is_so<C: Condition<N>, const N: usize>()
+    ensures { (seats : ℕ) (history : List (Event C N)) (s : LockState C N) (seat : ℕ) → IsLawful C.means seats history s →
+        s.flags seat ≢ 1 → IsToldSo (waits_in (walk_at seat s.views)) ((standing_after history).phases seat) (s.flags seat) }
 {}
 
 /// Who pays a wake pays the first that it owes: it stores what that tells into the flag of that seat, and

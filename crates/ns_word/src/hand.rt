@@ -1,11 +1,11 @@
 //! What a walk does to the queues in its hand, before it puts them back.
 
-ghost use Rattle.std.specs.Prelude.{◌≡◌, ◌<◌, ◌≤◌, ℕ, true, false, nat_lt, None, Some, [], ◌∷◌, ◌++◌, if◌then◌else◌};
-ghost use Rattle.ns_queue.specs.Queues.{IsList, cvs_without, times, waiters_of};
+ghost use Rattle.std.specs.Prelude.{◌≡◌, ◌<◌, ◌≤◌, ℕ, map, true, false, nat_lt, None, Some, [], ◌∷◌, ◌++◌, if◌then◌else◌};
+ghost use Rattle.ns_queue.specs.Queues.{cvs_without, times, waiters_of};
 ghost use Rattle.ns_queue.specs.Signals.{taken_set};
 ghost use Rattle.ns_queue.specs.Scans.{woken_of, tests_of};
 ghost use Rattle.ns_queue.specs.Waiters.{seats_of, times_in};
-ghost use Rattle.ns_word.specs.Lists.{bits_of, queued};
+ghost use Rattle.ns_word.specs.Lists.{bits_of, queued, stands_at};
 ghost use Rattle.ns_word.specs.Owed.{wakes_of};
 ghost use Rattle.ns_word.specs.Places.{HasList, IsInRange};
 ghost use Rattle.ns_word.specs.Steps.{acquire_hand, release_hand, wait_hand, signal_hand, in_hand, changed, waits_at, waited_in, with_lock, taken_by, moved_to};
@@ -17,7 +17,7 @@ use crate::owed::{Owed, wakes};
 use crate::release_walk::ReleasePlace;
 use crate::show_walk::ShowPlace;
 use crate::signal_walk::SignalPlace;
-use crate::wait::{Aim, LeavePlace, QueuePlace, Subject, Wait, WaitPlace};
+use crate::wait::{Aim, Home, LeavePlace, QueuePlace, Subject, Wait, WaitPlace};
 use crate::walk::Walk;
 use crate::word::{Arrival, Bits};
 use arrayvec::ArrayVec;
@@ -76,17 +76,30 @@ pub fn queue_self<C: Queueable<N>, const N: usize>(
     queue(queues, waiter, arrival.is_woken());
 }
 
-/// Takes the seat out of all lists, if it stands in this one, and answers whether it does.
+/// Whether the seat stands where such a wait does.
+pub fn stands_at<C: Queueable<N>, const N: usize>(
+    queues: &Queues<C, N>,
+    seat: u8,
+    home: Home,
+) -> bool
+    ensures { result ≡ stands_at seat home queues.now }
+{
+    match home {
+        Home::AtLock => queues.stands(Which::Lock, seat),
+        Home::AtVariables(_) => queues.stands_for_variable(seat),
+    }
+}
+
+/// Takes the seat out of all lists, if it stands here, and answers whether it does.
 pub fn leave_self<C: Queueable<N>, const N: usize>(
     queues: &mut Queues<C, N>,
     seat: u8,
-    which: Which,
+    home: Home,
 ) -> bool
-    requires { IsList which }
-    ensures stood { result ≡ nat_lt 0 (times_in seat (waiters_of queues.old which)) }
-    ensures left { (last : _) → queues.new ≡ changed seat (Change.LeaveSelf which) last queues.old }
+    ensures stood { result ≡ stands_at seat home queues.old }
+    ensures left { (last : _) → queues.new ≡ changed seat (Change.LeaveSelf home) last queues.old }
 {
-    let stands = queues.stands(which, seat);
+    let stands = stands_at(queues, seat, home);
     if stands {
         let _ = queues.remove(seat);
     }
@@ -123,7 +136,7 @@ fn enter<C: Queueable<N>, const N: usize>(
                 mode,
                 cond: None,
                 tries: 0,
-                via: None,
+                via: Some(k),
             };
             queues.push_back(Which::Cv(k), waiter);
         }
@@ -142,6 +155,7 @@ pub fn scan_and_queue<C: Queueable<N>, const N: usize>(
     requires below { seat < 64 }
     requires free { times seat queues.old ≡ 0 }
     ensures woken { result.woken.items ≡ seats_of (woken_of (λ c. C.means.holds c row.now) queues.old.lock) }
+    ensures vias { result.vias.items ≡ map (λ w. w.via) (woken_of (λ c. C.means.holds c row.now) queues.old.lock) }
     ensures lists { queues.new ≡ waited_in C.means seat wait again row.now queues.old }
     ensures tests { result.tests ≡ tests_of C.means.same (λ c. C.means.holds c row.now) queues.old.lock }
 {

@@ -10,6 +10,7 @@ ghost use Rattle.ns_model.specs.Beginnings.{BeginsWith};
 ghost use Rattle.ns_model.specs.Histories.{phase_of};
 ghost use Rattle.ns_model.specs.Sections.{is_met};
 ghost use Rattle.ns_queue.specs.declared.waiter.Waiter.{Waiter};
+ghost use Rattle.ns_queue.specs.Queues.{times};
 ghost use Rattle.ns_queue.specs.Waiters.{is_long};
 ghost use Rattle.ns_env.specs.declared.limits.Cause.{Cause};
 ghost use Rattle.ns_word.specs.declared.wait.Aim.TheVariants.{ForWait};
@@ -75,6 +76,12 @@ pub fn waiters_are_in_their_phase<C: Condition<N>, const N: usize>()
     ensures { (seats : ℕ) (history : List (Event C N)) (s : LockState C N) (at : ℕ) (w : Waiter C) (c : C) →
         IsLawful C.means seats history s → slice_get s.lists.lock at ≡ Some w → w.cond ≡ Some c →
         phase_of history w.seat ≡ Cond c w.mode }
+{}
+
+/// A seat stands in one list at most, and there once.
+pub fn no_waiter_stands_twice<C: Condition<N>, const N: usize>()
+    ensures { (seats : ℕ) (history : List (Event C N)) (s : LockState C N) (seat : ℕ) →
+        IsLawful C.means seats history s → times seat s.lists ≤ 1 }
 {}
 
 /// While nobody has the queues, the word says that somebody waits long exactly where one who stands

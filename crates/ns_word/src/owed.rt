@@ -1,7 +1,7 @@
 //! Wakes that are owed, and what a flag tells that a wake has set.
 
 ghost use Rattle.std.specs.Prelude.{◌≡◌, ◌<◌, ◌≤◌, length};
-ghost use Rattle.ns_word.specs.Owed.{called_by, is_from_lock, wakes_of};
+ghost use Rattle.ns_word.specs.Owed.{called_by, is_from_lock, value_of, wakes_of};
 
 use arrayvec::ArrayVec;
 use ns_queue::waiter::Waiter;
@@ -11,8 +11,8 @@ use ns_queue::waiter::Waiter;
 pub struct Owed {
     /// A number below 64.
     pub seat: u8,
-    /// 0 where the seat was taken from the lock list, `2 + k` where it was taken from the list of the
-    /// variable `k`.
+    /// `2 + k` where the seat was taken from the list of the variable `k`; where it was taken from the
+    /// lock list, `6 + k` if the wake of the variable `k` had moved it there, else 0.
     pub value: u8,
 }
 
@@ -23,16 +23,31 @@ pub fn is_from_lock(value: u8) -> bool
     value == 0 || value > 5
 }
 
-/// The wakes of those seats, which a scan has taken from the lock list, in that order.
-pub fn called(seats: &[u8]) -> ArrayVec<Owed, 64>
-    requires { length seats.now ≤ 64 }
-    ensures { result.items ≡ called_by seats.now }
+/// What the wake of one taken from the lock list sets its flag to, where the wake of this variable had
+/// moved it there, or of none. There are four variables, so a flag needs no value above 9, and no sum
+/// goes wrong.
+fn value_of(via: Option<u8>) -> u8
+    ensures { result ≡ value_of via }
+{
+    match via {
+        Some(k) if k < 4 => 6 + k,
+        _ => 0,
+    }
+}
+
+/// The wakes of those seats, which a scan has taken from the lock list, in that order, where the wakes of
+/// these variables had moved them there.
+pub fn called(seats: &[u8], vias: &[Option<u8>]) -> ArrayVec<Owed, 64>
+    requires few { length seats.now ≤ 64 }
+    requires same { length vias.now ≡ length seats.now }
+    ensures { result.items ≡ called_by seats.now vias.now }
 {
     let mut owed = ArrayVec::new();
-    for seat in seats {
+    for i in 0..seats.len() {
+        let value = value_of(vias[i]);
         owed.push(Owed {
-            seat: *seat,
-            value: 0,
+            seat: seats[i],
+            value,
         });
     }
     owed

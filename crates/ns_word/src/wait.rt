@@ -6,8 +6,8 @@ ghost use Rattle.ns_word.specs.Waits.{answer_of, answer_of_wait, arrival_of, hom
 use crate::owed::is_from_lock;
 use crate::word::{Arrival, Word};
 use ns_env::limits::{Cause, Limits};
+use ns_model::cvs::Variables;
 use ns_model::event::{Answer, Mode};
-use ns_queue::waiter::Which;
 use std::alloc::AllocError;
 
 /// What a wait waits for.
@@ -57,6 +57,15 @@ pub enum Outcome {
     Woken(Option<u8>),
     /// It was ended early.
     Ended(Cause),
+}
+
+/// Where a wait stands that has queued.
+#[derive(Clone, Copy)]
+pub enum Home {
+    /// In the lock list.
+    AtLock,
+    /// In the lists of the variables that it waits for.
+    AtVariables(Variables),
 }
 
 /// What an acquire is for.
@@ -172,13 +181,13 @@ pub fn arrival_of(tries: u8, flag: u8) -> Arrival
 }
 
 impl<C: Copy> Subject<C> {
-    /// The list in which such a wait stands.
-    pub fn home(self) -> Which
+    /// Where such a wait stands.
+    pub fn home(self) -> Home
         ensures { result ≡ home_of self }
     {
         match self {
-            Subject::OnCondition(_) => Which::Lock,
-            Subject::OnVariable(k) => Which::Cv(k),
+            Subject::OnCondition(_) => Home::AtLock,
+            Subject::OnVariable(k) => Home::AtVariables(Variables::Only(k)),
         }
     }
 

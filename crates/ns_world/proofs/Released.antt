@@ -8,10 +8,8 @@ use Rattle.ns_model.specs.declared.event.Exit.TheVariants.{Plain}
 use Rattle.ns_queue.specs.declared.waiter.Waiter.{Waiter}
 use Rattle.ns_queue.specs.declared.waiter.Which.TheVariants.{Lock}
 use Rattle.ns_queue.specs.Queues.{Lists, with_waiters}
-use Rattle.ns_queue.specs.Waiters.{seats_of}
 use Rattle.ns_queue.specs.Scans.{woken_of, left_of, tests_of}
-use Rattle.ns_word.specs.Owed.{called_by, called_of}
-use Rattle.ns_word.proofs.Scans.{called_seats}
+use Rattle.ns_word.specs.Owed.{called_of}
 use Rattle.ns_word.specs.declared.owed.Owed.{Owed}
 use Rattle.ns_word.specs.declared.word.Word.{Word}
 use Rattle.ns_word.specs.declared.word.Bits.{Bits}
@@ -31,14 +29,7 @@ pub some_left : {A : Type 0} (xs : List A) → not (length xs == 0) ≡ has_some
 some_left [] = refl
 some_left (x ∷ xs) = rw (ne_eqb (length (x ∷ xs)) 0 (λ e. absurd (omega (arith, e)))) refl
 
--- those whom a scan told are owed wakes, and are as many
-pub some_called : (seats : List ℕ) (owed : List Owed) → owed ≡ called_by seats → has_some seats ≡ has_some owed
-some_called [] owed is = rw is refl
-some_called (seat ∷ seats) owed is = rw is refl
-
-pub are_called : {C : Type 0} (seats : List ℕ) (owed : List Owed) (ws : List (Waiter C)) → owed ≡ called_by seats → seats ≡ seats_of ws → owed ≡ called_of ws
-are_called seats owed ws is told = is ∙ ap called_by told ∙ called_seats ws
-
+-- those whom a scan takes are as many as the wakes that it owes
 pub some_seats : {C : Type 0} (ws : List (Waiter C)) → has_some (called_of ws) ≡ has_some ws
 some_seats [] = refl
 some_seats (w ∷ ws) = refl

@@ -14,6 +14,7 @@ use Rattle.ns_word.specs.declared.word.Word.{Word}
 use Rattle.ns_word.specs.declared.view.SeatView.{SeatView}
 use Rattle.ns_word.specs.declared.walk.Walk.{Walk}
 use Rattle.ns_word.specs.Places.{HasList}
+use Rattle.ns_word.specs.Lists.{counts_in}
 use Rattle.ns_word.specs.Owed.{times_among}
 use Rattle.ns_word.specs.Walks.{has_armed}
 use Rattle.ns_word.specs.Views.{owed_to, walk_at}
@@ -105,7 +106,7 @@ module _ {C : Type 0} {N : ℕ} where
   wakes_few truths seats h s most p =
       let long = length_owing s.views in
       let some = few seats (owing s.views)
-      (λ seat. let sum : times seat s.lists + owed_to seat s.views ≡ cond (is_unwoken (walk_at seat s.views) (s.flags seat)) 1 0 = p.waiters_placed.placed seat in
+      (λ seat. let sum : counts_in seat s.lists + owed_to seat s.views ≡ cond (is_unwoken (walk_at seat s.views) (s.flags seat)) 1 0 = p.waiters_placed.placed seat in
       omega (arith, times_owing seat s.views, sum, one_most (is_unwoken (walk_at seat s.views) (s.flags seat))))
       (λ seat high. times_owing seat s.views ∙ none_owed truths seats h s p seat high) in
       omega (arith, long, some, most)

@@ -7,7 +7,9 @@ use Rattle.std.proofs.lemmas.List.{append-nil}
 use Rattle.ns_model.specs.declared.event.Event.{Event}
 use Rattle.ns_model.specs.declared.event.Mode.{Mode}
 use Rattle.ns_queue.specs.declared.waiter.Waiter.{Waiter}
-use Rattle.ns_queue.specs.declared.waiter.Which.{Which}
+use Rattle.ns_model.specs.declared.cvs.Variables.TheVariants.{Any, Only}
+use Rattle.ns_word.specs.declared.wait.Home.{Home}
+use Rattle.ns_word.specs.declared.wait.Home.TheVariants.{AtLock, AtVariables}
 use Rattle.ns_queue.specs.declared.waiter.Which.TheVariants.{Cv}
 use Rattle.ns_queue.specs.Queues.{cvs_without, Lists, waiters_of, with_waiters}
 use Rattle.ns_queue.specs.Signals.{taken_set}
@@ -28,10 +30,10 @@ use Rattle.ns_word.specs.declared.act.Waking.TheVariants.{Signaling, Broadcastin
 use Rattle.ns_word.specs.declared.word.Arrival.{Arrival}
 use Rattle.ns_word.specs.declared.act.Act.TheVariants.{ReturnQueues, WaitReturning}
 use Rattle.ns_word.specs.declared.act.Found.TheVariants.{Saw, Made, Left, Woke, Scanned}
-use Rattle.ns_word.specs.Lists.{has_some, bits_of}
+use Rattle.ns_word.specs.Lists.{has_some, bits_of, stands_at}
 use Rattle.ns_word.specs.Words.{is_held, releasing_of, word_returned, word_released_returning}
 use Rattle.ns_model.specs.Truths.{Truths}
-use Rattle.ns_word.specs.Steps.{Effect, meets_at, section_of, changed, change_commits, exit_for, moved_to, taken_by, waited_in}
+use Rattle.ns_word.specs.Steps.{Effect, meets_at, section_of, changed, change_commits, exit_for, leave_of, moved_to, taken_by, waited_in}
 use Rattle.ns_word.specs.Places.{CanWait, ChangeFits, IsInRange, IsUnmet}
 use Rattle.ns_word.proofs.Scans.{some_seats}
 use Rattle.ns_world.specs.Performs.{part, Makes}
@@ -48,6 +50,12 @@ pub unchanged_back : {C : Type 0} {N : ℕ} (truths : Truths C) (seat : ℕ) (la
     Effect truths seat (ReturnQueues Nothing last) (part word row queues flags held owed) Made (part word' row queues flags held owed) []
 unchanged_back truths seat last word word' row flags owed held queues bits same tell becomes = (refl, same, rw (becomes, tell) refl, refl)
 
+-- who didn't stand there commits nothing as it leaves
+pub not_leaving : {C : Type 0} {N : ℕ} (seat : ℕ) (home : Home) → leave_of {C = C} {N = N} seat home false ≡ []
+not_leaving seat AtLock = refl
+not_leaving seat (AtVariables (Only k)) = refl
+not_leaving seat (AtVariables (Any cvs)) = refl
+
 -- a call takes somebody where somebody stands there
 pub some_taken : {C : Type 0} (waking : Waking) (ws : List (Waiter C)) → has_some (taken_by waking ws) ≡ has_some ws
 some_taken Signaling [] = refl
@@ -56,11 +64,11 @@ some_taken Broadcasting ws = refl
 
 module _ {C : Type 0} {N : ℕ} (truths : Truths C) (seat : ℕ) (last word : Word) (row flags : List ℕ) (h : List (Event C N)) where
   -- one that leaves put them back
-  pub left_back : (which : Which) (word' : Word) (h' : List (Event C N)) (owed : List Owed) (held : Option (Held C N)) (queues queues' : Lists C) (stood : Bool) (bits : Bits) →
-      last ≡ word → h' ≡ h ++ change_commits seat (LeaveSelf which) queues → stood ≡ nat_lt 0 (times_in seat (waiters_of queues which)) → queues' ≡ changed seat (LeaveSelf which) last queues → bits ≡ bits_of queues'.lock → word' ≡ word_returned false bits last →
-      Makes truths seat (ReturnQueues (LeaveSelf which) last) (part word row queues flags held owed) h (Left stood) (part word' row queues' flags held owed) h'
-  left_back which word' h' owed held queues queues' stood bits same grows stands lists tell becomes = record {
-    commits = change_commits seat (LeaveSelf which) queues;
+  pub left_back : (home : Home) (word' : Word) (h' : List (Event C N)) (owed : List Owed) (held : Option (Held C N)) (queues queues' : Lists C) (stood : Bool) (bits : Bits) →
+      last ≡ word → h' ≡ h ++ change_commits seat (LeaveSelf home) queues → stood ≡ stands_at seat home queues → queues' ≡ changed seat (LeaveSelf home) last queues → bits ≡ bits_of queues'.lock → word' ≡ word_returned false bits last →
+      Makes truths seat (ReturnQueues (LeaveSelf home) last) (part word row queues flags held owed) h (Left stood) (part word' row queues' flags held owed) h'
+  left_back home word' h' owed held queues queues' stood bits same grows stands lists tell becomes = record {
+    commits = change_commits seat (LeaveSelf home) queues;
     effect = (ap Left (sym stands), same, rw (becomes, tell, lists) refl, refl);
     grows = grows;
   }
@@ -88,7 +96,7 @@ module _ {C : Type 0} {N : ℕ} (truths : Truths C) (seat : ℕ) (last word : Wo
 -- what a change needs is of the lists alone
 pub fits_there : {C : Type 0} {N : ℕ} (seat : ℕ) (change : Change) (word : Word) (row row' flags flags' : List ℕ) (held : Option (Held C N)) (owed : List Owed) (queues : Lists C) → ChangeFits seat change (part word row queues flags held owed) → ChangeFits seat change (part word row' queues flags' held owed)
 fits_there seat (QueueSelf mode arrival) word row row' flags flags' held owed queues p = p
-fits_there seat (LeaveSelf which) word row row' flags flags' held owed queues p = p
+fits_there seat (LeaveSelf home) word row row' flags flags' held owed queues p = p
 fits_there seat (WakeWaiters waking k) word row row' flags flags' held owed queues p = p
 fits_there seat Nothing word row row' flags flags' held owed queues p = p
 

@@ -2,10 +2,10 @@
 //! made; any other changes nothing.
 
 ghost use Rattle.std.specs.Prelude.{◌≡◌, ◌<◌, ◌++◌, ◌∷◌, ℕ, true, false, None, List, [], IsSome, IfSome, IfOk, OnOk, OnErr, if◌then◌else◌};
-ghost use Rattle.ns_queue.specs.Queues.{IsList, times};
+ghost use Rattle.ns_queue.specs.Queues.{times};
 ghost use Rattle.ns_word.specs.declared.owed.Owed.{Owed};
 ghost use Rattle.ns_word.specs.Places.{CanLeave, CanWait, ChangeFits, IsInRange};
-ghost use Rattle.ns_word.specs.Steps.{change_commits, entry_of, exit_for, opening_for, section_of, Effect};
+ghost use Rattle.ns_word.specs.Steps.{change_commits, entry_of, exit_for, leave_of, opening_for, section_of, Effect};
 ghost use Rattle.ns_word.specs.Waits.{mode_for};
 ghost use Rattle.ns_word.specs.Words.{may_acquire};
 ghost use Rattle.ns_world.specs.Commits.{IsEvent};
@@ -13,6 +13,7 @@ ghost use Rattle.ns_world.specs.Performs.{part, IsSeat, Makes};
 
 use crate::room::Seated;
 use crate::seat::Seat;
+use ns_model::cvs::Variables;
 use ns_model::event::{Answer, Entry, Event, Exit, Mode};
 use ns_queue::queues::Queues;
 use ns_queue::waiter::Which;
@@ -20,7 +21,7 @@ use ns_word::act::{Act, Change, Found, Waking};
 use ns_word::hand::{bits, leave_self, queue_self, scan_and_queue, wake_waiters};
 use ns_word::owed::called;
 use ns_word::view::{Held, Opening};
-use ns_word::wait::{Aim, Outcome, Subject, Wait, answer_of};
+use ns_word::wait::{Aim, Home, Outcome, Subject, Wait, answer_of};
 use ns_word::word::{Arrival, Releasing, Taking, Word};
 use std::alloc::AllocError;
 
@@ -100,46 +101,54 @@ fn return_queued<C: Seated<N>, const N: usize>(
     Found::Made
 }
 
-/// Commits that the seat leaves this list, where it is a variable's and the seat still stands
+/// What a wait for these variables commits as it leaves their lists.
+fn leaving<C: Seated<N>, const N: usize>(seat: u8, variables: Variables) -> Event<C, N>
+    ensures { result ∷ [] ≡ leave_of seat (Home.AtVariables variables) true }
+{
+    match variables {
+        Variables::Only(k) => Event::Leave { who: seat, k },
+        Variables::Any(cvs) => Event::LeaveAny { who: seat, cvs },
+    }
+}
+
+/// Commits that the seat leaves this home, where it is the variables' lists and the seat still stands
 /// there. Where the event is refused, nothing has changed.
 fn commit_leave<C: Seated<N>, const N: usize>(
     queues: &Queues<C, N>,
     seat: u8,
     history: &mut Vec<Event<C, N>>,
-    which: Which,
+    home: Home,
 ) -> Result<(), AllocError>
-    requires { IsList which }
-    ensures ok { OnOk result (history.new.items ≡ history.old.items ++ change_commits seat (Change.LeaveSelf which) queues.now) }
-    ensures err { OnErr result (IsEvent seat (Change.LeaveSelf which) queues.now × (history.new.items ≡ history.old.items)) }
+    ensures ok { OnOk result (history.new.items ≡ history.old.items ++ change_commits seat (Change.LeaveSelf home) queues.now) }
+    ensures err { OnErr result (IsEvent seat (Change.LeaveSelf home) queues.now × (history.new.items ≡ history.old.items)) }
 {
-    if let Which::Cv(k) = which {
-        if queues.stands(which, seat) {
-            history.push(Event::Leave { who: seat, k })?;
+    if let Home::AtVariables(variables) = home {
+        if queues.stands_for_variable(seat) {
+            history.push(leaving(seat, variables))?;
         }
     }
     Ok(())
 }
 
-/// Takes the seat out of this list, if it still stands there, and puts the queues back, which
-/// clears the spinlock bit. That a wait for a variable was left is committed; where the event is
+/// Takes the seat out of all lists, if it still stands here, and puts the queues back, which
+/// clears the spinlock bit. That a wait for variables was left is committed; where the event is
 /// refused, nothing has changed.
 fn return_left<C: Seated<N>, const N: usize>(
     word: &mut Word,
     queues: &mut Queues<C, N>,
     seat: u8,
     history: &mut Vec<Event<C, N>>,
-    which: Which,
+    home: Home,
     last: Word,
 ) -> Result<Found, AllocError>
-    requires { IsList which }
-    ensures ok { IfOk result (λ found. (row flags : List ℕ) (owed : List Owed) (held : _) → Makes C.means seat (Act.ReturnQueues (Change.LeaveSelf which) last) (part word.old row queues.old flags held owed) history.old.items found (part word.new row queues.new flags held owed) history.new.items) }
-    ensures err { OnErr result (IsEvent seat (Change.LeaveSelf which) queues.old × (last ≡ word.old) × (word.new ≡ word.old) × (queues.new ≡ queues.old) × (history.new.items ≡ history.old.items)) }
+    ensures ok { IfOk result (λ found. (row flags : List ℕ) (owed : List Owed) (held : _) → Makes C.means seat (Act.ReturnQueues (Change.LeaveSelf home) last) (part word.old row queues.old flags held owed) history.old.items found (part word.new row queues.new flags held owed) history.new.items) }
+    ensures err { OnErr result (IsEvent seat (Change.LeaveSelf home) queues.old × (last ≡ word.old) × (word.new ≡ word.old) × (queues.new ≡ queues.old) × (history.new.items ≡ history.old.items)) }
 {
     if !word.is_same(last) {
         return Ok(Found::Saw(*word));
     }
-    commit_leave(queues, seat, history, which)?;
-    let stood = leave_self(queues, seat, which);
+    commit_leave(queues, seat, history, home)?;
+    let stood = leave_self(queues, seat, home);
     *word = last.returned(false, bits(queues));
     Ok(Found::Left(stood))
 }
@@ -242,7 +251,7 @@ pub(crate) fn return_queues<C: Seated<N>, const N: usize>(
             arrival,
             last,
         )),
-        Change::LeaveSelf(which) => return_left(word, queues, seat.number, history, which, last),
+        Change::LeaveSelf(home) => return_left(word, queues, seat.number, history, home, last),
         Change::WakeWaiters(waking, k) => {
             return_waking(word, queues, seat, history, waking, k, last)
         }
@@ -345,7 +354,7 @@ pub(crate) fn release_returning<C: Seated<N>, const N: usize>(
     let scan = queues.scan(row);
     let owes = !scan.woken.is_empty();
     *word = last.released_returning(releasing, owes, bits(queues));
-    seat.owed = called(scan.woken.as_slice());
+    seat.owed = called(scan.woken.as_slice(), scan.vias.as_slice());
     Ok(Found::Scanned {
         owes,
         tests: scan.tests,
@@ -411,7 +420,7 @@ pub(crate) fn wait_returning<C: Seated<N>, const N: usize>(
     let scan = scan_and_queue(queues, row, seat.number, wait, again);
     let owes = !scan.woken.is_empty();
     *word = last.released_returning(Releasing::of(wait.mode), owes, bits(queues));
-    seat.owed = called(scan.woken.as_slice());
+    seat.owed = called(scan.woken.as_slice(), scan.vias.as_slice());
     Ok(Found::Scanned {
         owes,
         tests: scan.tests,

@@ -1,23 +1,14 @@
-use Rattle.std.proofs.Common.{rules, ◌≡◌, ℕ, [], refl}
+use Rattle.std.proofs.Common.{◌≡◌, ℕ, [], refl}
 use Rattle.ns_env.specs.declared.limits.Cause.{Cause}
 use Rattle.ns_model.specs.Truths.{Truths}
-use Rattle.ns_queue.specs.Queues.{IsList, Lists}
+use Rattle.ns_queue.specs.Queues.{Lists}
 use Rattle.ns_word.specs.declared.wait.LeavePlace.{LeavePlace}
 use Rattle.ns_word.specs.declared.wait.LeavePlace.TheVariants.{LeaveLoad, TakeToLeave, Leave, AwaitWakeToLeave}
 use Rattle.ns_word.specs.declared.wait.Wait.{Wait}
 use Rattle.ns_word.specs.declared.wait.WaitPlace.TheVariants.{InLeaving}
 use Rattle.ns_word.specs.declared.word.Word.{Word}
-use Rattle.ns_word.specs.declared.wait.Subject.{Subject}
-use Rattle.ns_word.specs.declared.wait.Subject.TheVariants.{OnCondition, OnVariable}
-use Rattle.ns_word.specs.Places.{IsInRange}
 use Rattle.ns_word.specs.Steps.{wait_hand}
-use Rattle.ns_word.specs.Waits.{home_of}
 use Rattle.ns_word.proofs.hand.change_leaving.Goals as goal
-
--- the list that a wait queues in is there
-home_there : {C : Type 0} (on : Subject C) → IsInRange on → IsList (home_of on)
-home_there (OnCondition c) there = tt
-home_there (OnVariable k) there = there
 
 -- at no other place does it change the lists
 left_there : {C : Type 0} (truths : Truths C) (seat : ℕ) (wait : Wait C) (cause : Cause) (place : LeavePlace) (lists : Lists C) → ((last : Word) → place ≡ Leave last → ⊥) → lists ≡ wait_hand truths seat wait (InLeaving cause place) [] lists
@@ -25,9 +16,6 @@ left_there truths seat wait cause LeaveLoad lists other = refl
 left_there truths seat wait cause (TakeToLeave last) lists other = refl
 left_there truths seat wait cause (Leave last) lists other = absurd (other last refl)
 left_there truths seat wait cause AwaitWakeToLeave lists other = refl
-
-pub leave_self-requires : goal.leave_self-requires
-leave_self-requires g c = (search rules, rw c.home.ensures (home_there c.args.wait.on c.requires))
 
 pub returns-in-Leave : goal.returns-in-Leave
 returns-in-Leave g c = rw c.in-Leave.is (rw c.home.ensures at (c.leave_self.ensures.left c.in-Leave.field-0))

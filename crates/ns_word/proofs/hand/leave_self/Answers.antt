@@ -1,23 +1,24 @@
-use Rattle.std.proofs.Common.{◌≡◌, ℕ, ◌<◌, ◌↔◌, Bool, true, false, IsTrue, nat_lt, cond, refl, sym, ◌∙◌, arith}
+use Rattle.std.proofs.Common.{◌≡◌, ℕ, ◌<◌, ◌≤◌, ◌↔◌, Bool, true, false, IsTrue, cond, refl, sym, ◌∙◌, arith}
 use Rattle.std.specs.Bool.{OnTrue}
 use Rattle.std.proofs.lemmas.Bool.{ltb-true}
-use Rattle.ns_queue.specs.declared.waiter.Which.{Which}
-use Rattle.ns_queue.specs.Queues.{Lists, IsList, IsOrderly, times, waiters_of, without}
-use Rattle.ns_queue.specs.Waiters.{times_in}
-use Rattle.ns_queue.proofs.Parts.{times_at_most}
+use Rattle.ns_queue.specs.Queues.{Lists, times, without}
+use Rattle.ns_word.specs.declared.wait.Home.{Home}
+use Rattle.ns_word.specs.declared.wait.Home.TheVariants.{AtLock, AtVariables}
+use Rattle.ns_word.specs.Lists.{stands_at}
 use Rattle.ns_word.proofs.hand.leave_self.Goals as goal
 
--- who stands in the list is taken out of all of them
-left_it : {C : Type 0} (lists new : Lists C) (which : Which) (seat : ℕ) (gone : Bool) → IsOrderly lists → IsList which → nat_lt 0 (times_in seat (waiters_of lists which)) ≡ true → (IsTrue gone ↔ (0 < times seat lists)) → OnTrue gone (new ≡ without seat lists) →
-    new ≡ cond (nat_lt 0 (times_in seat (waiters_of lists which))) (without seat lists) lists
-left_it lists new which seat true orderly is stands stood out = rw stands out
-left_it lists new which seat false orderly is stands stood out =
-    let here = ltb-true 0 (times_in seat (waiters_of lists which)) stands in
-    let bad = stood.1 (omega (arith, times_at_most lists which seat orderly.four is, here)) in absurd (cc)
+-- who stands there stands in the lists
+stands_somewhere : {C : Type 0} (lists : Lists C) (home : Home) (seat : ℕ) → stands_at seat home lists ≡ true → 1 ≤ times seat lists
+stands_somewhere lists AtLock seat stands = let here = ltb-true 0 _ stands in omega (arith, here)
+stands_somewhere lists (AtVariables variables) seat stands = let here = ltb-true 0 _ stands in omega (arith, here)
+
+-- and is taken out of all of them
+left_it : {C : Type 0} (lists new : Lists C) (home : Home) (seat : ℕ) (gone : Bool) → stands_at seat home lists ≡ true → (IsTrue gone ↔ (0 < times seat lists)) → OnTrue gone (new ≡ without seat lists) → new ≡ cond (stands_at seat home lists) (without seat lists) lists
+left_it lists new home seat true stands stood out = rw stands out
+left_it lists new home seat false stands stood out = let bad = stood.1 (omega (arith, stands_somewhere lists home seat stands)) in absurd (cc)
 
 pub returns-then-stands-clause-left : goal.returns-then-stands-clause-left
-returns-then-stands-clause-left g c = λ last.
-    left_it c.args.queues.now c.remove.new.self c.args.which c.args.seat c.remove.result c.stands-stands.ensures.orderly c.requires (sym c.stands-stands.ensures.stands ∙ c.if-stands.true) c.remove.ensures.stood c.remove.ensures.removed
+returns-then-stands-clause-left g c = λ last. left_it c.args.queues.now c.remove.new.self c.args.home c.args.seat c.remove.result (sym c.stands_at-stands.ensures ∙ c.if-stands.true) c.remove.ensures.stood c.remove.ensures.removed
 
 pub returns-else-stands-clause-left : goal.returns-else-stands-clause-left
-returns-else-stands-clause-left g c = λ last. rw (sym c.stands-stands.ensures.stands ∙ c.if-stands.false) refl
+returns-else-stands-clause-left g c = λ last. rw (sym c.stands_at-stands.ensures ∙ c.if-stands.false) refl

@@ -3,5 +3,5 @@ use Rattle.ns_word.specs.Owed.{called_by}
 use Rattle.ns_word.proofs.owed.called.Given as goal
 
 -- the wakes so far
-abbrev pub invariant-loop-seat : goal.invariant-loop-seat
-invariant-loop-seat l = l.owed.items ≡ called_by (take l.seat-index l.seats)
+abbrev pub invariant-loop-i : goal.invariant-loop-i
+invariant-loop-i l = l.owed.items ≡ called_by (take l.i l.seats) (take l.i l.vias)

@@ -6,11 +6,11 @@ use Rattle.ns_world.proofs.exchanges.return_left.Goals as goal
 
 pub returns-then-not-is_same-clause-ok : goal.returns-then-not-is_same-clause-ok
 returns-then-not-is_same-clause-ok g c = λ row flags owed held.
-    change_missed g.C.Condition.means c.args.seat c.args.last c.args.word.now row flags c.args.history.now.items (LeaveSelf c.args.which) owed held c.args.queues.now (c.if-not-is_same.ensures.another refl)
+    change_missed g.C.Condition.means c.args.seat c.args.last c.args.word.now row flags c.args.history.now.items (LeaveSelf c.args.home) owed held c.args.queues.now (c.if-not-is_same.ensures.another refl)
 
 pub returns-clause-ok : goal.returns-clause-ok
 returns-clause-ok g c = λ row flags owed held.
-    left_back g.C.Condition.means c.args.seat c.args.last c.args.word.now row flags c.args.history.now.items c.args.which c.returned.result c.commit_leave.new.history.items owed held c.args.queues.now c.leave_self-stood.new.queues c.leave_self-stood.result c.bits.result
+    left_back g.C.Condition.means c.args.seat c.args.last c.args.word.now row flags c.args.history.now.items c.args.home c.returned.result c.commit_leave.new.history.items owed held c.args.queues.now c.leave_self-stood.new.queues c.leave_self-stood.result c.bits.result
     (sym (c.if-not-is_same.ensures.same refl)) c.in_ok-commit_leave.ensures.ok c.leave_self-stood.ensures.stood (c.leave_self-stood.ensures.left c.args.last) c.bits.ensures c.returned.ensures
 
 pub returns-in_err-commit_leave-clause-err : goal.returns-in_err-commit_leave-clause-err

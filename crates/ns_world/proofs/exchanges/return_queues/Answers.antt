@@ -7,7 +7,7 @@ pub return_queued-requires : goal.return_queued-requires
 return_queued-requires g c = let fits = rw c.in-QueueSelf.is at (c.requires.fits [] []) in (search rules, (c.requires.below, fits))
 
 pub return_left-requires : goal.return_left-requires
-return_left-requires g c = let fits = rw c.in-LeaveSelf.is at (c.requires.fits [] []) in (search rules, (g.met.C.Fits.event_fits, fits))
+return_left-requires g c = (search rules, g.met.C.Fits.event_fits)
 
 pub return_waking-requires : goal.return_waking-requires
 return_waking-requires g c = let fits = rw c.in-WakeWaiters.is at (c.requires.fits [] []) in (search rules, (g.met.C.Seated.seat_fits, (g.met.C.Fits.event_fits, fits)))

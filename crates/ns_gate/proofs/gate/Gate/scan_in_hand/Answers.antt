@@ -1,7 +1,8 @@
-use Rattle.std.proofs.Common.{rules, ap, ◌∙◌}
+use Rattle.std.proofs.Common.{rules, ap, map, ◌∙◌}
 use Rattle.ns_gate.specs.Prelude.{bits_of, lists_scanned, meets_at, the}
 use Rattle.ns_gate.proofs.Findings.{has_slot, now_in_hand, was_in_hand}
-use Rattle.ns_queue.specs.Scans.{tests_of}
+use Rattle.ns_queue.specs.Scans.{tests_of, woken_of}
+use Rattle.ns_queue.specs.declared.waiter.Waiter.{Waiter}
 use Rattle.ns_gate.proofs.gate.Gate.scan_in_hand.Goals as goal
 
 pub slot_mut-queues-requires : goal.slot_mut-queues-requires
@@ -18,3 +19,7 @@ pub returns-clause-lists : goal.returns-clause-lists
 returns-clause-lists g c =
     now_in_hand (the c.args.seat.now.me.0).stood c.scan-scan.new.self _ c.args.seat.now.me.1 c.requires.has
     (c.scan-scan.ensures.left ∙ ap (λ lists. lists_scanned g.C.Condition.means c.args.row.now lists) (was_in_hand _ _ c.args.seat.now.me.1 c.requires.has c.slot_mut-queues.ensures.value))
+
+pub returns-clause-vias : goal.returns-clause-vias
+returns-clause-vias g c =
+    c.scan-scan.ensures.vias ∙ ap (λ lists. map (λ (w : Waiter _). w.via) (woken_of (meets_at g.C.Condition.means c.args.row.now) lists.lock)) (was_in_hand _ _ c.args.seat.now.me.1 c.requires.has c.slot_mut-queues.ensures.value)

@@ -1,16 +1,16 @@
 use Rattle.std.proofs.Common.{◌∙◌, ap, sym, subst, refl, arith, None, true, false, rules}
-use Rattle.ns_gate.specs.Prelude.{TableId, HasSince, IsAtPlace, HasReached, the, LeaveSelf, Await, AwaitWakeToLeave, Leave, InLeaving, InWait, IsList}
+use Rattle.ns_gate.specs.Prelude.{TableId, HasSince, IsAtPlace, HasReached, the, LeaveSelf, Await, AwaitWakeToLeave, Leave, InLeaving, InWait}
 use Rattle.ns_gate.specs.declared.queues.Returning.TheVariants.{Changed}
 use Rattle.ns_gate.proofs.Calls.{since_then, works}
 use Rattle.ns_gate.proofs.Room.{queues_fit}
 use Rattle.ns_monitor.proofs.Standing.{hand_by, same_number, still_since}
-use Rattle.ns_monitor.proofs.Waits.{home_there, left_next, taken_ended, taken_next}
+use Rattle.ns_monitor.proofs.Waits.{left_next, taken_ended, taken_next}
 use Rattle.ns_monitor.proofs.monitor.Monitor.leave.Given.{Over}
 use Rattle.ns_monitor.proofs.monitor.Monitor.leave.Goals.{After-put_back}
 use Rattle.ns_monitor.proofs.monitor.Monitor.leave.Goals as goal
 
 pub leave_in_hand-stood-requires : goal.leave_in_hand-stood-requires
-leave_in_hand-stood-requires g c = (omega arith, (queues_fit g.row.C g.row.N g.met.C.Condition.has_room g.C.Condition, (omega arith, (◌∙◌ {A = TableId} c.take-word.ensures.seat (sym c.self.view_is), (c.take-word.ensures.taken.taken, subst IsList (sym c.home-home.ensures) (home_there c.args.wait.on c.requires.range))))))
+leave_in_hand-stood-requires g c = (omega arith, (queues_fit g.row.C g.row.N g.met.C.Condition.has_room g.C.Condition, (omega arith, (◌∙◌ {A = TableId} c.take-word.ensures.seat (sym c.self.view_is), c.take-word.ensures.taken.taken))))
 
 pub put_back-requires : goal.put_back-requires
 put_back-requires g c = let t = g.C.Condition.means in let took = c.take-word in let left = c.leave_in_hand-stood in let me1 = took.new.seat.me in let e = left.ensures in

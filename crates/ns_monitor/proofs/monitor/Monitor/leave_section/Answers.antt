@@ -4,9 +4,9 @@ use Rattle.ns_gate.specs.declared.queues.Returning.TheVariants.{Waited}
 use Rattle.ns_gate.proofs.Calls.{since_then, works}
 use Rattle.ns_gate.proofs.Room.{queues_fit}
 use Rattle.ns_word.specs.Owed.{called_by}
-use Rattle.ns_word.proofs.Scans.{called_seats}
+use Rattle.ns_word.proofs.Scans.{as_many}
 use Rattle.ns_monitor.proofs.Locks.{HasArmed}
-use Rattle.ns_monitor.proofs.Releases.{hand_scanned, scans_at_hand, took_some, woken_is}
+use Rattle.ns_monitor.proofs.Releases.{hand_scanned, scans_at_hand, took_some, calls_are}
 use Rattle.ns_monitor.specs.Prelude.{HasRow}
 use Rattle.ns_monitor.proofs.Standing.{still_since}
 use Rattle.ns_monitor.proofs.Waits.{arms_to_wait, loads_or_queues}
@@ -45,7 +45,7 @@ put_back-requires g c = let t = g.C.Condition.means in let scan = c.scan_and_que
 pub pay-requires : goal.pay-requires
 pay-requires g c = let t = g.C.Condition.means in let scan = c.scan_and_queue_in_hand-scan in let now = c.put_back.new.seat.me in let walk = InWait c.args.wait (InQueuing c.args.again (QueueToWait c.parts-parts.result)) in
     let owed = c.put_back.ensures.owes in
-    (omega arith, (queues_fit g.row.C g.row.N g.met.C.Condition.has_room g.C.Condition, (omega arith, (c.put_back.ensures.seat, (record { pays = refl; free = refl; more = refl }, (subst (λ ns. HasReached t (Await c.args.wait) (pay_waiting c.args.wait (has_some ns)) now) (sym owed) c.put_back.ensures.returned, owed ∙ sym (c.called-owed.ensures ∙ (ap called_by (c.as_slice.ensures.value ∙ woken_is t walk c.load_to_scan.new.row scan.result.0.woken.items c.load_to_scan.new.seat.me scan.new.seat.me c.load_to_scan.ensures.ready scan.ensures.seat.1 scan.ensures.woken) ∙ called_seats _))))))))
+    (omega arith, (queues_fit g.row.C g.row.N g.met.C.Condition.has_room g.C.Condition, (omega arith, (c.put_back.ensures.seat, (record { pays = refl; free = refl; more = refl }, (subst (λ ns. HasReached t (Await c.args.wait) (pay_waiting c.args.wait (has_some ns)) now) (sym owed) c.put_back.ensures.returned, owed ∙ sym (calls_are t walk c.load_to_scan.new.row _ _ _ c.load_to_scan.new.seat.me scan.new.seat.me c.load_to_scan.ensures.ready scan.ensures.seat.1 (c.called-owed.ensures ∙ (λ i. called_by (c.as_slice.ensures.value i) (c.as_slice-2.ensures.value i))) scan.ensures.woken scan.ensures.vias)))))))
 
 pub returns : goal.returns
 returns g c = record {
@@ -54,3 +54,6 @@ returns g c = record {
       since_then None _ _ _ (still_since g.C.Condition.means None _ c.load_to_scan.new.seat.me scan.new.seat.me scan.ensures.seat.1 (since_start g after)) (since_then None _ _ _ c.put_back.ensures.since c.pay.ensures.since);
   waits = search rules;
 }
+
+pub called-owed-requires : goal.called-owed-requires
+called-owed-requires g c = record { few = search rules; same = rw (c.as_slice.ensures.value, c.as_slice-2.ensures.value) (as_many _ _ _ c.scan_and_queue_in_hand-scan.ensures.woken c.scan_and_queue_in_hand-scan.ensures.vias) }

@@ -1,8 +1,6 @@
 use Rattle.std.proofs.Common.{ap, sym, subst, arith, None}
 use Rattle.ns_gate.specs.Prelude.{row_in, Load, InQueuing, InWait}
 use Rattle.ns_gate.proofs.Room.{queues_fit}
-use Rattle.ns_word.specs.Owed.{called_by}
-use Rattle.ns_word.proofs.Scans.{called_seats}
 use Rattle.ns_monitor.proofs.Standing.{same_number}
 use Rattle.ns_monitor.proofs.VariableWaits.{taken_now}
 use Rattle.ns_monitor.specs.Prelude.{HasRow}

@@ -17,3 +17,6 @@ returns-clause-tests g c = rw (← c.self.view_is) c.scan.ensures.tests
 
 pub returns-clause-at_most_runs : goal.returns-clause-at_most_runs
 returns-clause-at_most_runs g c = rw (← c.self.view_is) c.scan.ensures.at_most_runs
+
+pub returns-clause-vias : goal.returns-clause-vias
+returns-clause-vias g c = rw (← c.self.view_is) c.scan.ensures.vias

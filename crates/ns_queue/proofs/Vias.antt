@@ -1,0 +1,51 @@
+-- By whose wakes those came to the lock list whom a scan takes.
+use Rattle.std.proofs.Common.{◌≡◌, ℕ, ◌≤◌, inl, inr, Bool, List, [], ◌∷◌, map, Some, Option, filter, arith, refl, ap, sym, ◌∙◌}
+use Rattle.std.proofs.lemmas.Bool.{cases_Bool}
+use Rattle.ns_model.specs.Tallies.{Every}
+use Rattle.ns_queue.specs.declared.waiter.Waiter.{Waiter}
+use Rattle.ns_queue.specs.Scans.{is_eligible, woken_of}
+use Rattle.ns_queue.specs.Rings.{IsRow, seated, via_in}
+use Rattle.ns_queue.specs.Waiters.{seats_of, times_in, writes}
+use Rattle.ns_queue.proofs.Hops.{seated_first, seated_rest, stands_not}
+use Rattle.ns_queue.proofs.Places.{row_own, row_rest}
+use Rattle.ns_queue.proofs.Seeking.{goes_along}
+
+module _ {C : Type 0} where
+  -- each is found by its seat
+  abbrev AreSeated : List (Waiter C) → List (Waiter C) → Type 0
+  AreSeated whole ws = Every (λ v. seated v.seat whole ≡ Some v) ws
+
+  seated_more : (w : Waiter C) (ws whole : List (Waiter C)) → times_in w.seat ws ≡ 0 → AreSeated whole ws → AreSeated (w ∷ whole) ws
+  seated_more w [] whole out p = tt
+  seated_more w (v ∷ ws) whole out p = let apart = stands_not w.seat v ws out in (seated_rest v.seat w whole apart.0 ∙ p.0, seated_more w ws whole apart.1 p.1)
+
+  all_seated : (ws : List (Waiter C)) → IsRow ws → AreSeated ws ws
+  all_seated [] row = tt
+  all_seated (w ∷ ws) row = (seated_first w ws, seated_more w ws ws (row_own w ws row) (all_seated ws (row_rest w ws row)))
+
+  vias_seated : (whole ws : List (Waiter C)) → AreSeated whole ws → map (λ s. via_in (seated s whole)) (seats_of ws) ≡ map (λ (w : Waiter C). w.via) ws
+  vias_seated whole [] p = refl
+  vias_seated whole (w ∷ ws) p = λ i. via_in (p.0 i) ∷ vias_seated whole ws p.1 i
+
+  module _ (P : Waiter C → Type 0) where
+    pub every_filter : (test : Waiter C → Bool) (ws : List (Waiter C)) → Every P ws → Every P (filter test ws)
+    every_filter test [] p = tt
+    every_filter test (w ∷ ws) p = elim (cases_Bool (test w)) [
+      | inl goes ↦ rw goes (p.0, every_filter test ws p.1)
+      | inr stays ↦ rw stays (every_filter test ws p.1)
+    ]
+
+    -- whatever holds of all holds of those whom a scan takes
+    pub every_woken : (meets : C → Bool) (ws : List (Waiter C)) → Every P ws → Every P (woken_of meets ws)
+    every_woken meets [] p = tt
+    every_woken meets (w ∷ ws) p = elim (cases_Bool (is_eligible meets w)) [
+      | inl goes ↦ elim (cases_Bool (writes w)) [
+        | inl alone ↦ rw (goes, alone) (p.0, tt)
+        | inr reader ↦ rw (goes, reader) (p.0, every_filter (goes_along meets) ws p.1)
+      ]
+      | inr stays ↦ rw stays (every_woken meets ws p.1)
+    ]
+
+  -- those whom a scan takes, found by their seats
+  pub vias_woken : (meets : C → Bool) (ws : List (Waiter C)) → IsRow ws → map (λ s. via_in (seated s ws)) (seats_of (woken_of meets ws)) ≡ map (λ (w : Waiter C). w.via) (woken_of meets ws)
+  vias_woken meets ws row = vias_seated ws (woken_of meets ws) (every_woken (λ v. seated v.seat ws ≡ Some v) meets ws (all_seated ws row))

@@ -1,0 +1,300 @@
+-- What the taken are told stays so, by each kind of step.
+use Rattle.std.proofs.Common.{◌≡◌, ◌≢◌, ◌⊎◌, inl, inr, ℕ, ◌+◌, ◌<◌, ◌≤◌, Bool, true, false, not, cond, eqb, List, [], ◌∷◌, ◌++◌, Option, None, Some, refl, ap, sym, ◌∙◌, subst, arith, eq-eqb, append_assoc}
+use Rattle.std.proofs.lemmas.Bool.{cases_eq, cases_Bool, lt-ltb, ne_eqb}
+use Rattle.ns_model.specs.declared.event.Mode.{Mode}
+use Rattle.ns_model.specs.declared.phase.Phase.{Phase}
+use Rattle.ns_model.specs.declared.phase.Phase.TheVariants.{Waiting, Woken}
+use Rattle.ns_model.specs.declared.cvs.Variables.TheVariants.{Only}
+use Rattle.ns_model.specs.Phases.{woken_phase}
+use Rattle.ns_model.specs.Seats.{is_in}
+use Rattle.ns_model.specs.Tallies.{Every, one_if}
+use Rattle.ns_model.proofs.Tallies.{every_map}
+use Rattle.ns_queue.specs.declared.waiter.Waiter.{Waiter}
+use Rattle.ns_queue.specs.Scans.{is_eligible, left_of, woken_of}
+use Rattle.ns_queue.specs.Signals.{taken_set}
+use Rattle.ns_queue.specs.Wakes.{woken_phases}
+use Rattle.ns_queue.specs.Waiters.{is_of, times_in, without_in, writes}
+use Rattle.ns_queue.proofs.Seeking.{goes_along}
+use Rattle.ns_queue.proofs.Seats.{own_times, times_in-cons}
+use Rattle.ns_queue.proofs.Vias.{every_filter, every_woken}
+use Rattle.ns_queue.proofs.Wakes.{stands_waiting}
+use Rattle.ns_queue.proofs.Taken.{in_list, in_stands}
+use Rattle.ns_word.specs.declared.owed.Owed.{Owed}
+use Rattle.ns_word.specs.declared.wait.Subject.{Subject}
+use Rattle.ns_word.specs.declared.wait.Subject.TheVariants.{OnCondition, OnVariable}
+use Rattle.ns_word.specs.declared.view.Held.{Held}
+use Rattle.ns_word.specs.declared.view.SeatView.{SeatView}
+use Rattle.ns_word.specs.declared.walk.Walk.{Walk}
+use Rattle.ns_word.specs.Lists.{queued}
+use Rattle.ns_word.specs.Owed.{called_of, times_among, value_of, wakes_of}
+use Rattle.ns_word.specs.Steps.{flags_with}
+use Rattle.ns_word.specs.Views.{NoneIs, owed_in, owed_to, walk_at}
+use Rattle.ns_word.specs.Walks.{Stance, waits_in}
+use Rattle.ns_word.specs.Lawful.{IsNamed, IsToldSo, NamesOn, TakenTold, ToldOn, VariableWaiterFits, WaiterNames, WakeTells}
+use Rattle.ns_word.proofs.Variables.{waits_of}
+use Rattle.ns_word.proofs.Views.{view_of, walk_here, walk_there}
+
+-- ---- lists of wakes
+
+module _ (P : Owed → Type 0) where
+  pub every_cut : (xs ys : List Owed) → Every P (xs ++ ys) → Every P xs × Every P ys
+  every_cut [] ys p = (tt, p)
+  every_cut (x ∷ xs) ys p = let rest = every_cut xs ys p.1 in ((p.0, rest.0), rest.1)
+
+  pub every_both_parts : (xs ys : List Owed) → Every P xs → Every P ys → Every P (xs ++ ys)
+  every_both_parts [] ys p q = q
+  every_both_parts (x ∷ xs) ys p q = (p.0, every_both_parts xs ys p.1 q)
+
+module _ {C : Type 0} (Q : Waiter C → Type 0) where
+  -- of those who stay where a scan takes some, of all but one, and of more
+  pub listed_left : (meets : C → Bool) (ws : List (Waiter C)) → Every Q ws → Every Q (left_of meets ws)
+  listed_left meets [] p = tt
+  listed_left meets (w ∷ ws) p = elim (cases_Bool (is_eligible meets w)) [
+    | inl goes ↦ elim (cases_Bool (writes w)) [
+      | inl alone ↦ rw (goes, alone) p.1
+      | inr reader ↦ rw (goes, reader) (every_filter Q (λ v. not (goes_along meets v)) ws p.1)
+    ]
+    | inr stays ↦ rw stays (p.0, listed_left meets ws p.1)
+  ]
+
+  pub listed_without : (who : ℕ) (ws : List (Waiter C)) → Every Q ws → Every Q (without_in who ws)
+  listed_without who ws p = every_filter Q (λ w. not (is_of who w)) ws p
+
+  pub listed_moved : (ws took : List (Waiter C)) → Every Q ws → Every Q took → Every Q (ws ++ took)
+  listed_moved [] took p q = q
+  listed_moved (w ∷ ws) took p q = (p.0, listed_moved ws took p.1 q)
+
+  -- of one more, who was moved by nobody
+  pub listed_queued : (who : ℕ) (mode : Mode) (c : Option C) (tries : ℕ) (front : Bool) (ws : List (Waiter C)) → Q (record { seat = who; mode = mode; cond = c; tries = tries; via = None }) → Every Q ws → Every Q (queued who mode c tries front ws)
+  listed_queued who mode c tries true ws own p = (own, p)
+  listed_queued who mode c tries false ws own p = listed_moved ws (record { seat = who; mode = mode; cond = c; tries = tries; via = None } ∷ []) p (own, tt)
+
+-- waiters of other seats
+every_apart : {C : Type 0} (Q R : Waiter C → Type 0) (who : ℕ) (ws : List (Waiter C)) → times_in who ws ≡ 0 → ((w : Waiter C) → who ≢ w.seat → Q w → R w) → Every Q ws → Every R ws
+every_apart Q R who [] none go p = tt
+every_apart Q R who (w ∷ ws) none go p = let sum = times_in-cons who w ws in elim (cases_eq w.seat who) [
+  | inl e ↦ let one : one_if (eqb w.seat who) ≡ 1 = ap one_if (eq-eqb w.seat who e) in absurd (omega (arith, none, one, sum))
+  | inr ne ↦ (go w (λ e. ne (sym e)) p.0, every_apart Q R who ws (omega (arith, none, sum)) go p.1)
+]
+
+-- who names what is so will be told that
+names_tell : {C : Type 0} (stance : Option (Stance C)) (phase : Phase C) (via : Option ℕ) → IsNamed stance phase via → IsToldSo stance phase (value_of via)
+names_tell None phase via named = tt
+names_tell (Some stance) phase via named = by stance.on named where
+  by : (on : Option (Subject _)) → NamesOn on stance.mode phase via → ToldOn on stance.mode phase (value_of via)
+  by None named = ap value_of named
+  by (Some (OnCondition c)) named = ap value_of named
+  by (Some (OnVariable k)) named = (named.0, named.1, inr (ap value_of named.2 ∙ ap (λ b. cond b (6 + k) 0) (lt-ltb k 4 named.1)))
+
+module _ {C : Type 0} {N : ℕ} (phases : ℕ → Phase C) (views : List (SeatView C N)) where
+  wakes_of_named : (ws : List (Waiter C)) → Every (WaiterNames phases views) ws → Every (WakeTells phases views) (called_of ws)
+  wakes_of_named [] p = tt
+  wakes_of_named (w ∷ ws) p = (names_tell (waits_in (walk_at w.seat views)) (phases w.seat) w.via p.0, wakes_of_named ws p.1)
+
+  -- of those whom a scan takes
+  pub listed_woken : (meets : C → Bool) (ws : List (Waiter C)) → Every (WaiterNames phases views) ws → Every (WakeTells phases views) (called_of (woken_of meets ws))
+  listed_woken meets ws p = wakes_of_named (woken_of meets ws) (every_woken (WaiterNames phases views) meets ws p)
+
+-- wakes of others
+every_others : (P R : Owed → Type 0) (who : ℕ) (xs : List Owed) → times_among who xs ≡ 0 → ((wake : Owed) → who ≢ wake.seat → P wake → R wake) → Every P xs → Every R xs
+every_others P R who [] none go p = tt
+every_others P R who (wake ∷ xs) none go p = elim (cases_eq wake.seat who) [
+  | inl e ↦ let one : ◌≡◌ {A = ℕ} (cond (eqb wake.seat who) 1 0) 1 = ap (λ b. cond b 1 0) (eq-eqb wake.seat who e) in absurd (omega (arith, none, one))
+  | inr ne ↦ let zero : ◌≡◌ {A = ℕ} (cond (eqb wake.seat who) 1 0) 0 = ap (λ b. cond b 1 0) (ne_eqb wake.seat who ne) in (go wake (λ e. ne (sym e)) p.0, every_others P R who xs (omega (arith, none, zero)) go p.1)
+]
+
+among_both : (who : ℕ) (xs ys : List Owed) → times_among who (xs ++ ys) ≡ times_among who xs + times_among who ys
+among_both who [] ys = omega arith
+among_both who (x ∷ xs) ys = let rest = among_both who xs ys in omega (arith, rest)
+
+module _ {C : Type 0} {N : ℕ} where
+  among_owed : (who : ℕ) (views : List (SeatView C N)) → times_among who (owed_in views) ≡ owed_to who views
+  among_owed who [] = refl
+  among_owed who (view ∷ views) = let rest = among_owed who views in omega (arith, among_both who view.owed (owed_in views), rest)
+
+  owed_at : (front : List (SeatView C N)) (view : SeatView C N) (back : List (SeatView C N)) → owed_in (front ++ view ∷ back) ≡ owed_in front ++ (view.owed ++ owed_in back)
+  owed_at [] view back = refl
+  owed_at (v ∷ front) view back = ap (λ xs. v.owed ++ xs) (owed_at front view back) ∙ sym (append_assoc v.owed (owed_in front) (view.owed ++ owed_in back))
+
+  module _ (front : List (SeatView C N)) (who : ℕ) (walk : Option (Walk C)) (held : Option (Held C N)) (owed : List Owed) (walk' : Option (Walk C)) (held' : Option (Held C N)) (owed' : List Owed) (back : List (SeatView C N)) where
+    abbrev olds : List (SeatView C N)
+    olds = front ++ view_of who walk held owed ∷ back
+
+    abbrev news : List (SeatView C N)
+    news = front ++ view_of who walk' held' owed' ∷ back
+
+    there : (seat : ℕ) → who ≢ seat → waits_in (walk_at seat news) ≡ waits_in (walk_at seat olds)
+    there seat ne = ap waits_in (walk_there seat front (view_of who walk held owed) (view_of who walk' held' owed') back ne refl)
+
+    here : NoneIs who front → waits_in (walk_at who news) ≡ waits_in walk'
+    here apart = ap waits_in (walk_here front (view_of who walk' held' owed') back apart)
+
+    stances : NoneIs who front → waits_in walk' ≡ waits_in walk → (seat : ℕ) → waits_in (walk_at seat news) ≡ waits_in (walk_at seat olds)
+    stances apart same seat = elim (cases_eq who seat) [
+      | inl e ↦ subst (λ s. waits_in (walk_at s news) ≡ waits_in (walk_at s olds)) e (here apart ∙ same ∙ sym (ap waits_in (walk_here front (view_of who walk held owed) back apart)))
+      | inr ne ↦ there seat ne
+    ]
+
+    module _ (phases phases' : ℕ → Phase C) where
+      -- what is told of a seat stays told, and what it names
+      abbrev Stay : ℕ → Type 0
+      Stay seat = ((value : ℕ) → IsToldSo (waits_in (walk_at seat olds)) (phases seat) value → IsToldSo (waits_in (walk_at seat news)) (phases' seat) value)
+          × ((via : Option ℕ) → IsNamed (waits_in (walk_at seat olds)) (phases seat) via → IsNamed (waits_in (walk_at seat news)) (phases' seat) via)
+
+      abbrev Was : Owed → Type 0
+      Was = WakeTells phases olds
+
+      abbrev Is : Owed → Type 0
+      Is = WakeTells phases' news
+
+      abbrev Named : Waiter C → Type 0
+      Named = WaiterNames phases' news
+
+      stay_same : (seat : ℕ) → waits_in (walk_at seat news) ≡ waits_in (walk_at seat olds) → phases' seat ≡ phases seat → Stay seat
+      stay_same seat stance phase = (
+        λ value told. subst (λ (x : Option (Stance C) × Phase C). IsToldSo x.0 x.1 value) (λ i. (sym stance i, sym phase i)) told,
+        λ via named. subst (λ (x : Option (Stance C) × Phase C). IsNamed x.0 x.1 via) (λ i. (sym stance i, sym phase i)) named,
+      )
+
+      stay_gone : NoneIs who front → waits_in walk' ≡ None → Stay who
+      stay_gone apart none = (
+        λ value told. subst (λ s. IsToldSo s (phases' who) value) (sym (here apart ∙ none)) tt,
+        λ via named. subst (λ s. IsNamed s (phases' who) via) (sym (here apart ∙ none)) tt,
+      )
+
+      -- by a seat that waits no more, or did not
+      left : NoneIs who front → waits_in walk' ≡ None → ((seat : ℕ) → who ≢ seat → phases' seat ≡ phases seat) → (seat : ℕ) → Stay seat
+      left apart none others seat = elim (cases_eq who seat) [
+        | inl e ↦ subst (λ s. Stay s) e (stay_gone apart none)
+        | inr ne ↦ stay_same seat (there seat ne) (others seat ne)
+      ]
+
+      told : (flags' : ℕ → ℕ) (lock' : List (Waiter C)) → ((seat : ℕ) → flags' seat ≢ 1 → IsToldSo (waits_in (walk_at seat news)) (phases' seat) (flags' seat)) → Every Is (owed_in olds) → (Every Is owed → Every Is owed') → Every Named lock' → TakenTold phases' flags' lock' news
+      told flags' lock' flag kept due listed =
+          let cut = every_cut Is (owed_in front) (owed ++ owed_in back) (subst (Every Is) (owed_at front (view_of who walk held owed) back) kept) in
+          let behind = every_cut Is owed (owed_in back) cut.1 in record {
+            flag = flag;
+            owed = subst (Every Is) (sym (owed_at front (view_of who walk' held' owed') back)) (every_both_parts Is (owed_in front) (owed' ++ owed_in back) cut.0 (every_both_parts Is owed' (owed_in back) (due behind.0) behind.1));
+            listed = listed;
+          }
+
+      every_stay : ((seat : ℕ) → Stay seat) → (xs : List Owed) → Every Was xs → Every Is xs
+      every_stay stay xs p = every_map Was Is (λ wake. (stay wake.seat).0 wake.value) xs p
+
+      every_named : ((seat : ℕ) → Stay seat) → (ws : List (Waiter C)) → Every (WaiterNames phases olds) ws → Every Named ws
+      every_named stay ws p = every_map (WaiterNames phases olds) Named (λ w. (stay w.seat).1 w.via) ws p
+
+      -- the flags stay, and so does what is told of each seat
+      pub told_stays : (flags : ℕ → ℕ) (lock lock' : List (Waiter C)) → ((seat : ℕ) → Stay seat) → (Every Is owed → Every Named lock → Every Is owed') → (Every Named lock → Every Named lock') → TakenTold phases flags lock olds → TakenTold phases' flags lock' news
+      told_stays flags lock lock' stay due listed p =
+          let kept = every_named stay lock p.listed in
+          told flags lock' (λ seat clear. (stay seat).0 (flags seat) (p.flag seat clear)) (every_stay stay (owed_in olds) p.owed) (λ own. due own kept) (listed kept)
+
+      -- a seat that stood in no list and was owed no wake, and whose flag is set, waits from now on
+      pub told_enters : (flags : ℕ → ℕ) (lock lock' : List (Waiter C)) → ((seat : ℕ) → who ≢ seat → phases' seat ≡ phases seat) → times_in who lock ≡ 0 → owed_to who olds ≡ 0 → flags who ≡ 1 → (Every Is owed → Every Named lock → Every Is owed') → (Every Named lock → Every Named lock') → TakenTold phases flags lock olds → TakenTold phases' flags lock' news
+      told_enters flags lock lock' others out unowed set due listed p =
+          let stay : (seat : ℕ) → who ≢ seat → Stay seat = λ seat ne. stay_same seat (there seat ne) (others seat ne) in
+          let kept = every_apart (WaiterNames phases olds) Named who lock out (λ w ne. (stay w.seat ne).1 w.via) p.listed in
+          told flags lock' (λ seat clear. elim (cases_eq who seat) [
+            | inl e ↦ absurd (clear (ap flags (sym e) ∙ set))
+            | inr ne ↦ (stay seat ne).0 (flags seat) (p.flag seat clear)
+          ]) (every_others Was Is who (owed_in olds) (among_owed who olds ∙ unowed) (λ wake ne. (stay wake.seat ne).0 wake.value) p.owed) (λ own. due own kept) (listed kept)
+
+    -- the seat's wait stays what it is, and so do the phases
+    pub same_stays : (phases : ℕ → Phase C) → NoneIs who front → waits_in walk' ≡ waits_in walk → (seat : ℕ) → Stay phases phases seat
+    same_stays phases apart same seat = stay_same phases phases seat (stances apart same seat) refl
+
+    pub left_stays : (phases phases' : ℕ → Phase C) → NoneIs who front → waits_in walk' ≡ None → ((seat : ℕ) → who ≢ seat → phases' seat ≡ phases seat) → (seat : ℕ) → Stay phases phases' seat
+    left_stays phases phases' apart none others seat = left phases phases' apart none others seat
+
+    -- a seat sets its flag
+    pub told_arms : (phases : ℕ → Phase C) (flags : ℕ → ℕ) (lock : List (Waiter C)) → NoneIs who front → waits_in walk' ≡ waits_in walk → owed' ≡ owed → TakenTold phases flags lock olds → TakenTold phases (flags_with flags who 1) lock news
+    told_arms phases flags lock apart same owes p =
+        let stay = same_stays phases apart same in
+        told phases phases (flags_with flags who 1) lock (λ seat clear. elim (cases_eq who seat) [
+          | inl e ↦ absurd (clear (ap (λ b. cond b 1 (flags seat)) (eq-eqb who seat e)))
+          | inr ne ↦ let as_it_was : flags_with flags who 1 seat ≡ flags seat = ap (λ b. cond b 1 (flags seat)) (ne_eqb who seat ne) in
+              subst (λ n. IsToldSo (waits_in (walk_at seat news)) (phases seat) n) (sym as_it_was) ((stay seat).0 (flags seat) (p.flag seat (λ e. clear (as_it_was ∙ e))))
+        ]) (every_stay phases phases stay (owed_in olds) p.owed) (λ own. subst (Every (WakeTells phases news)) (sym owes) own) (every_named phases phases stay lock p.listed)
+
+    -- a wake is paid: its seat finds what it tells
+    pub told_pays : (phases : ℕ → Phase C) (flags : ℕ → ℕ) (lock : List (Waiter C)) (wake : Owed) → NoneIs who front → waits_in walk' ≡ waits_in walk → owed ≡ wake ∷ owed' → TakenTold phases flags lock olds → TakenTold phases (flags_with flags wake.seat wake.value) lock news
+    told_pays phases flags lock wake apart same owes p =
+        let stay = same_stays phases apart same in
+        let kept = every_stay phases phases stay (owed_in olds) p.owed in
+        let cut = every_cut (WakeTells phases news) (owed_in front) (owed ++ owed_in back) (subst (Every (WakeTells phases news)) (owed_at front (view_of who walk held owed) back) kept) in
+        let own = subst (Every (WakeTells phases news)) owes (every_cut (WakeTells phases news) owed (owed_in back) cut.1).0 in
+        told phases phases (flags_with flags wake.seat wake.value) lock (λ seat clear. elim (cases_eq wake.seat seat) [
+          | inl e ↦ let set : flags_with flags wake.seat wake.value seat ≡ wake.value = ap (λ b. cond b wake.value (flags seat)) (eq-eqb wake.seat seat e) in
+              subst (λ n. IsToldSo (waits_in (walk_at seat news)) (phases seat) n) (sym set) (subst (λ s. IsToldSo (waits_in (walk_at s news)) (phases s) wake.value) e own.0)
+          | inr ne ↦ let as_it_was : flags_with flags wake.seat wake.value seat ≡ flags seat = ap (λ b. cond b wake.value (flags seat)) (ne_eqb wake.seat seat ne) in
+              subst (λ n. IsToldSo (waits_in (walk_at seat news)) (phases seat) n) (sym as_it_was) ((stay seat).0 (flags seat) (p.flag seat (λ e. clear (as_it_was ∙ e))))
+        ]) kept (λ all. (subst (Every (WakeTells phases news)) owes all).1) (every_named phases phases stay lock p.listed)
+
+    -- A call takes those waiters from the list of a variable: they are moved to the lock list, or owed wakes.
+    module _ (phases : ℕ → Phase C) (k : ℕ) (took : List (Waiter C)) (low : k < 4) (fits : Every (VariableWaiterFits phases olds k) took) (apart : NoneIs who front) (same : waits_in walk' ≡ waits_in walk) where
+      abbrev woken : ℕ → Phase C
+      woken = woken_phases k (taken_set took) phases
+
+      waiting : (seat : ℕ) → is_in (taken_set took) seat ≡ true → (mode : Mode) × (phases seat ≡ Waiting (Only k) mode)
+      waiting seat is = stands_waiting k phases took seat (waits_of phases olds k took fits) (in_stands took seat is)
+
+      -- who was woken already waits no more
+      still_woken : (seat j : ℕ) (mode : Mode) → phases seat ≡ Woken j mode → woken seat ≡ Woken j mode
+      still_woken seat j mode was = elim (cases_Bool (is_in (taken_set took) seat)) [
+        | inl is ↦ let waits = waiting seat is in let clash : Woken j mode ≡ Waiting (Only k) waits.0 = sym was ∙ waits.1 in absurd (cc)
+        | inr out ↦ ap (λ b. cond b (woken_phase k (phases seat)) (phases seat)) out ∙ was
+      ]
+
+      woken_told : (stance : Option (Stance C)) (seat value : ℕ) → IsToldSo stance (phases seat) value → IsToldSo stance (woken seat) value
+      woken_told None seat value told = tt
+      woken_told (Some stance) seat value told = by stance.on told where
+        by : (on : Option (Subject C)) → ToldOn on stance.mode (phases seat) value → ToldOn on stance.mode (woken seat) value
+        by None told = told
+        by (Some (OnCondition c)) told = told
+        by (Some (OnVariable j)) told = (still_woken seat j stance.mode told.0, told.1, told.2)
+
+      woken_named : (stance : Option (Stance C)) (seat : ℕ) (via : Option ℕ) → IsNamed stance (phases seat) via → IsNamed stance (woken seat) via
+      woken_named None seat via named = tt
+      woken_named (Some stance) seat via named = by stance.on named where
+        by : (on : Option (Subject C)) → NamesOn on stance.mode (phases seat) via → NamesOn on stance.mode (woken seat) via
+        by None named = named
+        by (Some (OnCondition c)) named = named
+        by (Some (OnVariable j)) named = (still_woken seat j stance.mode named.0, named.1, named.2)
+
+      stay : (seat : ℕ) → Stay phases woken seat
+      stay seat = (
+        λ value told. subst (λ s. IsToldSo s (woken seat) value) (sym (stances apart same seat)) (woken_told (waits_in (walk_at seat olds)) seat value told),
+        λ via named. subst (λ s. IsNamed s (woken seat) via) (sym (stances apart same seat)) (woken_named (waits_in (walk_at seat olds)) seat via named),
+      )
+
+      -- a waiter that is taken waits for the variable, and is woken now
+      abbrev IsWoken : Waiter C → Type 0
+      IsWoken w = (waits_in (walk_at w.seat news) ≡ Some (record { mode = w.mode; on = Some (OnVariable k); tries = 0 })) × (woken w.seat ≡ Woken k w.mode) × (w.via ≡ Some k)
+
+      each_woken : (ws : List (Waiter C)) → ((seat : ℕ) → 1 ≤ times_in seat ws → is_in (taken_set took) seat ≡ true) → Every (VariableWaiterFits phases olds k) ws → Every IsWoken ws
+      each_woken [] is p = tt
+      each_woken (w ∷ ws) is p =
+          let one = own_times w ws in
+          let now : woken w.seat ≡ Woken k w.mode = ap (λ b. cond b (woken_phase k (phases w.seat)) (phases w.seat)) (is w.seat (omega (arith, one))) ∙ ap (woken_phase k) p.0.waits in (
+            (stances apart same w.seat ∙ p.0.stands, now, p.0.names),
+            each_woken ws (λ seat here. is seat (omega (arith, here, times_in-cons seat w ws))) p.1,
+          )
+
+      owed_told : (ws : List (Waiter C)) → Every IsWoken ws → Every (WakeTells woken news) (wakes_of k ws)
+      owed_told [] p = tt
+      owed_told (w ∷ ws) p = (subst (λ (x : Option (Stance C)). IsToldSo x (woken w.seat) (2 + k)) (sym p.0.0) (p.0.1, low, inl refl), owed_told ws p.1)
+
+      moved_named : (ws : List (Waiter C)) → Every IsWoken ws → Every (WaiterNames woken news) ws
+      moved_named [] p = tt
+      moved_named (w ∷ ws) p = (subst (λ (x : Option (Stance C)). IsNamed x (woken w.seat) w.via) (sym p.0.0) (p.0.1, low, p.0.2), moved_named ws p.1)
+
+      pub told_wakes : (flags : ℕ → ℕ) (lock lock' : List (Waiter C)) → ((lock' ≡ lock ++ took) × (owed' ≡ [])) ⊎ ((lock' ≡ lock) × (owed' ≡ wakes_of k took)) → TakenTold phases flags lock olds → TakenTold woken flags lock' news
+      told_wakes flags lock lock' ways p =
+          let each = each_woken took (in_list took) fits in
+          told_stays phases woken flags lock lock' stay
+          (λ own listed. elim ways [ inl move ↦ subst (Every (WakeTells woken news)) (sym move.1) tt | inr owe ↦ subst (Every (WakeTells woken news)) (sym owe.1) (owed_told took each) ])
+          (λ listed. elim ways [
+            | inl move ↦ subst (Every (WaiterNames woken news)) (sym move.0) (listed_moved (WaiterNames woken news) lock took listed (moved_named took each))
+            | inr owe ↦ subst (Every (WaiterNames woken news)) (sym owe.0) listed
+          ]) p
