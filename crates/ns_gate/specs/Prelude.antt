@@ -76,7 +76,7 @@ pub use Rattle.ns_word.specs.declared.wait.Outcome.{Outcome}
 pub use Rattle.ns_word.specs.declared.wait.Outcome.TheVariants.{Ended}
 pub use Rattle.ns_word.specs.declared.wait.QueuePlace.TheVariants.{ArmToWait, Load, LoadToScan, LookIn, QueueToWait}
 pub use Rattle.ns_word.specs.declared.wait.Subject.{Subject}
-pub use Rattle.ns_word.specs.declared.wait.Subject.TheVariants.{OnCondition, OnVariable}
+pub use Rattle.ns_word.specs.declared.wait.Subject.TheVariants.{OnCondition, OnVariables}
 pub use Rattle.ns_word.specs.declared.wait.Visit.{Visit}
 pub use Rattle.ns_word.specs.declared.wait.Visit.TheVariants.{OnEntry, OnReturn}
 pub use Rattle.ns_word.specs.declared.wait.Wait.{Wait}

@@ -4,7 +4,6 @@ use Rattle.std.specs.Bool.{beq}
 use Rattle.std.specs.List.{filter}
 use Rattle.std.proofs.lemmas.Bool.{cases_eq, cases_lt, eq-eqb, eqb-true, ne_eqb}
 use Rattle.ns_model.specs.Cvs.{has}
-use Rattle.ns_model.specs.declared.cvs.Variables.TheVariants.{Only}
 use Rattle.ns_model.specs.declared.event.Mode.{Mode}
 use Rattle.ns_model.specs.declared.phase.Phase.{Phase}
 use Rattle.ns_model.specs.declared.phase.Phase.TheVariants.{Idle, Cond, Waiting, Woken, Left}
@@ -17,7 +16,7 @@ use Rattle.ns_model.proofs.Sets.{none_in, in_more}
 use Rattle.ns_queue.specs.declared.waiter.Waiter.{Waiter}
 use Rattle.ns_queue.specs.Waiters.{times_in, seats_of, reads, writes, HaveSeats}
 use Rattle.ns_queue.specs.Signals.{readers_and_a_writer, signaled_of, taken_set}
-use Rattle.ns_queue.specs.Wakes.{WaitFor, AreWaiting}
+use Rattle.ns_queue.specs.Wakes.{WaitsAmong, WaitFor, AreWaiting}
 use Rattle.ns_queue.proofs.Seats.{own_times, times_in-cons}
 use Rattle.ns_queue.proofs.Taken.{in_list, not_in_list, in_stands, once_signaled, below_signaled, every_signaled}
 
@@ -108,19 +107,19 @@ module _ {C : Type 0} where
 
 module _ {C : Type 0} (k : ℕ) (phases : ℕ → Phase C) where
   -- a seat that stands in the list waits
-  pub stands_waiting : (ws : List (Waiter C)) (seat : ℕ) → WaitFor k phases ws → 1 ≤ times_in seat ws → (mode : Mode) × (phases seat ≡ Waiting (Only k) mode)
+  pub stands_waiting : (ws : List (Waiter C)) (seat : ℕ) → WaitFor k phases ws → 1 ≤ times_in seat ws → (mode : Mode) × WaitsAmong k mode (phases seat)
   stands_waiting [] seat own here = absurd (omega (arith, here))
   stands_waiting (w ∷ ws) seat own here = elim (cases_eq w.seat seat) [
-    | inl e ↦ (w.mode, subst (λ s. phases s ≡ Waiting (Only k) w.mode) e own.0)
+    | inl e ↦ (w.mode, subst (λ s. WaitsAmong k w.mode (phases s)) e own.0)
     | inr ne ↦ stands_waiting ws seat own.1 (let no : ◌≡◌ {A = ℕ} (one_if (eqb w.seat seat)) 0 = ap one_if (ne_eqb w.seat seat ne) in omega (arith, here, no, times_in-cons seat w ws))
   ]
 
   -- so it is told as waiting
   pub stands_waits : (ws : List (Waiter C)) (seat : ℕ) → WaitFor k phases ws → 1 ≤ times_in seat ws → is_waiting k (phases seat) ≡ true
-  stands_waits ws seat own here = let waits = stands_waiting ws seat own here in rw waits.1 (eq-eqb k k refl)
+  stands_waits ws seat own here = let waits = stands_waiting ws seat own here in rw waits.1.1 waits.1.2
 
-  waits_as : (kind : Bool) (w : Waiter C) → phases w.seat ≡ Waiting (Only k) w.mode → is_waiting_as kind k (phases w.seat) ≡ beq kind (writes w)
-  waits_as kind w e = rw (e, eq-eqb k k refl) refl
+  waits_as : (kind : Bool) (w : Waiter C) → WaitsAmong k w.mode (phases w.seat) → is_waiting_as kind k (phases w.seat) ≡ beq kind (writes w)
+  waits_as kind w waits = rw (waits.1, waits.2) refl
 
   -- those of a list who wait to write, or to read
   woken_tally : (kind : Bool) (ws : List (Waiter C)) → WaitFor k phases ws → ((seat : ℕ) → times_in seat ws ≤ 1) → HaveSeats ws → woken_as kind k (taken_set ws) phases ≡ tally kind ws
@@ -148,7 +147,7 @@ module _ {C : Type 0} (k : ℕ) (phases : ℕ → Phase C) where
   pub signal_legal : (ws : List (Waiter C)) → AreWaiting k phases ws → IsLegalSignal k (taken_set (signaled_of ws)) phases
   signal_legal ws are =
       let taken = signaled_of ws in
-      let own = every_signaled (λ w. phases w.seat ≡ Waiting (Only k) w.mode) ws are.own in
+      let own = every_signaled (λ w. WaitsAmong k w.mode (phases w.seat)) ws are.own in
       let once = once_signaled ws are.once in
       let below = below_signaled ws are.below in
       record {

@@ -1,6 +1,8 @@
 -- The list of a variable beside the phases of the seats.
 use Rattle.std.specs.Prelude.{◌≡◌, ◌≤◌, ℕ, true, List, if◌then◌else◌}
-use Rattle.ns_model.specs.declared.cvs.Variables.TheVariants.{Only}
+use Rattle.ns_model.specs.declared.event.Mode.{Mode}
+use Rattle.ns_model.specs.declared.cvs.Variables.{Variables}
+use Rattle.ns_model.specs.Cvs.{has}
 use Rattle.ns_model.specs.declared.phase.Phase.{Phase}
 use Rattle.ns_model.specs.declared.phase.Phase.TheVariants.{Waiting}
 use Rattle.ns_model.specs.declared.seats.Seats.{Seats}
@@ -10,9 +12,13 @@ use Rattle.ns_model.specs.Tallies.{Every}
 use Rattle.ns_queue.specs.declared.waiter.Waiter.{Waiter}
 use Rattle.ns_queue.specs.Waiters.{times_in, HaveSeats}
 
--- each waiter's phase is that it waits for the variable k alone, in the waiter's mode
+-- the phase is that of a wait in this mode, for variables among which is k
+abbrev pub WaitsAmong : {C : Type 0} → ℕ → Mode → Phase C → Type 0
+WaitsAmong k mode phase = (among : Variables) × (phase ≡ Waiting among mode) × (has among k ≡ true)
+
+-- each waiter's phase is that it waits for the variable k, or for several with k among them, in the waiter's mode
 abbrev pub WaitFor : {C : Type 0} → ℕ → (ℕ → Phase C) → List (Waiter C) → Type 0
-WaitFor k phases ws = Every (λ w. phases w.seat ≡ Waiting (Only k) w.mode) ws
+WaitFor k phases ws = Every (λ w. WaitsAmong k w.mode (phases w.seat)) ws
 
 -- The waiters are just the seats whose phase is that they wait for the variable k, each of them once and in its mode.
 pub record AreWaiting {C : Type 0} (k : ℕ) (phases : ℕ → Phase C) (ws : List (Waiter C)) : Type 0 where

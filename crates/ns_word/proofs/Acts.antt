@@ -10,7 +10,7 @@ use Rattle.ns_word.specs.declared.owed.Owed.{Owed}
 use Rattle.ns_word.specs.declared.view.Held.{Held}
 use Rattle.ns_word.specs.declared.view.SeatView.{SeatView}
 use Rattle.ns_word.specs.declared.wait.Subject.{Subject}
-use Rattle.ns_word.specs.declared.wait.Subject.TheVariants.{OnCondition, OnVariable}
+use Rattle.ns_word.specs.declared.wait.Subject.TheVariants.{OnCondition, OnVariables}
 use Rattle.ns_word.specs.declared.wait.Wait.{Wait}
 use Rattle.ns_word.specs.declared.wait.WaitPlace.{WaitPlace}
 use Rattle.ns_word.specs.declared.wait.WaitPlace.TheVariants.{TestCells, TestLast, InQueuing, PayInWait, AwaitWakeInWait, LookOut, InLeaving}
@@ -42,11 +42,11 @@ use Rattle.ns_word.proofs.Ranges.{else_not, owed_below, readers_fewer}
 module _ {C : Type 0} where
   condition_in_range : (on : Subject C) → IsForCondition on → IsInRange on
   condition_in_range (OnCondition c) p = tt
-  condition_in_range (OnVariable k) p = absurd p
+  condition_in_range (OnVariables variables) p = absurd p
 
   unmet_in_range : (truths : Truths C) (on : Subject C) (row : List ℕ) → IsUnmet truths on row → IsInRange on
   unmet_in_range truths (OnCondition c) row p = tt
-  unmet_in_range truths (OnVariable k) row p = p
+  unmet_in_range truths (OnVariables variables) row p = p
 
 module _ {C : Type 0} {N : ℕ} (truths : Truths C) where
   can_in_range : (wait : Wait C) (again : Bool) (held : Option (Held C N)) → CanWait truths wait again held → IsInRange wait.on
@@ -98,7 +98,7 @@ module _ {C : Type 0} {N : ℕ} (truths : Truths C) (seats : ℕ) (few : seats �
 
   judges : (on : Subject C) (i : ℕ) → IsSome view.held → i < N → ActFits truths seats view.seat (judge_of on i) (part_of s view.held view.owed)
   judges (OnCondition c) i some less = (some, less)
-  judges (OnVariable k) i some less = less
+  judges (OnVariables variables) i some less = less
 
   waiting_at : (wait : Wait C) (at_place : WaitPlace) → view.walk ≡ Some (InWait wait at_place) → WaitFits truths wait at_place view.held → has_some view.owed ≡ pays (Some (InWait wait at_place)) → ActFits truths seats view.seat (want_waiting wait at_place) (part_of s view.held view.owed)
   waiting_at wait (TestCells visit i) e place owes = omega (arith, place.1)

@@ -3,7 +3,9 @@ use Rattle.std.proofs.Common.{◌≡◌, ◌≢◌, ℕ, Bool, true, false, cond
 use Rattle.ns_model.specs.declared.event.Mode.{Mode}
 use Rattle.ns_model.specs.declared.event.Answer.{Answer}
 use Rattle.ns_model.specs.declared.event.Answer.TheVariants.{Met}
-use Rattle.ns_model.specs.declared.event.Entry.TheVariants.{Waited, AfterCv}
+use Rattle.ns_model.specs.declared.event.Entry.TheVariants.{Waited}
+use Rattle.ns_model.specs.declared.cvs.Variables.{Variables}
+use Rattle.ns_model.specs.declared.cvs.Variables.TheVariants.{Only, Any}
 use Rattle.ns_model.specs.declared.event.Event.{Event}
 use Rattle.ns_model.specs.Sections.{is_met}
 use Rattle.ns_model.specs.Histories.{standing_after}
@@ -16,7 +18,7 @@ use Rattle.ns_word.specs.declared.word.Word.{Word}
 use Rattle.ns_word.specs.declared.wait.Aim.{Aim}
 use Rattle.ns_word.specs.declared.wait.Aim.TheVariants.{ForWait}
 use Rattle.ns_word.specs.declared.wait.Subject.{Subject}
-use Rattle.ns_word.specs.declared.wait.Subject.TheVariants.{OnCondition, OnVariable}
+use Rattle.ns_word.specs.declared.wait.Subject.TheVariants.{OnCondition, OnVariables}
 use Rattle.ns_word.specs.declared.wait.Outcome.{Outcome}
 use Rattle.ns_word.specs.declared.wait.Outcome.TheVariants.{Woken, Ended}
 use Rattle.ns_word.specs.declared.wait.Wait.{Wait}
@@ -54,11 +56,12 @@ use Rattle.ns_word.specs.declared.walk.Reply.TheVariants.{Answered}
 use Rattle.ns_word.specs.declared.walk.Next.{Next}
 use Rattle.ns_word.specs.declared.walk.Next.TheVariants.{On, Done}
 use Rattle.ns_env.specs.Walks.{is_limited}
-use Rattle.ns_word.specs.Waits.{answer_of, answer_of_wait, mode_for}
-use Rattle.ns_word.specs.Walks.{judge_of, want_waiting, want_trying, want_acquiring, want_releasing, want_in_cells, want_leaving, want_signaling, want_showing, want_of, got_waiting, got_acquiring, got_of, reply_of, acquire_by, back_with, unmet_by, look_or_queue}
+use Rattle.ns_word.specs.Waits.{answer_of, mode_for}
+use Rattle.ns_word.specs.Meanings.{IsSaidBy}
+use Rattle.ns_word.specs.Walks.{judge_of, want_waiting, want_trying, want_acquiring, want_releasing, want_in_cells, want_leaving, want_signaling, want_showing, want_of, got_waiting, got_acquiring, got_of, reply_of, acquire_by, back_with, reply_for, unmet_by, look_or_queue}
 use Rattle.ns_word.specs.Words.{may_acquire}
 use Rattle.ns_model.specs.Truths.{Truths}
-use Rattle.ns_word.specs.Steps.{LockState, Part, Effect, Step, part_of, newly_held, entry_of, opening_by, held_after}
+use Rattle.ns_word.specs.Steps.{LockState, Part, Effect, Step, part_of, newly_held, entry_for, entry_of, opening_by, held_after}
 use Rattle.ns_word.specs.Places.{PlaceFits, WaitFits, IsForCondition, Tests, IsUnmet, MayWait, CanWait, ComesBack}
 use Rattle.ns_word.specs.Lawful.{EachFits, IsLawful}
 use Rattle.ns_word.specs.Answers.{comes_back, place_has_come_back, has_come_back}
@@ -196,7 +199,7 @@ answers_rightly {C} {N} truths seats h old new view found commits wait c place a
     (answers_at truths wait c view.seat place (part_of old view.held view.owed) found (part_of new step.held step.owed) commits answer for here.0
     (subst (λ walk. Effect truths view.seat (want_of walk) (part_of old view.held view.owed) found (part_of new step.held step.owed) commits) walks step.effect) (ap (λ walk. got_of N walk found) (sym walks) ∙ is))
 
--- ---- what a wait for a variable answers
+-- ---- what a wait for variables answers
 
 -- the step acquires the lock
 abbrev is_acquired : AcquirePlace → Found → Bool
@@ -220,45 +223,51 @@ module _ {C : Type 0} (N : ℕ) (aim : Aim C) where
   acquires_on (AwaitWake tries) (Flag v) e = either_on (eqb v 1) _ _ refl refl
   acquires_on _ _ e = refl
 
-module _ {C : Type 0} {N : ℕ} (truths : Truths C) (wait : Wait C) (outcome : Outcome) (k : ℕ) where
-  -- The section that is in hand then says just that answer of how it began.
-  abbrev AnswersAfter : Option (Held C N) → Answer → Type 0
-  AnswersAfter left answer = (held : Held C N) × (left ≡ Some held) × (held.mode ≡ wait.mode) × (entry_of truths.holds held.before held.entry ≡ AfterCv k answer)
+-- a section says how it began just what the wait answers
+said : (C : Type 0) (outcome : Outcome) (variables : Variables) → IsSaidBy {C = C} variables (reply_for variables outcome) (entry_for variables outcome)
+said C outcome (Only k) = refl
+said C outcome (Any cvs) = refl
 
-  after_at : (seat : ℕ) (place : AcquirePlace) (old : Part C N) (found : Found) (new : Part C N) (commits : List (Event C N)) (answer : Answer) → wait.on ≡ OnVariable k →
-      Effect truths seat (want_acquiring (ForWait wait outcome) place) old found new commits → got_acquiring N (ForWait wait outcome) place found ≡ Done (Answered answer) → AnswersAfter new.held answer
-  after_at seat (AcquireExchange arrival last) old Made new commits answer for e is =
-      let over : Done (Answered (answer_of_wait outcome)) ≡ Done (Answered answer) = sym (ap (λ on. back_with N on wait outcome) for) ∙ is in
-      let same : answer_of_wait outcome ≡ answer = cc in (
+module _ {C : Type 0} {N : ℕ} (truths : Truths C) (wait : Wait C) (outcome : Outcome) (variables : Variables) where
+  -- The section that is in hand then says just that answer of how it began.
+  abbrev AnswersAfter : Option (Held C N) → Reply → Type 0
+  AnswersAfter left reply = (held : Held C N) × (left ≡ Some held) × (held.mode ≡ wait.mode) × IsSaidBy variables reply (entry_of truths.holds held.before held.entry)
+
+  after_at : (seat : ℕ) (place : AcquirePlace) (old : Part C N) (found : Found) (new : Part C N) (commits : List (Event C N)) (reply : Reply) → wait.on ≡ OnVariables variables →
+      Effect truths seat (want_acquiring (ForWait wait outcome) place) old found new commits → got_acquiring N (ForWait wait outcome) place found ≡ Done reply → AnswersAfter new.held reply
+  after_at seat (AcquireExchange arrival last) old Made new commits reply for e is =
+      let over : Done (reply_for variables outcome) ≡ Done reply = sym (ap (λ on. back_with N on wait outcome) for) ∙ is in
+      let same : reply_for variables outcome ≡ reply = cc in
+      let entry : entry_of truths.holds old.row (CameBack wait.on outcome) ≡ entry_for variables outcome = ap (λ (on : Subject C). entry_of truths.holds old.row (CameBack on outcome)) for in (
         newly_held (ForWait wait outcome) old.row,
         ap (λ (part : Part C N). part.held) e.3,
         refl,
-        ap (λ (on : Subject C). entry_of truths.holds old.row (CameBack on outcome)) for ∙ ap (λ (a : Answer). AfterCv k a) same,
+        subst (IsSaidBy variables reply) (sym entry) (subst (λ r. IsSaidBy {C = C} variables r (entry_for variables outcome)) same (said C outcome variables)),
       )
-  after_at seat place old found new commits answer for e is = absurd (goes_on_not (got_acquiring N (ForWait wait outcome) place found) (Answered answer) (acquires_on N (ForWait wait outcome) place found refl) is)
+  after_at seat place old found new commits reply for e is = absurd (goes_on_not (got_acquiring N (ForWait wait outcome) place found) reply (acquires_on N (ForWait wait outcome) place found refl) is)
 
--- A wait for a variable answers what its section says of how it began.
-pub variable_answers_rightly : {C : Type 0} {N : ℕ} (truths : Truths C) (old new : LockState C N) (view : SeatView C N) (found : Found) (commits : List (Event C N)) (wait : Wait C) (outcome : Outcome) (place : AcquirePlace) (k : ℕ) (answer : Answer) →
-    (step : Step truths old view found new commits) → step.walk ≡ InAcquire (ForWait wait outcome) place → wait.on ≡ OnVariable k → got_of N step.walk found ≡ Done (Answered answer) → AnswersAfter truths wait outcome k step.held answer
-variable_answers_rightly {C} {N} truths old new view found commits wait outcome place k answer step walks for is =
-    after_at truths wait outcome k view.seat place (part_of old view.held view.owed) found (part_of new step.held step.owed) commits answer for
+-- A wait for variables answers what its section says of how it began.
+pub variable_answers_rightly : {C : Type 0} {N : ℕ} (truths : Truths C) (old new : LockState C N) (view : SeatView C N) (found : Found) (commits : List (Event C N)) (wait : Wait C) (outcome : Outcome) (place : AcquirePlace) (variables : Variables) (reply : Reply) →
+    (step : Step truths old view found new commits) → step.walk ≡ InAcquire (ForWait wait outcome) place → wait.on ≡ OnVariables variables → got_of N step.walk found ≡ Done reply → AnswersAfter truths wait outcome variables step.held reply
+variable_answers_rightly {C} {N} truths old new view found commits wait outcome place variables reply step walks for is =
+    after_at truths wait outcome variables view.seat place (part_of old view.held view.owed) found (part_of new step.held step.owed) commits reply for
     (subst (λ walk. Effect truths view.seat (want_of walk) (part_of old view.held view.owed) found (part_of new step.held step.owed) commits) walks step.effect) (ap (λ walk. got_of N walk found) (sym walks) ∙ is)
 
 -- ---- and where it answers nothing
 
-module _ {C : Type 0} {N : ℕ} (truths : Truths C) (wait : Wait C) (k : ℕ) where
-  none_at : (place : WaitPlace) (held : Option (Held C N)) (found : Found) (answer : Answer) → wait.on ≡ OnVariable k → WaitFits truths wait place held → got_waiting N wait place found ≢ Done (Answered answer)
-  none_at (TestLast visit i) held found answer for p is = subst IsForCondition for p.2
-  none_at (InQueuing again LookIn) held found answer for p is = subst IsForCondition for p.1
-  none_at place held found answer for p is = goes_on_not (got_waiting N wait place found) (Answered answer) (others_on N wait place found refl) is
+module _ {C : Type 0} {N : ℕ} (truths : Truths C) (wait : Wait C) (variables : Variables) where
+  none_at : (place : WaitPlace) (held : Option (Held C N)) (found : Found) (reply : Reply) → wait.on ≡ OnVariables variables → WaitFits truths wait place held → got_waiting N wait place found ≢ Done reply
+  none_at (TestLast visit i) held found reply for p is = subst IsForCondition for p.2
+  none_at (InQueuing again LookIn) held found reply for p is = subst IsForCondition for p.1
+  none_at place held found reply for p is = goes_on_not (got_waiting N wait place found) reply (others_on N wait place found refl) is
 
--- A wait for a variable doesn't answer before it acquires again.
-pub variable_answers_back : {C : Type 0} {N : ℕ} (truths : Truths C) (seats : ℕ) (h : List (Event C N)) (old new : LockState C N) (view : SeatView C N) (found : Found) (commits : List (Event C N)) (wait : Wait C) (place : WaitPlace) (k : ℕ) (answer : Answer) →
-    (step : Step truths old view found new commits) → IsLawful truths seats h old → step.walk ≡ InWait wait place → wait.on ≡ OnVariable k → got_of N step.walk found ≢ Done (Answered answer)
-variable_answers_back {C} {N} truths seats h old new view found commits wait place k answer step lawful walks for is =
+-- A wait for variables doesn't answer before it acquires again.
+pub variable_answers_back : {C : Type 0} {N : ℕ} (truths : Truths C) (seats : ℕ) (h : List (Event C N)) (old new : LockState C N) (view : SeatView C N) (found : Found) (commits : List (Event C N)) (wait : Wait C) (place : WaitPlace) (variables : Variables) (reply : Reply) →
+    (step : Step truths old view found new commits) → IsLawful truths seats h old → step.walk ≡ InWait wait place → wait.on ≡ OnVariables variables → got_of N step.walk found ≢ Done reply
+variable_answers_back {C} {N} truths seats h old new view found commits wait place variables reply step lawful walks for is =
     let fits = (each_parts truths seats (standing_after h) old.row step.front view step.back (subst (λ vs. EachFits truths seats (standing_after h) old.row vs) step.was lawful.one_history.each)).1 in
     let here : PlaceFits truths (Some (InWait wait place)) view.held = subst (λ walk. PlaceFits truths walk view.held) (step.walks ∙ ap Some walks) fits.place in
-    none_at truths wait k place view.held found answer for here.0 (ap (λ walk. got_of N walk found) (sym walks) ∙ is)
+    none_at truths wait variables place view.held found reply for here.0 (ap (λ walk. got_of N walk found) (sym walks) ∙ is)
 
 -- ---- from the answer to the commit
 
@@ -308,7 +317,7 @@ leaver_looks_not wait AwaitWakeToLeave = refl
 
 pub judge_looks_not : {C : Type 0} (on : Subject C) (i : ℕ) → look_of_act (judge_of on i) ≡ None
 judge_looks_not (OnCondition c) i = refl
-judge_looks_not (OnVariable k) i = refl
+judge_looks_not (OnVariables variables) i = refl
 
 pub signal_looks_not : (C : Type 0) (waking : Waking) (k : ℕ) (place : SignalPlace) → look_of_act {C = C} (want_signaling waking k place) ≡ None
 signal_looks_not C waking k SignalLoad = refl

@@ -8,7 +8,7 @@ use Rattle.ns_word.specs.declared.word.Releasing.{Releasing}
 use Rattle.ns_word.specs.declared.word.Releasing.TheVariants.{QuietWriter}
 use Rattle.ns_env.specs.declared.limits.Cause.{Cause}
 use Rattle.ns_word.specs.declared.wait.Subject.{Subject}
-use Rattle.ns_word.specs.declared.wait.Subject.TheVariants.{OnCondition, OnVariable}
+use Rattle.ns_word.specs.declared.wait.Subject.TheVariants.{OnCondition, OnVariables}
 use Rattle.ns_word.specs.declared.wait.Outcome.{Outcome}
 use Rattle.ns_word.specs.declared.wait.Outcome.TheVariants.{Woken, Ended}
 use Rattle.ns_word.specs.declared.wait.Visit.{Visit}
@@ -78,7 +78,7 @@ module _ (C : Type 0) where
 
   back_asks : (N : ℕ) (on : Subject C) (wait : Wait C) (outcome : Outcome) → Asks (Await wait) (back_with N on wait outcome)
   back_asks N (OnCondition c) wait outcome = test_asks N wait (OnReturn outcome) 0
-  back_asks N (OnVariable k) wait outcome = tt
+  back_asks N (OnVariables variables) wait outcome = tt
 
   acquired_asks : (N : ℕ) (aim : Aim C) (place : AcquirePlace) → Asks (asked_of (InAcquire aim place)) (acquired_for N aim)
   acquired_asks N (ForLock mode) place = tt

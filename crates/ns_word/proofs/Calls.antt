@@ -63,7 +63,7 @@ use Rattle.ns_word.specs.declared.wait.LeavePlace.TheVariants.{AwaitWakeToLeave,
 use Rattle.ns_word.specs.declared.wait.QueuePlace.{QueuePlace}
 use Rattle.ns_word.specs.declared.wait.QueuePlace.TheVariants.{ArmToWait, Load, LoadToScan, LookIn, QueueToWait, Take}
 use Rattle.ns_word.specs.declared.wait.Subject.{Subject}
-use Rattle.ns_word.specs.declared.wait.Subject.TheVariants.{OnCondition, OnVariable}
+use Rattle.ns_word.specs.declared.wait.Subject.TheVariants.{OnCondition, OnVariables}
 use Rattle.ns_word.specs.declared.wait.Outcome.TheVariants.{Woken, Ended}
 use Rattle.ns_word.specs.declared.wait.Visit.{Visit}
 use Rattle.ns_word.specs.declared.wait.Visit.TheVariants.{OnEntry, OnReturn}
@@ -265,7 +265,7 @@ module _ (C : Type 0) (N : ℕ) where
   acquired_calls walk found (ForWait wait outcome) = go wait.on where
     go : (on : Subject C) → IsCalled walk found (back_with N on wait outcome)
     go (OnCondition c) = test_calls walk found wait (OnReturn outcome) 0
-    go (OnVariable k) = not_there walk found _ refl
+    go (OnVariables variables) = not_there walk found _ refl
 
   acquire_calls : (aim : Aim C) (place : AcquirePlace) (found : Found) → IsCalled (InAcquire aim place) found (got_acquiring N aim place found)
   acquire_calls aim (AcquireLoad arrival) (Saw word) = decides aim (AcquireLoad arrival) (Saw word) arrival word refl

@@ -69,43 +69,6 @@ module _ {C : Type 0} where
   pub counts_lock : (lists : Lists C) (lock : List (Waiter C)) (seat : ℕ) → counts_in seat (with_lock lists lock) + times_in seat lists.lock ≡ counts_in seat lists + times_in seat lock
   counts_lock lists lock seat = omega arith
 
-  -- one that stood nowhere goes to the back of a variable's list
-  pub counts_entered : (lists : Lists C) (k who : ℕ) (queue : List (Waiter C)) (seat : ℕ) → length lists.cvs ≡ 4 → k < 4 → times who lists ≡ 0 → times_in seat queue ≡ times_in seat (waiters_of lists (Cv k)) + one_if (eqb who seat) → (eqb who seat ≡ true → who ≡ seat) →
-      counts_in seat (with_waiters lists (Cv k) queue) ≡ one_if (eqb who seat) + counts_in seat lists
-  counts_entered lists k who queue seat four low none more same =
-      let old = sum_by (times_in seat) lists.cvs in
-      let new = sum_by (times_in seat) (with_waiters lists (Cv k) queue).cvs in
-      let sum : new ≡ old + one_if (eqb who seat) = let t = times_with lists (Cv k) queue seat four low in omega (arith, t, more) in
-      go (eqb who seat) refl sum
-    where
-      go : (b : Bool) → eqb who seat ≡ b → sum_by (times_in seat) (with_waiters lists (Cv k) queue).cvs ≡ sum_by (times_in seat) lists.cvs + one_if (eqb who seat) → counts_in seat (with_waiters lists (Cv k) queue) ≡ one_if (eqb who seat) + counts_in seat lists
-      go true e sum =
-          let one : one_if (eqb who seat) ≡ 1 = ap one_if e in
-          let gone : times seat lists ≡ 0 = subst_times (same e) in
-          let before = none_one (sum_by (times_in seat) lists.cvs) (omega (arith, gone)) in
-          let after = some_one (sum_by (times_in seat) (with_waiters lists (Cv k) queue).cvs) (omega (arith, sum, one)) in
-          omega (arith, before, after, one)
-        where
-          subst_times : who ≡ seat → times seat lists ≡ 0
-          subst_times e = ap (λ s. times s lists) (sym e) ∙ none
-      go false e sum =
-          let zero : one_if (eqb who seat) ≡ 0 = ap one_if e in
-          let kept : sum_by (times_in seat) (with_waiters lists (Cv k) queue).cvs ≡ sum_by (times_in seat) lists.cvs = omega (arith, sum, zero) in
-          let same_one : ◌≡◌ {A = ℕ} (one_if (ltb 0 (sum_by (times_in seat) (with_waiters lists (Cv k) queue).cvs))) (one_if (ltb 0 (sum_by (times_in seat) lists.cvs))) = ap (λ n. one_if (ltb 0 n)) kept in
-          omega (arith, same_one, zero)
-
-  pub once_entered : (lists : Lists C) (k who : ℕ) (queue : List (Waiter C)) → length lists.cvs ≡ 4 → k < 4 → times who lists ≡ 0 → ((seat : ℕ) → times_in seat queue ≡ times_in seat (waiters_of lists (Cv k)) + one_if (eqb who seat)) → OnceInEach lists → OnceInEach (with_waiters lists (Cv k) queue)
-  once_entered lists k who queue four low none more once seat j few = elim (cases_eq j k) [
-    | inl e ↦ let here : times_in seat (waiters_of (with_waiters lists (Cv k) queue) (Cv j)) ≡ times_in seat queue = ap (λ i. times_in seat (waiters_of (with_waiters lists (Cv k) queue) (Cv i))) e ∙ ap (times_in seat) (read_back lists (Cv k) queue four low) in
-        elim (cases_eq who seat) [
-          | inl same ↦
-              let out : times_in seat (waiters_of lists (Cv k)) ≡ 0 = let zero : times seat lists ≡ 0 = ap (λ s. times s lists) (sym same) ∙ none in omega (arith, times_at_most lists (Cv k) seat four low, zero) in
-              omega (arith, here, more seat, out, one_most (eqb who seat))
-          | inr ne ↦ let zero : one_if (eqb who seat) ≡ 0 = ap one_if (ne_eqb who seat ne) in omega (arith, here, more seat, zero, once seat k low)
-        ]
-    | inr other ↦ omega (arith, ap (times_in seat) (read_apart lists k j queue other), once seat j few)
-  ]
-
   -- ---- one that leaves
 
   -- the lists with one seat out of those of variables

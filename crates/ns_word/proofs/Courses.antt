@@ -9,21 +9,26 @@ use Rattle.ns_model.specs.declared.event.Answer.{Answer}
 use Rattle.ns_model.specs.declared.event.Answer.TheVariants.{Met}
 use Rattle.ns_model.specs.declared.event.Entry.TheVariants.{Waited}
 use Rattle.ns_model.specs.declared.event.Event.{Event}
-use Rattle.ns_model.specs.declared.event.Exit.TheVariants.{CondWait, CvWait, Plain}
+use Rattle.ns_model.specs.declared.event.Exit.TheVariants.{AnyWait, CondWait, CvWait, Plain}
+use Rattle.ns_model.specs.declared.cvs.Cvs.{Cvs}
+use Rattle.ns_model.specs.declared.cvs.Variables.{Variables}
+use Rattle.ns_model.specs.declared.cvs.Variables.TheVariants.{Only, Any}
+use Rattle.ns_word.specs.declared.wait.Home.TheVariants.{AtVariables}
 use Rattle.ns_model.specs.declared.event.Mode.{Mode}
 use Rattle.ns_model.specs.declared.event.Mode.TheVariants.{Read, Write}
 use Rattle.ns_queue.specs.Queues.{waiters_of}
 use Rattle.ns_queue.specs.declared.waiter.Which.TheVariants.{Cv}
+use Rattle.ns_word.proofs.Leaving.{not_left}
 use Rattle.ns_word.proofs.Asked.{Asks}
 use Rattle.ns_word.specs.Answers.{cause_by, place_cause_kept}
 use Rattle.ns_word.specs.Asked.{asked_in_cells, asked_of, asked_to_judge}
 use Rattle.ns_word.specs.Courses.{AcquireSoFar, CallGoes, HasLeft, HasLookedFor, IsComing, KeptFits, QueuesAfter, QueuesSoFar, ReleaseSoFar, SignalSoFar, SoFar, TestsSoFar, WaitSoFar, course_after, left_by, looked_after}
 use Rattle.ns_word.specs.Lists.{has_some, stands_at}
-use Rattle.ns_word.specs.Meanings.{ConditionWaitMeans, Course, HasLocked, HasReleased, HasWoken, InHand, IsQuietSection, MayAnswer, Means, Unchanged, VariableWaitMeans, leave_told, new_section}
+use Rattle.ns_word.specs.Meanings.{AnyWaitMeans, ConditionWaitMeans, Course, HasLocked, HasReleased, HasWoken, InHand, IsQuietSection, MayAnswer, MayEnd, Means, Unchanged, VariableWaitMeans, leave_any_told, leave_told, new_section}
 use Rattle.ns_word.specs.Places.{AimFits, CanLeave, CanWait, CellFits, ComesBack, IsForCondition, IsLeft, MayWait, PlaceFits, QueueFits, ReleaseFits, Tests, WaitFits}
 use Rattle.ns_word.specs.Steps.{LockState, Step, part_of, Effect, MayShow, Part, entry_of, exit_for, held_after, held_by, leave_of, newly_held, opening_by, section_of, taken_by, wake_of}
 use Rattle.ns_env.specs.Walks.{is_limited}
-use Rattle.ns_word.specs.Waits.{answer_of, answer_of_wait, arrival_of, cause_in, home_of, mode_for, outcome_taken, woken_by}
+use Rattle.ns_word.specs.Waits.{OutcomeFits, answer_of, answer_of_wait, arrival_of, cause_in, home_of, mode_for, outcome_taken, variable_in, woken_by}
 use Rattle.ns_word.specs.Walks.{acquire_by, acquired_for, armed_place, back_with, got_acquiring, got_in_cells, got_leaving, got_of, got_queuing, got_releasing, got_signaling, got_showing, got_trying, got_waiting, judge_of, leave_by, load_place, look_or_queue, pay_releasing, pay_waiting, pay_woken, queue_by, quiet_place, release_by, rest_or_look, scan_place, signal_by, show_by, test_place, unmet_by, want_acquiring, want_in_cells, want_leaving, want_of, want_queuing, want_releasing, want_signaling, want_showing, want_trying, want_waiting}
 use Rattle.ns_word.specs.Words.{is_held, is_woken, may_acquire, mode_released, needs_scan, tries_of, word_taken}
 use Rattle.ns_word.specs.declared.acquire_walk.AcquirePlace.{AcquirePlace}
@@ -57,7 +62,7 @@ use Rattle.ns_word.specs.declared.wait.LeavePlace.TheVariants.{AwaitWakeToLeave,
 use Rattle.ns_word.specs.declared.wait.QueuePlace.{QueuePlace}
 use Rattle.ns_word.specs.declared.wait.QueuePlace.TheVariants.{ArmToWait, Load, LoadToScan, LookIn, QueueToWait, Take}
 use Rattle.ns_word.specs.declared.wait.Subject.{Subject}
-use Rattle.ns_word.specs.declared.wait.Subject.TheVariants.{OnCondition, OnVariable}
+use Rattle.ns_word.specs.declared.wait.Subject.TheVariants.{OnCondition, OnVariables}
 use Rattle.ns_word.specs.declared.wait.Outcome.{Outcome}
 use Rattle.ns_word.specs.declared.wait.Outcome.TheVariants.{Woken, Ended}
 use Rattle.ns_word.specs.declared.wait.Visit.{Visit}
@@ -67,7 +72,7 @@ use Rattle.ns_word.specs.declared.wait.WaitPlace.{WaitPlace}
 use Rattle.ns_word.specs.declared.wait.WaitPlace.TheVariants.{AwaitWakeInWait, InLeaving, InQueuing, LookOut, PayInWait, TestCells, TestLast}
 use Rattle.ns_word.specs.declared.walk.Next.{Next}
 use Rattle.ns_word.specs.declared.walk.Next.TheVariants.{Done, Idle, On}
-use Rattle.ns_word.specs.declared.walk.Reply.TheVariants.{Answered, Busy, Is, Noisy, Number, Succeeded}
+use Rattle.ns_word.specs.declared.walk.Reply.TheVariants.{Answered, Busy, Is, Noisy, Number, Succeeded, WokenBy}
 use Rattle.ns_word.specs.declared.walk.Walk.{Walk}
 use Rattle.ns_word.specs.declared.walk.Walk.TheVariants.{InAcquire, InCells, InRelease, InShow, InSignal, InTry, InWait}
 use Rattle.ns_word.specs.declared.word.Arrival.{Arrival}
@@ -76,10 +81,9 @@ use Rattle.ns_word.specs.declared.word.Releasing.{Releasing}
 use Rattle.ns_word.specs.declared.word.Releasing.TheVariants.{QuietWriter}
 use Rattle.ns_word.specs.declared.word.Taking.TheVariants.{ToChange, ToQueue}
 use Rattle.ns_word.specs.declared.word.Word.{Word}
-use Rattle.ns_model.specs.declared.event.Event.TheVariants as TheEvent
 use Rattle.ns_model.specs.declared.event.Exit.TheVariants as TheExit
 use Rattle.ns_model.specs.Histories.{standing_after, row_after}
-use Rattle.ns_word.specs.Begins.{IsFirst, IsForVariable}
+use Rattle.ns_word.specs.Begins.{IsFirst, IsForVariables}
 use Rattle.ns_word.specs.Lawful.{HeldFits, SectionFits, ViewFits, EachFits, IsLawful}
 use Rattle.ns_word.specs.declared.view.SeatView.{SeatView}
 use Rattle.ns_word.proofs.Views.{each_parts}
@@ -187,7 +191,7 @@ module _ (C : Type 0) (N : ℕ) (truths : Truths C) (seat : ℕ) (row : List ℕ
     where
       unlimited : (on : Subject C) → is_limited wait.limits ≡ false → HasLookedFor on wait.limits course.looked
       unlimited (OnCondition c) b = λ limited. absurd (cc)
-      unlimited (OnVariable k) b = tt
+      unlimited (OnVariables variables) b = tt
 
   -- of one that is about to queue
   queue_comes : (request : Request C) (course : Course C N) (held : Option (Held C N)) (wait : Wait C) (again : Bool) (word : Word) → QueuesSoFar truths seat wait again course held × HasLookedFor wait.on wait.limits course.looked → Comes request course (queue_by wait again word) held
@@ -202,7 +206,7 @@ module _ (C : Type 0) (N : ℕ) (truths : Truths C) (seat : ℕ) (row : List ℕ
 
   armed_so_far : (course : Course C N) (held : Option (Held C N)) (wait : Wait C) (again : Bool) (on : Subject C) (last : Word) → QueuesSoFar truths seat wait again course held × HasLookedFor wait.on wait.limits course.looked → SoFar truths seat course (InWait wait (InQueuing again (armed_place N on last))) held
   armed_so_far course held wait again (OnCondition c) last so_far = so_far
-  armed_so_far course held wait again (OnVariable k) last so_far = go last.cond where
+  armed_so_far course held wait again (OnVariables variables) last so_far = go last.cond where
     go : (b : Bool) → SoFar truths seat course (InWait wait (InQueuing again (cond b (load_place N last 0) (QueueToWait last)))) held
     go true = load_so_far course held wait again last 0 so_far
     go false = so_far
@@ -243,7 +247,7 @@ module _ (C : Type 0) (N : ℕ) (truths : Truths C) (seat : ℕ) (row : List ℕ
   }
 
   -- what a wait for a variable has told, by what it answers
-  leave_is_told : (k : ℕ) (outcome : Outcome) → left_by {C = C} {N = N} seat (OnVariable k) (cause_in outcome) ≡ leave_told seat k (is_met (answer_of_wait outcome))
+  leave_is_told : (k : ℕ) (outcome : Outcome) → left_by {C = C} {N = N} seat (OnVariables (Only k)) (cause_in outcome) ≡ leave_told seat k (is_met (answer_of_wait outcome))
   leave_is_told k (Woken by) = refl
   leave_is_told k (Ended Expired) = refl
   leave_is_told k (Ended Notified) = refl
@@ -254,12 +258,22 @@ module _ (C : Type 0) (N : ℕ) (truths : Truths C) (seat : ℕ) (row : List ℕ
   may_answer limits looked (Ended Expired) given shown = (given, shown)
   may_answer limits looked (Ended Notified) given shown = (given, shown)
 
+  -- and what one for any of a set has told
+  leave_any_is_told : (cvs : Cvs) (outcome : Outcome) → OutcomeFits {C = C} (OnVariables (Any cvs)) outcome → left_by {C = C} {N = N} seat (OnVariables (Any cvs)) (cause_in outcome) ≡ leave_any_told seat cvs (variable_in outcome)
+  leave_any_is_told cvs (Woken None) so = absurd so
+  leave_any_is_told cvs (Woken (Some k)) so = refl
+  leave_any_is_told cvs (Ended cause) so = refl
+
+  may_end : (cvs : Cvs) (limits : Limits) (looked : Option (Option Cause)) (outcome : Outcome) → MayShow limits (cause_in outcome) → KeptFits looked (cause_in outcome) → OutcomeFits {C = C} (OnVariables (Any cvs)) outcome → MayEnd cvs limits looked (variable_in outcome)
+  may_end cvs limits looked (Woken None) given shown so = absurd so
+  may_end cvs limits looked (Woken (Some k)) given shown so = so
+  may_end cvs limits looked (Ended cause) given shown so = (cause, given, shown)
+
   -- a wait that came back has acquired
   comes_back : (request : Request C) (course : Course C N) (mode : Mode) (on : Subject C) (limits : Limits) (outcome : Outcome) (held : Option (Held C N)) (cells : List ℕ) → let wait : Wait C = record { mode = mode; on = on; limits = limits } in
-      request ≡ Await wait → cells ≡ row → held ≡ Some (newly_held (ForWait wait outcome) cells) → MayShow limits (cause_in outcome) → IsComing truths seat wait outcome course → Comes request course (back_with N on wait outcome) held
-  comes_back request course mode (OnCondition c) limits outcome held cells asked same e given coming = test_so_far course held (record { mode = mode; on = OnCondition c; limits = limits }) (OnReturn outcome) 0 coming
-  comes_back request course mode (OnVariable k) limits outcome held cells asked same e given coming =
-      let wait : Wait C = record { mode = mode; on = OnVariable k; limits = limits } in
+      request ≡ Await wait → cells ≡ row → held ≡ Some (newly_held (ForWait wait outcome) cells) → MayShow limits (cause_in outcome) → OutcomeFits on outcome → IsComing truths seat wait outcome course → Comes request course (back_with N on wait outcome) held
+  comes_back request course mode (OnCondition c) limits outcome held cells asked same e given so coming = test_so_far course held (record { mode = mode; on = OnCondition c; limits = limits }) (OnReturn outcome) 0 coming
+  comes_back request course mode (OnVariables (Only k)) limits outcome held cells asked same e given so coming =
       subst (λ r. Means truths seat row r course (Answered (answer_of_wait outcome)) held) (sym asked) (subst (λ h. InHand h (λ back. VariableWaitMeans truths seat row mode k limits course (answer_of_wait outcome) back)) (sym e)
       (record {
         was = coming.left.was;
@@ -267,6 +281,17 @@ module _ (C : Type 0) (N : ℕ) (truths : Truths C) (seat : ℕ) (row : List ℕ
         mode = coming.left.mode;
         committed = coming.left.committed ∙ ap (λ events. section_of truths.holds seat coming.left.was (CvWait k) ∷ events) (leave_is_told k outcome);
         may = may_answer limits course.looked outcome given coming.shown;
+        begins = record { mode = refl; before = same; cells = same };
+        entry = refl;
+      }))
+  comes_back request course mode (OnVariables (Any cvs)) limits outcome held cells asked same e given so coming =
+      subst (λ r. Means truths seat row r course (WokenBy (variable_in outcome)) held) (sym asked) (subst (λ h. InHand h (λ back. AnyWaitMeans truths seat row mode cvs limits course (variable_in outcome) back)) (sym e)
+      (record {
+        was = coming.left.was;
+        began = coming.left.began;
+        mode = coming.left.mode;
+        committed = coming.left.committed ∙ ap (λ events. section_of truths.holds seat coming.left.was (AnyWait cvs) ∷ events) (leave_any_is_told cvs outcome so);
+        may = may_end cvs limits course.looked outcome given coming.shown so;
         begins = record { mode = refl; before = same; cells = same };
         entry = refl;
       }))
@@ -389,7 +414,7 @@ module _ (C : Type 0) (N : ℕ) (truths : Truths C) (seat : ℕ) (row : List ℕ
         has_locked mode course part.held next.held commits part.row (stands.free e.4 (no_writer mode arrival part.word (subst (λ word. may_acquire mode arrival word ≡ true) e.0 e.1))) (ap (λ p. p.held) e.3) e.4 so_far
     acquired_on (ForWait wait outcome) arrival last e given so_far =
         subst (λ now. Comes (Await wait) now (back_with N wait.on wait outcome) next.held) (sym (same_course Made commits course refl e.4))
-        (comes_back (Await wait) course wait.mode wait.on wait.limits outcome next.held part.row refl (stands.free e.4 (no_writer wait.mode arrival part.word (subst (λ word. may_acquire wait.mode arrival word ≡ true) e.0 e.1))) (ap (λ p. p.held) e.3) given.1 so_far)
+        (comes_back (Await wait) course wait.mode wait.on wait.limits outcome next.held part.row refl (stands.free e.4 (no_writer wait.mode arrival part.word (subst (λ word. may_acquire wait.mode arrival word ≡ true) e.0 e.1))) (ap (λ p. p.held) e.3) given.1 given.0 so_far)
 
     acquires_on : (aim : Aim C) (place : AcquirePlace) (found : Found) → Effect truths seat (want_acquiring aim place) part found next commits → AimFits aim → AcquireSoFar truths seat aim course part.held →
         Comes (asked_of (InAcquire aim place)) (course_after found commits course) (got_acquiring N aim place found) next.held
@@ -458,7 +483,7 @@ module _ (C : Type 0) (N : ℕ) (truths : Truths C) (seat : ℕ) (row : List ℕ
         (λ b. met_comes mode c limits visit course part.held e.0 e.1 (sym e.2 ∙ b) fits.0 (stands.starts e.4 e.0 e.1) so_far)
         (λ b. unmet_comes mode c limits visit course part.held e.0 e.1 (sym e.2 ∙ b) fits.0 given (stands.starts e.4 e.0 e.1) so_far))
     tested_on mode (OnCondition c) limits visit i _ e fits given so_far = absurd e
-    tested_on mode (OnVariable k) limits visit i found e fits given so_far = absurd fits.2
+    tested_on mode (OnVariables variables) limits visit i found e fits given so_far = absurd fits.2
 
     -- a wait looks before it queues
     looks_on : (mode : Mode) (on : Subject C) (limits : Limits) (again : Bool) (shown : Option Cause) → let wait : Wait C = record { mode = mode; on = on; limits = limits } in
@@ -468,13 +493,13 @@ module _ (C : Type 0) (N : ℕ) (truths : Truths C) (seat : ℕ) (row : List ℕ
       where
         looked : (on : Subject C) → HasLookedFor on limits (Some None)
         looked (OnCondition c) = λ limited. refl
-        looked (OnVariable k) = tt
+        looked (OnVariables variables) = tt
     looks_on mode on limits true None e can for so_far = (still_left (record { mode = mode; on = on; limits = limits }) None (Looked None) commits course e.2 so_far, looked on)
       where
         looked : (on : Subject C) → HasLookedFor on limits (Some None)
         looked (OnCondition c) = λ limited. refl
-        looked (OnVariable k) = tt
-    looks_on mode (OnVariable k) limits again (Some cause) e can for so_far = absurd for
+        looked (OnVariables variables) = tt
+    looks_on mode (OnVariables variables) limits again (Some cause) e can for so_far = absurd for
     looks_on mode (OnCondition c) limits again (Some cause) e can for so_far = go part.held refl can
       where
         wait : Wait C
@@ -510,7 +535,8 @@ module _ (C : Type 0) (N : ℕ) (truths : Truths C) (seat : ℕ) (row : List ℕ
       where
         untold : (on : Subject C) → [] ≡ left_by {C = C} {N = N} seat on None
         untold (OnCondition c) = refl
-        untold (OnVariable k) = refl
+        untold (OnVariables (Only k)) = refl
+        untold (OnVariables (Any cvs)) = refl
 
     queues_on : (wait : Wait C) (again : Bool) (place : QueuePlace) (found : Found) → Effect truths seat (want_queuing wait again place) part found next commits → CanWait truths wait again part.held → QueueFits N wait.on place →
         QueuesSoFar truths seat wait again course part.held × QueuesAfter wait place course.looked → Comes (Await wait) (course_after found commits course) (got_queuing N wait again place found) next.held
@@ -533,27 +559,35 @@ module _ (C : Type 0) (N : ℕ) (truths : Truths C) (seat : ℕ) (row : List ℕ
         same : stands_at seat (home_of on) part.lists ≡ stood
         same = let found : Left (stands_at seat (home_of on) part.lists) ≡ Left stood = e.0 in cc
 
+        untold : (variables : Variables) → [] ≡ left_by {C = C} {N = N} seat (OnVariables variables) None
+        untold (Only k) = refl
+        untold (Any cvs) = refl
+
+        left_of : (variables : Variables) → leave_of {C = C} {N = N} seat (AtVariables variables) true ≡ left_by seat (OnVariables variables) (Some cause)
+        left_of (Only k) = refl
+        left_of (Any cvs) = refl
+
         go : (stood : Bool) (on : Subject C) → commits ≡ leave_of seat (home_of on) stood → HasLeft truths seat (record { mode = mode; on = on; limits = limits }) None course →
             Comes (Await (record { mode = mode; on = on; limits = limits })) (course_after (Left stood) commits course) (got_leaving (record { mode = mode; on = on; limits = limits }) cause (Leave last) (Left stood)) next.held
         go true (OnCondition c) silent left = record { left = still_left (record { mode = mode; on = OnCondition c; limits = limits }) (Some cause) (Left true) commits course silent (record { was = left.was; began = left.began; mode = left.mode; unmet = left.unmet; committed = left.committed }); shown = so_far.1 }
-        go true (OnVariable k) told left = record {
+        go true (OnVariables variables) told left = record {
           left = record {
             was = left.was;
             began = left.began;
             mode = left.mode;
             unmet = left.unmet;
-            committed = ap (λ events. course.committed ++ events) told ∙ ap (λ events. events ++ (TheEvent.Leave seat k ∷ [])) left.committed;
+            committed = ap (λ events. course.committed ++ events) (told ∙ left_of variables) ∙ ap (λ events. events ++ left_by {C = C} {N = N} seat (OnVariables variables) (Some cause)) (left.committed ∙ ap (λ events. section_of truths.holds seat left.was (exit_for {C = C} (OnVariables variables)) ∷ events) (sym (untold variables)));
           };
           shown = so_far.1;
         }
         go false (OnCondition c) silent left = (still_left (record { mode = mode; on = OnCondition c; limits = limits }) None (Left false) commits course silent left, so_far.1)
-        go false (OnVariable k) silent left = (still_left (record { mode = mode; on = OnVariable k; limits = limits }) None (Left false) commits course silent left, so_far.1)
+        go false (OnVariables variables) silent left = (still_left (record { mode = mode; on = OnVariables variables; limits = limits }) None (Left false) commits course (silent ∙ not_left C N seat (AtVariables variables)) left, so_far.1)
 
     -- one that was taken from its list before it could leave: a wait for a condition was ended all the same
     taken_comes : (mode : Mode) (on : Subject C) (limits : Limits) (cause : Cause) (flag : ℕ) → let wait : Wait C = record { mode = mode; on = on; limits = limits } in
         HasLeft truths seat wait None course × (course.looked ≡ Some (Some cause)) → IsComing truths seat wait (outcome_taken on cause flag) course
     taken_comes mode (OnCondition c) limits cause flag so_far = record { left = record { was = so_far.0.was; began = so_far.0.began; mode = so_far.0.mode; unmet = so_far.0.unmet; committed = so_far.0.committed }; shown = so_far.1 }
-    taken_comes mode (OnVariable k) limits cause flag so_far = record { left = so_far.0; shown = tt }
+    taken_comes mode (OnVariables variables) limits cause flag so_far = record { left = so_far.0; shown = tt }
 
     leaves_on : (wait : Wait C) (cause : Cause) (place : LeavePlace) (found : Found) → Effect truths seat (want_leaving wait place) part found next commits → HasLeft truths seat wait None course × (course.looked ≡ Some (Some cause)) →
         Comes (Await wait) (course_after found commits course) (got_leaving wait cause place found) next.held
@@ -664,9 +698,9 @@ begins_unchanged C N truths seat held walk first = go walk first where
   go (InWait wait (TestCells OnEntry i)) first = none_yet
   go (InWait wait (TestLast OnEntry i)) first = none_yet
   go (InWait wait (InQueuing again Load)) first = queued wait again first.0 (variable wait.on first.1) where
-    variable : (on : Subject C) → IsForVariable on → HasLookedFor on wait.limits None
+    variable : (on : Subject C) → IsForVariables on → HasLookedFor on wait.limits None
     variable (OnCondition c) for = absurd for
-    variable (OnVariable k) for = tt
+    variable (OnVariables variables) for = tt
 
     queued : (wait : Wait C) (again : Bool) → again ≡ false → HasLookedFor wait.on wait.limits None → SoFar truths seat (course_from held) (InWait wait (InQueuing again Load)) held
     queued wait true e looked = absurd (cc)

@@ -1,15 +1,15 @@
 -- A step keeps the law: which kind of step it is, by the place in the walk and what was found.
-use Rattle.std.proofs.Common.{◌≡◌, ◌⊎◌, inl, inr, ℕ, ◌+◌, ◌<◌, ◌≤◌, Bool, true, false, not, cond, eqb, ltb, ◌&&◌, ◌||◌, List, [], ◌∷◌, ◌++◌, Option, None, Some, is_some, slice_set, refl, ap, sym, ◌∙◌, subst, arith, eq-eqb}
+use Rattle.std.proofs.Common.{◌≡◌, ◌≢◌, ◌⊎◌, inl, inr, ℕ, zero, suc, ◌+◌, ◌<◌, ◌≤◌, Bool, true, false, not, cond, eqb, ltb, ◌&&◌, ◌||◌, List, [], ◌∷◌, ◌++◌, Option, None, Some, is_some, slice_set, refl, ap, sym, ◌∙◌, subst, arith, eq-eqb}
 use Rattle.std.proofs.lemmas.Bool.{eqb-true, ltb-true, both_ways}
 use Rattle.std.specs.List.{sum_by}
 use Rattle.std.proofs.lemmas.List.{append-nil}
 use Rattle.ns_model.specs.declared.event.Mode.{Mode}
 use Rattle.ns_model.specs.declared.event.Mode.TheVariants.{Write, Read}
 use Rattle.ns_model.specs.declared.event.Exit.{Exit}
-use Rattle.ns_model.specs.declared.event.Exit.TheVariants.{Plain, CondWait, CvWait}
+use Rattle.ns_model.specs.declared.event.Exit.TheVariants.{Plain, CondWait}
 use Rattle.ns_model.specs.declared.event.Event.{Event}
-use Rattle.ns_model.specs.declared.event.Event.TheVariants as TheEvent
 use Rattle.ns_model.specs.declared.phase.Phase.{Phase}
+use Rattle.ns_model.specs.Cvs.{has}
 use Rattle.ns_model.specs.declared.cvs.Variables.{Variables}
 use Rattle.ns_model.specs.declared.cvs.Variables.TheVariants.{Any, Only}
 use Rattle.ns_model.specs.declared.phase.Phase.TheVariants.{Cond, Waiting, Woken}
@@ -27,7 +27,7 @@ use Rattle.ns_queue.specs.Signals.{taken_set}
 use Rattle.ns_queue.specs.Wakes.{AreWaiting, woken_phases}
 use Rattle.ns_queue.proofs.Taken.{times_signaled, every_signaled}
 use Rattle.ns_queue.proofs.Wakes.{signal_legal, broadcast_legal}
-use Rattle.ns_word.specs.Owed.{Tells, called_of, is_from_lock, times_among, wakes_of}
+use Rattle.ns_word.specs.Owed.{Tells, called_of, is_from_lock, times_among, variable_told, wakes_of}
 use Rattle.ns_word.specs.declared.owed.Owed.{Owed}
 use Rattle.ns_word.specs.declared.word.Word.{Word}
 use Rattle.ns_word.specs.declared.word.Releasing.{Releasing}
@@ -39,7 +39,8 @@ use Rattle.ns_word.specs.declared.word.Taking.TheVariants.{ToChange, ToQueue}
 use Rattle.ns_env.specs.declared.limits.Limits.{Limits}
 use Rattle.ns_env.specs.declared.limits.Cause.{Cause}
 use Rattle.ns_word.specs.declared.wait.Subject.{Subject}
-use Rattle.ns_word.specs.declared.wait.Subject.TheVariants.{OnCondition, OnVariable}
+use Rattle.ns_word.specs.declared.wait.Outcome.{Outcome}
+use Rattle.ns_word.specs.declared.wait.Subject.TheVariants.{OnCondition, OnVariables}
 use Rattle.ns_word.specs.declared.wait.Outcome.TheVariants.{Ended}
 use Rattle.ns_word.specs.declared.wait.Visit.{Visit}
 use Rattle.ns_word.specs.declared.wait.Wait.{Wait}
@@ -71,18 +72,19 @@ use Rattle.ns_word.specs.declared.walk.Next.{Next}
 use Rattle.ns_word.specs.declared.walk.Next.TheVariants.{On, Idle}
 use Rattle.ns_word.specs.Words.{is_held, is_woken, tries_of, mode_released, releasing_of, may_acquire, needs_scan, word_acquired, word_released, word_taken, word_returned, word_released_returning}
 use Rattle.ns_word.specs.Lists.{counts_in, has_some, bits_of, queued, stands_at}
-use Rattle.ns_word.specs.Waits.{IsWokenBy, OutcomeFits, arrival_of, cause_in, home_of, mode_for, outcome_taken, phase_for, phase_kept, variable_by, woken_by}
+use Rattle.ns_word.specs.Waits.{OutcomeFits, arrival_of, cause_in, home_of, mode_for, outcome_taken, phase_for, phase_kept, woken_by}
 use Rattle.ns_word.specs.Walks.{want_waiting, want_signaling, want_showing, judge_of, want_of, got_waiting, got_leaving, got_signaling, got_showing, got_of, walk_after, acquired_for, armed_place, pay_waiting, pay_woken, rest_or_look, pay_releasing, wait_has_queues, place_awaits, has_queues, is_queuing, has_armed, waits_in, awaits, was_woken, calls_from_lock, pays, is_on_way, phase_by, expected_for}
 use Rattle.ns_word.specs.Views.{NoneIs}
 use Rattle.ns_model.specs.Truths.{Truths, QuietKeeps}
-use Rattle.ns_word.specs.Steps.{LockState, Part, Effect, Step, MayShow, section_of, opening_for, newly_held, held_after, flags_with, meets_at, with_lock, waited_in, taken_by, kept_by, moved_to, changed, moves, owed_after, change_found, wake_of, leave_of}
+use Rattle.ns_word.specs.Steps.{LockState, Part, Effect, Step, MayShow, exit_for, section_of, opening_for, newly_held, held_after, flags_with, meets_at, with_lock, waited_in, taken_by, kept_by, moved_to, changed, moves, owed_after, change_found, wake_of, leave_of}
 use Rattle.ns_word.specs.Seen.{HasNumber, word_seen}
 use Rattle.ns_word.specs.Places.{PlaceFits, IsInRange, HasMode, IsSettledBy, IsSettled, CanLeave, IsLeft, MayWait, CanWait, AimFits}
 use Rattle.ns_word.specs.Finds.{row_in}
-use Rattle.ns_word.specs.Lawful.{IsExpected, VariableWaiterFits, IsLawful, phase_before}
+use Rattle.ns_word.specs.Lawful.{IsExpected, IsToldSo, ToldOn, VariableWaiterFits, IsLawful, phase_before}
 use Rattle.ns_word.proofs.Groups.{Homed, Known, Groups, groups_of, lawful_by}
 use Rattle.ns_word.proofs.Knows.{nothing_called, rests as known_rests, takes as known_takes}
-use Rattle.ns_word.proofs.Views.{view_of, each_parts}
+use Rattle.ns_word.proofs.Views.{apart_parts, view_of, each_parts, walk_here}
+use Rattle.ns_word.proofs.Leaving.{left_event, left_told, not_left}
 use Rattle.ns_word.proofs.Variables.{are_waiting}
 use Rattle.ns_word.proofs.Owns.{long_eligible}
 use Rattle.ns_word.proofs.CountsIn.{counts_somewhere, cvs_left, out_of_cvs, out_of_lock}
@@ -118,11 +120,6 @@ left_mode Read = refl
 abbrev owes_in : Found → Bool
 owes_in (Woke owes) = owes
 owes_in _ = false
-
-not_left : {C : Type 0} {N : ℕ} (who : ℕ) (home : Home) → leave_of {C = C} {N = N} who home false ≡ []
-not_left who AtLock = refl
-not_left who (AtVariables (Only k)) = refl
-not_left who (AtVariables (Any cvs)) = refl
 
 -- what a call takes and what it leaves is all
 parts_of : {C : Type 0} (waking : Waking) (ws : List (Waiter C)) (seat : ℕ) → times_in seat (taken_by waking ws) + times_in seat (kept_by waking ws) ≡ times_in seat ws
@@ -168,26 +165,37 @@ way_seen walk aim tries v none e = go (is_from_lock v) refl where
   go true z = rw z refl
   go false z = absurd (not_way (was_woken walk) (awaits walk) (is_from_lock v) none z e)
 
--- the phase of a wait whose flag was seen cleared: one for a variable has been woken, if it waits no more
-seen_phase : {C : Type 0} (on : Subject C) (mode : Mode) (flag : ℕ) (ph : Phase C) → ((vs : Variables) (m : Mode) → ph ≡ Waiting vs m → ⊥) → IsExpected (expected_for on mode) ph → ph ≡ phase_kept on mode (woken_by on flag)
-seen_phase (OnCondition c) mode flag ph waits is = is
-seen_phase (OnVariable k) mode flag ph waits (inl is) = absurd (waits (Only k) mode is)
-seen_phase (OnVariable k) mode flag ph waits (inr by) = by.2 ∙ ap (λ j. Woken j mode) (sym (eqb-true k by.0 by.1))
+-- the variable that a flag tells
+told_number : (k : ℕ) → k < 4 → (variable_told (2 + k) ≡ k) × (variable_told (6 + k) ≡ k)
+told_number zero low = (refl, refl)
+told_number (suc zero) low = (refl, refl)
+told_number (suc (suc zero)) low = (refl, refl)
+told_number (suc (suc (suc zero))) low = (refl, refl)
+told_number (suc (suc (suc (suc k)))) low = absurd (omega (arith, low))
+
+told_variable : (k value : ℕ) → k < 4 → (value ≡ 2 + k) ⊎ (value ≡ 6 + k) → variable_told value ≡ k
+told_variable k value low (inl e) = ap variable_told e ∙ (told_number k low).0
+told_variable k value low (inr e) = ap variable_told e ∙ (told_number k low).1
+
+-- a wait that is told what is so comes back in the phase that goes with what came of it, and that goes with what it is for
+abbrev ComesSo : {C : Type 0} → Subject C → Mode → Phase C → Outcome → Type 0
+ComesSo on mode ph outcome = (IsExpected (expected_for on mode) ph → ph ≡ phase_kept on mode outcome) × OutcomeFits on outcome
+
+woken_so : {C : Type 0} (on : Subject C) (mode : Mode) (flag : ℕ) (ph : Phase C) → ToldOn (Some on) mode ph flag → ComesSo on mode ph (woken_by on flag)
+woken_so (OnCondition c) mode flag ph told = (λ is. is, refl)
+woken_so (OnVariables variables) mode flag ph told =
+    let number : told.0 ≡ variable_told flag = sym (told_variable told.0 flag told.3 told.4) in
+    (λ is. told.2 ∙ ap (λ j. Woken j mode) number, subst (λ j. has variables j ≡ true) number told.1)
 
 -- and so of one that was about to leave
-taken_phase : {C : Type 0} (on : Subject C) (mode : Mode) (cause : Cause) (flag : ℕ) (ph : Phase C) → ((vs : Variables) (m : Mode) → ph ≡ Waiting vs m → ⊥) → IsExpected (expected_for on mode) ph → ph ≡ phase_kept on mode (outcome_taken on cause flag)
-taken_phase (OnCondition c) mode cause flag ph waits is = is
-taken_phase (OnVariable k) mode cause flag ph waits is = seen_phase (OnVariable k) mode flag ph waits is
+taken_so : {C : Type 0} (on : Subject C) (mode : Mode) (cause : Cause) (flag : ℕ) (ph : Phase C) → ToldOn (Some on) mode ph flag → ComesSo on mode ph (outcome_taken on cause flag)
+taken_so (OnCondition c) mode cause flag ph told = (λ is. is, tt)
+taken_so (OnVariables variables) mode cause flag ph told = woken_so (OnVariables variables) mode flag ph told
 
--- what came of a wait that was woken goes with what it is for
-woken_fits : {C : Type 0} (on : Subject C) (flag : ℕ) → IsWokenBy on (variable_by on flag)
-woken_fits (OnCondition c) flag = refl
-woken_fits (OnVariable k) flag = refl
-
--- and so of one that was about to leave, which was given its cause
-taken_fits : {C : Type 0} (on : Subject C) (limits : Limits) (cause : Cause) (flag : ℕ) → MayShow limits (Some cause) → OutcomeFits on (outcome_taken on cause flag) × MayShow limits (cause_in (outcome_taken on cause flag))
-taken_fits (OnCondition c) limits cause flag given = (tt, given)
-taken_fits (OnVariable k) limits cause flag given = (refl, tt)
+-- it was given its cause, if that is kept
+taken_given : {C : Type 0} (on : Subject C) (limits : Limits) (cause : Cause) (flag : ℕ) → MayShow limits (Some cause) → MayShow limits (cause_in (outcome_taken on cause flag))
+taken_given (OnCondition c) limits cause flag given = given
+taken_given (OnVariables variables) limits cause flag given = tt
 
 module _ {C : Type 0} {N : ℕ} (truths : Truths C) (seats : ℕ) (h : List (Event C N)) (front : List (SeatView C N)) (who : ℕ) (back : List (SeatView C N)) where
   -- the state with this part of a seat's
@@ -242,14 +250,18 @@ module _ {C : Type 0} {N : ℕ} (truths : Truths C) (seats : ℕ) (h : List (Eve
   -- a seat looks at its flag: cleared, it goes on to acquire, as woken where it was taken from the lock list; else where it waits on
   checks : (walk : Walk C) (aim : Aim C) (tries : ℕ) (other : Next C) (v : ℕ) (b : Bool) (part next : Part C N) (commits : List (Event C N)) → eqb v 1 ≡ b → v ≡ part.flags who → next ≡ part → commits ≡ [] → part.held ≡ None →
       pays (Some walk) ≡ false → has_queues (Some walk) ≡ false → was_woken (Some walk) ≡ false → is_queuing (Some walk) ≡ false →
-      ((ph : Phase C) → ((vs : Variables) (mode : Mode) → ph ≡ Waiting vs mode → ⊥) → IsExpected (phase_by (Some walk)) ph → ph ≡ phase_for aim) → AimFits aim → Leads truths (Some walk) (walk_after other) part.held →
+      ((ph : Phase C) → IsToldSo (waits_in (Some walk)) ph v → (IsExpected (phase_by (Some walk)) ph → ph ≡ phase_for aim) × AimFits aim) → Leads truths (Some walk) (walk_after other) part.held →
       Groups truths seats h (at part (Some walk)) → Kept commits next (walk_after (cond b other (On (InAcquire aim (AcquireLoad (arrival_of tries v))))))
-  checks walk aim tries other v true part next commits z same e f none pay s w q phase given leads p = finds walk (walk_after other) part next commits e f pay leads p
-  checks walk aim tries other v false part next commits z same e f none pay s w q phase given leads p =
+  checks walk aim tries other v true part next commits z same e f none pay s w q so leads p = finds walk (walk_after other) part next commits e f pay leads p
+  checks walk aim tries other v false part next commits z same e f none pay s w q so leads p =
       let to : Option (Walk C) = Some (InAcquire aim (AcquireLoad (arrival_of tries v))) in
+      let view = view_of who (Some walk) part.held part.owed in
+      let clear : part.flags who ≢ 1 = λ one. absurd (both_ways (eqb v 1) z (eq-eqb v 1 (same ∙ one))) in
+      let stance = ap waits_in (walk_here front view back (apart_parts front view back p.safe.apart).0) in
+      let told = so ((standing_after h).phases who) (subst (λ flag. IsToldSo (waits_in (Some walk)) ((standing_after h).phases who) flag) (sym same) (subst (λ x. IsToldSo x ((standing_after h).phases who) (part.flags who)) stance (p.taken.flag who clear))) in
       moved to part next [] commits e f (subst (λ x. Groups truths seats (h ++ []) (at (record part { held = x }) to)) (sym none) (none_more _
-      (sees truths seats h front who (Some walk) to back part.word part.row part.lists part.flags part.owed (λ one. absurd (both_ways (eqb v 1) z (eq-eqb v 1 (same ∙ one)))) pay
-      (refl, tt, given) (sym pay) (sym s) refl refl refl (sym q) (subst (λ flag. is_on_way (Some walk) flag 0 ≡ true → is_on_way to flag 0 ≡ true) same (way_seen (Some walk) aim tries v w)) phase (with_held walk part None none p))))
+      (sees truths seats h front who (Some walk) to back part.word part.row part.lists part.flags part.owed clear pay
+      (refl, tt, told.1) (sym pay) (sym s) refl refl refl (sym q) (subst (λ flag. is_on_way (Some walk) flag 0 ≡ true → is_on_way to flag 0 ≡ true) same (way_seen (Some walk) aim tries v w)) told.0 (with_held walk part None none p))))
 
   -- the section in hand, with this as its mode
   in_its_mode : (walk : Walk C) (part : Part C N) (held : Held C N) (mode : Mode) → part.held ≡ Some held → held.mode ≡ mode → Groups truths seats h (at part (Some walk)) →
@@ -281,21 +293,21 @@ module _ {C : Type 0} {N : ℕ} (truths : Truths C) (seats : ℕ) (h : List (Eve
       (e ∙ (λ i. record part { word = word_returned false (bits_of (out i).lock) (same i); lists = out i }) ∙ ap (λ x. record part { word = word_returned false (bits_of lock) part.word; lists = with_lock part.lists lock; held = x }) none) f
       (none_more _ (withdraws truths seats h front who (Some (InWait wait (InLeaving cause (Leave last)))) (Some (InAcquire (ForWait wait (Ended cause)) (AcquireLoad AsFresh))) back part.word part.row part.lists part.flags part.owed refl
       (ltb-true 0 (times_in who part.lists.lock) stands) (refl, tt, (tt, given)) refl refl refl refl refl refl refl refl refl (with_held (InWait wait (InLeaving cause (Leave last))) part None none p)))
-  withdrawn mode (OnVariable k) limits cause last true part next commits stands same e f none given range few most p =
-      let wait : Wait C = record { mode = mode; on = OnVariable k; limits = limits } in
+  withdrawn mode (OnVariables variables) limits cause last true part next commits stands same e f none given range few most p =
+      let wait : Wait C = record { mode = mode; on = OnVariables variables; limits = limits } in
       let lists = cvs_left who part.lists in
       let here = ltb-true 0 (sum_by (times_in who) part.lists.cvs) stands in
       let out = out_of_cvs who part.lists (let there = counts_somewhere who part.lists here in omega (arith, there, most)) in
-      moved (Some (InAcquire (ForWait wait (Ended cause)) (AcquireLoad AsFresh))) (record part { word = word_returned false (bits_of part.lists.lock) part.word; lists = lists; held = None }) next (TheEvent.Leave who k ∷ []) commits
+      moved (Some (InAcquire (ForWait wait (Ended cause)) (AcquireLoad AsFresh))) (record part { word = word_returned false (bits_of part.lists.lock) part.word; lists = lists; held = None }) next (left_event who variables ∷ []) commits
       (e ∙ (λ i. record part { word = word_returned false (bits_of (out i).lock) (same i); lists = out i }) ∙ ap (λ x. record part { word = word_returned false (bits_of part.lists.lock) part.word; lists = lists; held = x }) none)
-      (f ∙ ap (leave_of who (AtVariables (Only k))) stands)
-      (leaves_variable truths seats h front who (Some (InWait wait (InLeaving cause (Leave last)))) (Some (InAcquire (ForWait wait (Ended cause)) (AcquireLoad AsFresh))) back k mode part.word part.row part.lists part.flags part.owed few refl
+      (f ∙ ap (leave_of who (AtVariables variables)) stands ∙ left_told C N who variables)
+      (leaves_variable truths seats h front who (Some (InWait wait (InLeaving cause (Leave last)))) (Some (InAcquire (ForWait wait (Ended cause)) (AcquireLoad AsFresh))) back variables mode part.word part.row part.lists part.flags part.owed few refl
       here refl (refl, tt, (tt, given)) refl refl refl refl refl refl refl refl refl (with_held (InWait wait (InLeaving cause (Leave last))) part None none p))
   withdrawn mode on limits cause last false part next commits stands same e f none given range few most p =
       let wait : Wait C = record { mode = mode; on = on; limits = limits } in
       moved (Some (InWait wait (InLeaving cause AwaitWakeToLeave))) (record part { word = word_returned false (bits_of part.lists.lock) part.word }) next [] commits
       (e ∙ ap (λ word. record part { word = word_returned false (bits_of part.lists.lock) word }) same)
-      (f ∙ ap (leave_of who (home_of on)) stands ∙ not_left who (home_of on))
+      (f ∙ ap (leave_of who (home_of on)) stands ∙ not_left C N who (home_of on))
       (none_more _ (returns truths seats h front who (Some (InWait wait (InLeaving cause (Leave last)))) (Some (InWait wait (InLeaving cause AwaitWakeToLeave))) back part.word part.row part.lists part.flags part.held part.owed refl
       ((none, tt, range), given) refl refl refl refl refl refl refl (λ flag n g. g) (λ n. refl) p))
 
@@ -317,8 +329,8 @@ module _ {C : Type 0} {N : ℕ} (truths : Truths C) (seats : ℕ) (h : List (Eve
       let wait : Wait C = record { mode = mode; on = OnCondition c; limits = limits } in
       finds (InWait wait (TestLast visit i)) _ part next commits e.3 e.4 refl (met_leads truths wait c visit part.held is_met refl (place (InWait wait (TestLast visit i)) part p).0.0 (ap (λ x. truths.holds c (row_in x)) e.1 ∙ sym e.2)) p
   tested mode (OnCondition c) limits visit i _ part next commits e p = absurd e
-  tested mode (OnVariable k) limits visit i found part next commits e p =
-      absurd ((place (InWait (record { mode = mode; on = OnVariable k; limits = limits }) (TestLast visit i)) part p).0.2)
+  tested mode (OnVariables variables) limits visit i found part next commits e p =
+      absurd ((place (InWait (record { mode = mode; on = OnVariables variables; limits = limits }) (TestLast visit i)) part p).0.2)
 
   -- what a wait puts back that queues, where this is the word
   abbrev put_back : Wait C → Bool → Part C N → Word → Part C N
@@ -350,18 +362,18 @@ module _ {C : Type 0} {N : ℕ} (truths : Truths C) (seats : ℕ) (h : List (Eve
       (none_more _ (waits_on truths seats h front who (Some walk) (walk_after (pay_waiting wait owes)) back (releasing_of mode) mode c true part.word part.row part.lists part.flags held.entry held.before held.row part.owed
       may.unmet (left_mode mode) back_from.cells (ap (λ entry. phase_before mode entry) back_from.entry) (subst (λ x. IsExpected x (Cond c mode)) (sym to.7) refl) (to.0 refl tt) refl (to.1 ∙ e.5) to.6 refl to.2 refl to.3 refl to.4 to.5 (λ flag n. refl)
       (in_its_mode walk part held mode e.1 e.2 p)))
-  queued_up mode (OnVariable k) limits false last owes tests part next commits few e p =
-      let wait : Wait C = record { mode = mode; on = OnVariable k; limits = limits } in
+  queued_up mode (OnVariables variables) limits false last owes tests part next commits few e p =
+      let wait : Wait C = record { mode = mode; on = OnVariables variables; limits = limits } in
       let held = e.0 in
       let walk = InWait wait (InQueuing false (QueueToWait last)) in
       let to = pay_waiting_leads {C = C} {N = N} truths wait None owes in
       let may : MayWait truths wait false held = subst (λ x. CanWait truths wait false x) e.1 (place walk part p).0.0 in
-      moved (walk_after (pay_waiting wait owes)) (put_back wait false part part.word) next (section_of truths.holds who (section mode held.entry held.before held.row) (CvWait k) ∷ []) commits
-      (e.4 ∙ ap (put_back wait false part) e.3) (said_of held mode (CvWait k) commits e.2 e.7)
-      (waits_for truths seats h front who (Some walk) (walk_after (pay_waiting wait owes)) back (releasing_of mode) mode k part.word part.row part.lists part.flags held.entry held.before held.row part.owed few may.unmet (may.settled refl)
-      (left_mode mode) (subst (λ x. IsExpected x (Waiting (Only k) mode)) (sym to.7) (inl refl)) (to.0 refl may.unmet) refl (to.1 ∙ e.5) to.6 refl to.2 refl to.3 refl to.4 to.5 (λ flag n. refl) (in_its_mode walk part held mode e.1 e.2 p))
-  queued_up mode (OnVariable k) limits true last owes tests part next commits few e p =
-      let wait : Wait C = record { mode = mode; on = OnVariable k; limits = limits } in
+      moved (walk_after (pay_waiting wait owes)) (put_back wait false part part.word) next (section_of truths.holds who (section mode held.entry held.before held.row) (exit_for (OnVariables variables)) ∷ []) commits
+      (e.4 ∙ ap (put_back wait false part) e.3) (said_of held mode (exit_for (OnVariables variables)) commits e.2 e.7)
+      (waits_for truths seats h front who (Some walk) (walk_after (pay_waiting wait owes)) back (releasing_of mode) mode variables part.word part.row part.lists part.flags held.entry held.before held.row part.owed few may.unmet (may.settled refl)
+      (left_mode mode) (subst (λ x. IsExpected x (Waiting variables mode)) (sym to.7) (inl refl)) (to.0 refl may.unmet) refl (to.1 ∙ e.5) to.6 refl to.2 refl to.3 refl to.4 to.5 (λ flag n. refl) (in_its_mode walk part held mode e.1 e.2 p))
+  queued_up mode (OnVariables variables) limits true last owes tests part next commits few e p =
+      let wait : Wait C = record { mode = mode; on = OnVariables variables; limits = limits } in
       let walk = InWait wait (InQueuing true (QueueToWait last)) in
       let may : MayWait truths wait true e.0 = subst (λ x. CanWait truths wait true x) e.1 (place walk part p).0.0 in
       absurd ((may.back refl).0)
@@ -473,11 +485,11 @@ module _ {C : Type 0} {N : ℕ} (truths : Truths C) (seats : ℕ) (h : List (Eve
   -- it looks at its flag
   by_wait wait AwaitWakeInWait (Flag v) part next commits few some e p =
       let here = (place (InWait wait AwaitWakeInWait) part p).0 in
-      checks (InWait wait AwaitWakeInWait) (ForWait wait (woken_by wait.on v)) 0 (rest_or_look wait) v (eqb v 1) part next commits refl e.0 e.1 e.2 here.0 refl refl refl refl (seen_phase wait.on wait.mode v) (woken_fits wait.on v, tt) (rest_leads truths wait part.held here.0 here.1) p
+      checks (InWait wait AwaitWakeInWait) (ForWait wait (woken_by wait.on v)) 0 (rest_or_look wait) v (eqb v 1) part next commits refl e.0 e.1 e.2 here.0 refl refl refl refl (λ ph told. let is = woken_so wait.on wait.mode v ph told in (is.0, (is.1, tt))) (rest_leads truths wait part.held here.0 here.1) p
   by_wait wait (InLeaving cause AwaitWakeToLeave) (Flag v) part next commits few some e p =
       let here = place (InWait wait (InLeaving cause AwaitWakeToLeave)) part p in
       checks (InWait wait (InLeaving cause AwaitWakeToLeave)) (ForWait wait (outcome_taken wait.on cause v)) 0 (Idle (InWait wait (InLeaving cause AwaitWakeToLeave))) v (eqb v 1) part next commits refl e.0 e.1 e.2 here.0.0 refl refl refl refl
-      (taken_phase wait.on wait.mode cause v) (taken_fits wait.on wait.limits cause v here.1) (here, (refl, refl, refl, refl), refl, λ flag n f. f, λ none. refl) p
+      (λ ph told. let is = taken_so wait.on wait.mode cause v ph told in (is.0, (is.1, taken_given wait.on wait.limits cause v here.1))) (here, (refl, refl, refl, refl), refl, λ flag n f. f, λ none. refl) p
   -- it leaves
   by_wait wait (InLeaving cause (Leave last)) (Left stood) part next commits few some e p =
       let here = place (InWait wait (InLeaving cause (Leave last))) part p in
@@ -617,7 +629,7 @@ module _ {C : Type 0} {N : ℕ} (truths : Truths C) (seats : ℕ) (h : List (Eve
   by_walk (InAcquire aim (Queue arrival last)) (Woke owes) part next commits few some quiet e p = let never : Made ≡ Woke owes = e.0 in absurd (cc)
   by_walk (InAcquire aim (AwaitWake tries)) (Flag v) part next commits few some quiet e p =
       let here = place (InAcquire aim (AwaitWake tries)) part p in
-      checks (InAcquire aim (AwaitWake tries)) aim tries (Idle (InAcquire aim (AwaitWake tries))) v (eqb v 1) part next commits refl e.0 e.1 e.2 here.0 refl refl refl refl (λ ph n is. is) here.2 (here, (refl, refl, refl, refl), refl, λ flag n f. f, λ none. refl) p
+      checks (InAcquire aim (AwaitWake tries)) aim tries (Idle (InAcquire aim (AwaitWake tries))) v (eqb v 1) part next commits refl e.0 e.1 e.2 here.0 refl refl refl refl (λ ph told. (λ is. is, here.2)) (here, (refl, refl, refl, refl), refl, λ flag n f. f, λ none. refl) p
   -- a release with a scan
   by_walk (InRelease releasing (ScanAndRelease last)) (Scanned owes tests) part next commits few some quiet e p =
       let held = e.0 in

@@ -6,16 +6,15 @@ use Rattle.std.proofs.lemmas.Bool.{ne_eqb, eqb-true, and_parts, not-true, both_w
 use Rattle.ns_model.specs.declared.event.Mode.{Mode}
 use Rattle.ns_model.specs.declared.event.Mode.TheVariants.{Write, Read}
 use Rattle.ns_model.specs.declared.event.Exit.{Exit}
-use Rattle.ns_model.specs.declared.event.Exit.TheVariants.{Plain, CondWait, CvWait}
+use Rattle.ns_model.specs.declared.event.Exit.TheVariants.{Plain, CondWait}
 use Rattle.ns_model.specs.declared.event.Event.{Event}
-use Rattle.ns_model.specs.declared.event.Event.TheVariants.{Leave}
 use Rattle.ns_model.specs.declared.phase.Phase.{Phase}
 use Rattle.ns_model.specs.declared.cvs.Variables.{Variables}
-use Rattle.ns_model.specs.declared.cvs.Variables.TheVariants.{Only}
+use Rattle.ns_model.specs.declared.cvs.Variables.TheVariants.{Any, Only}
 use Rattle.ns_model.specs.declared.phase.Phase.TheVariants.{Idle, Cond, Waiting, Left}
 use Rattle.ns_model.specs.Phases.{woken_phase, left_phase}
 use Rattle.ns_model.specs.Seats.{is_in}
-use Rattle.ns_model.specs.Sections.{phase_after}
+use Rattle.ns_model.specs.Sections.{ExitFits, phase_after}
 use Rattle.ns_model.specs.Histories.{Standing, first_standing, standing_after, standing_next, IsLegalEvent, who_of}
 use Rattle.ns_model.specs.Tallies.{one_if, Every}
 use Rattle.ns_model.proofs.Tallies.{one_most}
@@ -23,7 +22,7 @@ use Rattle.ns_model.specs.Truths.{Truths}
 use Rattle.ns_model.proofs.Histories.{standing_from-append}
 use Rattle.ns_queue.specs.declared.waiter.Waiter.{Waiter}
 use Rattle.ns_queue.specs.declared.waiter.Which.TheVariants.{Cv}
-use Rattle.ns_queue.specs.Queues.{Lists, cvs_without, times, waiters_of, with_waiters}
+use Rattle.ns_queue.specs.Queues.{Lists, cvs_without, times, waiters_of}
 use Rattle.ns_queue.specs.Waiters.{outside, times_in, without_in, is_of}
 use Rattle.ns_queue.specs.Scans.{woken_of, left_of}
 use Rattle.ns_queue.specs.Signals.{taken_set}
@@ -31,7 +30,7 @@ use Rattle.ns_queue.specs.Wakes.{woken_phases}
 use Rattle.ns_queue.proofs.Seats.{times_in-cons, times_in-append}
 use Rattle.ns_queue.proofs.Taken.{in_stands}
 use Rattle.ns_queue.proofs.Wakes.{stands_waits}
-use Rattle.ns_queue.proofs.Parts.{four_kept, times_at_most}
+use Rattle.ns_queue.proofs.Parts.{times_at_most}
 use Rattle.ns_word.specs.Owed.{Tells, called_of, times_among, wakes_of}
 use Rattle.ns_word.specs.declared.owed.Owed.{Owed}
 use Rattle.ns_word.specs.declared.word.Word.{Word}
@@ -41,7 +40,7 @@ use Rattle.ns_word.specs.declared.word.Arrival.{Arrival}
 use Rattle.ns_word.specs.declared.word.Taking.{Taking}
 use Rattle.ns_word.specs.declared.word.Taking.TheVariants.{ToChange, ToQueue}
 use Rattle.ns_word.specs.declared.wait.Subject.{Subject}
-use Rattle.ns_word.specs.declared.wait.Subject.TheVariants.{OnCondition, OnVariable}
+use Rattle.ns_word.specs.declared.wait.Subject.TheVariants.{OnCondition, OnVariables}
 use Rattle.ns_word.specs.declared.view.Opening.{Opening}
 use Rattle.ns_word.specs.declared.view.Held.{Held}
 use Rattle.ns_word.specs.declared.view.SeatView.{SeatView}
@@ -50,20 +49,22 @@ use Rattle.ns_word.specs.Words.{is_held, is_woken, tries_of, mode_released, may_
 use Rattle.ns_word.specs.Lists.{counts_in, has_some, has_eligible, bits_of, queued}
 use Rattle.ns_word.specs.Walks.{Stance, has_queues, is_queuing, has_armed, waits_in, awaits, pays, was_woken, calls_from_lock, is_on_way, phase_by}
 use Rattle.ns_word.specs.Views.{called_to, owed_to, walk_at, NoneIs}
-use Rattle.ns_word.specs.Steps.{LockState, section_of, flags_with, meets_at, with_lock}
-use Rattle.ns_word.specs.Places.{IsSettledBy, PlaceFits}
+use Rattle.ns_word.specs.Steps.{LockState, exit_for, section_of, flags_with, meets_at, waits_at, with_lock}
+use Rattle.ns_word.specs.Places.{AreVariables, IsSettledBy, PlaceFits}
 use Rattle.ns_word.specs.Lawful.{IsNamed, OwesAs, TakenTold, WaiterNames, WaitersPlaced, IsExpected, is_armed, is_unwoken, ViewFits, WaitersOwn, VariableWaiterFits, VariablesTell, lock_stance, bits_in, phase_before}
 use Rattle.ns_word.proofs.Groups.{Safe, Homed, Known, Groups}
 use Rattle.ns_word.proofs.Knows.{bool_cases, is_loud, due_flag, nothing_called, rests as known_rests, acquires as known_acquires, arms as known_arms, puts, withdraws as known_withdraws, moves_in as known_moves, releases as known_releases, scans as known_scans, pays_one as known_pays, sees_wake as known_sees}
 use Rattle.ns_word.proofs.Views.{view_of, apart_parts, each_parts, called_most, walk_here}
 use Rattle.ns_word.proofs.Waits.{not_due, cleared, placed_here, rested, armed, taken, entered, withdraws as withdrawn, woke, seen}
 use Rattle.ns_word.proofs.Owns.{own_stays, own_same, nowhere, own_queued, own_scanned, own_waited, own_without, own_moved}
-use Rattle.ns_word.proofs.CountsIn.{counts_entered, counts_gone, counts_lock, counts_none, counts_others, counts_somewhere, counts_taken, cvs_left, once_entered, once_left, once_taken, some_list}
+use Rattle.ns_word.proofs.CountsIn.{counts_gone, counts_lock, counts_none, counts_others, counts_somewhere, counts_taken, cvs_left, once_left, once_taken, some_list}
 use Rattle.ns_word.proofs.TakenTold.{left_stays, listed_left, listed_queued, listed_without, listed_woken, same_stays, told_arms, told_enters, told_pays, told_stays, told_wakes}
 use Rattle.ns_word.proofs.Variables.{one_of, tell_same, tell_moves, tell_enters, tell_leaves, tell_lists, tell_taken, waits_of}
 use Rattle.ns_word.proofs.Scans.{calls_tell, tells_clear, tells_few, tells_from, times_wakes, wakes_tell, times_queued, times_seats, times_scan, times_without, times_others, filter_eligible, queued_eligible}
+use Rattle.ns_word.proofs.Enters.{counts_entered, entered_at, once_entered}
+use Rattle.ns_word.proofs.Leaving.{left_event, left_next_here, left_next_there, left_row}
 use Rattle.ns_word.proofs.Homes.{at_home, away, back_home}
-use Rattle.ns_word.proofs.Safes.{section, SameSection, same_section, unchanged, unchanged_by, woken, left_variable, acquired_write, acquired_read, stored, released, dropped, left_by}
+use Rattle.ns_word.proofs.Safes.{section, SameSection, same_section, unchanged, unchanged_by, woken, left_variables, acquired_write, acquired_read, stored, released, dropped, left_by}
 
 -- the places tell the same
 abbrev pub Same : {C : Type 0} → Option (Walk C) → Option (Walk C) → Type 0
@@ -139,14 +140,23 @@ abbrev stance_mode : {C : Type 0} → Option (Stance C) → Mode
 stance_mode None = Write
 stance_mode (Some stance) = stance.mode
 
--- and for which variable, if it is for one
-abbrev variable_on : {C : Type 0} → Option (Subject C) → ℕ
-variable_on (Some (OnVariable k)) = k
-variable_on on = 0
+-- and for which variables, if it is for any
+abbrev variables_on : {C : Type 0} → Option (Subject C) → Variables
+variables_on (Some (OnVariables variables)) = variables
+variables_on on = Only 0
 
-abbrev stance_variable : {C : Type 0} → Option (Stance C) → ℕ
-stance_variable None = 0
-stance_variable (Some stance) = variable_on stance.on
+abbrev stance_variables : {C : Type 0} → Option (Stance C) → Variables
+stance_variables None = Only 0
+stance_variables (Some stance) = variables_on stance.on
+
+-- a section that ends with a wait for variables may end so, and leaves its seat waiting for them
+exit_fits : {C : Type 0} (holds : C → List ℕ → Bool) (after : List ℕ) (variables : Variables) → ExitFits holds after (exit_for {C = C} (OnVariables variables))
+exit_fits holds after (Only k) = tt
+exit_fits holds after (Any cvs) = tt
+
+after_exit : {C : Type 0} (mode : Mode) (variables : Variables) → phase_after mode (exit_for {C = C} (OnVariables variables)) ≡ Waiting variables mode
+after_exit mode (Only k) = refl
+after_exit mode (Any cvs) = refl
 
 pub none_of : {A : Type 0} (xs : List A) → has_some xs ≡ false → xs ≡ []
 none_of [] e = refl
@@ -285,12 +295,12 @@ module _ {C : Type 0} {N : ℕ} (truths : Truths C) (seats : ℕ) (h : List (Eve
   phases_here : (held : Held C N) (exit : Exit C) → (standing_after (h ++ section_of truths.holds who held exit ∷ [])).phases who ≡ phase_after held.mode exit
   phases_here held exit = ap (λ (s : Standing C). s.phases who) (left_by truths seats h who held exit) ∙ rw (eq-eqb who who refl) refl
 
-  -- the phases after the seat has left a variable
-  left_there : (k seat : ℕ) → who ≢ seat → (standing_after (h ++ Leave who k ∷ [])).phases seat ≡ (standing_after h).phases seat
-  left_there k seat ne = ap (λ (s : Standing C). s.phases seat) (standing_from-append (first_standing N) h (Leave who k ∷ [])) ∙ ap (λ b. cond b (left_phase ((standing_after h).phases seat)) ((standing_after h).phases seat)) (ne_eqb who seat ne)
+  -- the phases after the seat has left its variables
+  left_there : (variables : Variables) (seat : ℕ) → who ≢ seat → (standing_after (h ++ left_event who variables ∷ [])).phases seat ≡ (standing_after h).phases seat
+  left_there variables seat ne = ap (λ (s : Standing C). s.phases seat) (standing_from-append (first_standing N) h (left_event who variables ∷ [])) ∙ left_next_there C N who variables (standing_after h) seat ne
 
-  left_here : (k : ℕ) (mode : Mode) → (standing_after h).phases who ≡ Waiting (Only k) mode → (standing_after (h ++ Leave who k ∷ [])).phases who ≡ Left (Only k) mode
-  left_here k mode was = ap (λ (s : Standing C). s.phases who) (standing_from-append (first_standing N) h (Leave who k ∷ [])) ∙ ap (λ b. cond b (left_phase ((standing_after h).phases who)) ((standing_after h).phases who)) (eq-eqb who who refl) ∙ ap left_phase was
+  left_here : (variables : Variables) (mode : Mode) → (standing_after h).phases who ≡ Waiting variables mode → (standing_after (h ++ left_event who variables ∷ [])).phases who ≡ Left variables mode
+  left_here variables mode was = ap (λ (s : Standing C). s.phases who) (standing_from-append (first_standing N) h (left_event who variables ∷ [])) ∙ left_next_here C N who variables (standing_after h) ∙ ap left_phase was
 
   -- a release without a scan
   pub releases : (releasing : Releasing) (word : Word) (row : List ℕ) (lists : Lists C) (flags : ℕ → ℕ) (entry : Opening C) (before cells : List ℕ) (owed : List Owed) → pays walk ≡ false → awaits walk ≡ false → seats ≤ 64 → IsSettledBy truths.holds before entry → IsExpected (phase_by walk') Idle →
@@ -432,11 +442,11 @@ module _ {C : Type 0} {N : ℕ} (truths : Truths C) (seats : ℕ) (h : List (Eve
       }
 
   -- a seat that leaves takes itself out of the lists of variables, and commits that
-  pub leaves : (k : ℕ) (mode : Mode) (word : Word) (row : List ℕ) (lists : Lists C) (flags : ℕ → ℕ) (owed : List Owed) → seats ≤ 64 → pays walk ≡ false → 1 ≤ sum_by (times_in who) lists.cvs → waits_in walk ≡ Some (record { mode = mode; on = Some (OnVariable k); tries = 0 }) →
-      PlaceFits {C = C} {N = N} truths walk' None → pays walk' ≡ pays walk → has_queues walk ≡ true → has_queues walk' ≡ false → has_armed walk' ≡ false → is_queuing walk ≡ false → is_queuing walk' ≡ false → awaits walk' ≡ false → is_on_way walk 1 0 ≡ false → IsExpected (phase_by walk') (Left (Only k) mode) →
+  pub leaves : (variables : Variables) (mode : Mode) (word : Word) (row : List ℕ) (lists : Lists C) (flags : ℕ → ℕ) (owed : List Owed) → seats ≤ 64 → pays walk ≡ false → 1 ≤ sum_by (times_in who) lists.cvs → waits_in walk ≡ Some (record { mode = mode; on = Some (OnVariables variables); tries = 0 }) →
+      PlaceFits {C = C} {N = N} truths walk' None → pays walk' ≡ pays walk → has_queues walk ≡ true → has_queues walk' ≡ false → has_armed walk' ≡ false → is_queuing walk ≡ false → is_queuing walk' ≡ false → awaits walk' ≡ false → is_on_way walk 1 0 ≡ false → IsExpected (phase_by walk') (Left variables mode) →
       let lists' = cvs_left who lists in
-      Groups truths seats h (st walk word row lists flags None owed) → Groups truths seats (h ++ Leave who k ∷ []) (st walk' (word_returned false (bits_of lists.lock) word) row lists' flags None owed)
-  leaves k mode word row lists flags owed few idle stood wait place pay s s' set' q q' a' o phase p =
+      Groups truths seats h (st walk word row lists flags None owed) → Groups truths seats (h ++ left_event who variables ∷ []) (st walk' (word_returned false (bits_of lists.lock) word) row lists' flags None owed)
+  leaves variables mode word row lists flags owed few idle stood wait place pay s s' set' q q' a' o phase p =
       let fit = fits word row None owed p.safe in
       let apart = others word row None owed p.safe in
       let lists' = cvs_left who lists in
@@ -448,20 +458,20 @@ module _ {C : Type 0} {N : ℕ} (truths : Truths C) (seats : ℕ) (h : List (Eve
       let flag : flags who ≡ 1 = due_flag walk (flags who) (omega (arith, here, most, there)) in
       let unowed : called_to who (front ++ view_of who walk None owed ∷ back) ≡ 0 = let less = called_most who (front ++ view_of who walk None owed ∷ back) in omega (arith, here, most, there, less) in
       let waiter = one_of (VariableWaiterFits (standing_after h).phases (front ++ view_of who walk None owed ∷ back) list.0) who (waiters_of lists (Cv list.0)) list.2 (p.told.own list.0 list.1) in
-      let stance : Some (record { mode = waiter.0.mode; on = Some (OnVariable list.0); tries = 0 }) ≡ Some (record { mode = mode; on = Some (OnVariable k); tries = 0 }) = sym waiter.2.stands ∙ ap (λ seat. waits_in (walk_at seat (front ++ view_of who walk None owed ∷ back))) waiter.1 ∙ ap waits_in (walk_here front (view_of who walk None owed) back apart) ∙ wait in
+      let stance : Some (record { mode = waiter.0.mode; on = Some (OnVariables waiter.2.among); tries = 0 }) ≡ Some (record { mode = mode; on = Some (OnVariables variables); tries = 0 }) = sym waiter.2.stands ∙ ap (λ seat. waits_in (walk_at seat (front ++ view_of who walk None owed ∷ back))) waiter.1 ∙ ap waits_in (walk_here front (view_of who walk None owed) back apart) ∙ wait in
       let same_mode : waiter.0.mode ≡ mode = ap stance_mode stance in
-      let same_list : list.0 ≡ k = ap stance_variable stance in
-      let was : (standing_after h).phases who ≡ Waiting (Only k) mode = subst (λ seat. (standing_after h).phases seat ≡ Waiting (Only list.0) waiter.0.mode) waiter.1 waiter.2.waits ∙ (λ i. Waiting (Only (same_list i)) (same_mode i)) in
-      let row_same : (standing_after (h ++ Leave who k ∷ [])).row ≡ (standing_after h).row = ap (λ (s : Standing C). s.row) (standing_from-append (first_standing N) h (Leave who k ∷ [])) in
+      let same_among : waiter.2.among ≡ variables = ap stance_variables stance in
+      let was : (standing_after h).phases who ≡ Waiting variables mode = subst (λ seat. (standing_after h).phases seat ≡ Waiting waiter.2.among waiter.0.mode) waiter.1 waiter.2.waits ∙ (λ i. Waiting (same_among i) (same_mode i)) in
+      let row_same : (standing_after (h ++ left_event who variables ∷ [])).row ≡ (standing_after h).row = ap (λ (s : Standing C). s.row) (standing_from-append (first_standing N) h (left_event who variables ∷ [])) ∙ left_row C N who variables (standing_after h) in
       record {
-        safe = left_variable truths seats h front who walk owed walk' owed back k mode word (word_returned false (bits_of lists.lock) word) row few was phase refl refl place (still_owes walk walk' owed idle pay fit.owes) p.safe;
+        safe = left_variables truths seats h front who walk owed walk' owed back variables mode word (word_returned false (bits_of lists.lock) word) row few was phase refl refl place (still_owes walk walk' owed idle pay fit.owes) p.safe;
         homed = back_home front who walk None owed walk' None owed back word (word_returned false (bits_of lists.lock) word) lists.lock lists.lock refl refl s s' p.homed;
         placed = withdrawn front who walk None owed walk' None owed back lists lists' 1 flags apart (length-map lists.cvs (without_in who) ∙ four) (once_left who lists four p.placed.once) refl set'
             (omega (arith, counts_gone who lists, there)) (λ seat ne. counts_others seat who lists ne) (λ some. a') (λ z. absurd (omega (arith, z))) p.placed;
         own = own_stays front who walk None owed walk' None owed back lists.lock (omega (arith, here, most, there)) p.own;
-        told = tell_leaves front who walk None owed walk' None owed back (standing_after h).phases (standing_after (h ++ Leave who k ∷ [])).phases lists four
-            (left_there k) (λ j m e. let now_is : Left (Only k) mode ≡ Waiting j m = sym (left_here k mode was) ∙ e in absurd (cc)) p.told;
-        taken = taken_gone None None owed (standing_after h).phases (standing_after (h ++ Leave who k ∷ [])).phases flags lists.lock apart (not_waiting (waits_in walk') a') (left_there k) p.taken;
+        told = tell_leaves front who walk None owed walk' None owed back (standing_after h).phases (standing_after (h ++ left_event who variables ∷ [])).phases lists four
+            (left_there variables) (λ j m e. let now_is : Left variables mode ≡ Waiting j m = sym (left_here variables mode was) ∙ e in absurd (cc)) p.told;
+        taken = taken_gone None None owed (standing_after h).phases (standing_after (h ++ left_event who variables ∷ [])).phases flags lists.lock apart (not_waiting (waits_in walk') a') (left_there variables) p.taken;
         known = subst (λ r. Known truths.holds (word_returned false (bits_of lists.lock) word) r lists.lock flags (front ++ view_of who walk' None owed ∷ back)) (sym row_same)
             (known_withdraws truths.holds front who walk None owed walk' None owed back word (standing_after h).row lists.lock lists.lock flags apart (calls word row None owed idle p.safe) s q q'
             (λ f. absurd (both_ways (is_on_way walk 1 0) o (subst (λ n. is_on_way walk 1 n ≡ true) unowed (subst (λ n. is_on_way walk n (called_to who (front ++ view_of who walk None owed ∷ back)) ≡ true) flag f))))
@@ -578,42 +588,43 @@ module _ {C : Type 0} {N : ℕ} (truths : Truths C) (seats : ℕ) (h : List (Eve
       (λ seat ne. refl) (λ k m e. let clash : Cond c mode ≡ Waiting k m = sym (fit.section.enters ∙ comes) ∙ e in absurd (cc))
       idle from s s' a a' set set' q' o p
 
-  -- a wait for a variable leaves its section, commits it, and goes to the back of the variable's list
-  pub waits_for : (releasing : Releasing) (mode : Mode) (j : ℕ) (word : Word) (row : List ℕ) (lists : Lists C) (flags : ℕ → ℕ) (entry : Opening C) (before cells : List ℕ) (owed : List Owed) → seats ≤ 64 → j < 4 → IsSettledBy truths.holds before entry →
+  -- a wait for variables leaves its section, commits it, and goes to the back of their lists
+  pub waits_for : (releasing : Releasing) (mode : Mode) (variables : Variables) (word : Word) (row : List ℕ) (lists : Lists C) (flags : ℕ → ℕ) (entry : Opening C) (before cells : List ℕ) (owed : List Owed) → seats ≤ 64 → AreVariables variables → IsSettledBy truths.holds before entry →
       let meets : C → Bool = meets_at truths row in let stay = with_lock lists (left_of meets lists.lock) in
-      let lists' = with_waiters stay (Cv j) (waiters_of lists (Cv j) ++ record { seat = who; mode = mode; cond = None; tries = 0; via = Some j } ∷ []) in
-      mode_released releasing ≡ mode → IsExpected (phase_by walk') (Waiting (Only j) mode) →
-      PlaceFits {C = C} {N = N} truths walk' None → pays walk ≡ false → pays walk' ≡ has_some (called_of (woken_of meets lists.lock)) → calls_from_lock walk' ≡ true → has_queues walk ≡ true → has_queues walk' ≡ false → awaits walk ≡ false → waits_in walk' ≡ Some (record { mode = mode; on = Some (OnVariable j); tries = 0 }) → has_armed walk ≡ true → has_armed walk' ≡ false → is_queuing walk' ≡ false → NoWay walk →
+      let lists' = waits_at (OnVariables variables) who mode false stay in
+      mode_released releasing ≡ mode → IsExpected (phase_by walk') (Waiting variables mode) →
+      PlaceFits {C = C} {N = N} truths walk' None → pays walk ≡ false → pays walk' ≡ has_some (called_of (woken_of meets lists.lock)) → calls_from_lock walk' ≡ true → has_queues walk ≡ true → has_queues walk' ≡ false → awaits walk ≡ false → waits_in walk' ≡ Some (record { mode = mode; on = Some (OnVariables variables); tries = 0 }) → has_armed walk ≡ true → has_armed walk' ≡ false → is_queuing walk' ≡ false → NoWay walk →
       Groups truths seats h (st walk word row lists flags (Some (section mode entry before cells)) owed) →
-      Groups truths seats (h ++ section_of truths.holds who (section mode entry before cells) (CvWait j) ∷ [])
-      (st walk' (word_released_returning releasing (has_some (woken_of meets lists.lock)) (bits_of (left_of meets lists.lock)) word) row lists' flags None (called_of (woken_of meets lists.lock)))
-  waits_for releasing mode j word row lists flags entry before cells owed few low settled is phase place idle pay' from s s' a a' set set' q' o p =
+      Groups truths seats (h ++ section_of truths.holds who (section mode entry before cells) (exit_for (OnVariables variables)) ∷ [])
+      (st walk' (word_released_returning releasing (has_some (woken_of meets lists.lock)) (bits_of lists'.lock) word) row lists' flags None (called_of (woken_of meets lists.lock)))
+  waits_for releasing mode variables word row lists flags entry before cells owed few are settled is phase place idle pay' from s s' a a' set set' q' o p =
       let meets : C → Bool = meets_at truths row in
       let held = section {C = C} {N = N} mode entry before cells in
       let fit = fits word row (Some held) owed p.safe in
       let apart = others word row (Some held) owed p.safe in
       let took = called_of (woken_of meets lists.lock) in
       let stay = with_lock lists (left_of meets lists.lock) in
-      let one : Waiter C = record { seat = who; mode = mode; cond = None; tries = 0; via = Some j } in
-      let queue = waiters_of lists (Cv j) ++ one ∷ [] in
-      let lists' = with_waiters stay (Cv j) queue in
-      let more : (seat : ℕ) → times_in seat queue ≡ times_in seat (waiters_of stay (Cv j)) + one_if (eqb who seat) = λ seat. omega (arith, times_in-append seat (waiters_of lists (Cv j)) (one ∷ []), times_in-cons seat one []) in
+      let exit : Exit C = exit_for (OnVariables variables) in
+      let lists' = waits_at (OnVariables variables) who mode false stay in
+      let in_lists = entered_at variables who mode false stay p.placed.four are in
+      let waits_now : phase_after mode exit ≡ Waiting variables mode = after_exit mode variables in
+      let row_is = sym fit.section.cells ∙ sym (ap (λ s. s.row) (left_by truths seats h who held exit)) in
       let owing = owes_none word row (Some held) owed idle p.safe in
       let none = stands_not word row lists flags (Some held) owed a p in
       let out : times who stay ≡ 0 = omega (arith, none, times_scan who meets lists.lock) in
-      let word' = word_released_returning releasing (has_some (woken_of meets lists.lock)) (bits_of (left_of meets lists.lock)) word in
+      let word' = word_released_returning releasing (has_some (woken_of meets lists.lock)) (bits_of lists'.lock) word in
       record {
-        safe = released truths seats h front who walk owed walk' took back mode (CvWait j) word word' row entry before cells few settled tt phase
+        safe = released truths seats h front who walk owed walk' took back mode exit word word' row entry before cells few settled (exit_fits truths.holds cells variables) (subst (IsExpected (phase_by walk')) (sym waits_now) phase)
             (λ m. released_write releasing word (is ∙ m)) (λ m. kept_write releasing word (is ∙ m)) (λ m. kept_readers releasing word (is ∙ m)) (λ m. released_readers releasing word (is ∙ m)) place (sym pay', calls_told walk' (woken_of meets lists.lock) from) p.safe;
-        homed = back_home front who walk (Some held) owed walk' None took back word word' lists.lock (left_of meets lists.lock) refl refl s s' p.homed;
-        placed = entered front who walk (Some held) owed walk' None took back lists lists' flags apart (four_kept stay (Cv j) queue ∙ p.placed.four) (once_entered stay j who queue p.placed.four low out more p.placed.once) owing
-            (λ seat. omega (arith, scan_parts meets lists seat, counts_entered stay j who queue seat p.placed.four low out (more seat) (eqb-true who seat))) set a (ap is_some a') set' p.placed;
-        own = own_scanned front who walk (Some held) owed walk' None took back meets lists.lock (lock_nowhere lists none) p.own;
-        told = tell_enters front who walk (Some held) owed walk' None took back (standing_after h).phases (standing_after (h ++ section_of truths.holds who held (CvWait j) ∷ [])).phases lists lists' j mode apart p.placed.four (four_kept stay (Cv j) queue ∙ p.placed.four) low none refl a'
-            (phases_here held (CvWait j)) (phases_there held (CvWait j)) p.told;
-        taken = told_enters front who walk (Some held) owed walk' None took back (standing_after h).phases (standing_after (h ++ section_of truths.holds who held (CvWait j) ∷ [])).phases flags lists.lock (left_of meets lists.lock) (phases_there held (CvWait j)) (lock_nowhere lists none) (unowed lists flags (Some held) owed apart a p.placed) (armed_now lists flags (Some held) owed apart set p.placed)
-            (λ due listed. listed_woken (standing_after (h ++ section_of truths.holds who held (CvWait j) ∷ [])).phases (front ++ view_of who walk' None took ∷ back) meets lists.lock listed) (λ listed. listed_left (WaiterNames (standing_after (h ++ section_of truths.holds who held (CvWait j) ∷ [])).phases (front ++ view_of who walk' None took ∷ back)) meets lists.lock listed) p.taken;
-        known = subst (λ r. Known truths.holds word' r (left_of meets lists.lock) flags (front ++ view_of who walk' None took ∷ back)) (sym fit.section.cells ∙ sym (ap (λ s. s.row) (left_by truths seats h who held (CvWait j))))
+        homed = back_home front who walk (Some held) owed walk' None took back word word' lists.lock lists'.lock refl refl s s' p.homed;
+        placed = entered front who walk (Some held) owed walk' None took back lists lists' flags apart in_lists.four (once_entered variables who mode stay lists' p.placed.four are out in_lists p.placed.once) owing
+            (λ seat. omega (arith, scan_parts meets lists seat, counts_entered variables who mode stay lists' p.placed.four are out in_lists seat)) set a (ap is_some a') set' p.placed;
+        own = subst (λ lock. WaitersOwn lock (front ++ view_of who walk' None took ∷ back)) (sym in_lists.lock) (own_scanned front who walk (Some held) owed walk' None took back meets lists.lock (lock_nowhere lists none) p.own);
+        told = tell_enters front who walk (Some held) owed walk' None took back (standing_after h).phases (standing_after (h ++ section_of truths.holds who held exit ∷ [])).phases stay lists' variables mode apart p.placed.four are out in_lists a'
+            (phases_here held exit ∙ waits_now) (phases_there held exit) (tell_lists (standing_after h).phases lists stay (front ++ view_of who walk (Some held) owed ∷ back) refl p.told);
+        taken = subst (λ lock. TakenTold (standing_after (h ++ section_of truths.holds who held exit ∷ [])).phases flags lock (front ++ view_of who walk' None took ∷ back)) (sym in_lists.lock) (told_enters front who walk (Some held) owed walk' None took back (standing_after h).phases (standing_after (h ++ section_of truths.holds who held exit ∷ [])).phases flags lists.lock (left_of meets lists.lock) (phases_there held exit) (lock_nowhere lists none) (unowed lists flags (Some held) owed apart a p.placed) (armed_now lists flags (Some held) owed apart set p.placed)
+            (λ due listed. listed_woken (standing_after (h ++ section_of truths.holds who held exit ∷ [])).phases (front ++ view_of who walk' None took ∷ back) meets lists.lock listed) (λ listed. listed_left (WaiterNames (standing_after (h ++ section_of truths.holds who held exit ∷ [])).phases (front ++ view_of who walk' None took ∷ back)) meets lists.lock listed) p.taken);
+        known = subst (λ (x : List ℕ × List (Waiter C)). Known truths.holds (word_released_returning releasing (has_some (woken_of meets lists.lock)) (bits_of x.1) word) x.0 x.1 flags (front ++ view_of who walk' None took ∷ back)) (λ i. (row_is i, sym in_lists.lock i))
             (known_scans truths.holds front who walk (Some held) owed walk' None took back releasing word (standing_after h).row row lists (left_of meets lists.lock) flags apart s q' a o owing refl from (λ e. e) p.homed p.placed p.known);
       }
 
@@ -637,10 +648,10 @@ module _ {C : Type 0} {N : ℕ} (truths : Truths C) (seats : ℕ) (h : List (Eve
         known = known_pays truths.holds front who walk held (wake ∷ rest) walk' held rest back word (standing_after h).row lists flags wake apart refl from (λ seat. after_all seat ∙ ap (λ b. cond b (times_among seat rest) 0) from) q (ap is_some a) w p.placed p.known;
       }
 
-  -- a seat sees its flag cleared: it stands nowhere then, and so has been woken if it waits for a variable
+  -- a seat sees its flag cleared: it stands nowhere then
   pub sees : (word : Word) (row : List ℕ) (lists : Lists C) (flags : ℕ → ℕ) (owed : List Owed) → flags who ≢ 1 → pays walk ≡ false →
       PlaceFits {C = C} {N = N} truths walk' None → pays walk' ≡ pays walk → has_queues walk' ≡ has_queues walk → awaits walk' ≡ false → waits_in walk' ≡ None → has_armed walk' ≡ false → is_queuing walk' ≡ is_queuing walk → (is_on_way walk (flags who) 0 ≡ true → is_on_way walk' (flags who) 0 ≡ true) →
-      ((ph : Phase C) → ((vs : Variables) (mode : Mode) → ph ≡ Waiting vs mode → ⊥) → IsExpected (phase_by walk) ph → IsExpected (phase_by walk') ph) →
+      (IsExpected (phase_by walk) ((standing_after h).phases who) → IsExpected (phase_by walk') ((standing_after h).phases who)) →
       Groups truths seats h (st walk word row lists flags None owed) → Groups truths seats h (st walk' word row lists flags None owed)
   sees word row lists flags owed clear idle place pay spin a' gone set' q o phase p =
       let fit = fits word row None owed p.safe in
@@ -648,7 +659,7 @@ module _ {C : Type 0} {N : ℕ} (truths : Truths C) (seats : ℕ) (h : List (Eve
       let none = nowhere front who walk None owed walk' None owed back lists flags apart (cleared walk (flags who) clear) p.placed in
       let waits = waits_not lists _ p.placed.four none p.told in
       record {
-        safe = unchanged_by truths seats h front who walk owed walk' owed back word word row None None refl refl place (still_owes walk walk' owed idle pay fit.owes) refl refl (λ section. phase ((standing_after h).phases who) waits section) p.safe;
+        safe = unchanged_by truths seats h front who walk owed walk' owed back word word row None None refl refl place (still_owes walk walk' owed idle pay fit.owes) refl refl phase p.safe;
         homed = at_home front who walk None owed walk' None owed back word word lists.lock refl refl spin p.homed;
         placed = seen front who walk None owed walk' None owed back lists flags apart refl clear a' set' p.placed;
         own = own_stays front who walk None owed walk' None owed back lists.lock (lock_nowhere lists none) p.own;

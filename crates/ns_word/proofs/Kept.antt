@@ -10,7 +10,8 @@ use Rattle.ns_word.specs.declared.word.Releasing.{Releasing}
 use Rattle.ns_word.specs.declared.word.Arrival.{Arrival}
 use Rattle.ns_word.specs.declared.word.Arrival.TheVariants.{AsFresh}
 use Rattle.ns_word.specs.declared.wait.Subject.{Subject}
-use Rattle.ns_word.specs.declared.wait.Subject.TheVariants.{OnCondition, OnVariable}
+use Rattle.ns_model.specs.declared.cvs.Variables.TheVariants.{Only, Any}
+use Rattle.ns_word.specs.declared.wait.Subject.TheVariants.{OnCondition, OnVariables}
 use Rattle.ns_word.specs.declared.wait.Outcome.{Outcome}
 use Rattle.ns_word.specs.declared.wait.Outcome.TheVariants.{Woken, Ended}
 use Rattle.ns_word.specs.declared.wait.Wait.{Wait}
@@ -129,10 +130,10 @@ module _ {C : Type 0} (N : ℕ) where
   test_shown found wait visit loaded =
       either_walk_shown (cause_by visit) found (ltb loaded (N - 1)) (InWait wait (TestCells visit loaded)) (InWait wait (TestLast visit (N - 1))) (stays_shown (cause_by visit) found) (stays_shown (cause_by visit) found)
 
-  -- a wait for a variable keeps no cause that was woken before it left
+  -- a wait for variables keeps no cause that was woken before it left
   taken_shown : (found : Found) (on : Subject C) (cause : Cause) (flag : ℕ) → KeptOrFound (Some cause) found (cause_in (outcome_taken on cause flag))
   taken_shown found (OnCondition c) cause flag = stays_shown (Some cause) found
-  taken_shown found (OnVariable k) cause flag = none_shown (Some cause) found
+  taken_shown found (OnVariables variables) cause flag = none_shown (Some cause) found
 
   looks_shown : (kept : Option Cause) (found : Found) (wait : Wait C) (again : Bool) → KeptOrFoundNext kept found (look_or_queue wait again)
   looks_shown kept found wait again = either_shown kept found (is_limited wait.limits) (On (InWait wait (InQueuing again LookIn))) (On (InWait wait (InQueuing again Load))) (none_shown kept found) (none_shown kept found)
@@ -170,11 +171,12 @@ module _ {C : Type 0} (N : ℕ) where
   acquire_shown found aim arrival word =
       either_shown (cause_for aim) found (may_acquire (mode_for aim) arrival word) _ _ (stays_shown _ _) (either_shown (cause_for aim) found word.spin _ _ (stays_shown _ _) (stays_shown _ _))
 
-  -- a wait for a condition that comes back tests it with what came of it, and one for a variable answers that
+  -- a wait for a condition that comes back tests it with what came of it, and one for variables answers that
   back_shown : (found : Found) (on : Subject C) (wait : Wait C) (outcome : Outcome) → KeptOrFoundNext (cause_in outcome) found (back_with N on wait outcome)
   back_shown found (OnCondition c) wait outcome = test_shown found wait (OnReturn outcome) 0
-  back_shown found (OnVariable k) wait (Woken by) = none_shown None found
-  back_shown found (OnVariable k) wait (Ended cause) = answer_shown (Some cause) found cause (stays_shown (Some cause) found)
+  back_shown found (OnVariables (Only k)) wait (Woken by) = none_shown None found
+  back_shown found (OnVariables (Only k)) wait (Ended cause) = answer_shown (Some cause) found cause (stays_shown (Some cause) found)
+  back_shown found (OnVariables (Any cvs)) wait outcome = none_shown (cause_in outcome) found
 
   acquired_shown : (found : Found) (aim : Aim C) → KeptOrFoundNext (cause_for aim) found (acquired_for N aim)
   acquired_shown found (ForLock mode) = none_shown _ _
@@ -277,7 +279,7 @@ load_out N again last loaded = either_place_out again (ltb loaded N) (LoadToScan
 module _ {C : Type 0} (N : ℕ) where
   armed_out : (again : Bool) (on : Subject C) (last : Word) → place_has_come_back (InQueuing again (armed_place N on last)) ≡ false
   armed_out again (OnCondition c) last = refl
-  armed_out again (OnVariable k) last = either_place_out again last.cond (load_place N last 0) (QueueToWait last) (load_out N again last 0) refl
+  armed_out again (OnVariables variables) last = either_place_out again last.cond (load_place N last 0) (QueueToWait last) (load_out N again last 0) refl
 
   test_out : (wait : Wait C) (visit : Visit) (loaded : ℕ) → comes_back visit ≡ false → has_come_back (test_place N wait visit loaded) ≡ false
   test_out wait visit loaded e = either_walk_out (ltb loaded (N - 1)) (InWait wait (TestCells visit loaded)) (InWait wait (TestLast visit (N - 1))) e e

@@ -13,7 +13,7 @@ use Rattle.ns_word.specs.declared.word.Arrival.TheVariants.{AsFresh}
 use Rattle.ns_word.specs.declared.word.Releasing.TheVariants.{Writer, QuietWriter, Reader}
 use Rattle.ns_env.specs.declared.limits.Cause.{Cause}
 use Rattle.ns_word.specs.declared.wait.Subject.{Subject}
-use Rattle.ns_word.specs.declared.wait.Subject.TheVariants.{OnCondition, OnVariable}
+use Rattle.ns_word.specs.declared.wait.Subject.TheVariants.{OnCondition, OnVariables}
 use Rattle.ns_word.specs.declared.wait.Outcome.{Outcome}
 use Rattle.ns_word.specs.declared.wait.Outcome.TheVariants.{Woken, Ended}
 use Rattle.ns_word.specs.declared.wait.Wait.{Wait}
@@ -43,7 +43,7 @@ use Rattle.ns_word.specs.declared.walk.Reply.TheVariants.{Busy, Answered}
 use Rattle.ns_word.specs.Words.{mode_released, may_acquire, needs_scan}
 use Rattle.ns_word.specs.Lists.{has_eligible}
 use Rattle.ns_env.specs.Walks.{is_limited}
-use Rattle.ns_word.specs.Waits.{IsWokenBy, mode_for, phase_kept}
+use Rattle.ns_word.specs.Waits.{IsWokenBy, OutcomeFits, mode_for, phase_kept}
 use Rattle.ns_word.specs.Walks.{after_judging, walk_after, acquire_by, back_with, acquired_for, load_place, armed_place, signal_by, show_by, pay_woken, expected_for, calls_from_lock, was_woken, release_by, quiet_place, scan_place, pay_releasing, test_place, unmet_by, queue_by, pay_waiting, rest_or_look, leave_by, has_queues, is_queuing, has_armed, waits_in, pays, phase_by}
 use Rattle.ns_model.specs.Truths.{Truths, QuietKeeps}
 use Rattle.ns_word.specs.Answers.{cause_by}
@@ -66,17 +66,17 @@ outside wait = Some (InWait wait AwaitWakeInWait)
 -- what ends a wait for a condition changes nothing of its phase
 shown_phase : {C : Type 0} (mode : Mode) (cause : Cause) (on : Subject C) (outcome : Outcome) → IsForCondition on → phase_kept on mode (Ended cause) ≡ phase_kept on mode outcome
 shown_phase mode cause (OnCondition c) outcome is = refl
-shown_phase mode cause (OnVariable k) outcome is = absurd is
+shown_phase mode cause (OnVariables variables) outcome is = absurd is
 
 -- what ended a wait settles it
 ended_settled : {C : Type 0} (holds : C → List ℕ → Bool) (before : List ℕ) (on : Subject C) (cause : Cause) → IsSettledBy holds before (CameBack on (Ended cause))
 ended_settled holds before (OnCondition c) cause = tt
-ended_settled holds before (OnVariable k) cause = tt
+ended_settled holds before (OnVariables variables) cause = tt
 
 -- a wait for a condition is woken by a wake of no variable
 woken_by_none : {C : Type 0} (on : Subject C) (by : Option ℕ) → IsForCondition on → IsWokenBy on by → by ≡ None
 woken_by_none (OnCondition c) by for is = is
-woken_by_none (OnVariable k) by for is = absurd for
+woken_by_none (OnVariables variables) by for is = absurd for
 
 module _ {C : Type 0} {N : ℕ} (truths : Truths C) where
   -- The step changes the place in the call alone.
@@ -163,10 +163,7 @@ module _ {C : Type 0} {N : ℕ} (truths : Truths C) where
       PlaceFits truths next (Some (newly_held {C = C} {N = N} (ForWait wait outcome) row)) × Same None next × (is_queuing next ≡ false)
   back_leads (OnCondition c) wait outcome row is some fits =
       let to = test_leads wait (OnReturn outcome) (Some (newly_held {C = C} {N = N} (ForWait wait outcome) row)) 0 some (refl, record { entry = refl; cells = refl; fits = fits.0 }) fits.1 (subst IsForCondition (sym is) tt) in (to.0, to.1, to.2)
-  back_leads (OnVariable k) wait outcome row is some fits = (subst (λ on. IsSettledBy truths.holds row (CameBack on outcome)) (sym is) (variable_settled outcome), (refl, refl, refl, refl), refl) where
-    variable_settled : (outcome : Outcome) → IsSettledBy truths.holds row (CameBack (OnVariable k) outcome)
-    variable_settled (Woken by) = tt
-    variable_settled (Ended cause) = tt
+  back_leads (OnVariables variables) wait outcome row is some fits = (subst (λ on. IsSettledBy truths.holds row (CameBack on outcome)) (sym is) (subst (λ on. OutcomeFits on outcome) is fits.0), (refl, refl, refl, refl), refl)
 
   pub acquired_leads : (aim : Aim C) (row : List ℕ) → 0 < N → AimFits aim → let next = walk_after (acquired_for N aim) in
       PlaceFits truths next (Some (newly_held {C = C} {N = N} aim row)) × Same None next × (is_queuing next ≡ false)
@@ -247,7 +244,7 @@ module _ {C : Type 0} {N : ℕ} (truths : Truths C) where
   pub armed_leads : (wait : Wait C) (on : Subject C) (again : Bool) (last : Word) (held : Option (Held C N)) → CanWait truths wait again held →
       Leads (Some (InWait wait (InQueuing again (QueueToWait last)))) (Some (InWait wait (InQueuing again (armed_place N on last)))) held
   armed_leads wait (OnCondition c) again last held p = (((p, tt), tt), (refl, refl, refl, refl), refl, λ flag n f. f, λ none. refl)
-  armed_leads wait (OnVariable k) again last held p = by_bit last.cond where
+  armed_leads wait (OnVariables variables) again last held p = by_bit last.cond where
     by_bit : (b : Bool) → Leads (Some (InWait wait (InQueuing again (QueueToWait last)))) (Some (InWait wait (InQueuing again (cond b (load_place N last 0) (QueueToWait last))))) held
     by_bit true = load_leads wait again last held 0 p
     by_bit false = (((p, tt), tt), (refl, refl, refl, refl), refl, λ flag n f. f, λ none. refl)

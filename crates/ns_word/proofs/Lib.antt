@@ -7,6 +7,7 @@ pub mod Codes
 pub mod CountsIn
 pub mod Courses
 pub mod Dispatch
+pub mod Enters
 pub mod Finds
 pub mod Firsts
 pub mod Groups
@@ -15,6 +16,7 @@ pub mod Homes
 pub mod Keeps
 pub mod Kept
 pub mod Knows
+pub mod Leaving
 pub mod Leads
 pub mod Longs
 pub mod Made

@@ -9,7 +9,7 @@ use Rattle.ns_word.specs.declared.word.Word.{Word}
 use Rattle.ns_word.specs.declared.word.Arrival.{Arrival}
 use Rattle.ns_word.specs.declared.word.Arrival.TheVariants.{AsFresh}
 use Rattle.ns_word.specs.declared.wait.Subject.{Subject}
-use Rattle.ns_word.specs.declared.wait.Subject.TheVariants.{OnCondition, OnVariable}
+use Rattle.ns_word.specs.declared.wait.Subject.TheVariants.{OnCondition, OnVariables}
 use Rattle.ns_word.specs.declared.wait.Wait.{Wait}
 use Rattle.ns_word.specs.declared.wait.WaitPlace.{WaitPlace}
 use Rattle.ns_word.specs.declared.wait.WaitPlace.TheVariants.{TestCells, TestLast, InQueuing, PayInWait, AwaitWakeInWait, LookOut, InLeaving}
@@ -98,7 +98,7 @@ module _ {C : Type 0} {N : ℕ} where
 module _ (C : Type 0) where
   judge_gains_not : (on : Subject C) (i : ℕ) (word : Word) → Gains (judge_of on i) word → ⊥
   judge_gains_not (OnCondition c) i word g = g
-  judge_gains_not (OnVariable k) i word g = g
+  judge_gains_not (OnVariables variables) i word g = g
 
   release_gains_not : (releasing : Releasing) (place : ReleasePlace) (word : Word) → Gains (want_releasing {C = C} releasing place) word → ⊥
   release_gains_not releasing ReleaseLoad word g = g

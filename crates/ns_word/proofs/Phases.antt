@@ -9,7 +9,7 @@ use Rattle.ns_model.specs.declared.phase.Phase.TheVariants.{Cond}
 use Rattle.ns_model.specs.Histories.{Standing, standing_after, phase_of}
 use Rattle.ns_queue.specs.declared.waiter.Waiter.{Waiter}
 use Rattle.ns_word.specs.declared.wait.Subject.{Subject}
-use Rattle.ns_word.specs.declared.wait.Subject.TheVariants.{OnCondition, OnVariable}
+use Rattle.ns_word.specs.declared.wait.Subject.TheVariants.{OnCondition, OnVariables}
 use Rattle.ns_word.specs.declared.wait.Wait.{Wait}
 use Rattle.ns_word.specs.declared.view.Held.{Held}
 use Rattle.ns_word.specs.declared.view.SeatView.{SeatView}
@@ -66,7 +66,7 @@ module _ {C : Type 0} where
     go : (on : Option (Subject C)) → stance.mode ≡ mode → cond_on on ≡ Some c → stance.tries ≡ tries → ◌≡◌ {A = Option (Stance C)} (Some (record { mode = stance.mode; on = on; tries = stance.tries })) (waiting_for mode c tries)
     go None m f n = absurd (cc)
     go (Some (OnCondition d)) m f n = λ i. Some (record { mode = m i; on = ap waited_for f i; tries = n i })
-    go (Some (OnVariable k)) m f n = absurd (cc)
+    go (Some (OnVariables variables)) m f n = absurd (cc)
 
 module _ {C : Type 0} {N : ℕ} (truths : Truths C) where
   -- one that waits has no section in hand

@@ -1,18 +1,17 @@
 -- What the steps leave of the sections.
 use Rattle.std.proofs.Common.{◌≡◌, ◌≢◌, ℕ, ◌+◌, ◌-◌, ◌<◌, ◌≤◌, Bool, true, false, cond, inl, inr, List, [], ◌∷◌, ◌++◌, length, Option, None, Some, slice_set, refl, ap, sym, ◌∙◌, subst, arith, eq-eqb}
 use Rattle.std.proofs.lemmas.List.{length-set}
-use Rattle.std.proofs.lemmas.Bool.{ne_eqb, both_ways}
+use Rattle.std.proofs.lemmas.Bool.{eqb-true, ne_eqb, both_ways}
 use Rattle.ns_model.specs.declared.event.Mode.{Mode}
 use Rattle.ns_model.specs.declared.event.Mode.TheVariants.{Write, Read}
 use Rattle.ns_model.specs.declared.event.Answer.TheVariants.{Met}
 use Rattle.ns_model.specs.declared.event.Exit.{Exit}
 use Rattle.ns_model.specs.declared.event.Event.{Event}
-use Rattle.ns_model.specs.declared.event.Event.TheVariants.{Leave}
 use Rattle.ns_model.specs.declared.phase.Phase.{Phase}
 use Rattle.ns_model.specs.declared.phase.Phase.TheVariants.{Waiting, Left}
 use Rattle.ns_model.specs.Phases.{left_phase}
-use Rattle.ns_model.specs.declared.cvs.Variables.TheVariants.{Only}
-use Rattle.ns_model.specs.Wakes.{IsLegalLeave}
+use Rattle.ns_model.specs.declared.cvs.Variables.{Variables}
+use Rattle.ns_model.specs.declared.cvs.Variables.TheVariants.{Only, Any}
 use Rattle.ns_model.specs.Sections.{is_met, ModeFits, EntryFits, ExitFits, phase_after}
 use Rattle.ns_model.specs.Histories.{Standing, first_standing, standing_after, standing_next, IsLegal, IsLegalEvent, IsBySeats, who_of}
 use Rattle.ns_model.proofs.Histories.{legal_append, standing_from-append}
@@ -20,7 +19,7 @@ use Rattle.ns_word.specs.declared.owed.Owed.{Owed}
 use Rattle.ns_word.specs.declared.word.Word.{Word}
 use Rattle.ns_env.specs.declared.limits.Cause.{Cause}
 use Rattle.ns_env.specs.declared.limits.Cause.TheVariants.{Expired, Notified}
-use Rattle.ns_word.specs.declared.wait.Subject.TheVariants.{OnCondition, OnVariable}
+use Rattle.ns_word.specs.declared.wait.Subject.TheVariants.{OnCondition, OnVariables}
 use Rattle.ns_word.specs.declared.wait.Outcome.TheVariants.{Woken, Ended}
 use Rattle.ns_word.specs.declared.view.Opening.{Opening}
 use Rattle.ns_word.specs.declared.view.Opening.TheVariants.{Locked, CameBack}
@@ -34,6 +33,7 @@ use Rattle.ns_model.specs.Truths.{Truths}
 use Rattle.ns_word.specs.Steps.{entry_of, section_of}
 use Rattle.ns_word.specs.Places.{IsSettledBy, PlaceFits}
 use Rattle.ns_word.specs.Lawful.{OwesAs, HeldFits, SectionFits, IsExpected, phase_before}
+use Rattle.ns_word.proofs.Leaving.{left_event, left_is_legal, left_next_here, left_next_there, left_row, left_who}
 use Rattle.ns_word.proofs.Groups.{Safe}
 use Rattle.ns_word.proofs.Views.{view_of, writers_at, readers_at, apart_parts, apart_moves, each_parts, each_join, each_moves, each_woken, IsWokenBy}
 
@@ -68,9 +68,12 @@ pub entry_fits : {C : Type 0} (holds : C → List ℕ → Bool) (before : List �
 entry_fits holds before mode Locked settled = tt
 entry_fits holds before mode (CameBack (OnCondition c) (Woken by)) settled = (refl, settled, settled)
 entry_fits holds before mode (CameBack (OnCondition c) (Ended cause)) settled = (refl, met_of (holds c before) cause, met_of (holds c before) cause)
-entry_fits holds before mode (CameBack (OnVariable k) (Woken by)) settled = (refl, refl, refl)
-entry_fits holds before mode (CameBack (OnVariable k) (Ended Expired)) settled = (refl, eq-eqb k k refl, refl)
-entry_fits holds before mode (CameBack (OnVariable k) (Ended Notified)) settled = (refl, eq-eqb k k refl, refl)
+entry_fits holds before mode (CameBack (OnVariables variables) (Woken None)) settled = absurd settled
+entry_fits holds before mode (CameBack (OnVariables (Only k)) (Woken (Some j))) settled = (refl, sym (eqb-true k j settled), refl)
+entry_fits holds before mode (CameBack (OnVariables (Any cvs)) (Woken (Some j))) settled = (refl, refl)
+entry_fits holds before mode (CameBack (OnVariables (Only k)) (Ended Expired)) settled = (refl, eq-eqb k k refl, refl)
+entry_fits holds before mode (CameBack (OnVariables (Only k)) (Ended Notified)) settled = (refl, eq-eqb k k refl, refl)
+entry_fits holds before mode (CameBack (OnVariables (Any cvs)) (Ended cause)) settled = refl
 
 -- a wake leaves all views as they are
 pub after_wake : {C : Type 0} {N : ℕ} (truths : Truths C) (seats : ℕ) (h : List (Event C N)) (e : Event C N) (k : ℕ) (word : Word) (row : List ℕ) (views : List (SeatView C N)) → who_of e < seats → IsLegalEvent truths.holds (standing_after h) e →
@@ -144,36 +147,36 @@ module _ {C : Type 0} {N : ℕ} (truths : Truths C) (seats : ℕ) (h : List (Eve
         let here = (each_parts truths seats (standing_after h) row front (view_of who walk held owed) back p.one_history.each).1 in
         after_wake truths seats h e k word' row (front ++ view_of who walk' held owed' ∷ back) (subst (λ seat. seat < seats) (sym by) here.in_range) legal same phases moved
 
-    -- a wait for a variable takes itself out of its list
-    pub left_variable : (k : ℕ) (mode : Mode) (word word' : Word) (row : List ℕ) → seats ≤ 64 → (standing_after h).phases who ≡ Waiting (Only k) mode → IsExpected (phase_by walk') (Left (Only k) mode) →
+    -- a wait for variables takes itself out of its lists
+    pub left_variables : (variables : Variables) (mode : Mode) (word word' : Word) (row : List ℕ) → seats ≤ 64 → (standing_after h).phases who ≡ Waiting variables mode → IsExpected (phase_by walk') (Left variables mode) →
         word'.write ≡ word.write → word'.readers ≡ word.readers →
         PlaceFits {C = C} {N = N} truths walk' None → OwesAs walk' owed' →
         Safe truths seats h word row (front ++ view_of who walk None owed ∷ back) →
-        Safe truths seats (h ++ Leave who k ∷ []) word' row (front ++ view_of who walk' None owed' ∷ back)
-    left_variable k mode word word' row few phase is same_write same_readers place owes p =
+        Safe truths seats (h ++ left_event who variables ∷ []) word' row (front ++ view_of who walk' None owed' ∷ back)
+    left_variables variables mode word word' row few phase is same_write same_readers place owes p =
         let view = view_of {C = C} {N = N} who walk None owed in
         let view' = view_of {C = C} {N = N} who walk' None owed' in
-        let e : Event C N = Leave who k in
+        let e : Event C N = left_event who variables in
         let now = standing_after h in
         let next = standing_next now e in
         let left : standing_after (h ++ e ∷ []) ≡ next = standing_from-append (first_standing N) h (e ∷ []) in
         let parts = each_parts truths seats now row front view back p.one_history.each in
         let apart = apart_parts front view back p.apart in
-        let others : (seat : ℕ) → seat ≢ who → next.phases seat ≡ now.phases seat = λ seat ne. rw (ne_eqb who seat (λ f. ne (sym f))) refl in
-        let here : next.phases who ≡ Left (Only k) mode = rw (eq-eqb who who refl) (ap left_phase phase) in
+        let others : (seat : ℕ) → seat ≢ who → next.phases seat ≡ now.phases seat = λ seat ne. left_next_there C N who variables now seat (λ f. ne (sym f)) in
+        let here : next.phases who ≡ Left variables mode = left_next_here C N who variables now ∙ ap left_phase phase in
         record {
           one_writer = record { bit = writers_at front view' back ∙ sym (writers_at front view back) ∙ p.one_writer.bit ∙ ap (λ b. cond b 1 0) (sym same_write); alone = λ f. readers_at front view' back ∙ sym (readers_at front view back) ∙ p.one_writer.alone (sym same_write ∙ f) };
           count = same_readers ∙ p.count ∙ readers_at front view back ∙ sym (readers_at front view' back);
           one_history = record {
-            legal = legal_append truths.holds (first_standing N) h (e ∷ []) p.one_history.legal ((omega (arith, few, parts.1.in_range), subst (λ ph. IsLegalLeave k ph) (sym phase) (eq-eqb k k refl)), tt);
-            by_seats = by_seats_more seats h e p.one_history.by_seats parts.1.in_range;
+            legal = legal_append truths.holds (first_standing N) h (e ∷ []) p.one_history.legal (left_is_legal C N who truths.holds variables mode now (omega (arith, few, parts.1.in_range)) phase, tt);
+            by_seats = by_seats_more seats h e p.one_history.by_seats (subst (λ s. s < seats) (sym (left_who C N who variables)) parts.1.in_range);
             each = rw left (each_join truths seats next row front view' back
-                (each_moves truths seats now next row row who front apart.0 others (inl (refl, refl)) parts.0)
+                (each_moves truths seats now next row row who front apart.0 others (inl (left_row C N who variables now, refl)) parts.0)
                 (record { in_range = parts.1.in_range; place = place; owes = owes; section = subst (λ ph. IsExpected (phase_by walk') ph) (sym here) is })
-                (each_moves truths seats now next row row who back apart.1 others (inl (refl, refl)) parts.2));
-            free = λ f. p.one_history.free (sym same_write ∙ f) ∙ sym (ap (λ s. s.row) left);
+                (each_moves truths seats now next row row who back apart.1 others (inl (left_row C N who variables now, refl)) parts.2));
+            free = λ f. p.one_history.free (sym same_write ∙ f) ∙ sym (left_row C N who variables now) ∙ sym (ap (λ s. s.row) left);
             cells = p.one_history.cells;
-            cells_after = ap (λ s. length s.row) left ∙ p.one_history.cells_after;
+            cells_after = ap (λ s. length s.row) left ∙ ap length (left_row C N who variables now) ∙ p.one_history.cells_after;
           };
           apart = apart_moves front view view' back refl p.apart;
         }

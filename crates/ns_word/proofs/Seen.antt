@@ -12,7 +12,7 @@ use Rattle.ns_word.specs.declared.word.Taking.{Taking}
 use Rattle.ns_word.specs.declared.word.Taking.TheVariants.{ToChange, ToQueue}
 use Rattle.ns_env.specs.declared.limits.Cause.{Cause}
 use Rattle.ns_word.specs.declared.wait.Subject.{Subject}
-use Rattle.ns_word.specs.declared.wait.Subject.TheVariants.{OnCondition, OnVariable}
+use Rattle.ns_word.specs.declared.wait.Subject.TheVariants.{OnCondition, OnVariables}
 use Rattle.ns_word.specs.declared.wait.Outcome.{Outcome}
 use Rattle.ns_word.specs.declared.wait.Outcome.TheVariants.{Woken, Ended}
 use Rattle.ns_word.specs.declared.wait.Visit.{Visit}
@@ -142,7 +142,7 @@ module _ (C : Type 0) where
 
   armed_seen : (N : ℕ) (wait : Wait C) (on : Subject C) (again : Bool) (last : Word) → IsPackable last → Seen (Some (InWait wait (InQueuing again (armed_place N on last))))
   armed_seen N wait (OnCondition c) again last p = p
-  armed_seen N wait (OnVariable k) again last p = go last.cond where
+  armed_seen N wait (OnVariables variables) again last p = go last.cond where
     go : (b : Bool) → Seen (Some (InWait wait (InQueuing again (cond b (load_place N last 0) (QueueToWait last)))))
     go true = load_seen N wait again last 0 p
     go false = p
@@ -155,7 +155,7 @@ module _ (C : Type 0) where
 
   back_seen : (N : ℕ) (on : Subject C) (wait : Wait C) (outcome : Outcome) → Seen (walk_after (back_with N on wait outcome))
   back_seen N (OnCondition c) wait outcome = test_seen N wait (OnReturn outcome) 0
-  back_seen N (OnVariable k) wait outcome = tt
+  back_seen N (OnVariables variables) wait outcome = tt
 
   acquired_seen : (N : ℕ) (aim : Aim C) → Seen (walk_after (acquired_for N aim))
   acquired_seen N (ForLock mode) = tt

@@ -1,12 +1,13 @@
 -- Where a seat stands that queues, and where those go that a call wakes.
 use Rattle.std.specs.Prelude.{min}
-use Rattle.std.proofs.Common.{◌≡◌, ℕ, ◌+◌, Bool, true, false, cond, ltb, List, [], ◌∷◌, ◌++◌, length, Option, None, Some, refl, ap, sym, ◌∙◌, subst, arith}
-use Rattle.std.proofs.lemmas.Bool.{ltb-true, ltb-false}
+use Rattle.std.proofs.Common.{◌≡◌, ℕ, ◌+◌, inl, inr, Bool, true, false, cond, ltb, List, [], ◌∷◌, ◌++◌, length, Option, None, Some, refl, ap, sym, ◌∙◌, subst, arith}
+use Rattle.std.proofs.lemmas.Bool.{cases_Bool, ltb-true, ltb-false}
+use Rattle.ns_model.specs.Cvs.{has}
 use Rattle.ns_model.specs.Histories.{standing_after}
 use Rattle.ns_model.specs.Truths.{Truths}
 use Rattle.ns_model.specs.declared.event.Event.{Event}
 use Rattle.ns_model.specs.declared.event.Mode.{Mode}
-use Rattle.ns_queue.proofs.Parts.{read_back}
+use Rattle.ns_word.proofs.Enters.{entered_at}
 use Rattle.ns_queue.specs.Queues.{Lists, cvs_without, waiters_of}
 use Rattle.ns_queue.specs.Signals.{taken_set}
 use Rattle.ns_queue.specs.Scans.{left_of}
@@ -32,7 +33,7 @@ use Rattle.ns_word.specs.declared.view.Held.{Held}
 use Rattle.ns_word.specs.declared.view.SeatView.{SeatView}
 use Rattle.ns_word.specs.declared.wait.Aim.{Aim}
 use Rattle.ns_word.specs.declared.wait.QueuePlace.TheVariants.{QueueToWait}
-use Rattle.ns_word.specs.declared.wait.Subject.TheVariants.{OnCondition, OnVariable}
+use Rattle.ns_word.specs.declared.wait.Subject.TheVariants.{OnCondition, OnVariables}
 use Rattle.ns_word.specs.declared.wait.Subject.{Subject}
 use Rattle.ns_word.specs.declared.wait.Wait.{Wait}
 use Rattle.ns_word.specs.declared.wait.WaitPlace.TheVariants.{InQueuing}
@@ -55,8 +56,14 @@ module _ (C : Type 0) (N : ℕ) (truths : Truths C) (seat : ℕ) where
   waits_for : (mode : Mode) (on : Subject C) (again : Bool) (row : List ℕ) (lists : Lists C) → length lists.cvs ≡ 4 → IsInRange on → WaitsFor truths seat mode on again row lists (waits_at on seat mode again (with_lock lists (left_of (meets_at truths row) lists.lock)))
   waits_for mode (OnCondition c) false row lists four range = (refl, refl)
   waits_for mode (OnCondition c) true row lists four range = (refl, refl)
-  waits_for mode (OnVariable k) again row lists four range =
-      (read_back (with_lock lists (left_of (meets_at truths row) lists.lock)) (Cv k) (waiters_of lists (Cv k) ++ waiter seat mode None 0 (Some k) ∷ []) four range, refl)
+  waits_for mode (OnVariables variables) again row lists four range =
+      let entered = entered_at variables seat mode again (with_lock lists (left_of (meets_at truths row) lists.lock)) four range in
+      let stays : (k : ℕ) → List (Waiter C) = λ k. waiters_of lists (Cv k) in
+      let one_more : (k : ℕ) → List (Waiter C) = λ k. waiters_of lists (Cv k) ++ waiter seat mode None 0 (Some k) ∷ [] in
+      (λ k low. elim (cases_Bool (has variables k)) [
+        | inl is ↦ entered.into k low is ∙ sym (ap (λ b. cond b (one_more k) (stays k)) is)
+        | inr lacks ↦ entered.others k low lacks ∙ sym (ap (λ b. cond b (one_more k) (stays k)) lacks)
+      ], entered.lock)
 
   are_called : (waking : Waking) (k : ℕ) (held : Bool) (lists : Lists C) → let taken = taken_by waking (waiters_of lists (Cv k)) in
       AreCalled held k taken lists.lock (moved_to held taken (cvs_without (taken_set taken) lists)).lock (cond held [] (wakes_of k taken))
@@ -85,7 +92,7 @@ waits_in_place {C} {N} truths seats h old new view commits wait again last owes 
   where
     in_range : (on : Subject C) (row : List ℕ) → IsUnmet truths on row → IsInRange on
     in_range (OnCondition c) row p = tt
-    in_range (OnVariable k) row p = p
+    in_range (OnVariables variables) row p = p
 
     can_range : (wait : Wait C) (again : Bool) (held : Option (Held C N)) → CanWait truths wait again held → IsInRange wait.on
     can_range wait again None p = absurd p

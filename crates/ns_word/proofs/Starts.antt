@@ -13,7 +13,7 @@ use Rattle.ns_queue.specs.Queues.{waiters_of}
 use Rattle.ns_queue.specs.Waiters.{times_in}
 use Rattle.ns_word.specs.declared.view.SeatView.{SeatView}
 use Rattle.ns_word.specs.declared.wait.Subject.{Subject}
-use Rattle.ns_word.specs.declared.wait.Subject.TheVariants.{OnCondition, OnVariable}
+use Rattle.ns_word.specs.declared.wait.Subject.TheVariants.{OnCondition, OnVariables}
 use Rattle.ns_word.specs.declared.wait.Wait.{Wait}
 use Rattle.ns_word.specs.declared.wait.Aim.TheVariants.{ForLock}
 use Rattle.ns_word.specs.declared.wait.Visit.TheVariants.{OnEntry}
@@ -36,7 +36,7 @@ use Rattle.ns_word.specs.Steps.{LockState}
 use Rattle.ns_word.specs.Places.{PlaceFits, Tests, CanWait}
 use Rattle.ns_word.specs.Seen.{HasNumber, word_seen}
 use Rattle.ns_word.specs.Lawful.{WordsSeen, EachFits, VariableWaiterFits, WakeTells, IsLawful}
-use Rattle.ns_word.specs.Begins.{fresh_views, fresh_state, IsForVariable, IsFirst, Begins}
+use Rattle.ns_word.specs.Begins.{fresh_views, fresh_state, IsForVariables, IsFirst, Begins}
 use Rattle.ns_word.proofs.Firsts.{first_is_bare}
 use Rattle.ns_word.proofs.Groups.{groups_of, lawful_by}
 use Rattle.ns_word.proofs.Views.{view_of}
@@ -153,7 +153,7 @@ test_first_at N wait false e = let most = ltb-false 0 (N - 1) e in omega (arith,
 
 first_is_for : {C : Type 0} (N : ℕ) (on : Subject C) (wait : Wait C) → wait.on ≡ on → IsFirst N (first_for N on wait)
 first_is_for N (OnCondition c) wait e = test_first_at N wait (ltb 0 (N - 1)) refl
-first_is_for N (OnVariable k) wait e = (refl, subst IsForVariable (sym e) tt)
+first_is_for N (OnVariables variables) wait e = (refl, subst IsForVariables (sym e) tt)
 
 pub wait_is_first : {C : Type 0} (N : ℕ) (wait : Wait C) → IsFirst N (wait_first N wait)
 wait_is_first N wait = first_is_for N wait.on wait refl

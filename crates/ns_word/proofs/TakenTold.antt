@@ -4,7 +4,8 @@ use Rattle.std.proofs.lemmas.Bool.{cases_eq, cases_Bool, lt-ltb, ne_eqb}
 use Rattle.ns_model.specs.declared.event.Mode.{Mode}
 use Rattle.ns_model.specs.declared.phase.Phase.{Phase}
 use Rattle.ns_model.specs.declared.phase.Phase.TheVariants.{Waiting, Woken}
-use Rattle.ns_model.specs.declared.cvs.Variables.TheVariants.{Only}
+use Rattle.ns_model.specs.declared.cvs.Variables.{Variables}
+use Rattle.ns_model.specs.Cvs.{has}
 use Rattle.ns_model.specs.Phases.{woken_phase}
 use Rattle.ns_model.specs.Seats.{is_in}
 use Rattle.ns_model.specs.Tallies.{Every, one_if}
@@ -12,7 +13,7 @@ use Rattle.ns_model.proofs.Tallies.{every_map}
 use Rattle.ns_queue.specs.declared.waiter.Waiter.{Waiter}
 use Rattle.ns_queue.specs.Scans.{is_eligible, left_of, woken_of}
 use Rattle.ns_queue.specs.Signals.{taken_set}
-use Rattle.ns_queue.specs.Wakes.{woken_phases}
+use Rattle.ns_queue.specs.Wakes.{WaitsAmong, woken_phases}
 use Rattle.ns_queue.specs.Waiters.{is_of, times_in, without_in, writes}
 use Rattle.ns_queue.proofs.Seeking.{goes_along}
 use Rattle.ns_queue.proofs.Seats.{own_times, times_in-cons}
@@ -21,7 +22,7 @@ use Rattle.ns_queue.proofs.Wakes.{stands_waiting}
 use Rattle.ns_queue.proofs.Taken.{in_list, in_stands}
 use Rattle.ns_word.specs.declared.owed.Owed.{Owed}
 use Rattle.ns_word.specs.declared.wait.Subject.{Subject}
-use Rattle.ns_word.specs.declared.wait.Subject.TheVariants.{OnCondition, OnVariable}
+use Rattle.ns_word.specs.declared.wait.Subject.TheVariants.{OnCondition, OnVariables}
 use Rattle.ns_word.specs.declared.view.Held.{Held}
 use Rattle.ns_word.specs.declared.view.SeatView.{SeatView}
 use Rattle.ns_word.specs.declared.walk.Walk.{Walk}
@@ -84,7 +85,7 @@ names_tell (Some stance) phase via named = by stance.on named where
   by : (on : Option (Subject _)) → NamesOn on stance.mode phase via → ToldOn on stance.mode phase (value_of via)
   by None named = ap value_of named
   by (Some (OnCondition c)) named = ap value_of named
-  by (Some (OnVariable k)) named = (named.0, named.1, inr (ap value_of named.2 ∙ ap (λ b. cond b (6 + k) 0) (lt-ltb k 4 named.1)))
+  by (Some (OnVariables variables)) named = (named.0, named.1, named.2, named.3, inr (ap value_of named.4 ∙ ap (λ b. cond b (6 + named.0) 0) (lt-ltb named.0 4 named.3)))
 
 module _ {C : Type 0} {N : ℕ} (phases : ℕ → Phase C) (views : List (SeatView C N)) where
   wakes_of_named : (ws : List (Waiter C)) → Every (WaiterNames phases views) ws → Every (WakeTells phases views) (called_of ws)
@@ -236,13 +237,13 @@ module _ {C : Type 0} {N : ℕ} where
       abbrev woken : ℕ → Phase C
       woken = woken_phases k (taken_set took) phases
 
-      waiting : (seat : ℕ) → is_in (taken_set took) seat ≡ true → (mode : Mode) × (phases seat ≡ Waiting (Only k) mode)
+      waiting : (seat : ℕ) → is_in (taken_set took) seat ≡ true → (mode : Mode) × WaitsAmong k mode (phases seat)
       waiting seat is = stands_waiting k phases took seat (waits_of phases olds k took fits) (in_stands took seat is)
 
       -- who was woken already waits no more
       still_woken : (seat j : ℕ) (mode : Mode) → phases seat ≡ Woken j mode → woken seat ≡ Woken j mode
       still_woken seat j mode was = elim (cases_Bool (is_in (taken_set took) seat)) [
-        | inl is ↦ let waits = waiting seat is in let clash : Woken j mode ≡ Waiting (Only k) waits.0 = sym was ∙ waits.1 in absurd (cc)
+        | inl is ↦ let waits = waiting seat is in let clash : Woken j mode ≡ Waiting waits.1.0 waits.0 = sym was ∙ waits.1.1 in absurd (cc)
         | inr out ↦ ap (λ b. cond b (woken_phase k (phases seat)) (phases seat)) out ∙ was
       ]
 
@@ -252,7 +253,7 @@ module _ {C : Type 0} {N : ℕ} where
         by : (on : Option (Subject C)) → ToldOn on stance.mode (phases seat) value → ToldOn on stance.mode (woken seat) value
         by None told = told
         by (Some (OnCondition c)) told = told
-        by (Some (OnVariable j)) told = (still_woken seat j stance.mode told.0, told.1, told.2)
+        by (Some (OnVariables variables)) told = (told.0, told.1, still_woken seat told.0 stance.mode told.2, told.3, told.4)
 
       woken_named : (stance : Option (Stance C)) (seat : ℕ) (via : Option ℕ) → IsNamed stance (phases seat) via → IsNamed stance (woken seat) via
       woken_named None seat via named = tt
@@ -260,7 +261,7 @@ module _ {C : Type 0} {N : ℕ} where
         by : (on : Option (Subject C)) → NamesOn on stance.mode (phases seat) via → NamesOn on stance.mode (woken seat) via
         by None named = named
         by (Some (OnCondition c)) named = named
-        by (Some (OnVariable j)) named = (still_woken seat j stance.mode named.0, named.1, named.2)
+        by (Some (OnVariables variables)) named = (named.0, named.1, still_woken seat named.0 stance.mode named.2, named.3, named.4)
 
       stay : (seat : ℕ) → Stay phases woken seat
       stay seat = (
@@ -268,26 +269,26 @@ module _ {C : Type 0} {N : ℕ} where
         λ via named. subst (λ s. IsNamed s (woken seat) via) (sym (stances apart same seat)) (woken_named (waits_in (walk_at seat olds)) seat via named),
       )
 
-      -- a waiter that is taken waits for the variable, and is woken now
+      -- a waiter that is taken waits for the variable, or for others with it, and is woken now
       abbrev IsWoken : Waiter C → Type 0
-      IsWoken w = (waits_in (walk_at w.seat news) ≡ Some (record { mode = w.mode; on = Some (OnVariable k); tries = 0 })) × (woken w.seat ≡ Woken k w.mode) × (w.via ≡ Some k)
+      IsWoken w = (among : Variables) × (waits_in (walk_at w.seat news) ≡ Some (record { mode = w.mode; on = Some (OnVariables among); tries = 0 })) × (has among k ≡ true) × (woken w.seat ≡ Woken k w.mode) × (w.via ≡ Some k)
 
       each_woken : (ws : List (Waiter C)) → ((seat : ℕ) → 1 ≤ times_in seat ws → is_in (taken_set took) seat ≡ true) → Every (VariableWaiterFits phases olds k) ws → Every IsWoken ws
       each_woken [] is p = tt
       each_woken (w ∷ ws) is p =
           let one = own_times w ws in
           let now : woken w.seat ≡ Woken k w.mode = ap (λ b. cond b (woken_phase k (phases w.seat)) (phases w.seat)) (is w.seat (omega (arith, one))) ∙ ap (woken_phase k) p.0.waits in (
-            (stances apart same w.seat ∙ p.0.stands, now, p.0.names),
+            (p.0.among, stances apart same w.seat ∙ p.0.stands, p.0.is_among, now, p.0.names),
             each_woken ws (λ seat here. is seat (omega (arith, here, times_in-cons seat w ws))) p.1,
           )
 
       owed_told : (ws : List (Waiter C)) → Every IsWoken ws → Every (WakeTells woken news) (wakes_of k ws)
       owed_told [] p = tt
-      owed_told (w ∷ ws) p = (subst (λ (x : Option (Stance C)). IsToldSo x (woken w.seat) (2 + k)) (sym p.0.0) (p.0.1, low, inl refl), owed_told ws p.1)
+      owed_told (w ∷ ws) p = (subst (λ (x : Option (Stance C)). IsToldSo x (woken w.seat) (2 + k)) (sym p.0.1) (k, p.0.2, p.0.3, low, inl refl), owed_told ws p.1)
 
       moved_named : (ws : List (Waiter C)) → Every IsWoken ws → Every (WaiterNames woken news) ws
       moved_named [] p = tt
-      moved_named (w ∷ ws) p = (subst (λ (x : Option (Stance C)). IsNamed x (woken w.seat) w.via) (sym p.0.0) (p.0.1, low, p.0.2), moved_named ws p.1)
+      moved_named (w ∷ ws) p = (subst (λ (x : Option (Stance C)). IsNamed x (woken w.seat) w.via) (sym p.0.1) (k, p.0.2, p.0.3, low, p.0.4), moved_named ws p.1)
 
       pub told_wakes : (flags : ℕ → ℕ) (lock lock' : List (Waiter C)) → ((lock' ≡ lock ++ took) × (owed' ≡ [])) ⊎ ((lock' ≡ lock) × (owed' ≡ wakes_of k took)) → TakenTold phases flags lock olds → TakenTold woken flags lock' news
       told_wakes flags lock lock' ways p =

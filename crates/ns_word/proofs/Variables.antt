@@ -5,7 +5,6 @@ use Rattle.ns_model.specs.declared.event.Mode.{Mode}
 use Rattle.ns_model.specs.declared.phase.Phase.{Phase}
 use Rattle.ns_model.specs.Cvs.{has}
 use Rattle.ns_model.specs.declared.cvs.Variables.{Variables}
-use Rattle.ns_model.specs.declared.cvs.Variables.TheVariants.{Only}
 use Rattle.ns_model.specs.declared.phase.Phase.TheVariants.{Idle, Cond, Waiting, Woken, Left}
 use Rattle.ns_model.specs.Phases.{is_waiting, woken_phase}
 use Rattle.ns_model.specs.Seats.{is_in}
@@ -13,22 +12,24 @@ use Rattle.ns_model.specs.declared.seats.Seats.{Seats}
 use Rattle.ns_model.specs.Tallies.{one_if, Every}
 use Rattle.ns_queue.specs.declared.waiter.Waiter.{Waiter}
 use Rattle.ns_queue.specs.declared.waiter.Which.TheVariants.{Cv}
-use Rattle.ns_queue.specs.Queues.{Lists, IsOrderly, cvs_without, times, waiters_of, with_waiters}
+use Rattle.ns_queue.specs.Queues.{Lists, IsOrderly, cvs_without, times, waiters_of}
 use Rattle.ns_queue.specs.Waiters.{outside, times_in, without_in, is_of}
 use Rattle.ns_queue.proofs.Seats.{times_in-cons, times_in-append}
 use Rattle.ns_queue.proofs.Outside.{gone_outside, times_outside}
-use Rattle.ns_queue.proofs.Parts.{read_back, read_apart, times_at_most, once_in, below_in}
+use Rattle.ns_queue.proofs.Parts.{times_at_most, once_in, below_in}
 use Rattle.ns_queue.proofs.Vias.{every_filter}
 use Rattle.ns_queue.specs.Signals.{taken_set}
 use Rattle.ns_queue.specs.Wakes.{WaitFor, AreWaiting, woken_phases}
 use Rattle.ns_word.specs.declared.owed.Owed.{Owed}
-use Rattle.ns_word.specs.declared.wait.Subject.TheVariants.{OnVariable}
+use Rattle.ns_word.specs.declared.wait.Subject.TheVariants.{OnVariables}
 use Rattle.ns_word.specs.declared.view.Held.{Held}
 use Rattle.ns_word.specs.declared.view.SeatView.{SeatView}
 use Rattle.ns_word.specs.declared.walk.Walk.{Walk}
 use Rattle.ns_word.specs.Walks.{waits_in}
 use Rattle.ns_word.specs.Views.{walk_at, NoneIs}
 use Rattle.ns_word.specs.Lawful.{VariableWaiterFits, VariablesTell}
+use Rattle.ns_word.proofs.Enters.{HasEntered, one_has, stander, times_other, variable_low}
+use Rattle.ns_word.specs.Places.{AreVariables}
 use Rattle.ns_word.proofs.CountsIn.{cvs_left, left_at, outside_same, taken_at}
 use Rattle.ns_word.proofs.Scans.{times_without, times_others}
 use Rattle.ns_word.proofs.Views.{view_of, walk_here, walk_there}
@@ -61,7 +62,7 @@ module _ {C : Type 0} {N : ℕ} where
   every_moves phases phases' views views' k [] same p = tt
   every_moves phases phases' views views' k (w ∷ ws) same p =
       let here = same w.seat (let one : one_if (eqb w.seat w.seat) ≡ 1 = rw (eq-eqb w.seat w.seat refl) refl in omega (arith, times_in-cons w.seat w ws, one)) in (
-        record { stands = here.0 ∙ p.0.stands; waits = here.1 ∙ p.0.waits; plain = p.0.plain; untried = p.0.untried; names = p.0.names },
+        record { among = p.0.among; stands = here.0 ∙ p.0.stands; waits = here.1 ∙ p.0.waits; is_among = p.0.is_among; plain = p.0.plain; untried = p.0.untried; names = p.0.names },
         every_moves phases phases' views views' k ws (λ seat some. same seat (omega (arith, times_in-cons seat w ws, some))) p.1,
       )
 
@@ -108,44 +109,30 @@ module _ {C : Type 0} {N : ℕ} where
           ];
         }
 
-    -- the seat goes to the back of a variable's list
-    pub tell_enters : (phases phases' : ℕ → Phase C) (lists lists' : Lists C) (j : ℕ) (mode : Mode) → NoneIs who front → length lists.cvs ≡ 4 → length lists'.cvs ≡ 4 → j < 4 → times who lists ≡ 0 →
-        lists'.cvs ≡ (with_waiters lists (Cv j) (CvOf lists j ++ record { seat = who; mode = mode; cond = None; tries = 0; via = Some j } ∷ [])).cvs →
-        waits_in walk' ≡ Some (record { mode = mode; on = Some (OnVariable j); tries = 0 }) → phases' who ≡ Waiting (Only j) mode → ((seat : ℕ) → who ≢ seat → phases' seat ≡ phases seat) →
+    -- the seat goes to the back of the lists of its variables
+    pub tell_enters : (phases phases' : ℕ → Phase C) (lists lists' : Lists C) (variables : Variables) (mode : Mode) → NoneIs who front → length lists.cvs ≡ 4 → AreVariables variables → times who lists ≡ 0 → HasEntered variables who mode lists lists' →
+        waits_in walk' ≡ Some (record { mode = mode; on = Some (OnVariables variables); tries = 0 }) → phases' who ≡ Waiting variables mode → ((seat : ℕ) → who ≢ seat → phases' seat ≡ phases seat) →
         VariablesTell phases lists olds → VariablesTell phases' lists' news
-    tell_enters phases phases' lists lists' j mode apart four four' low none cvs stance phase others p =
-        let just : (seat : ℕ) (vs : Variables) (m : Mode) → phases' seat ≡ Waiting vs m → who ≡ seat → vs ≡ Only j = λ seat vs m e same. let is : Waiting vs m ≡ Waiting (Only j) mode = sym e ∙ subst (λ s. phases' s ≡ Waiting (Only j) mode) same phase in cc in
-        let w : Waiter C = record { seat = who; mode = mode; cond = None; tries = 0; via = Some j } in
-        let put = with_waiters lists (Cv j) (CvOf lists j ++ w ∷ []) in
-        let at_k : (k : ℕ) → CvOf lists' k ≡ CvOf put k = λ k. ap (λ (c : List (List (Waiter C))). waiters_of (record { lock = lists.lock; cvs = c }) (Cv k)) cvs in
-        let at_j : CvOf lists' j ≡ CvOf lists j ++ w ∷ [] = at_k j ∙ read_back lists (Cv j) (CvOf lists j ++ w ∷ []) four low in
-        let at_other : (k : ℕ) → k ≢ j → CvOf lists' k ≡ CvOf lists k = λ k ne. at_k k ∙ read_apart lists j k (CvOf lists j ++ w ∷ []) ne in
+    tell_enters phases phases' lists lists' variables mode apart four are none entered stance phase others p =
+        let just : (seat : ℕ) (vs : Variables) (m : Mode) → phases' seat ≡ Waiting vs m → who ≡ seat → vs ≡ variables = λ seat vs m e same. let is : Waiting vs m ≡ Waiting variables mode = sym e ∙ subst (λ s. phases' s ≡ Waiting variables mode) same phase in cc in
         let moved : (k : ℕ) → k < 4 → Every (VariableWaiterFits phases' news k) (CvOf lists k) = λ k few. every_moves phases phases' olds news k (CvOf lists k)
         (λ seat some. let other : who ≢ seat = λ e. let most = times_at_most lists (Cv k) seat four few in let zero : times seat lists ≡ 0 = subst (λ s. times s lists ≡ 0) e none in absurd (omega (arith, most, zero, some)) in (there seat other, others seat other)) (p.own k few) in
         record {
-          own = λ k few. elim (cases_eq k j) [
-            | inl e ↦ subst (λ i. Every (VariableWaiterFits phases' news i) (CvOf lists' i)) (sym e)
-                (subst (λ ws. Every (VariableWaiterFits phases' news j) ws) (sym at_j) (every_push (VariableWaiterFits phases' news j) (CvOf lists j) w (moved j low)
-                (record { stands = ap waits_in (walk_here front (view_of who walk' held' owed') back apart) ∙ stance; waits = phase; plain = refl; untried = refl; names = refl })))
-            | inr ne ↦ subst (λ ws. Every (VariableWaiterFits phases' news k) ws) (sym (at_other k ne)) (moved k few)
+          own = λ k few. elim (cases_Bool (has variables k)) [
+            | inl is ↦ subst (λ ws. Every (VariableWaiterFits phases' news k) ws) (sym (entered.into k few is)) (every_push (VariableWaiterFits phases' news k) (CvOf lists k) (stander who mode k) (moved k few)
+                (record { among = variables; stands = ap waits_in (walk_here front (view_of who walk' held' owed') back apart) ∙ stance; waits = phase; is_among = is; plain = refl; untried = refl; names = refl }))
+            | inr lacks ↦ subst (λ ws. Every (VariableWaiterFits phases' news k) ws) (sym (entered.others k few lacks)) (moved k few)
           ];
           all = λ vs k seat m e has_k. elim (cases_eq who seat) [
             | inl same ↦
-                let number : k ≡ j = sym (eqb-true j k (subst (λ v. has v k ≡ true) (just seat vs m e same) has_k)) in
+                let is : has variables k ≡ true = subst (λ v. has v k ≡ true) (just seat vs m e same) has_k in
+                let low = variable_low variables k are is in
                 let self : one_if (eqb who seat) ≡ 1 = rw (eq-eqb who seat same) refl in
-                (subst (λ i. i < 4) (sym number) low, subst (λ i. 1 ≤ times_in seat (CvOf lists' i)) (sym number) (subst (λ ws. 1 ≤ times_in seat ws) (sym at_j) (omega (arith, times_in-append seat (CvOf lists j) (w ∷ []), times_in-cons seat w [], self))))
-            | inr ne ↦
-                let was = p.all vs k seat m (sym (others seat ne) ∙ e) has_k in (
-                  was.0,
-                  elim (cases_eq k j) [
-                    | inl number ↦ subst (λ i. 1 ≤ times_in seat (CvOf lists' i)) (sym number) (subst (λ ws. 1 ≤ times_in seat ws) (sym at_j)
-                        (let some : 1 ≤ times_in seat (CvOf lists j) = subst (λ i. 1 ≤ times_in seat (CvOf lists i)) number was.1 in omega (arith, times_in-append seat (CvOf lists j) (w ∷ []), some)))
-                    | inr other ↦ subst (λ ws. 1 ≤ times_in seat ws) (sym (at_other k other)) was.1
-                  ],
-                )
+                (low, subst (λ ws. 1 ≤ times_in seat ws) (sym (entered.into k low is)) (let w : Waiter C = stander who mode k in omega (arith, times_in-append seat (CvOf lists k) (w ∷ []), times_in-cons seat w [], self)))
+            | inr ne ↦ let was = p.all vs k seat m (sym (others seat ne) ∙ e) has_k in (was.0, omega (arith, was.1, times_other variables who mode lists lists' four are none entered seat k ne was.0))
           ];
           some = λ vs seat m e. elim (cases_eq who seat) [
-            | inl same ↦ (j, subst (λ v. has v j ≡ true) (sym (just seat vs m e same)) (eq-eqb j j refl))
+            | inl same ↦ let one = one_has variables are in (one.0, subst (λ v. has v one.0 ≡ true) (sym (just seat vs m e same)) one.1)
             | inr ne ↦ p.some vs seat m (sym (others seat ne) ∙ e)
           ];
         }
@@ -193,7 +180,7 @@ module _ {C : Type 0} {N : ℕ} where
 
   pub waits_of : (phases : ℕ → Phase C) (views : List (SeatView C N)) (k : ℕ) (ws : List (Waiter C)) → Every (VariableWaiterFits phases views k) ws → WaitFor k phases ws
   waits_of phases views k [] p = tt
-  waits_of phases views k (w ∷ ws) p = (p.0.waits, waits_of phases views k ws p.1)
+  waits_of phases views k (w ∷ ws) p = ((p.0.among, p.0.waits, p.0.is_among), waits_of phases views k ws p.1)
 
   -- the waiters of a variable's list are those who wait for it
   pub are_waiting : (phases : ℕ → Phase C) (lists : Lists C) (views : List (SeatView C N)) (k : ℕ) → IsOrderly lists → k < 4 → VariablesTell phases lists views → AreWaiting k phases (CvOf lists k)

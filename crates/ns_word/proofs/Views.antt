@@ -2,7 +2,7 @@
 use Rattle.std.proofs.Common.{◌≡◌, ◌≢◌, ℕ, ◌+◌, ◌≤◌, Bool, true, false, not, cond, ◌⊎◌, inl, inr, List, [], ◌∷◌, ◌++◌, Option, None, Some, eqb, refl, ap, sym, ◌∙◌, subst, arith, eq-eqb}
 use Rattle.std.proofs.lemmas.Bool.{ne_eqb}
 use Rattle.ns_model.specs.Phases.{is_waiting, is_write, woken_phase}
-use Rattle.ns_model.specs.declared.cvs.Variables.TheVariants.{Only}
+use Rattle.ns_model.specs.declared.cvs.Variables.{Variables}
 use Rattle.ns_model.specs.Histories.{Standing}
 use Rattle.ns_model.specs.Tallies.{one_if}
 use Rattle.ns_model.proofs.Tallies.{total_amid, every_parts, every_join}
@@ -12,7 +12,7 @@ use Rattle.ns_model.specs.declared.phase.Phase.TheVariants.{Idle, Cond, Waiting,
 use Rattle.ns_word.specs.Owed.{times_among}
 use Rattle.ns_word.specs.declared.owed.Owed.{Owed}
 use Rattle.ns_word.specs.declared.wait.Subject.{Subject}
-use Rattle.ns_word.specs.declared.wait.Subject.TheVariants.{OnCondition, OnVariable}
+use Rattle.ns_word.specs.declared.wait.Subject.TheVariants.{OnCondition, OnVariables}
 use Rattle.ns_word.specs.declared.wait.Outcome.{Outcome}
 use Rattle.ns_word.specs.declared.wait.Outcome.TheVariants as TheOutcome
 use Rattle.ns_word.specs.declared.wait.Outcome.TheVariants.{Ended}
@@ -21,7 +21,7 @@ use Rattle.ns_word.specs.declared.wait.Aim.TheVariants.{ForLock, ForWait}
 use Rattle.ns_word.specs.declared.view.Opening.{Opening}
 use Rattle.ns_word.specs.declared.view.Opening.TheVariants.{Locked, CameBack}
 use Rattle.ns_word.specs.declared.walk.Walk.TheVariants.{InTry, InAcquire, InRelease, InCells, InWait, InSignal, InShow}
-use Rattle.ns_word.specs.Waits.{phase_kept, phase_for}
+use Rattle.ns_word.specs.Waits.{phase_by_wake, phase_kept, phase_for, variable_in}
 use Rattle.ns_word.specs.declared.view.Held.{Held}
 use Rattle.ns_word.specs.declared.view.SeatView.{SeatView}
 use Rattle.ns_word.specs.declared.walk.Walk.{Walk}
@@ -164,11 +164,14 @@ abbrev pub IsWokenBy : {C : Type 0} → ℕ → Phase C → Phase C → Type 0
 IsWokenBy k was now = (now ≡ was) ⊎ ((is_waiting k was ≡ true) × (now ≡ woken_phase k was))
 
 module _ {C : Type 0} (k : ℕ) where
-  -- only one that waits for a variable is woken
+  by_steady : (variables : Variables) (mode : Mode) (by : Option ℕ) → woken_phase {C = C} k (phase_by_wake variables mode by) ≡ phase_by_wake variables mode by
+  by_steady variables mode None = refl
+  by_steady variables mode (Some j) = refl
+
+  -- only one that waits for variables is woken
   kept_steady : (on : Subject C) (mode : Mode) (outcome : Outcome) → woken_phase k (phase_kept on mode outcome) ≡ phase_kept on mode outcome
   kept_steady (OnCondition c) mode outcome = refl
-  kept_steady (OnVariable j) mode (TheOutcome.Woken by) = refl
-  kept_steady (OnVariable j) mode (Ended cause) = refl
+  kept_steady (OnVariables variables) mode outcome = by_steady variables mode (variable_in outcome)
 
   before_steady : (mode : Mode) (entry : Opening C) → woken_phase k (phase_before mode entry) ≡ phase_before mode entry
   before_steady mode Locked = refl
@@ -192,7 +195,7 @@ module _ {C : Type 0} (k : ℕ) where
 
   subject_woken : (on : Subject C) (mode : Mode) (now : Phase C) → is_waiting k now ≡ true → IsExpected (expected_for on mode) now → IsExpected (expected_for on mode) (woken_phase k now)
   subject_woken (OnCondition c) mode now waits p = either_woken false (Cond c mode) now (λ e. refl) waits p
-  subject_woken (OnVariable j) mode now waits p = either_woken true (Waiting (Only j) mode) now (λ e. absurd (cc)) waits p
+  subject_woken (OnVariables variables) mode now waits p = either_woken true (Waiting variables mode) now (λ e. absurd (cc)) waits p
 
   pub expected_woken : (walk : Option (Walk C)) (now : Phase C) → is_waiting k now ≡ true → IsExpected (phase_by walk) now → IsExpected (phase_by walk) (woken_phase k now)
   expected_woken None now waits p = either_woken false Idle now (λ e. refl) waits p

@@ -27,7 +27,7 @@ use Rattle.ns_word.specs.declared.wait.Aim.TheVariants.{ForWait}
 use Rattle.ns_word.specs.declared.wait.LeavePlace.TheVariants.{AwaitWakeToLeave, Leave, LeaveLoad, TakeToLeave}
 use Rattle.ns_word.specs.declared.wait.QueuePlace.TheVariants.{ArmToWait, Load, LoadToScan, LookIn, QueueToWait, Take}
 use Rattle.ns_word.specs.declared.wait.Subject.{Subject}
-use Rattle.ns_word.specs.declared.wait.Subject.TheVariants.{OnCondition, OnVariable}
+use Rattle.ns_word.specs.declared.wait.Subject.TheVariants.{OnCondition, OnVariables}
 use Rattle.ns_word.specs.declared.wait.WaitPlace.TheVariants.{AwaitWakeInWait, InLeaving, InQueuing, LookOut, PayInWait, TestCells, TestLast}
 use Rattle.ns_word.specs.declared.walk.Next.{Next}
 use Rattle.ns_word.specs.declared.walk.Next.TheVariants.{Done, Idle, On}
@@ -116,7 +116,7 @@ module _ (C : Type 0) (N : ℕ) where
   woken_acquires (InWait wait (TestLast visit i)) v e ne = absurd (judges wait.on i e) where
     judges : (on : Subject C) (i : ℕ) → judge_of on i ≡ LoadFlag → ⊥
     judges (OnCondition c) i e = absurd (cc)
-    judges (OnVariable k) i e = absurd (cc)
+    judges (OnVariables variables) i e = absurd (cc)
   woken_acquires (InWait wait (InQueuing again LookIn)) v e ne = absurd (cc)
   woken_acquires (InWait wait (InQueuing again Load)) v e ne = absurd (cc)
   woken_acquires (InWait wait (InQueuing again (Take last))) v e ne = absurd (cc)

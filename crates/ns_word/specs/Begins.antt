@@ -9,7 +9,7 @@ use Rattle.ns_word.specs.declared.wait.Visit.TheVariants.{OnEntry}
 use Rattle.ns_word.specs.declared.wait.WaitPlace.TheVariants.{TestCells, TestLast, InQueuing}
 use Rattle.ns_word.specs.declared.wait.QueuePlace.TheVariants.{Load}
 use Rattle.ns_word.specs.declared.wait.Subject.{Subject}
-use Rattle.ns_word.specs.declared.wait.Subject.TheVariants.{OnCondition, OnVariable}
+use Rattle.ns_word.specs.declared.wait.Subject.TheVariants.{OnCondition, OnVariables}
 use Rattle.ns_word.specs.declared.show_walk.ShowPlace.TheVariants.{ShowLoad}
 use Rattle.ns_word.specs.declared.signal_walk.SignalPlace.TheVariants.{SignalLoad}
 use Rattle.ns_word.specs.declared.word.Arrival.TheVariants.{AsFresh}
@@ -37,10 +37,10 @@ fresh_views first (suc n) = record { seat = first; walk = None; held = None; owe
 abbrev pub fresh_state : {C : Type 0} {N : ℕ} → ℕ → LockState C N
 fresh_state {C} {N} seats = record { word = free_word; row = first_row N; lists = record { lock = []; cvs = replicate 4 [] }; flags = λ seat. 0; views = fresh_views 0 seats }
 
--- the wait is for a variable
-abbrev pub IsForVariable : {C : Type 0} → Subject C → Type 0
-IsForVariable (OnCondition c) = ⊥
-IsForVariable (OnVariable k) = Unit {0}
+-- the wait is for variables
+abbrev pub IsForVariables : {C : Type 0} → Subject C → Type 0
+IsForVariables (OnCondition c) = ⊥
+IsForVariables (OnVariables variables) = Unit {0}
 
 -- the first place of a call, over a row of N cells; a wait for a condition begins with its test
 abbrev pub IsFirst : {C : Type 0} → ℕ → Walk C → Type 0
@@ -53,7 +53,7 @@ IsFirst N (InCells (GetLoad i)) = Unit {0}
 IsFirst N (InCells (SetLoad i v)) = Unit {0}
 IsFirst N (InWait wait (TestCells OnEntry i)) = i ≡ 0
 IsFirst N (InWait wait (TestLast OnEntry i)) = i ≡ 0
-IsFirst N (InWait wait (InQueuing again Load)) = (again ≡ false) × IsForVariable wait.on
+IsFirst N (InWait wait (InQueuing again Load)) = (again ≡ false) × IsForVariables wait.on
 IsFirst N (InSignal waking k SignalLoad) = Unit {0}
 IsFirst N (InShow ShowLoad) = Unit {0}
 IsFirst N walk = ⊥

@@ -2,11 +2,12 @@
 use Rattle.std.specs.Prelude.{◌≡◌, ℕ, Bool, true, false, List, [], ◌∷◌, ◌++◌, Option, None, Some}
 use Rattle.ns_model.specs.declared.event.Event.{Event}
 use Rattle.ns_model.specs.declared.event.Event.TheVariants as TheEvent
+use Rattle.ns_model.specs.declared.cvs.Variables.TheVariants.{Only, Any}
 use Rattle.ns_model.specs.Truths.{Truths}
 use Rattle.ns_env.specs.declared.limits.Limits.{Limits}
 use Rattle.ns_env.specs.declared.limits.Cause.{Cause}
 use Rattle.ns_word.specs.declared.wait.Subject.{Subject}
-use Rattle.ns_word.specs.declared.wait.Subject.TheVariants.{OnCondition, OnVariable}
+use Rattle.ns_word.specs.declared.wait.Subject.TheVariants.{OnCondition, OnVariables}
 use Rattle.ns_word.specs.declared.wait.Visit.{Visit}
 use Rattle.ns_word.specs.declared.wait.Visit.TheVariants.{OnEntry, OnReturn}
 use Rattle.ns_word.specs.declared.wait.Outcome.{Outcome}
@@ -51,12 +52,13 @@ course_after found commits course = record { began = course.began; committed = c
 
 -- ---- what a place tells
 
--- a wait for a variable that leaves early has told so, once something has ended it
+-- a wait for variables that leaves early has told so, once something has ended it
 abbrev pub left_by : {C : Type 0} {N : ℕ} → ℕ → Subject C → Option Cause → List (Event C N)
-left_by seat (OnVariable k) (Some cause) = TheEvent.Leave seat k ∷ []
+left_by seat (OnVariables (Only k)) (Some cause) = TheEvent.Leave seat k ∷ []
+left_by seat (OnVariables (Any cvs)) (Some cause) = TheEvent.LeaveAny seat cvs ∷ []
 left_by seat on ended = []
 
--- A wait has left the section that the call began with, of whose row its condition was false, if it is for one: that was committed, with what it waits for as its exit, and nothing else but that it left a variable early.
+-- A wait has left the section that the call began with, of whose row its condition was false, if it is for one: that was committed, with what it waits for as its exit, and nothing else but that it left its variables early.
 pub record HasLeft {C : Type 0} {N : ℕ} (truths : Truths C) (seat : ℕ) (wait : Wait C) (ended : Option Cause) (course : Course C N) : Type 0 where
   pub was : Held C N
   pub began : course.began ≡ Some was
@@ -72,7 +74,7 @@ KeptFits looked (Some cause) = looked ≡ Some (Some cause)
 -- a wait that something may end early has looked before it queues for a condition, and its last look showed nothing
 abbrev pub HasLookedFor : {C : Type 0} → Subject C → Limits → Option (Option Cause) → Type 0
 HasLookedFor (OnCondition c) limits looked = is_limited limits ≡ true → looked ≡ Some None
-HasLookedFor (OnVariable k) limits looked = Unit {0}
+HasLookedFor (OnVariables variables) limits looked = Unit {0}
 
 -- so it is at each place before it queues but the look itself
 abbrev pub QueuesAfter : {C : Type 0} → Wait C → QueuePlace → Option (Option Cause) → Type 0

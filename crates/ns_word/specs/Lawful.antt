@@ -6,7 +6,6 @@ use Rattle.ns_model.specs.declared.event.Event.{Event}
 use Rattle.ns_model.specs.declared.phase.Phase.{Phase}
 use Rattle.ns_model.specs.Cvs.{has}
 use Rattle.ns_model.specs.declared.cvs.Variables.{Variables}
-use Rattle.ns_model.specs.declared.cvs.Variables.TheVariants.{Only}
 use Rattle.ns_model.specs.declared.phase.Phase.TheVariants.{Idle, Waiting, Woken}
 use Rattle.ns_model.specs.Phases.{is_waiting, woken_phase}
 use Rattle.ns_model.specs.Tallies.{Every}
@@ -18,7 +17,7 @@ use Rattle.ns_queue.specs.Waiters.{times_in}
 use Rattle.ns_word.specs.declared.word.Word.{Word}
 use Rattle.ns_word.specs.declared.word.Bits.{Bits}
 use Rattle.ns_word.specs.declared.wait.Subject.{Subject}
-use Rattle.ns_word.specs.declared.wait.Subject.TheVariants.{OnCondition, OnVariable}
+use Rattle.ns_word.specs.declared.wait.Subject.TheVariants.{OnCondition, OnVariables}
 use Rattle.ns_word.specs.declared.view.Opening.{Opening}
 use Rattle.ns_word.specs.declared.view.Opening.TheVariants.{Locked, CameBack}
 use Rattle.ns_word.specs.declared.view.Held.{Held}
@@ -128,11 +127,11 @@ pub record WaitersPlaced {C : Type 0} {N : ℕ} (lists : Lists C) (flags : ℕ �
   pub flag : (seat : ℕ) → flags seat < 10
   pub four : length lists.cvs ≡ 4
 
--- with which condition one stands in the lock list that waits so: one that waits for a variable, and was moved there, with none
+-- with which condition one stands in the lock list that waits so: one that waits for variables, and was moved there, with none
 abbrev pub cond_on : {C : Type 0} → Option (Subject C) → Option C
 cond_on None = None
 cond_on (Some (OnCondition c)) = Some c
-cond_on (Some (OnVariable k)) = None
+cond_on (Some (OnVariables variables)) = None
 
 abbrev pub lock_stance : {C : Type 0} → Option (Stance C) → Option (Mode × Option C × ℕ)
 lock_stance None = None
@@ -146,10 +145,12 @@ WaiterFits views w = lock_stance (waits_in (walk_at w.seat views)) ≡ Some (w.m
 abbrev pub WaitersOwn : {C : Type 0} {N : ℕ} → List (Waiter C) → List (SeatView C N) → Type 0
 WaitersOwn lock views = Every (WaiterFits views) lock
 
--- A waiter of a variable's list is its seat's own, and waits for that variable alone, by its place and by the history; it has no condition, and no tries, and names the variable.
+-- A waiter of a variable's list is its seat's own, and waits for that variable, or for several with it among them, by its place and by the history; it has no condition, and no tries, and names the variable.
 pub record VariableWaiterFits {C : Type 0} {N : ℕ} (phases : ℕ → Phase C) (views : List (SeatView C N)) (k : ℕ) (w : Waiter C) : Type 0 where
-  pub stands : waits_in (walk_at w.seat views) ≡ Some (record { mode = w.mode; on = Some (OnVariable k); tries = 0 })
-  pub waits : phases w.seat ≡ Waiting (Only k) w.mode
+  pub among : Variables
+  pub stands : waits_in (walk_at w.seat views) ≡ Some (record { mode = w.mode; on = Some (OnVariables among); tries = 0 })
+  pub waits : phases w.seat ≡ Waiting among w.mode
+  pub is_among : has among k ≡ true
   pub plain : w.cond ≡ None
   pub untried : w.tries ≡ 0
   pub names : w.via ≡ Some k
@@ -162,11 +163,11 @@ pub record VariablesTell {C : Type 0} {N : ℕ} (phases : ℕ → Phase C) (list
 
 -- ---- what the taken are told
 
--- What a flag of this value tells one that waits so, in this phase, and was taken from a list: one that waits for a variable was woken by that, and finds its number in one of two values; any other finds 0. Which of the two it is says whence it was taken, and that is said of the wakes that are owed (`OwesAs`).
+-- What a flag of this value tells one that waits so, in this phase, and was taken from a list: one that waits for variables was woken by one of them, and finds its number in one of two values; any other finds 0. Which of the two it is says whence it was taken, and that is said of the wakes that are owed (`OwesAs`).
 abbrev pub ToldOn : {C : Type 0} → Option (Subject C) → Mode → Phase C → ℕ → Type 0
 ToldOn None mode phase value = value ≡ 0
 ToldOn (Some (OnCondition c)) mode phase value = value ≡ 0
-ToldOn (Some (OnVariable k)) mode phase value = (phase ≡ Woken k mode) × (k < 4) × ((value ≡ 2 + k) ⊎ (value ≡ 6 + k))
+ToldOn (Some (OnVariables variables)) mode phase value = (k : ℕ) × (has variables k ≡ true) × (phase ≡ Woken k mode) × (k < 4) × ((value ≡ 2 + k) ⊎ (value ≡ 6 + k))
 
 abbrev pub IsToldSo : {C : Type 0} → Option (Stance C) → Phase C → ℕ → Type 0
 IsToldSo None phase value = Unit {0}
@@ -176,11 +177,11 @@ IsToldSo (Some stance) phase value = ToldOn stance.on stance.mode phase value
 abbrev pub WakeTells : {C : Type 0} {N : ℕ} → (ℕ → Phase C) → List (SeatView C N) → Owed → Type 0
 WakeTells phases views wake = IsToldSo (waits_in (walk_at wake.seat views)) (phases wake.seat) wake.value
 
--- What one names that stands in the lock list, waits so and is in this phase: one that waits for a variable was woken by that, which moved it there, and names it; any other names none.
+-- What one names that stands in the lock list, waits so and is in this phase: one that waits for variables was woken by one of them, which moved it there, and names that; any other names none.
 abbrev pub NamesOn : {C : Type 0} → Option (Subject C) → Mode → Phase C → Option ℕ → Type 0
 NamesOn None mode phase via = via ≡ None
 NamesOn (Some (OnCondition c)) mode phase via = via ≡ None
-NamesOn (Some (OnVariable k)) mode phase via = (phase ≡ Woken k mode) × (k < 4) × (via ≡ Some k)
+NamesOn (Some (OnVariables variables)) mode phase via = (k : ℕ) × (has variables k ≡ true) × (phase ≡ Woken k mode) × (k < 4) × (via ≡ Some k)
 
 abbrev pub IsNamed : {C : Type 0} → Option (Stance C) → Phase C → Option ℕ → Type 0
 IsNamed None phase via = Unit {0}

@@ -3,9 +3,14 @@ use Rattle.std.specs.Prelude.{◌≡◌, ℕ, ◌⊎◌, Bool, true, false, List
 use Rattle.ns_model.specs.declared.event.Mode.{Mode}
 use Rattle.ns_model.specs.declared.event.Answer.{Answer}
 use Rattle.ns_model.specs.declared.event.Answer.TheVariants.{Met, TimedOut, Canceled}
-use Rattle.ns_model.specs.declared.event.Entry.TheVariants.{Waited, AfterCv}
+use Rattle.ns_model.specs.declared.event.Entry.{Entry}
+use Rattle.ns_model.specs.declared.event.Entry.TheVariants.{Waited, AfterCv, AfterAny}
 use Rattle.ns_model.specs.declared.event.Exit.TheVariants as TheExit
-use Rattle.ns_model.specs.declared.event.Exit.TheVariants.{CondWait, CvWait}
+use Rattle.ns_model.specs.declared.event.Exit.TheVariants.{CondWait, CvWait, AnyWait}
+use Rattle.ns_model.specs.declared.cvs.Cvs.{Cvs}
+use Rattle.ns_model.specs.declared.cvs.Variables.{Variables}
+use Rattle.ns_model.specs.declared.cvs.Variables.TheVariants.{Only, Any}
+use Rattle.ns_model.specs.Cvs.{is_in}
 use Rattle.ns_model.specs.declared.event.Event.{Event}
 use Rattle.ns_model.specs.declared.event.Event.TheVariants as TheEvent
 use Rattle.ns_model.specs.Sections.{is_met}
@@ -17,17 +22,17 @@ use Rattle.ns_env.specs.declared.limits.Limits.{Limits}
 use Rattle.ns_env.specs.declared.limits.Cause.{Cause}
 use Rattle.ns_env.specs.declared.limits.Cause.TheVariants.{Expired, Notified}
 use Rattle.ns_word.specs.declared.wait.Subject.{Subject}
-use Rattle.ns_word.specs.declared.wait.Subject.TheVariants.{OnCondition, OnVariable}
+use Rattle.ns_word.specs.declared.wait.Subject.TheVariants.{OnCondition, OnVariables}
 use Rattle.ns_word.specs.declared.view.Opening.TheVariants.{Locked}
 use Rattle.ns_word.specs.declared.view.Held.{Held}
 use Rattle.ns_word.specs.declared.act.Waking.{Waking}
 use Rattle.ns_word.specs.declared.request.Request.{Request}
 use Rattle.ns_word.specs.declared.request.Request.TheVariants as TheRequest
 use Rattle.ns_word.specs.declared.walk.Reply.{Reply}
-use Rattle.ns_word.specs.declared.walk.Reply.TheVariants.{Succeeded, Busy, Noisy, Number, Is, Answered}
+use Rattle.ns_word.specs.declared.walk.Reply.TheVariants.{Succeeded, Busy, Noisy, Number, Is, Answered, WokenBy}
 use Rattle.ns_word.specs.Words.{mode_released}
 use Rattle.ns_word.specs.Places.{IsLeft}
-use Rattle.ns_word.specs.Steps.{entry_of, section_of, taken_by, wake_of}
+use Rattle.ns_word.specs.Steps.{MayShow, entry_of, section_of, taken_by, wake_of}
 
 -- The course of a call: the section in hand as it began, what it has committed since, and what its last look has shown, if it has looked.
 pub record Course (C : Type 0) (N : ℕ) : Type 0 where
@@ -130,10 +135,42 @@ pub record VariableWaitMeans {C : Type 0} {N : ℕ} (truths : Truths C) (seat : 
   pub begins : IsBack row asked back
   pub entry : entry_of truths.holds back.before back.entry ≡ AfterCv k answer
 
--- a wait is over
+-- A wait for any variables of a set was ended, by a wake of one of them, or else by what it was given and its last look has shown.
+abbrev pub MayEnd : Cvs → Limits → Option (Option Cause) → Option ℕ → Type 0
+MayEnd cvs limits looked (Some k) = is_in cvs k ≡ true
+MayEnd cvs limits looked None = (cause : Cause) × MayShow limits (Some cause) × (looked ≡ Some (Some cause))
+
+-- such a wait that was ended early has told that it left; one that was woken tells nothing
+abbrev pub leave_any_told : {C : Type 0} {N : ℕ} → ℕ → Cvs → Option ℕ → List (Event C N)
+leave_any_told seat cvs (Some k) = []
+leave_any_told seat cvs None = TheEvent.LeaveAny seat cvs ∷ []
+
+-- A wait for any variables of a set is over: it has left the section that it began with, and has told that it left the set exactly where none of them woke it; it has come back with another section, which says just which of them has.
+pub record AnyWaitMeans {C : Type 0} {N : ℕ} (truths : Truths C) (seat : ℕ) (row : List ℕ) (asked : Mode) (cvs : Cvs) (limits : Limits) (course : Course C N) (by : Option ℕ) (back : Held C N) : Type 0 where
+  pub was : Held C N
+  pub began : course.began ≡ Some was
+  pub mode : was.mode ≡ asked
+  pub committed : course.committed ≡ section_of truths.holds seat was (AnyWait cvs) ∷ leave_any_told seat cvs by
+  pub may : MayEnd cvs limits course.looked by
+  pub begins : IsBack row asked back
+  pub entry : entry_of truths.holds back.before back.entry ≡ AfterAny by
+
+-- a wait for a condition or for one variable is over
 abbrev pub WaitMeans : {C : Type 0} {N : ℕ} → Truths C → ℕ → List ℕ → Mode → Subject C → Limits → Course C N → Answer → Held C N → Type 0
 WaitMeans truths seat row mode (OnCondition c) limits course answer back = ConditionWaitMeans truths seat row mode c limits course answer back
-WaitMeans truths seat row mode (OnVariable k) limits course answer back = VariableWaitMeans truths seat row mode k limits course answer back
+WaitMeans truths seat row mode (OnVariables (Only k)) limits course answer back = VariableWaitMeans truths seat row mode k limits course answer back
+WaitMeans truths seat row mode (OnVariables (Any cvs)) limits course answer back = ⊥
+
+-- a wait for any of several variables is over
+abbrev pub AnyMeans : {C : Type 0} {N : ℕ} → Truths C → ℕ → List ℕ → Mode → Subject C → Limits → Course C N → Option ℕ → Held C N → Type 0
+AnyMeans truths seat row mode (OnVariables (Any cvs)) limits course by back = AnyWaitMeans truths seat row mode cvs limits course by back
+AnyMeans truths seat row mode on limits course by back = ⊥
+
+-- the entry says of a section that came back from a wait for these variables just what the wait has answered
+abbrev pub IsSaidBy : {C : Type 0} → Variables → Reply → Entry C → Type 0
+IsSaidBy (Only k) (Answered answer) entry = entry ≡ AfterCv k answer
+IsSaidBy (Any cvs) (WokenBy by) entry = entry ≡ AfterAny by
+IsSaidBy variables reply entry = ⊥
 
 -- ---- calls that wake
 
@@ -156,6 +193,7 @@ Means truths seat row TheRequest.IsQuiet course (Is quiet) held = Unchanged cour
 Means truths seat row (TheRequest.Release releasing) course Succeeded held = HasReleased truths seat releasing course held
 Means truths seat row (TheRequest.Release QuietWriter) course Noisy held = Unchanged course held × IsQuietSection truths false held
 Means truths seat row (TheRequest.Await wait) course (Answered answer) held = InHand held (λ back. WaitMeans truths seat row wait.mode wait.on wait.limits course answer back)
+Means truths seat row (TheRequest.Await wait) course (WokenBy by) held = InHand held (λ back. AnyMeans truths seat row wait.mode wait.on wait.limits course by back)
 Means truths seat row (TheRequest.Wake waking k) course Succeeded held = HasWoken seat waking k course held
 Means truths seat row TheRequest.Show course Succeeded held = Unchanged course held
 Means truths seat row request course reply held = ⊥

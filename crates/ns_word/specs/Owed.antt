@@ -1,5 +1,5 @@
 -- Wakes that are owed, and what a flag tells that a wake has set.
-use Rattle.std.specs.Prelude.{◌≡◌, ◌⊎◌, ◌≤◌, ◌<◌, ◌+◌, ℕ, Bool, true, false, ◌==◌, ◌||◌, nat_lt, List, [], ◌∷◌, map, if◌then◌else◌, Option, None, Some}
+use Rattle.std.specs.Prelude.{◌≡◌, ◌⊎◌, ◌≤◌, ◌<◌, ◌+◌, ◌-◌, ℕ, Bool, true, false, ◌==◌, ◌||◌, nat_lt, List, [], ◌∷◌, map, if◌then◌else◌, Option, None, Some}
 use Rattle.ns_queue.specs.declared.waiter.Waiter.{Waiter}
 use Rattle.ns_word.specs.declared.owed.Owed.{Owed}
 
@@ -25,6 +25,10 @@ wakes_of k ws = map (λ w. record { seat = w.seat; value = 2 + k }) ws
 -- a flag of this value tells that its seat was taken from the lock list
 abbrev pub is_from_lock : ℕ → Bool
 is_from_lock value = (value == 0) || nat_lt 5 value
+
+-- the variable of which a flag of this value tells: that in whose list its seat was taken, or whose wake had moved it to the lock list
+abbrev pub variable_told : ℕ → ℕ
+variable_told value = if nat_lt 5 value then value - 6 else value - 2
 
 -- how many of the wakes are to the seat
 abbrev pub times_among : ℕ → List Owed → ℕ

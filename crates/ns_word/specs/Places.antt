@@ -2,15 +2,17 @@
 use Rattle.std.specs.Prelude.{◌≡◌, ℕ, ◌+◌, ◌<◌, ◌≤◌, Bool, true, false, List, [], ◌∷◌, Option, None, Some, IsSome}
 use Rattle.ns_model.specs.declared.event.Mode.{Mode}
 use Rattle.ns_model.specs.declared.event.Mode.TheVariants.{Write}
+use Rattle.ns_model.specs.declared.cvs.Variables.{Variables}
+use Rattle.ns_model.specs.declared.cvs.Variables.TheVariants.{Only, Any}
 use Rattle.ns_queue.specs.Queues.{times}
 use Rattle.ns_word.specs.declared.owed.Owed.{Owed}
 use Rattle.ns_word.specs.declared.word.Releasing.{Releasing}
 use Rattle.ns_word.specs.declared.word.Releasing.TheVariants.{Writer, QuietWriter, Reader}
 use Rattle.ns_word.specs.declared.view.Held.{Held}
 use Rattle.ns_word.specs.declared.wait.Subject.{Subject}
-use Rattle.ns_word.specs.declared.wait.Subject.TheVariants.{OnCondition, OnVariable}
+use Rattle.ns_word.specs.declared.wait.Subject.TheVariants.{OnCondition, OnVariables}
 use Rattle.ns_word.specs.declared.wait.Outcome.{Outcome}
-use Rattle.ns_word.specs.declared.wait.Outcome.TheVariants.{Woken}
+use Rattle.ns_word.specs.declared.wait.Outcome.TheVariants.{Woken, Ended}
 use Rattle.ns_word.specs.declared.wait.Wait.{Wait}
 use Rattle.ns_word.specs.declared.wait.Visit.{Visit}
 use Rattle.ns_word.specs.declared.wait.Visit.TheVariants.{OnEntry, OnReturn}
@@ -54,11 +56,12 @@ abbrev pub HasMode : {C : Type 0} {N : ℕ} → Mode → Option (Held C N) → T
 HasMode mode None = ⊥
 HasMode mode (Some held) = held.mode ≡ mode
 
--- How a section began is settled: it came back from no wait for a condition, or something has ended the wait, or the condition is true of the row that the section began at.
+-- How a section began is settled: it came back from no wait; or from one for a condition that something has ended, or whose condition is true of the row that the section began at; or from one for variables, and what came of that goes with them.
 abbrev pub IsSettledBy : {C : Type 0} → (C → List ℕ → Bool) → List ℕ → Opening C → Type 0
 IsSettledBy holds before Locked = Unit {0}
 IsSettledBy holds before (CameBack (OnCondition c) (Woken by)) = holds c before ≡ true
-IsSettledBy holds before (CameBack on outcome) = Unit {0}
+IsSettledBy holds before (CameBack (OnCondition c) (Ended cause)) = Unit {0}
+IsSettledBy {C} holds before (CameBack (OnVariables variables) outcome) = OutcomeFits {C = C} (OnVariables variables) outcome
 
 -- so it is of the section in hand, if there is one; an open one isn't committed
 abbrev pub IsSettled : {C : Type 0} {N : ℕ} → Truths C → Option (Held C N) → Type 0
@@ -85,12 +88,17 @@ pub record ComesBack {C : Type 0} {N : ℕ} (wait : Wait C) (outcome : Outcome) 
 -- the wait is for a condition
 abbrev pub IsForCondition : {C : Type 0} → Subject C → Type 0
 IsForCondition (OnCondition c) = Unit {0}
-IsForCondition (OnVariable k) = ⊥
+IsForCondition (OnVariables variables) = ⊥
 
--- the wait's condition is false of a row, if it is for one; a variable is below 4
+-- variables that there are: one of a number below 4, or some of those
+abbrev pub AreVariables : Variables → Type 0
+AreVariables (Only k) = k < 4
+AreVariables (Any cvs) = (1 ≤ cvs.0) × (cvs.0 < 16)
+
+-- the wait's condition is false of a row, if it is for one; variables are ones that there are
 abbrev pub IsUnmet : {C : Type 0} → Truths C → Subject C → List ℕ → Type 0
 IsUnmet truths (OnCondition c) row = truths.holds c row ≡ false
-IsUnmet truths (OnVariable k) row = k < 4
+IsUnmet truths (OnVariables variables) row = AreVariables variables
 
 -- a wait tests its condition: as the call begins, or with the section that it came back with
 abbrev pub Tests : {C : Type 0} {N : ℕ} → Truths C → Wait C → Visit → Option (Held C N) → Type 0
@@ -144,17 +152,17 @@ CellFits {C} {N} (SetStore i v) held = HasMode Write held × (i < N)
 CellFits {C} {N} (QuietCells judging i) held = HasMode Write held × (i + 1 < N)
 CellFits {C} {N} (QuietLast judging i) held = HasMode Write held × (i + 1 ≡ N)
 
--- what a wait has seen that is about to queue; one for a variable doesn't look then
+-- what a wait has seen that is about to queue; one for variables doesn't look then
 abbrev pub QueueFits : {C : Type 0} → ℕ → Subject C → QueuePlace → Type 0
 QueueFits N on LookIn = IsForCondition on
 QueueFits N on (Take last) = last.spin ≡ false
 QueueFits N on (LoadToScan last i) = i < N
 QueueFits N on place = Unit {0}
 
--- a variable that there is
+-- variables that there are, if it is for variables
 abbrev pub IsInRange : {C : Type 0} → Subject C → Type 0
 IsInRange (OnCondition c) = Unit {0}
-IsInRange (OnVariable k) = k < 4
+IsInRange (OnVariables variables) = AreVariables variables
 
 -- what a call that wakes has seen
 abbrev pub SignalFits : SignalPlace → Type 0

@@ -1,5 +1,6 @@
 -- Where a seat stands that queues, said of the lists before and after.
-use Rattle.std.specs.Prelude.{◌≡◌, ℕ, ◌+◌, min, Bool, true, false, List, [], ◌∷◌, ◌++◌, map, Option, None, Some}
+use Rattle.std.specs.Prelude.{◌≡◌, ℕ, ◌+◌, ◌<◌, min, Bool, true, false, if◌then◌else◌, List, [], ◌∷◌, ◌++◌, map, Option, None, Some}
+use Rattle.ns_model.specs.Cvs.{has}
 use Rattle.ns_model.specs.declared.event.Mode.{Mode}
 use Rattle.ns_model.specs.Truths.{Truths}
 use Rattle.ns_queue.specs.declared.waiter.Waiter.{Waiter}
@@ -10,7 +11,7 @@ use Rattle.ns_word.specs.declared.owed.Owed.{Owed}
 use Rattle.ns_word.specs.declared.word.Arrival.{Arrival}
 use Rattle.ns_word.specs.declared.word.Arrival.TheVariants.{AsFresh, AsWoken}
 use Rattle.ns_word.specs.declared.wait.Subject.{Subject}
-use Rattle.ns_word.specs.declared.wait.Subject.TheVariants.{OnCondition, OnVariable}
+use Rattle.ns_word.specs.declared.wait.Subject.TheVariants.{OnCondition, OnVariables}
 use Rattle.ns_word.specs.Steps.{meets_at}
 
 -- a waiter, part by part
@@ -22,11 +23,13 @@ abbrev pub QueuesFor : {C : Type 0} → ℕ → Mode → Arrival → List (Waite
 QueuesFor seat mode AsFresh old new = new ≡ old ++ waiter seat mode None 0 None ∷ []
 QueuesFor seat mode (AsWoken tries) old new = new ≡ waiter seat mode None (min (tries + 1) 30) None ∷ old
 
--- A wait for a condition stands with it behind all whom the scan has left, and before them where it queues again. One for a variable stands behind all that wait for that, and names it.
+-- A wait for a condition stands with it behind all whom the scan has left, and before them where it queues again. One for variables stands behind all that wait for any of them, and names that in its list; the other lists stay.
 abbrev pub WaitsFor : {C : Type 0} → Truths C → ℕ → Mode → Subject C → Bool → List ℕ → Lists C → Lists C → Type 0
 WaitsFor truths seat mode (OnCondition c) false row old new = (new.lock ≡ left_of (meets_at truths row) old.lock ++ waiter seat mode (Some c) 0 None ∷ []) × (new.cvs ≡ old.cvs)
 WaitsFor truths seat mode (OnCondition c) true row old new = (new.lock ≡ waiter seat mode (Some c) 0 None ∷ left_of (meets_at truths row) old.lock) × (new.cvs ≡ old.cvs)
-WaitsFor truths seat mode (OnVariable k) again row old new = (waiters_of new (Cv k) ≡ waiters_of old (Cv k) ++ waiter seat mode None 0 (Some k) ∷ []) × (new.lock ≡ left_of (meets_at truths row) old.lock)
+WaitsFor truths seat mode (OnVariables variables) again row old new =
+    ((k : ℕ) → k < 4 → waiters_of new (Cv k) ≡ (if has variables k then waiters_of old (Cv k) ++ waiter seat mode None 0 (Some k) ∷ [] else waiters_of old (Cv k)))
+    × (new.lock ≡ left_of (meets_at truths row) old.lock)
 
 -- Those whom a call takes from a variable stand behind all others in the lock list, in their order, where the lock is held, and nobody is owed a wake; else that list stays, and they are owed their wakes in that order.
 abbrev pub AreCalled : {C : Type 0} → Bool → ℕ → List (Waiter C) → List (Waiter C) → List (Waiter C) → List Owed → Type 0

@@ -4,20 +4,21 @@ use Rattle.ns_model.specs.declared.event.Mode.{Mode}
 use Rattle.ns_model.specs.declared.event.Mode.TheVariants.{Write}
 use Rattle.ns_model.specs.declared.event.Answer.TheVariants.{Met}
 use Rattle.ns_model.specs.declared.event.Entry.{Entry}
-use Rattle.ns_model.specs.declared.event.Entry.TheVariants.{Plain, Waited, AfterCv}
+use Rattle.ns_model.specs.declared.event.Entry.TheVariants.{Plain, Waited, AfterCv, AfterAny}
 use Rattle.ns_model.specs.declared.event.Exit.{Exit}
-use Rattle.ns_model.specs.declared.event.Exit.TheVariants.{CondWait, CvWait}
+use Rattle.ns_model.specs.declared.event.Exit.TheVariants.{CondWait, CvWait, AnyWait}
 use Rattle.ns_model.specs.declared.event.Exit.TheVariants as TheExit
 use Rattle.ns_model.specs.declared.event.Event.{Event}
 use Rattle.ns_model.specs.declared.event.Event.TheVariants.{Section, Signal, Broadcast}
 use Rattle.ns_model.specs.declared.event.Event.TheVariants as TheEvent
 use Rattle.ns_model.specs.Truths.{Truths}
 use Rattle.ns_queue.specs.declared.waiter.Waiter.{Waiter}
+use Rattle.ns_model.specs.declared.cvs.Variables.{Variables}
 use Rattle.ns_model.specs.declared.cvs.Variables.TheVariants.{Any, Only}
 use Rattle.ns_word.specs.declared.wait.Home.{Home}
 use Rattle.ns_word.specs.declared.wait.Home.TheVariants.{AtVariables}
 use Rattle.ns_queue.specs.declared.waiter.Which.TheVariants.{Cv}
-use Rattle.ns_queue.specs.Queues.{Lists, cvs_without, waiters_of, with_waiters, without}
+use Rattle.ns_queue.specs.Queues.{Lists, cvs_without, waiters_of, with_each, with_waiters, without}
 use Rattle.ns_queue.specs.Signals.{signaled_of, unsignaled_of, taken_set}
 use Rattle.ns_queue.specs.Waiters.{times_in}
 use Rattle.ns_word.specs.Owed.{called_of, wakes_of}
@@ -28,7 +29,8 @@ use Rattle.ns_env.specs.declared.limits.Limits.{Limits}
 use Rattle.ns_env.specs.declared.limits.Cause.{Cause}
 use Rattle.ns_env.specs.declared.limits.Cause.TheVariants.{Expired, Notified}
 use Rattle.ns_word.specs.declared.wait.Subject.{Subject}
-use Rattle.ns_word.specs.declared.wait.Subject.TheVariants.{OnCondition, OnVariable}
+use Rattle.ns_word.specs.declared.wait.Subject.TheVariants.{OnCondition, OnVariables}
+use Rattle.ns_word.specs.declared.wait.Outcome.{Outcome}
 use Rattle.ns_word.specs.declared.wait.Outcome.TheVariants.{Woken, Ended}
 use Rattle.ns_word.specs.declared.wait.Wait.{Wait}
 use Rattle.ns_word.specs.declared.wait.Aim.{Aim}
@@ -58,7 +60,7 @@ use Rattle.ns_word.specs.declared.act.Act.TheVariants.{LoadWord, Acquire, TakeQu
 use Rattle.ns_word.specs.declared.act.Found.{Found}
 use Rattle.ns_word.specs.declared.act.Found.TheVariants.{Saw, Made, Cell, Quiet, Tested, Scanned, Paid, Left, Woke, Flag, Looked}
 use Rattle.ns_word.specs.Words.{is_held, is_woken, tries_of, mode_released, releasing_of, may_acquire, word_acquired, word_taken, word_returned, word_released, word_released_returning}
-use Rattle.ns_word.specs.Waits.{answer_of, answer_of_wait, home_of, mode_for}
+use Rattle.ns_word.specs.Waits.{answer_of, answer_of_wait, home_of, mode_for, variable_in}
 use Rattle.ns_word.specs.Lists.{has_some, bits_of, queued, stands_at}
 use Rattle.ns_word.specs.Walks.{want_of, got_of, walk_after}
 
@@ -79,12 +81,17 @@ pub record Part (C : Type 0) (N : ℕ) : Type 0 where
   pub held : Option (Held C N)
   pub owed : List Owed
 
--- How a section is said to begin in the history. A wait for a condition that came back is said to have met it where it is true of the row that the section began at, or where nothing has ended the wait; else it is said to have been ended by its cause. A wait for a variable says what it was ended by, or that it was woken.
+-- how a section is said to begin that came back from a wait for these variables: one for a variable says what it was ended by, or that it was woken; one for any of a set, which of them has woken it, or none
+abbrev pub entry_for : {C : Type 0} → Variables → Outcome → Entry C
+entry_for (Only k) outcome = AfterCv k (answer_of_wait outcome)
+entry_for (Any cvs) outcome = AfterAny (variable_in outcome)
+
+-- How a section is said to begin in the history. A wait for a condition that came back is said to have met it where it is true of the row that the section began at, or where nothing has ended the wait; else it is said to have been ended by its cause.
 abbrev pub entry_of : {C : Type 0} → (C → List ℕ → Bool) → List ℕ → Opening C → Entry C
 entry_of holds before Locked = Plain
 entry_of holds before (CameBack (OnCondition c) (Woken by)) = Waited c Met
 entry_of holds before (CameBack (OnCondition c) (Ended cause)) = Waited c (if holds c before then Met else answer_of cause)
-entry_of holds before (CameBack (OnVariable k) outcome) = AfterCv k (answer_of_wait outcome)
+entry_of holds before (CameBack (OnVariables variables) outcome) = entry_for variables outcome
 
 -- the event that a section is, where it ends so
 abbrev pub section_of : {C : Type 0} {N : ℕ} → (C → List ℕ → Bool) → ℕ → Held C N → Exit C → Event C N
@@ -193,10 +200,11 @@ change_commits seat (LeaveSelf home) lists = leave_of seat home (stands_at seat 
 change_commits seat (WakeWaiters waking k) lists = wake_of seat waking k (taken_by waking (waiters_of lists (Cv k))) ∷ []
 change_commits seat Nothing lists = []
 
--- a waiter of its own list, with its condition if it waits for one
+-- a waiter of its own list, with its condition if it waits for one; of the list of each variable, if it waits for several
 abbrev pub waits_at : {C : Type 0} → Subject C → ℕ → Mode → Bool → Lists C → Lists C
 waits_at (OnCondition c) seat mode again lists = with_lock lists (queued seat mode (Some c) 0 again lists.lock)
-waits_at (OnVariable k) seat mode again lists = with_waiters lists (Cv k) (waiters_of lists (Cv k) ++ record { seat = seat; mode = mode; cond = None; tries = 0; via = Some k } ∷ [])
+waits_at (OnVariables (Only k)) seat mode again lists = with_waiters lists (Cv k) (waiters_of lists (Cv k) ++ record { seat = seat; mode = mode; cond = None; tries = 0; via = Some k } ∷ [])
+waits_at (OnVariables (Any cvs)) seat mode again lists = with_each 4 cvs (record { seat = seat; mode = mode; cond = None; tries = 0; via = None }) lists
 
 -- the lists that a wait puts back: as a scan leaves them, with itself in its own
 abbrev pub waited_in : {C : Type 0} → Truths C → ℕ → Wait C → Bool → List ℕ → Lists C → Lists C
@@ -205,7 +213,8 @@ waited_in truths seat wait again row lists = waits_at wait.on seat wait.mode aga
 -- how the section ends that such a wait leaves
 abbrev pub exit_for : {C : Type 0} → Subject C → Exit C
 exit_for (OnCondition c) = CondWait c
-exit_for (OnVariable k) = CvWait k
+exit_for (OnVariables (Only k)) = CvWait k
+exit_for (OnVariables (Any cvs)) = AnyWait cvs
 
 -- the lists in the hand of an acquire: it puts itself in
 abbrev pub acquire_hand : {C : Type 0} → ℕ → Aim C → AcquirePlace → Lists C → Lists C

@@ -1,20 +1,21 @@
 -- Waits, for a condition or for a condition variable.
-use Rattle.std.specs.Prelude.{◌≡◌, ℕ, if◌then◌else◌, Option, None, Some}
+use Rattle.std.specs.Prelude.{◌≡◌, ℕ, true, if◌then◌else◌, Option, None, Some}
 use Rattle.ns_model.specs.declared.event.Mode.{Mode}
 use Rattle.ns_model.specs.declared.event.Answer.{Answer}
 use Rattle.ns_model.specs.declared.event.Answer.TheVariants.{Met, TimedOut, Canceled}
 use Rattle.ns_model.specs.declared.phase.Phase.{Phase}
-use Rattle.ns_model.specs.declared.cvs.Variables.TheVariants.{Only}
+use Rattle.ns_model.specs.declared.cvs.Variables.{Variables}
+use Rattle.ns_model.specs.Cvs.{has}
 use Rattle.ns_model.specs.declared.phase.Phase.TheVariants.{Idle, Cond, Woken, Left}
 use Rattle.ns_env.specs.declared.limits.Cause.{Cause}
 use Rattle.ns_env.specs.declared.limits.Cause.TheVariants.{Expired, Notified}
 use Rattle.ns_word.specs.declared.wait.Home.{Home}
 use Rattle.ns_word.specs.declared.wait.Home.TheVariants.{AtLock, AtVariables}
-use Rattle.ns_word.specs.Owed.{is_from_lock}
+use Rattle.ns_word.specs.Owed.{is_from_lock, variable_told}
 use Rattle.ns_word.specs.declared.word.Arrival.{Arrival}
 use Rattle.ns_word.specs.declared.word.Arrival.TheVariants.{AsFresh, AsWoken}
 use Rattle.ns_word.specs.declared.wait.Subject.{Subject}
-use Rattle.ns_word.specs.declared.wait.Subject.TheVariants.{OnCondition, OnVariable}
+use Rattle.ns_word.specs.declared.wait.Subject.TheVariants.{OnCondition, OnVariables}
 use Rattle.ns_word.specs.declared.wait.Outcome.{Outcome}
 use Rattle.ns_word.specs.declared.wait.Outcome.TheVariants as TheOutcome
 use Rattle.ns_word.specs.declared.wait.Outcome.TheVariants.{Ended}
@@ -31,6 +32,11 @@ abbrev pub cause_in : Outcome → Option Cause
 cause_in (TheOutcome.Woken by) = None
 cause_in (Ended cause) = Some cause
 
+-- the variable whose wake has ended a wait of which this came, if one has
+abbrev pub variable_in : Outcome → Option ℕ
+variable_in (TheOutcome.Woken by) = by
+variable_in (Ended cause) = None
+
 -- what a wait for a variable answers of which this came
 abbrev pub answer_of_wait : Outcome → Answer
 answer_of_wait (TheOutcome.Woken by) = Met
@@ -43,26 +49,27 @@ arrival_of tries flag = if is_from_lock flag then AsWoken tries else AsFresh
 -- where such a wait stands
 abbrev pub home_of : {C : Type 0} → Subject C → Home
 home_of (OnCondition c) = AtLock
-home_of (OnVariable k) = AtVariables (Only k)
+home_of (OnVariables variables) = AtVariables variables
 
--- the variable whose wake such a wait has found by this value in its flag, if it is for one: the list in which it stood tells that already
+-- the variable whose wake such a wait has found by this value in its flag, if it is for variables
 abbrev pub variable_by : {C : Type 0} → Subject C → ℕ → Option ℕ
 variable_by (OnCondition c) flag = None
-variable_by (OnVariable k) flag = Some k
+variable_by (OnVariables variables) flag = Some (variable_told flag)
 
 -- what came of such a wait that was woken, and has found this value in its flag
 abbrev pub woken_by : {C : Type 0} → Subject C → ℕ → Outcome
 woken_by on flag = TheOutcome.Woken (variable_by on flag)
 
--- what came of such a wait that was about to leave for this cause, was taken from its list before, and has found this value in its flag: a wait for a variable was woken
+-- what came of such a wait that was about to leave for this cause, was taken from its list before, and has found this value in its flag: a wait for variables was woken
 abbrev pub outcome_taken : {C : Type 0} → Subject C → Cause → ℕ → Outcome
 outcome_taken (OnCondition c) cause flag = Ended cause
-outcome_taken {C} (OnVariable k) cause flag = woken_by {C = C} (OnVariable k) flag
+outcome_taken {C} (OnVariables variables) cause flag = woken_by {C = C} (OnVariables variables) flag
 
--- such a wait is woken by a wake of its variable, if it is for one, and else by one of none
+-- such a wait is woken by a wake of one of its variables, if it is for variables, and else by one of none
 abbrev pub IsWokenBy : {C : Type 0} → Subject C → Option ℕ → Type 0
 IsWokenBy (OnCondition c) by = by ≡ None
-IsWokenBy (OnVariable k) by = by ≡ Some k
+IsWokenBy (OnVariables variables) None = ⊥
+IsWokenBy (OnVariables variables) (Some k) = has variables k ≡ true
 
 -- what may come of such a wait: any may be ended early
 abbrev pub OutcomeFits : {C : Type 0} → Subject C → Outcome → Type 0
@@ -74,11 +81,15 @@ abbrev pub mode_for : {C : Type 0} → Aim C → Mode
 mode_for (ForLock mode) = mode
 mode_for (ForWait wait outcome) = wait.mode
 
+-- the phase of a seat whose wait for these variables comes back: this one has woken it, or, where none has, it has left them
+abbrev pub phase_by_wake : {C : Type 0} → Variables → Mode → Option ℕ → Phase C
+phase_by_wake variables mode None = Left variables mode
+phase_by_wake variables mode (Some k) = Woken k mode
+
 -- the phase of a seat whose wait for this comes back, with what came of it
 abbrev pub phase_kept : {C : Type 0} → Subject C → Mode → Outcome → Phase C
 phase_kept (OnCondition c) mode outcome = Cond c mode
-phase_kept (OnVariable k) mode (TheOutcome.Woken by) = Woken k mode
-phase_kept (OnVariable k) mode (Ended cause) = Left (Only k) mode
+phase_kept (OnVariables variables) mode outcome = phase_by_wake variables mode (variable_in outcome)
 
 -- the phase of a seat that acquires for this
 abbrev pub phase_for : {C : Type 0} → Aim C → Phase C

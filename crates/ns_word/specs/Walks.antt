@@ -3,7 +3,8 @@ use Rattle.std.specs.Prelude.{ℕ, ◌+◌, ◌-◌, nat_lt, Option, None, Some,
 use Rattle.ns_model.specs.declared.event.Mode.{Mode}
 use Rattle.ns_model.specs.declared.event.Answer.TheVariants.{Met}
 use Rattle.ns_model.specs.declared.phase.Phase.{Phase}
-use Rattle.ns_model.specs.declared.cvs.Variables.TheVariants.{Only}
+use Rattle.ns_model.specs.declared.cvs.Variables.{Variables}
+use Rattle.ns_model.specs.declared.cvs.Variables.TheVariants.{Only, Any}
 use Rattle.ns_model.specs.declared.phase.Phase.TheVariants.{Cond, Waiting}
 use Rattle.ns_model.specs.declared.phase.Phase.TheVariants as ThePhase
 use Rattle.ns_word.specs.declared.word.Word.{Word}
@@ -14,7 +15,7 @@ use Rattle.ns_word.specs.declared.word.Arrival.{Arrival}
 use Rattle.ns_word.specs.declared.word.Arrival.TheVariants.{AsFresh}
 use Rattle.ns_env.specs.declared.limits.Cause.{Cause}
 use Rattle.ns_word.specs.declared.wait.Subject.{Subject}
-use Rattle.ns_word.specs.declared.wait.Subject.TheVariants.{OnCondition, OnVariable}
+use Rattle.ns_word.specs.declared.wait.Subject.TheVariants.{OnCondition, OnVariables}
 use Rattle.ns_word.specs.declared.wait.Wait.{Wait}
 use Rattle.ns_word.specs.declared.wait.Outcome.{Outcome}
 use Rattle.ns_word.specs.declared.wait.Outcome.TheVariants.{Woken, Ended}
@@ -51,13 +52,13 @@ use Rattle.ns_word.specs.declared.act.Act.TheVariants.{LoadWord, Acquire, TakeQu
 use Rattle.ns_word.specs.declared.act.Found.{Found}
 use Rattle.ns_word.specs.declared.act.Found.TheVariants.{Saw, Made, Cell, Quiet, Tested, Scanned, Paid, Left, Woke, Flag, Looked}
 use Rattle.ns_word.specs.declared.walk.Reply.{Reply}
-use Rattle.ns_word.specs.declared.walk.Reply.TheVariants.{Succeeded, Busy, Noisy, Number, Is, Answered}
+use Rattle.ns_word.specs.declared.walk.Reply.TheVariants.{Succeeded, Busy, Noisy, Number, Is, Answered, WokenBy}
 use Rattle.ns_word.specs.declared.walk.Next.{Next}
 use Rattle.ns_word.specs.declared.walk.Next.TheVariants.{On, Idle, Done}
 use Rattle.ns_word.specs.Words.{is_woken, tries_of, may_acquire, needs_scan, word_taken}
 use Rattle.ns_env.specs.Walks.{is_limited}
 use Rattle.ns_word.specs.Owed.{is_from_lock}
-use Rattle.ns_word.specs.Waits.{answer_of, answer_of_wait, arrival_of, home_of, mode_for, outcome_taken, phase_for, woken_by}
+use Rattle.ns_word.specs.Waits.{answer_of, answer_of_wait, arrival_of, home_of, mode_for, outcome_taken, phase_for, variable_in, woken_by}
 
 -- ---- what a place wants
 
@@ -111,7 +112,7 @@ want_leaving wait AwaitWakeToLeave = LoadFlag
 -- the step that tells of a condition
 abbrev pub judge_of : {C : Type 0} → Subject C → ℕ → Act C
 judge_of (OnCondition c) i = JudgeMet i c
-judge_of (OnVariable k) i = LoadCell i
+judge_of (OnVariables variables) i = LoadCell i
 
 -- the step that the place of a wait wants
 abbrev pub want_waiting : {C : Type 0} → Wait C → WaitPlace → Act C
@@ -183,10 +184,15 @@ pay_releasing releasing owes = if owes then On (InRelease releasing Pay) else Do
 abbrev pub test_place : {C : Type 0} → ℕ → Wait C → Visit → ℕ → Walk C
 test_place N wait visit loaded = if nat_lt loaded (N - 1) then InWait wait (TestCells visit loaded) else InWait wait (TestLast visit (N - 1))
 
--- where a wait goes that has come back: one for a condition tests it, and one for a variable is over
+-- what a wait for these variables answers of which this came: one for a set tells which of them has woken it
+abbrev pub reply_for : Variables → Outcome → Reply
+reply_for (Only k) outcome = Answered (answer_of_wait outcome)
+reply_for (Any cvs) outcome = WokenBy (variable_in outcome)
+
+-- where a wait goes that has come back: one for a condition tests it, and one for variables is over
 abbrev pub back_with : {C : Type 0} → ℕ → Subject C → Wait C → Outcome → Next C
 back_with N (OnCondition c) wait outcome = On (test_place N wait (OnReturn outcome) 0)
-back_with N (OnVariable k) wait outcome = Done (Answered (answer_of_wait outcome))
+back_with N (OnVariables variables) wait outcome = Done (reply_for variables outcome)
 
 -- where an acquire goes that was made
 abbrev pub acquired_for : {C : Type 0} → ℕ → Aim C → Next C
@@ -211,10 +217,10 @@ queue_by wait again word = if word.spin then Idle (InWait wait (InQueuing again 
 abbrev pub load_place : ℕ → Word → ℕ → QueuePlace
 load_place N last loaded = if nat_lt loaded N then LoadToScan last loaded else QueueToWait last
 
--- where a wait goes that has the queues and has set its flag: one for a variable loads the row where some waiter has a condition; another has loaded it
+-- where a wait goes that has the queues and has set its flag: one for variables loads the row where some waiter has a condition; another has loaded it
 abbrev pub armed_place : {C : Type 0} → ℕ → Subject C → Word → QueuePlace
 armed_place N (OnCondition c) last = QueueToWait last
-armed_place N (OnVariable k) last = if last.cond then load_place N last 0 else QueueToWait last
+armed_place N (OnVariables variables) last = if last.cond then load_place N last 0 else QueueToWait last
 
 -- where a wait goes that has queued, and owes wakes or none
 abbrev pub pay_waiting : {C : Type 0} → Wait C → Bool → Next C
@@ -247,7 +253,7 @@ show_by word = if word.spin then Idle (InShow ShowLoad) else On (InShow (TakeToS
 -- the first place of a wait for this: one for a condition tests it
 abbrev pub first_for : {C : Type 0} → ℕ → Subject C → Wait C → Walk C
 first_for N (OnCondition c) wait = test_place N wait OnEntry 0
-first_for N (OnVariable k) wait = InWait wait (InQueuing false Load)
+first_for N (OnVariables variables) wait = InWait wait (InQueuing false Load)
 
 -- the first place of a wait
 abbrev pub wait_first : {C : Type 0} → ℕ → Wait C → Walk C
@@ -481,14 +487,14 @@ calls_from_lock walk = true
 abbrev pub is_on_way : {C : Type 0} → Option (Walk C) → ℕ → ℕ → Bool
 is_on_way walk flag owed = was_woken walk || (awaits walk && (is_from_lock flag || nat_lt 0 owed))
 
--- the phase of a seat with no section in hand, by its place; one that waits for a variable may have been woken since
+-- the phase of a seat with no section in hand, by its place; one that waits for variables may have been woken since
 pub record Expected (C : Type 0) : Type 0 where
   pub phase : Phase C
   pub may_be_woken : Bool
 
 abbrev pub expected_for : {C : Type 0} → Subject C → Mode → Expected C
 expected_for (OnCondition c) mode = record { phase = Cond c mode; may_be_woken = false }
-expected_for (OnVariable k) mode = record { phase = Waiting (Only k) mode; may_be_woken = true }
+expected_for (OnVariables variables) mode = record { phase = Waiting variables mode; may_be_woken = true }
 
 abbrev pub phase_by : {C : Type 0} → Option (Walk C) → Expected C
 phase_by (Some (InAcquire aim place)) = record { phase = phase_for aim; may_be_woken = false }

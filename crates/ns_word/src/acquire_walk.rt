@@ -1,13 +1,14 @@
 //! An acquire: an exchange as soon as the lock may be acquired, else the lock list.
 
 ghost use Rattle.std.specs.Prelude.{◌≡◌, ◌≤◌};
-ghost use Rattle.ns_word.specs.Walks.{want_acquiring, got_acquiring, acquire_by, acquired_for};
+ghost use Rattle.ns_word.specs.Walks.{want_acquiring, got_acquiring, acquire_by, acquired_for, reply_for};
 
 use crate::act::{Act, Change, Found};
-use crate::wait::{Aim, Subject, Visit, arrival_of};
+use crate::wait::{Aim, Outcome, Subject, Visit, arrival_of};
 use crate::wait_walk::test_place;
 use crate::walk::{Next, Reply, Walk};
 use crate::word::{Arrival, Taking, Word};
+use ns_model::cvs::Variables;
 
 /// A place in an acquire, with nothing in hand. A word is the one last seen.
 #[derive(Clone, Copy)]
@@ -39,6 +40,17 @@ fn acquire_by<C: Copy>(aim: Aim<C>, arrival: Arrival, word: Word) -> Next<C>
     }
 }
 
+/// What a wait for these variables answers of which this came: one for a set tells which of them has
+/// woken it.
+fn reply_for(variables: Variables, outcome: Outcome) -> Reply
+    ensures { result ≡ reply_for variables outcome }
+{
+    match variables {
+        Variables::Only(_) => Reply::Answered(outcome.answer()),
+        Variables::Any(_) => Reply::WokenBy(outcome.variable()),
+    }
+}
+
 /// Where an acquire goes that was made.
 fn acquired_for<C: Copy, const N: usize>(aim: Aim<C>) -> Next<C>
     requires { N ≤ 16 }
@@ -50,7 +62,7 @@ fn acquired_for<C: Copy, const N: usize>(aim: Aim<C>) -> Next<C>
             Subject::OnCondition(_) => {
                 Next::On(test_place::<C, N>(wait, Visit::OnReturn(outcome), 0))
             }
-            Subject::OnVariable(_) => Next::Done(Reply::Answered(outcome.answer())),
+            Subject::OnVariables(variables) => Next::Done(reply_for(variables, outcome)),
         },
     }
 }

@@ -22,6 +22,7 @@ use crate::walk::Walk;
 use crate::word::{Arrival, Bits};
 use arrayvec::ArrayVec;
 use ns_env::limits::Cause;
+use ns_model::cvs::Variables;
 use ns_model::event::Mode;
 use ns_queue::queues::Queues;
 use ns_queue::room::Queueable;
@@ -106,7 +107,7 @@ pub fn leave_self<C: Queueable<N>, const N: usize>(
     stands
 }
 
-/// Puts a wait into its list.
+/// Puts a wait into its list, or into the lists of all its variables.
 fn enter<C: Queueable<N>, const N: usize>(
     queues: &mut Queues<C, N>,
     on: Subject<C>,
@@ -130,7 +131,7 @@ fn enter<C: Queueable<N>, const N: usize>(
             };
             queue(queues, waiter, again);
         }
-        Subject::OnVariable(k) => {
+        Subject::OnVariables(Variables::Only(k)) => {
             let waiter = Waiter {
                 seat,
                 mode,
@@ -139,6 +140,16 @@ fn enter<C: Queueable<N>, const N: usize>(
                 via: Some(k),
             };
             queues.push_back(Which::Cv(k), waiter);
+        }
+        Subject::OnVariables(Variables::Any(cvs)) => {
+            let waiter = Waiter {
+                seat,
+                mode,
+                cond: None,
+                tries: 0,
+                via: None,
+            };
+            queues.push_any(cvs, waiter);
         }
     }
 }

@@ -1,21 +1,22 @@
 //! The law of the steps.
 
-ghost use Rattle.std.specs.Prelude.{◌≡◌, ◌≢◌, ◌⊎◌, ℕ, ◌≤◌, true, false, List, [], ◌∷◌, ◌++◌, Option, None, Some, slice_get};
+ghost use Rattle.std.specs.Prelude.{◌≡◌, ◌≢◌, ◌⊎◌, ℕ, ◌<◌, ◌≤◌, true, false, List, [], ◌∷◌, ◌++◌, Option, None, Some, slice_get};
 ghost use Rattle.std.specs.List.{list_any};
 ghost use Rattle.ns_model.specs.declared.event.Answer.{Answer};
-ghost use Rattle.ns_model.specs.declared.event.Entry.TheVariants.{Waited, AfterCv};
+ghost use Rattle.ns_model.specs.declared.cvs.Variables.{Variables};
+ghost use Rattle.ns_model.specs.declared.event.Entry.TheVariants.{Waited};
 ghost use Rattle.ns_model.specs.declared.event.Event.{Event};
 ghost use Rattle.ns_model.specs.declared.phase.Phase.TheVariants.{Cond};
 ghost use Rattle.ns_model.specs.Beginnings.{BeginsWith};
 ghost use Rattle.ns_model.specs.Histories.{phase_of};
 ghost use Rattle.ns_model.specs.Sections.{is_met};
 ghost use Rattle.ns_queue.specs.declared.waiter.Waiter.{Waiter};
-ghost use Rattle.ns_queue.specs.Queues.{times};
+ghost use Rattle.ns_queue.specs.Queues.{beside};
 ghost use Rattle.ns_queue.specs.Waiters.{is_long};
 ghost use Rattle.ns_env.specs.declared.limits.Cause.{Cause};
 ghost use Rattle.ns_word.specs.declared.wait.Aim.TheVariants.{ForWait};
 ghost use Rattle.ns_word.specs.declared.wait.Outcome.{Outcome};
-ghost use Rattle.ns_word.specs.declared.wait.Subject.TheVariants.{OnCondition, OnVariable};
+ghost use Rattle.ns_word.specs.declared.wait.Subject.TheVariants.{OnCondition, OnVariables};
 ghost use Rattle.ns_word.specs.declared.wait.Wait.{Wait};
 ghost use Rattle.ns_word.specs.declared.wait.WaitPlace.{WaitPlace};
 ghost use Rattle.ns_word.specs.declared.acquire_walk.AcquirePlace.{AcquirePlace};
@@ -24,7 +25,9 @@ ghost use Rattle.ns_word.specs.declared.view.SeatView.{SeatView};
 ghost use Rattle.ns_word.specs.declared.walk.Walk.{Walk};
 ghost use Rattle.ns_word.specs.declared.walk.Walk.TheVariants.{InAcquire, InWait};
 ghost use Rattle.ns_word.specs.declared.walk.Next.TheVariants.{Done};
+ghost use Rattle.ns_word.specs.declared.walk.Reply.{Reply};
 ghost use Rattle.ns_word.specs.declared.walk.Reply.TheVariants.{Answered};
+ghost use Rattle.ns_word.specs.Meanings.{IsSaidBy};
 ghost use Rattle.ns_word.specs.declared.act.Found.{Found};
 ghost use Rattle.ns_word.specs.declared.act.Found.TheVariants.{Looked};
 ghost use Rattle.ns_word.specs.Answers.{cause_kept, has_come_back, is_back};
@@ -78,10 +81,10 @@ pub fn waiters_are_in_their_phase<C: Condition<N>, const N: usize>()
         phase_of history w.seat ≡ Cond c w.mode }
 {}
 
-/// A seat stands in one list at most, and there once.
+/// No seat stands twice in a list, or in the lock list and in that of a variable.
 pub fn no_waiter_stands_twice<C: Condition<N>, const N: usize>()
-    ensures { (seats : ℕ) (history : List (Event C N)) (s : LockState C N) (seat : ℕ) →
-        IsLawful C.means seats history s → times seat s.lists ≤ 1 }
+    ensures { (seats : ℕ) (history : List (Event C N)) (s : LockState C N) (seat k : ℕ) →
+        IsLawful C.means seats history s → k < 4 → beside s.lists seat k ≤ 1 }
 {}
 
 /// While nobody has the queues, the word says that somebody waits long exactly where one who stands
@@ -133,21 +136,22 @@ pub fn waits_answer_rightly<C: Condition<N>, const N: usize>()
         × (has_come_back step.walk ≡ true → entry_of C.means.holds held.before held.entry ≡ Waited c answer) }
 {}
 
-/// A wait for a variable answers what its section says of how it began: that it was woken, or by
-/// what it was ended. Its section is in the mode that it was called in.
+/// A wait for variables answers what its section says of how it began: one for a variable that it was
+/// woken, or by what it was ended; one for any of a set, which of them has woken it, or none. Its
+/// section is in the mode that it was called in.
 pub fn variable_waits_answer_rightly<C: Condition<N>, const N: usize>()
-    ensures { (old new : LockState C N) (view : SeatView C N) (found : Found) (commits : List (Event C N)) (wait : Wait C) (outcome : Outcome) (place : AcquirePlace) (k : ℕ) (answer : Answer) →
+    ensures { (old new : LockState C N) (view : SeatView C N) (found : Found) (commits : List (Event C N)) (wait : Wait C) (outcome : Outcome) (place : AcquirePlace) (variables : Variables) (reply : Reply) →
         (step : Step C.means old view found new commits) →
-        step.walk ≡ InAcquire (ForWait wait outcome) place → wait.on ≡ OnVariable k → got_of N step.walk found ≡ Done (Answered answer) →
-        (held : Held C N) × (step.held ≡ Some held) × (held.mode ≡ wait.mode) × (entry_of C.means.holds held.before held.entry ≡ AfterCv k answer) }
+        step.walk ≡ InAcquire (ForWait wait outcome) place → wait.on ≡ OnVariables variables → got_of N step.walk found ≡ Done reply →
+        (held : Held C N) × (step.held ≡ Some held) × (held.mode ≡ wait.mode) × IsSaidBy variables reply (entry_of C.means.holds held.before held.entry) }
 {}
 
-/// A wait for a variable answers only as it comes back: not before it has left its section and
+/// A wait for variables answers only as it comes back: not before it has left its section and
 /// acquired again.
 pub fn variable_waits_answer_as_they_come_back<C: Condition<N>, const N: usize>()
-    ensures { (seats : ℕ) (history : List (Event C N)) (old new : LockState C N) (view : SeatView C N) (found : Found) (commits : List (Event C N)) (wait : Wait C) (place : WaitPlace) (k : ℕ) (answer : Answer) →
+    ensures { (seats : ℕ) (history : List (Event C N)) (old new : LockState C N) (view : SeatView C N) (found : Found) (commits : List (Event C N)) (wait : Wait C) (place : WaitPlace) (variables : Variables) (reply : Reply) →
         (step : Step C.means old view found new commits) →
-        IsLawful C.means seats history old → step.walk ≡ InWait wait place → wait.on ≡ OnVariable k → got_of N step.walk found ≢ Done (Answered answer) }
+        IsLawful C.means seats history old → step.walk ≡ InWait wait place → wait.on ≡ OnVariables variables → got_of N step.walk found ≢ Done reply }
 {}
 
 /// A wait answers that it was ended early only by what a look of its own has shown, the deadline or

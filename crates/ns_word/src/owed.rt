@@ -1,7 +1,7 @@
 //! Wakes that are owed, and what a flag tells that a wake has set.
 
 ghost use Rattle.std.specs.Prelude.{◌≡◌, ◌<◌, ◌≤◌, length};
-ghost use Rattle.ns_word.specs.Owed.{called_by, is_from_lock, value_of, wakes_of};
+ghost use Rattle.ns_word.specs.Owed.{called_by, is_from_lock, value_of, variable_told, wakes_of};
 
 use arrayvec::ArrayVec;
 use ns_queue::waiter::Waiter;
@@ -21,6 +21,18 @@ pub fn is_from_lock(value: u8) -> bool
     ensures { result ≡ is_from_lock value }
 {
     value == 0 || value > 5
+}
+
+/// The variable of which a flag of this value tells: that in whose list its seat was taken, or whose
+/// wake had moved it to the lock list.
+pub fn variable_told(value: u8) -> u8
+    ensures { result ≡ variable_told value }
+{
+    if value > 5 {
+        value - 6
+    } else {
+        value.saturating_sub(2)
+    }
 }
 
 /// What the wake of one taken from the lock list sets its flag to, where the wake of this variable had

@@ -1,9 +1,9 @@
-//! Waits, for a condition or for a condition variable.
+//! Waits, for a condition or for condition variables.
 
 ghost use Rattle.std.specs.Prelude.{◌≡◌, ⊤};
-ghost use Rattle.ns_word.specs.Waits.{answer_of, answer_of_wait, arrival_of, home_of, mode_for, outcome_taken, woken_by};
+ghost use Rattle.ns_word.specs.Waits.{answer_of, answer_of_wait, arrival_of, home_of, mode_for, outcome_taken, variable_in, woken_by};
 
-use crate::owed::is_from_lock;
+use crate::owed::{is_from_lock, variable_told};
 use crate::word::{Arrival, Word};
 use ns_env::limits::{Cause, Limits};
 use ns_model::cvs::Variables;
@@ -15,8 +15,8 @@ use std::alloc::AllocError;
 pub enum Subject<C> {
     /// A condition on the row.
     OnCondition(C),
-    /// A condition variable, by its number below 4.
-    OnVariable(u8),
+    /// A condition variable of a number below 4, or any of several.
+    OnVariables(Variables),
 }
 
 impl<C: Copy> Clone for Subject<C> {
@@ -53,7 +53,7 @@ impl<C: Copy> Clone for Wait<C> {
 /// What came of a wait.
 #[derive(Clone, Copy)]
 pub enum Outcome {
-    /// It was woken: by a wake of the variable of this number, if it is for one.
+    /// It was woken: by a wake of the variable of this number, if it is for variables.
     Woken(Option<u8>),
     /// It was ended early.
     Ended(Cause),
@@ -127,7 +127,7 @@ pub enum QueuePlace {
     Take(Word),
     /// It has the queues, and is about to set its flag.
     ArmToWait(Word),
-    /// It waits for a variable, has the queues, and is about to load this cell for the scan.
+    /// It waits for variables, has the queues, and is about to load this cell for the scan.
     LoadToScan(Word, u8),
     /// It is about to put the queues back as a scan leaves them, with itself in its list.
     QueueToWait(Word),
@@ -157,6 +157,16 @@ pub fn answer_of(cause: Cause) -> Answer
 }
 
 impl Outcome {
+    /// The variable whose wake has ended a wait of which this came, if one has.
+    pub fn variable(self) -> Option<u8>
+        ensures { result ≡ variable_in self }
+    {
+        match self {
+            Outcome::Woken(by) => by,
+            Outcome::Ended(_) => None,
+        }
+    }
+
     /// What a wait for a variable answers of which this came.
     pub fn answer(self) -> Answer
         ensures { result ≡ answer_of_wait self }
@@ -187,30 +197,30 @@ impl<C: Copy> Subject<C> {
     {
         match self {
             Subject::OnCondition(_) => Home::AtLock,
-            Subject::OnVariable(k) => Home::AtVariables(Variables::Only(k)),
+            Subject::OnVariables(variables) => Home::AtVariables(variables),
         }
     }
 
-    /// What came of such a wait that was woken, and has found this value in its flag. The list in
-    /// which it stood tells the variable already, so the flag isn't read for that.
-    pub fn woken_by(self, _flag: u8) -> Outcome
-        ensures { result ≡ woken_by self _flag }
+    /// What came of such a wait that was woken, and has found this value in its flag: where it is for
+    /// variables, that tells which of them has woken it.
+    pub fn woken_by(self, flag: u8) -> Outcome
+        ensures { result ≡ woken_by self flag }
     {
         match self {
             Subject::OnCondition(_) => Outcome::Woken(None),
-            Subject::OnVariable(k) => Outcome::Woken(Some(k)),
+            Subject::OnVariables(_) => Outcome::Woken(Some(variable_told(flag))),
         }
     }
 
     /// What came of such a wait that was about to leave for this cause, was taken from its list
-    /// before, and has found this value in its flag: a wait for a variable was woken, and one for a
+    /// before, and has found this value in its flag: a wait for variables was woken, and one for a
     /// condition was ended by the cause.
     pub fn outcome_taken(self, cause: Cause, flag: u8) -> Outcome
         ensures { result ≡ outcome_taken self cause flag }
     {
         match self {
             Subject::OnCondition(_) => Outcome::Ended(cause),
-            Subject::OnVariable(_) => self.woken_by(flag),
+            Subject::OnVariables(_) => self.woken_by(flag),
         }
     }
 }

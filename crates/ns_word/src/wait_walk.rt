@@ -1,4 +1,4 @@
-//! The places of a wait, for a condition or for a condition variable, one atomic step at a time.
+//! The places of a wait, for a condition or for condition variables, one atomic step at a time.
 //!
 //! *Again* says that the wait has come back once, found its condition false, and queues anew. A
 //! compare-exchange that finds another word leads on as a load of that word would; but the two that
@@ -10,16 +10,16 @@
 //! | **queuing**: a section, of whose row the condition is false | `LookIn` | waits for a condition | look at the note and the deadline | what is shown is answered; nothing: `Load` |
 //! | | `Load` | | load the word | `Take`; idle, and again while another has the queues |
 //! | | `Take` | nobody has the queues | set the spinlock bit | `ArmToWait` |
-//! | | `ArmToWait` | has the queues | set one's own flag | `QueueToWait`; for a variable `LoadToScan` if a waiter of the lock list has a condition |
-//! | | `LoadToScan` | waits for a variable, has the queues, its flag is set | load each cell | after the last `QueueToWait` |
-//! | | `QueueToWait` | has the queues, its flag is set | put back what a scan leaves, with oneself in the lock list, at the back, or at the front if again, or at the back of the variable's list; release, and commit if not again | `PayInWait` if the scan took somebody, else `AwaitWakeInWait` |
+//! | | `ArmToWait` | has the queues | set one's own flag | `QueueToWait`; for variables `LoadToScan` if a waiter of the lock list has a condition |
+//! | | `LoadToScan` | waits for variables, has the queues, its flag is set | load each cell | after the last `QueueToWait` |
+//! | | `QueueToWait` | has the queues, its flag is set | put back what a scan leaves, with oneself in the lock list, at the back, or at the front if again, or at the back of its variables' lists; release, and commit if not again | `PayInWait` if the scan took somebody, else `AwaitWakeInWait` |
 //! | outside: waits | `PayInWait` | owes wakes | clear the flag of the next who is owed one | again while wakes are owed, then `AwaitWakeInWait` |
 //! | | `AwaitWakeInWait` | | load one's own flag | cleared: `AcquireLoad`, as woken if the flag tells that it was taken from the lock list, else fresh, to come back; else `LookOut`, or idle and again if nothing may end the wait early |
 //! | | `LookOut` | | look | what is shown is kept: `LeaveLoad`; nothing: idle, and `AwaitWakeInWait` again |
 //! | **leaving**: waits, and has kept a cause | `LeaveLoad` | | load the word | `TakeToLeave`; idle, and again while another has the queues |
 //! | | `TakeToLeave` | nobody has the queues | set the spinlock bit | `Leave` |
 //! | | `Leave` | has the queues | put the queues back without oneself | `AcquireLoad`, fresh, if one still stood there; else `AwaitWakeToLeave` |
-//! | | `AwaitWakeToLeave` | was taken before it could leave | load one's own flag | cleared: `AcquireLoad` as above, and a wait for a variable has been woken; else idle, and again |
+//! | | `AwaitWakeToLeave` | was taken before it could leave | load one's own flag | cleared: `AcquireLoad` as above, and a wait for variables has been woken; else idle, and again |
 //!
 //! The wait's decision, where its condition is false: over with the cause that has ended it early, if
 //! one has; else `LookIn`, if anything may end it early; else `Load`. An acquire is *for* a lock or for
@@ -143,7 +143,7 @@ fn judge<C: Copy>(on: Subject<C>, i: u8) -> Act<C>
 {
     match on {
         Subject::OnCondition(cond) => Act::JudgeMet(i, cond),
-        Subject::OnVariable(_) => Act::LoadCell(i),
+        Subject::OnVariables(_) => Act::LoadCell(i),
     }
 }
 
@@ -166,7 +166,7 @@ fn armed_place<C: Copy, const N: usize>(on: Subject<C>, last: Word) -> QueuePlac
     ensures { result ≡ armed_place N on last }
 {
     match on {
-        Subject::OnVariable(_) if last.cond => load_place::<N>(last, 0),
+        Subject::OnVariables(_) if last.cond => load_place::<N>(last, 0),
         _ => QueuePlace::QueueToWait(last),
     }
 }

@@ -104,6 +104,8 @@ pub enum Reply {
     Is(bool),
     /// How a wait came back.
     Answered(Answer),
+    /// A wait for any variables of a set came back: the one that woke it, or none where it was ended.
+    WokenBy(Option<u8>),
 }
 
 /// Where a walk goes.
@@ -203,7 +205,7 @@ impl<C: Copy> Walk<C> {
     {
         match wait.on {
             Subject::OnCondition(_) => test_place::<C, N>(wait, Visit::OnEntry, 0),
-            Subject::OnVariable(_) => {
+            Subject::OnVariables(_) => {
                 Walk::InWait(wait, WaitPlace::InQueuing(false, QueuePlace::Load))
             }
         }

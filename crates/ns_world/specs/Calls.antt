@@ -16,7 +16,7 @@ use Rattle.ns_word.specs.declared.cell_walk.Judging.TheVariants.{ToRelease}
 use Rattle.ns_word.specs.declared.cell_walk.CellPlace.TheVariants.{GetLoad, SetLoad}
 use Rattle.ns_env.specs.declared.walk.Chain.TheVariants.{ForIsNotified, ForNoteWait}
 use Rattle.ns_env.specs.declared.walk.EnvWalk.TheVariants.{NextLoad, Notifying, Advancing, ClockLoad, ExpiryLoad}
-use Rattle.ns_word.specs.declared.wait.Subject.TheVariants.{OnCondition, OnVariable}
+use Rattle.ns_word.specs.declared.wait.Subject.TheVariants.{OnCondition, OnVariables}
 use Rattle.ns_word.specs.declared.act.Waking.TheVariants.{Signaling, Broadcasting}
 use Rattle.ns_word.specs.declared.signal_walk.SignalPlace.TheVariants.{SignalLoad}
 use Rattle.ns_word.specs.declared.walk.Walk.TheVariants.{InTry, InAcquire, InRelease, InCells, InSignal}

@@ -18,7 +18,7 @@ use Rattle.ns_word.specs.declared.request.Request.{Request}
 use Rattle.ns_word.specs.declared.request.Request.TheVariants as TheRequest
 use Rattle.ns_word.specs.declared.view.Held.{Held}
 use Rattle.ns_word.specs.declared.view.SeatView.{SeatView}
-use Rattle.ns_word.specs.declared.wait.Subject.TheVariants.{OnCondition, OnVariable}
+use Rattle.ns_word.specs.declared.wait.Subject.TheVariants.{OnCondition, OnVariables}
 use Rattle.ns_word.specs.declared.walk.Reply.{Reply as WalkReply}
 use Rattle.ns_word.specs.declared.word.Releasing.TheVariants.{Writer, QuietWriter, Reader}
 use Rattle.ns_env.specs.Meanings.{AtSomePoint, EnvCourse, EnvMeans, Shows}

@@ -1,0 +1,225 @@
+-- Where a wait for variables stands: in the list of each of them.
+use Rattle.std.proofs.Common.{◌≡◌, ◌≢◌, ℕ, zero, suc, ◌+◌, ◌≤◌, ◌<◌, ◌^◌, ◌⊎◌, inl, inr, Bool, true, false, cond, eqb, ltb, ◌&&◌, List, [], ◌∷◌, ◌++◌, length, Option, None, Some, refl, ap, sym, ◌∙◌, subst, arith}
+use Rattle.std.specs.Int.{bit_at}
+use Rattle.std.specs.List.{sum_by}
+use Rattle.std.proofs.lemmas.Bool.{cases_Bool, cases_eq, cases_lt, eq-eqb, eqb-true, ltb-true, ne_eqb}
+use Rattle.std.proofs.lemmas.List.Sums.{get_or-le-sum_by, sum_by-cons}
+use Rattle.std.proofs.lemmas.Nat.Bits.{bit_at-lt, bit_at-zero, bit_at_above, same_from_bits_below}
+use Rattle.ns_model.specs.Cvs.{has, is_in}
+use Rattle.ns_model.specs.declared.cvs.Cvs.{Cvs}
+use Rattle.ns_model.specs.declared.cvs.Variables.{Variables}
+use Rattle.ns_model.specs.declared.cvs.Variables.TheVariants.{Only, Any}
+use Rattle.ns_model.specs.declared.event.Mode.{Mode}
+use Rattle.ns_model.specs.Tallies.{one_if}
+use Rattle.ns_model.proofs.Tallies.{one_most}
+use Rattle.ns_queue.specs.declared.waiter.Waiter.{Waiter}
+use Rattle.ns_queue.specs.declared.waiter.Which.TheVariants.{Cv}
+use Rattle.ns_queue.specs.Queues.{Lists, named_for, times, waiters_of, with_each, with_waiters}
+use Rattle.ns_queue.specs.Waiters.{times_in}
+use Rattle.ns_queue.proofs.Parts.{four_kept, read_apart, read_back, times_at_most}
+use Rattle.ns_queue.proofs.Seats.{times_in-append, times_in-cons}
+use Rattle.ns_word.specs.declared.wait.Subject.{Subject}
+use Rattle.ns_word.specs.declared.wait.Subject.TheVariants.{OnVariables}
+use Rattle.ns_word.specs.Lists.{counts_in}
+use Rattle.ns_word.specs.Places.{AreVariables}
+use Rattle.ns_word.specs.Steps.{waits_at}
+use Rattle.ns_word.proofs.CountsIn.{OnceInEach, none_one, some_one}
+
+-- ---- variables that there are
+
+and_second : (a b : Bool) → (a && b) ≡ true → b ≡ true
+and_second true b e = e
+and_second false b e = absurd (cc)
+
+-- a variable of a set that has only numbers below 4
+in_set_low : (cvs : Cvs) (k : ℕ) → cvs.0 < 16 → is_in cvs k ≡ true → k < 4
+in_set_low cvs k few is = elim (cases_lt k 4) [
+  | inl low ↦ low
+  | inr high ↦
+      let one : bit_at cvs.0 k ≡ 1 = eqb-true (bit_at cvs.0 k) 1 (and_second (ltb k 8) (eqb (bit_at cvs.0 k) 1) is) in
+      absurd (omega (arith, one, bit_at_above cvs.0 4 k few high))
+]
+
+pub variable_low : (variables : Variables) (k : ℕ) → AreVariables variables → has variables k ≡ true → k < 4
+variable_low (Only j) k low is = subst (λ i. i < 4) (eqb-true j k is) low
+variable_low (Any cvs) k are is = in_set_low cvs k are.1 is
+
+-- a bit of a variable that isn't in the set
+clear_bit : (cvs : Cvs) (k : ℕ) → k < 4 → is_in cvs k ≡ false → bit_at cvs.0 k ≡ bit_at 0 k
+clear_bit cvs k low out = elim (cases_eq (bit_at cvs.0 k) 1) [
+  | inl one ↦ let is : is_in cvs k ≡ true = rw (lt_eight k low, eq-eqb (bit_at cvs.0 k) 1 one) refl in let both : true ≡ false = sym is ∙ out in absurd (cc)
+  | inr other ↦ omega (arith, bit_at-lt cvs.0 k, bit_at-zero k, other)
+] where
+  lt_eight : (k : ℕ) → k < 4 → ltb k 8 ≡ true
+  lt_eight k low = search (arith, low)
+
+-- there is one
+pub one_has : (variables : Variables) → AreVariables variables → (k : ℕ) × (has variables k ≡ true)
+one_has (Only j) low = (j, eq-eqb j j refl)
+one_has (Any cvs) are = elim (cases_Bool (is_in cvs 0)) [
+  | inl is ↦ (0, is)
+  | inr no0 ↦ elim (cases_Bool (is_in cvs 1)) [
+    | inl is ↦ (1, is)
+    | inr no1 ↦ elim (cases_Bool (is_in cvs 2)) [
+      | inl is ↦ (2, is)
+      | inr no2 ↦ elim (cases_Bool (is_in cvs 3)) [
+        | inl is ↦ (3, is)
+        | inr no3 ↦ absurd (omega (arith, are.0, same_from_bits_below 4 cvs.0 0 are.1 (omega arith) (λ i low. all_clear i low no0 no1 no2 no3)))
+      ]
+    ]
+  ]
+] where
+  all_clear : (i : ℕ) → i < 4 → is_in cvs 0 ≡ false → is_in cvs 1 ≡ false → is_in cvs 2 ≡ false → is_in cvs 3 ≡ false → bit_at cvs.0 i ≡ bit_at 0 i
+  all_clear zero low a b c d = clear_bit cvs 0 low a
+  all_clear (suc zero) low a b c d = clear_bit cvs 1 low b
+  all_clear (suc (suc zero)) low a b c d = clear_bit cvs 2 low c
+  all_clear (suc (suc (suc zero))) low a b c d = clear_bit cvs 3 low d
+  all_clear (suc (suc (suc (suc i)))) low a b c d = absurd (omega (arith, low))
+
+-- ---- a waiter at the back of several lists
+
+module _ {C : Type 0} where
+  -- a waiter as it stands in the list of one of its variables
+  abbrev pub stander : ℕ → Mode → ℕ → Waiter C
+  stander who mode k = record { seat = who; mode = mode; cond = None; tries = 0; via = Some k }
+
+  -- It stands at the back of the list of each of these variables, and else the lists are as they were.
+  pub record HasEntered (variables : Variables) (who : ℕ) (mode : Mode) (old new : Lists C) : Type 0 where
+    pub lock : new.lock ≡ old.lock
+    pub four : length new.cvs ≡ 4
+    pub into : (k : ℕ) → k < 4 → has variables k ≡ true → waiters_of new (Cv k) ≡ waiters_of old (Cv k) ++ stander who mode k ∷ []
+    pub others : (k : ℕ) → k < 4 → has variables k ≡ false → waiters_of new (Cv k) ≡ waiters_of old (Cv k)
+
+  module _ (cvs : Cvs) (w : Waiter C) (old : Lists C) (four : length old.cvs ≡ 4) where
+    abbrev below : ℕ → Lists C
+    below n = with_each n cvs w old
+
+    abbrev queue : ℕ → List (Waiter C)
+    queue n = waiters_of (below n) (Cv n) ++ named_for n w ∷ []
+
+    -- so it is in the lists of those variables of the set whose numbers are below n
+    record Upto (n : ℕ) : Type 0 where
+      lock : (below n).lock ≡ old.lock
+      kept : length (below n).cvs ≡ 4
+      into : (k : ℕ) → k < n → is_in cvs k ≡ true → waiters_of (below n) (Cv k) ≡ waiters_of old (Cv k) ++ named_for k w ∷ []
+      others : (k : ℕ) → (is_in cvs k ≡ false) ⊎ (n ≤ k) → waiters_of (below n) (Cv k) ≡ waiters_of old (Cv k)
+
+    less_more : (n k : ℕ) → k < suc n → k ≢ n → k < n
+    less_more n k less other = elim (cases_lt k n) [ inl low ↦ low | inr high ↦ absurd (other (omega (arith, less, high))) ]
+
+    one_more : (n : ℕ) → n < 4 → Upto n → (b : Bool) → is_in cvs n ≡ b → Upto (suc n)
+    one_more n low p true e =
+        let is : below (suc n) ≡ with_waiters (below n) (Cv n) (queue n) = ap (λ b. cond b (with_waiters (below n) (Cv n) (queue n)) (below n)) e in
+        let at : (k : ℕ) → waiters_of (below (suc n)) (Cv k) ≡ waiters_of (with_waiters (below n) (Cv n) (queue n)) (Cv k) = λ k. ap (λ (l : Lists C). waiters_of l (Cv k)) is in
+        record {
+          lock = ap (λ (l : Lists C). l.lock) is ∙ p.lock;
+          kept = ap (λ (l : Lists C). length l.cvs) is ∙ four_kept (below n) (Cv n) (queue n) ∙ p.kept;
+          into = λ k less is_k. elim (cases_eq k n) [
+            | inl same ↦ subst (λ j. waiters_of (below (suc n)) (Cv j) ≡ waiters_of old (Cv j) ++ named_for j w ∷ []) (sym same)
+                (at n ∙ read_back (below n) (Cv n) (queue n) p.kept low ∙ ap (λ (ws : List (Waiter C)). ws ++ named_for n w ∷ []) (p.others n (inr (omega arith))))
+            | inr other ↦ at k ∙ read_apart (below n) n k (queue n) other ∙ p.into k (less_more n k less other) is_k
+          ];
+          others = λ k out. elim (cases_eq k n) [
+            | inl same ↦ elim out [
+              | inl lacks ↦ let both : true ≡ false = sym e ∙ ap (is_in cvs) (sym same) ∙ lacks in absurd (cc)
+              | inr high ↦ absurd (omega (arith, same, high))
+            ]
+            | inr other ↦ at k ∙ read_apart (below n) n k (queue n) other ∙ p.others k (elim out [ inl lacks ↦ inl lacks | inr high ↦ inr (omega (arith, high)) ])
+          ];
+        }
+    one_more n low p false e =
+        let is : below (suc n) ≡ below n = ap (λ b. cond b (with_waiters (below n) (Cv n) (queue n)) (below n)) e in
+        let at : (k : ℕ) → waiters_of (below (suc n)) (Cv k) ≡ waiters_of (below n) (Cv k) = λ k. ap (λ (l : Lists C). waiters_of l (Cv k)) is in
+        record {
+          lock = ap (λ (l : Lists C). l.lock) is ∙ p.lock;
+          kept = ap (λ (l : Lists C). length l.cvs) is ∙ p.kept;
+          into = λ k less is_k. at k ∙ p.into k (less_more n k less (λ same. let both : true ≡ false = sym is_k ∙ ap (is_in cvs) same ∙ e in absurd (cc))) is_k;
+          others = λ k out. at k ∙ p.others k (elim (cases_eq k n) [
+            | inl same ↦ inl (ap (is_in cvs) same ∙ e)
+            | inr other ↦ elim out [ inl lacks ↦ inl lacks | inr high ↦ inr (omega (arith, high)) ]
+          ]);
+        }
+
+    upto : (n : ℕ) → n ≤ 4 → Upto n
+    upto zero low = record { lock = refl; kept = four; into = λ k less is. absurd (omega (arith, less)); others = λ k out. refl }
+    upto (suc n) low = one_more n (omega (arith, low)) (upto n (omega (arith, low))) (is_in cvs n) refl
+
+  -- so a wait for variables does
+  pub entered_at : (variables : Variables) (who : ℕ) (mode : Mode) (again : Bool) (old : Lists C) → length old.cvs ≡ 4 → AreVariables variables → HasEntered variables who mode old (waits_at (OnVariables variables) who mode again old)
+  entered_at (Only k) who mode again old four low =
+      let queue = waiters_of old (Cv k) ++ stander who mode k ∷ [] in record {
+        lock = refl;
+        four = four_kept old (Cv k) queue ∙ four;
+        into = λ j few is. subst (λ i. waiters_of (with_waiters old (Cv k) queue) (Cv i) ≡ waiters_of old (Cv i) ++ stander who mode i ∷ []) (eqb-true k j is) (read_back old (Cv k) queue four low);
+        others = λ j few lacks. read_apart old k j queue (λ e. let both : true ≡ false = sym (eq-eqb k j (sym e)) ∙ lacks in absurd (cc));
+      }
+  entered_at (Any cvs) who mode again old four are =
+      let all = upto cvs (record { seat = who; mode = mode; cond = None; tries = 0; via = None }) old four 4 (omega arith) in record {
+        lock = all.lock;
+        four = all.kept;
+        into = λ k few is. all.into k few is;
+        others = λ k few lacks. all.others k (inl lacks);
+      }
+
+  -- ---- how often a seat stands there then
+
+  times_into : (who : ℕ) (mode : Mode) (k seat : ℕ) (ws : List (Waiter C)) → times_in seat (ws ++ stander who mode k ∷ []) ≡ times_in seat ws + one_if (eqb who seat)
+  times_into who mode k seat ws = omega (arith, times_in-append seat ws (stander who mode k ∷ []), times_in-cons seat (stander who mode k) [])
+
+  module _ (variables : Variables) (who : ℕ) (mode : Mode) (old new : Lists C) (four : length old.cvs ≡ 4) (are : AreVariables variables) (none : times who old ≡ 0) (entered : HasEntered variables who mode old new) where
+    out_at : (k : ℕ) → k < 4 → times_in who (waiters_of old (Cv k)) ≡ 0
+    out_at k low = omega (arith, times_at_most old (Cv k) who four low, none)
+
+    -- another seat stands in a list as often as before
+    pub times_other : (seat k : ℕ) → who ≢ seat → k < 4 → times_in seat (waiters_of new (Cv k)) ≡ times_in seat (waiters_of old (Cv k))
+    times_other seat k ne low = elim (cases_Bool (has variables k)) [
+      | inl is ↦ ap (times_in seat) (entered.into k low is) ∙ omega (arith, times_into who mode k seat (waiters_of old (Cv k)), ap one_if (ne_eqb who seat ne))
+      | inr lacks ↦ ap (times_in seat) (entered.others k low lacks)
+    ]
+
+    -- and who entered stands once at most
+    times_who : (k : ℕ) → k < 4 → times_in who (waiters_of new (Cv k)) ≤ 1
+    times_who k low = elim (cases_Bool (has variables k)) [
+      | inl is ↦ omega (arith, ap (times_in who) (entered.into k low is), times_into who mode k who (waiters_of old (Cv k)), out_at k low, one_most (eqb who who))
+      | inr lacks ↦ omega (arith, ap (times_in who) (entered.others k low lacks), out_at k low)
+    ]
+
+    pub once_entered : OnceInEach old → OnceInEach new
+    once_entered once seat k low = elim (cases_eq who seat) [
+      | inl e ↦ subst (λ s. times_in s (waiters_of new (Cv k)) ≤ 1) e (times_who k low)
+      | inr ne ↦ omega (arith, times_other seat k ne low, once seat k low)
+    ]
+
+    pub counts_entered : (seat : ℕ) → counts_in seat new ≡ one_if (eqb who seat) + counts_in seat old
+    counts_entered seat = elim (cases_eq who seat) [
+      | inl e ↦ subst (λ s. counts_in s new ≡ one_if (eqb who s) + counts_in s old) e here
+      | inr ne ↦
+          let same = sums_same seat old.cvs new.cvs four entered.four (λ k low. times_other seat k ne low) in
+          let zero : one_if (eqb who seat) ≡ 0 = ap one_if (ne_eqb who seat ne) in
+          omega (arith, ap (times_in seat) entered.lock, ap (λ n. one_if (ltb 0 n)) same, zero)
+    ] where
+      here : counts_in who new ≡ one_if (eqb who who) + counts_in who old
+      here =
+          let one = one_has variables are in
+          let low = variable_low variables one.0 are one.1 in
+          let self : one_if (eqb who who) ≡ 1 = ap one_if (eq-eqb who who refl) in
+          let there = ap (times_in who) (entered.into one.0 low one.1) ∙ times_into who mode one.0 who (waiters_of old (Cv one.0)) in
+          let some = get_or-le-sum_by (times_in who) new.cvs one.0 [] (omega (arith, entered.four, low)) in
+          let before = none_one (sum_by (times_in who) old.cvs) (omega (arith, none)) in
+          let after = some_one (sum_by (times_in who) new.cvs) (omega (arith, some, there, self)) in
+          omega (arith, ap (times_in who) entered.lock, before, after, self)
+
+      -- lists of four that hold the same at each place hold the same in all
+      four_sum : (seat : ℕ) (cvs : List (List (Waiter C))) (lock : List (Waiter C)) → length cvs ≡ 4 →
+          sum_by (times_in seat) cvs ≡ times_in seat (waiters_of (record { lock = lock; cvs = cvs }) (Cv 0)) + (times_in seat (waiters_of (record { lock = lock; cvs = cvs }) (Cv 1)) + (times_in seat (waiters_of (record { lock = lock; cvs = cvs }) (Cv 2)) + times_in seat (waiters_of (record { lock = lock; cvs = cvs }) (Cv 3))))
+      four_sum seat (a ∷ b ∷ c ∷ d ∷ []) lock four = omega (arith, sum_by-cons (times_in seat) a (b ∷ c ∷ d ∷ []), sum_by-cons (times_in seat) b (c ∷ d ∷ []), sum_by-cons (times_in seat) c (d ∷ []), sum_by-cons (times_in seat) d [])
+      four_sum seat [] lock four = absurd (omega (arith, four))
+      four_sum seat (a ∷ []) lock four = absurd (omega (arith, four))
+      four_sum seat (a ∷ b ∷ []) lock four = absurd (omega (arith, four))
+      four_sum seat (a ∷ b ∷ c ∷ []) lock four = absurd (omega (arith, four))
+      four_sum seat (a ∷ b ∷ c ∷ d ∷ e ∷ cvs) lock four = absurd (omega (arith, four))
+
+      sums_same : (seat : ℕ) (cvs cvs' : List (List (Waiter C))) → length cvs ≡ 4 → length cvs' ≡ 4 →
+          ((k : ℕ) → k < 4 → times_in seat (waiters_of (record { lock = []; cvs = cvs' }) (Cv k)) ≡ times_in seat (waiters_of (record { lock = []; cvs = cvs }) (Cv k))) → sum_by (times_in seat) cvs' ≡ sum_by (times_in seat) cvs
+      sums_same seat cvs cvs' four four' same =
+          omega (arith, four_sum seat cvs [] four, four_sum seat cvs' [] four', same 0 (omega arith), same 1 (omega arith), same 2 (omega arith), same 3 (omega arith))

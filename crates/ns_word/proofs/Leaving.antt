@@ -1,0 +1,55 @@
+-- The event by which a wait for variables is left.
+use Rattle.std.proofs.Common.{◌≡◌, ◌≢◌, ℕ, ◌<◌, Bool, true, false, List, [], ◌∷◌, refl, ap, subst, sym, eq-eqb}
+use Rattle.std.proofs.lemmas.Bool.{ne_eqb}
+use Rattle.ns_model.specs.declared.cvs.Variables.{Variables}
+use Rattle.ns_model.specs.declared.cvs.Variables.TheVariants.{Only, Any}
+use Rattle.ns_model.specs.declared.event.Event.{Event}
+use Rattle.ns_model.specs.declared.event.Event.TheVariants.{Leave, LeaveAny}
+use Rattle.ns_model.specs.declared.event.Mode.{Mode}
+use Rattle.ns_model.specs.declared.phase.Phase.{Phase}
+use Rattle.ns_model.specs.declared.phase.Phase.TheVariants.{Waiting}
+use Rattle.ns_model.specs.Histories.{Standing, IsLegalEvent, standing_next, who_of}
+use Rattle.ns_model.specs.Phases.{left_phase}
+use Rattle.ns_model.specs.Wakes.{IsLegalLeave, IsLegalLeaveAny}
+use Rattle.ns_word.specs.declared.wait.Home.{Home}
+use Rattle.ns_word.specs.declared.wait.Home.TheVariants.{AtLock, AtVariables}
+use Rattle.ns_word.specs.Steps.{leave_of}
+
+-- the event
+abbrev pub left_event : {C : Type 0} {N : ℕ} → ℕ → Variables → Event C N
+left_event who (Only k) = Leave who k
+left_event who (Any cvs) = LeaveAny who cvs
+
+module _ (C : Type 0) (N : ℕ) (who : ℕ) where
+  -- it is what is committed
+  pub left_told : (variables : Variables) → leave_of {C = C} {N = N} who (AtVariables variables) true ≡ left_event who variables ∷ []
+  left_told (Only k) = refl
+  left_told (Any cvs) = refl
+
+  -- who doesn't stand there any more commits nothing
+  pub not_left : (home : Home) → leave_of {C = C} {N = N} who home false ≡ []
+  not_left AtLock = refl
+  not_left (AtVariables (Only k)) = refl
+  not_left (AtVariables (Any cvs)) = refl
+
+  pub left_who : (variables : Variables) → who_of (left_event {C = C} {N = N} who variables) ≡ who
+  left_who (Only k) = refl
+  left_who (Any cvs) = refl
+
+  -- what it leaves: the row, and all phases but that of the seat
+  pub left_row : (variables : Variables) (now : Standing C) → (standing_next now (left_event {N = N} who variables)).row ≡ now.row
+  left_row (Only k) now = refl
+  left_row (Any cvs) now = refl
+
+  pub left_next_there : (variables : Variables) (now : Standing C) (seat : ℕ) → who ≢ seat → (standing_next now (left_event {N = N} who variables)).phases seat ≡ now.phases seat
+  left_next_there (Only k) now seat ne = rw (ne_eqb who seat ne) refl
+  left_next_there (Any cvs) now seat ne = rw (ne_eqb who seat ne) refl
+
+  pub left_next_here : (variables : Variables) (now : Standing C) → (standing_next now (left_event {N = N} who variables)).phases who ≡ left_phase (now.phases who)
+  left_next_here (Only k) now = rw (eq-eqb who who refl) refl
+  left_next_here (Any cvs) now = rw (eq-eqb who who refl) refl
+
+  -- who waits for just these may leave
+  pub left_is_legal : (holds : C → List ℕ → Bool) (variables : Variables) (mode : Mode) (now : Standing C) → who < 64 → now.phases who ≡ Waiting variables mode → IsLegalEvent {N = N} holds now (left_event who variables)
+  left_is_legal holds (Only k) mode now low waits = (low, subst (λ (ph : Phase C). IsLegalLeave k ph) (sym waits) (eq-eqb k k refl))
+  left_is_legal holds (Any cvs) mode now low waits = (low, subst (λ (ph : Phase C). IsLegalLeaveAny cvs ph) (sym waits) (eq-eqb cvs.0 cvs.0 refl))
