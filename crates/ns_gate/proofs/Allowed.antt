@@ -5,7 +5,7 @@ use Rattle.std.proofs.lemmas.Bool.{ne_eqb, cases_eq}
 use Rattle.std.proofs.lemmas.List.{get_or-set_same, get_or-set_other, set-get_or}
 use Rattle.ns_gate.specs.Prelude.{Owed}
 use Rattle.ns_word.specs.Owed.{called_of}
-use Rattle.ns_gate.specs.Prelude.{Me, takes, gives, rest, Valid, homes_after, carried_after, Allows, GateView, Views, Homes, Shows, AtHome, Underlying, IsRuled, Holds, the, IsOne, walk_by, act_by, MayBegin, CanStep, HasStepped, PerformedWith, IsLoad, IsStoreOf, IsExchange, MayLoad, MayStore, MayExchange, carried_by, lists_scanned, next_owed, content_by, word_at, standing_after, Truths, QuietKeeps, Event, Read, Write, Mode, Lists, woken_of, view_in, number_of, word_of, found_of, exchanged, scanned, owes_more, row_in, before_in, SectionFits, has_some, bits_of, ActFits, CanLeave, CanWait, HasMode, OwesOne, Part, part_of, Effect, newly_held, section_of, exit_for, changed, moves, owed_after, change_found, change_commits, waited_in, meets_at, flags_with, mode_for, want_of, judge_of, has_queues, word_acquired, word_taken, word_returned, word_released, word_released_returning, releasing_of, LoadWord, Acquire, TakeQueues, ReturnQueues, Release, ReleaseReturning, WaitReturning, LoadCell, JudgeQuiet, JudgeMet, StoreCell, ArmFlag, PayWake, LoadFlag, Act, QueueSelf, LeaveSelf, WakeWaiters, Nothing, Change, Saw, Made, Cell, Quiet, Tested, Flag, Paid, Found, Queue, GetLoad, TryLoad, ScanAndRelease, WakeAndReturn, ReturnShown, Leave, QueueToWait, TestLast, InQueuing, InLeaving, Subject, OnCondition, OnVariable, Held, InTry, InAcquire, InRelease, InCells, InWait, InSignal, InShow, Walk, Arrival, Writer, QuietWriter, Reader, Releasing, ToChange, ToQueue, Taking, Word}
+use Rattle.ns_gate.specs.Prelude.{Me, takes, gives, rest, Valid, homes_after, carried_after, Allows, GateView, Views, Homes, Shows, AtHome, Underlying, IsRuled, Holds, the, IsOne, walk_by, act_by, MayBegin, CanStep, HasStepped, PerformedWith, IsLoad, IsStoreOf, IsExchange, MayLoad, MayStore, MayExchange, carried_by, lists_scanned, next_owed, content_by, word_at, standing_after, Truths, QuietKeeps, Event, Read, Write, Mode, Lists, woken_of, view_in, number_of, word_of, found_of, exchanged, scanned, owes_more, row_in, before_in, SectionFits, has_some, bits_of, ActFits, CanLeave, CanWait, HasMode, OwesOne, Part, part_of, Effect, newly_held, section_of, exit_for, changed, moves, owed_after, change_found, change_commits, waited_in, meets_at, flags_with, mode_for, want_of, judge_of, has_queues, word_acquired, word_taken, word_returned, word_released, word_released_returning, releasing_of, LoadWord, Acquire, TakeQueues, ReturnQueues, Release, ReleaseReturning, WaitReturning, LoadCell, JudgeQuiet, JudgeMet, StoreCell, ArmFlag, PayWake, LoadFlag, Act, QueueSelf, LeaveSelf, WakeWaiters, Nothing, Change, Saw, Made, Cell, Quiet, Tested, Flag, Paid, Found, Queue, GetLoad, TryLoad, ScanAndRelease, WakeAndReturn, ReturnShown, Leave, QueueToWait, TestLast, InQueuing, InLeaving, Subject, OnCondition, OnVariables, Held, InTry, InAcquire, InRelease, InCells, InWait, InSignal, InShow, Walk, Arrival, Writer, QuietWriter, Reader, Releasing, ToChange, ToQueue, Taking, Word}
 use Rattle.atomic_table.specs.Table.{Act as TableAct, keeps as keeps_slots}
 use Rattle.ns_seats.proofs.Views.{one_is}
 use Rattle.ns_gate.proofs.Keeps.{none_takes, hand_of, its_fit, between, lawful_between, stands_between, walk_in, now, later, did, did_from, ruled}
@@ -97,7 +97,7 @@ is_returning act = false
 
 no_judge_returns : {C : Type 0} (on : Subject C) (i : ℕ) → is_returning (judge_of on i) ≡ false
 no_judge_returns (OnCondition c) i = refl
-no_judge_returns (OnVariable k) i = refl
+no_judge_returns (OnVariables variables) i = refl
 
 returning_has : {C : Type 0} (walk : Walk C) → is_returning (want_of walk) ≡ true → has_queues (Some walk) ≡ true
 returning_has (InAcquire aim (Queue arrival last)) e = refl

@@ -28,7 +28,6 @@ pub use Rattle.ns_queue.specs.Scans.{is_eligible, is_satisfied, left_of, tests_o
 pub use Rattle.ns_queue.specs.Waiters.{HaveSeats, has_condition, reads, seats_of, times_in, writes}
 pub use Rattle.ns_queue.specs.declared.waiter.Waiter.{Waiter}
 pub use Rattle.ns_word.specs.declared.wait.Home.{Home}
-pub use Rattle.ns_word.specs.declared.wait.Home.TheVariants.{AtLock, AtVariables}
 pub use Rattle.ns_seats.specs.Sights.{HasSight}
 pub use Rattle.ns_seats.specs.Views.{ArePair, IsOne, first_of, rest_of}
 pub use Rattle.ns_word.specs.Asked.{asked_of}

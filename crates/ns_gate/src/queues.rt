@@ -136,8 +136,8 @@ impl<C: Condition<N>, const N: usize> Gate<C, N> {
         bits(queues)
     }
 
-    /// Takes the seat of this number out of all lists in hand, if it stands here. Tells whether
-    /// it stood there, and what the lock list holds then.
+    /// Takes the seat of this number out of all lists in hand, if it stands where a wait of this home does.
+    /// Tells whether it stood there, and what the lock list holds then.
     ///
     /// Needs a seat of this gate, which has the queues in hand as they stood.
     pub fn leave_in_hand(&self, seat: &mut GateSeat<C, N>, number: u8, home: Home) -> (bool, Bits)

@@ -1,7 +1,7 @@
 -- A scan of the lock list with the queues in hand, by a release or by a wait: what it takes and leaves.
 use Rattle.std.proofs.Common.{◌≡◌, ℕ, ◌==◌, Bool, true, false, not, ◌&&◌, ◌||◌, cond, List, [], ◌∷◌, length, filter, map, Option, None, Some, is_some, refl, ap, sym, ◌∙◌, ne_eqb, arith}
 use Rattle.std.specs.List.{list_any}
-use Rattle.ns_gate.specs.Prelude.{SeatOf, the, Carries, lists_returned, Subject, OnCondition, OnVariable, some_returned, Truths, Lists, is_eligible, is_satisfied, left_of, woken_of, has_condition, reads, seats_of, writes, Waiter, row_in, bits_of, has_some, meets_at, waits_at, with_lock, Walk, Bits, Word}
+use Rattle.ns_gate.specs.Prelude.{SeatOf, the, Carries, lists_returned, Subject, OnCondition, OnVariables, some_returned, Truths, Lists, is_eligible, is_satisfied, left_of, woken_of, has_condition, reads, seats_of, writes, Waiter, row_in, bits_of, has_some, meets_at, waits_at, with_lock, Walk, Bits, Word}
 use Rattle.ns_gate.specs.declared.queues.Returning.{Returning}
 use Rattle.ns_word.specs.declared.owed.Owed.{Owed}
 use Rattle.ns_word.specs.Owed.{called_by, called_of}
@@ -46,7 +46,7 @@ scans_row truths row held lock is = record { woken = ap (λ r. woken_of (meets_a
 -- a wait with its row at hand needs no other where it lacks none
 pub scans_at_hand : {C : Type 0} (truths : Truths C) (on : Subject C) (word : Word) (row held : List ℕ) (lock : List (Waiter C)) → HasRow on row held → word.cond ≡ list_any has_condition lock → lacks_row on word ≡ false → ScansAs truths row held lock
 scans_at_hand truths (OnCondition c) word row held lock has tells full = scans_row truths row held lock has
-scans_at_hand truths (OnVariable k) word row held lock has tells full = scans_plain truths row held lock (sym tells ∙ full)
+scans_at_hand truths (OnVariables variables) word row held lock has tells full = scans_plain truths row held lock (sym tells ∙ full)
 
 -- somebody was taken where seats of such were told
 pub took_some : {C : Type 0} (ws : List (Waiter C)) (items : List ℕ) → items ≡ seats_of ws → not (length items == 0) ≡ has_some ws

@@ -2,7 +2,7 @@
 use Rattle.std.proofs.Common.{◌≡◌, ◌≢◌, ℕ, Bool, true, false, cond, nat_lt, ne_eqb, Option, None, Some, refl, ap, sym, ◌∙◌, subst}
 use Rattle.std.proofs.lemmas.Bool.{cond_both}
 use Rattle.ns_gate.proofs.Calls.{goes}
-use Rattle.ns_gate.specs.Prelude.{SeatOf, IsAtPlace, HasReached, the, Performed, Truths, Home, stands_at, arrival_of, home_of, is_limited, outcome_taken, armed_place, got_of, AcquireLoad, ArmFlag, LoadFlag, Look, LeaveSelf, Flag, Looked, Made, Cause, Await, ForWait, AwaitWakeToLeave, Leave, LeaveLoad, Outcome, Ended, ArmToWait, Load, QueueToWait, Subject, OnCondition, OnVariable, Wait, AwaitWakeInWait, InLeaving, InQueuing, LookOut, Idle, On, InAcquire, InWait, Arrival, AsFresh, Word, LoadToScan, wait_has_queues}
+use Rattle.ns_gate.specs.Prelude.{SeatOf, IsAtPlace, HasReached, the, Performed, Truths, Home, stands_at, arrival_of, home_of, is_limited, outcome_taken, armed_place, got_of, AcquireLoad, ArmFlag, LoadFlag, Look, LeaveSelf, Flag, Looked, Made, Cause, Await, ForWait, AwaitWakeToLeave, Leave, LeaveLoad, Outcome, Ended, ArmToWait, Load, QueueToWait, Subject, OnCondition, OnVariables, Wait, AwaitWakeInWait, InLeaving, InQueuing, LookOut, Idle, On, InAcquire, InWait, Arrival, AsFresh, Word, LoadToScan, wait_has_queues}
 use Rattle.ns_gate.specs.declared.queues.Returning.TheVariants.{Changed}
 use Rattle.ns_word.specs.Waits.{woken_by}
 use Rattle.ns_word.specs.Walks.{load_place, rest_or_look}
@@ -14,19 +14,19 @@ module _ {C : Type 0} where
   -- where a wait goes that has set its flag: to load the row, where it lacks it
   armed_at : (N : ℕ) (on : Subject C) (last : Word) → armed_place N on last ≡ cond (lacks_row on last) (load_place N last 0) (QueueToWait last)
   armed_at N (OnCondition c) last = refl
-  armed_at N (OnVariable k) last = refl
+  armed_at N (OnVariables variables) last = refl
 
   -- with the queues in hand, in either case
   armed_has : (N : ℕ) (again : Bool) (on : Subject C) (last : Word) → wait_has_queues (InQueuing again (armed_place N on last)) ≡ true
   armed_has N again (OnCondition c) last = refl
-  armed_has N again (OnVariable k) last = cond_both _ (load_place N last 0) (QueueToWait last) (λ place. wait_has_queues (InQueuing again place) ≡ true) (λ _. cond_both _ (LoadToScan last 0) (QueueToWait last) (λ place. wait_has_queues (InQueuing again place) ≡ true) (λ _. refl) (λ _. refl)) (λ _. refl)
+  armed_has N again (OnVariables variables) last = cond_both _ (load_place N last 0) (QueueToWait last) (λ place. wait_has_queues (InQueuing again place) ≡ true) (λ _. cond_both _ (LoadToScan last 0) (QueueToWait last) (λ place. wait_has_queues (InQueuing again place) ≡ true) (λ _. refl) (λ _. refl)) (λ _. refl)
 
   -- one that was taken while it left was ended by this cause, if it was ended
   pub taken_ended : (on : Subject C) (cause : Cause) (flag : ℕ) (outcome : Outcome) → outcome ≡ outcome_taken on cause flag → IfEnded outcome (λ other. other ≡ cause)
   taken_ended on cause flag outcome is = subst (λ o. IfEnded o (λ (other : Cause). other ≡ cause)) (sym is) (by on) where
     by : (on : Subject C) → IfEnded (outcome_taken on cause flag) (λ other. other ≡ cause)
     by (OnCondition c) = refl
-    by (OnVariable k) = tt
+    by (OnVariables variables) = tt
 
 module _ {C : Type 0} {N : ℕ} (truths : Truths C) where
   -- ---- it queues

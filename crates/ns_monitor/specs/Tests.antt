@@ -110,12 +110,12 @@ pub record IsReady {C : Type 0} {N : ℕ} (truths : Truths C) (walk : Walk C) (r
   pub taken : HasUnchangedQueues me
   pub scans : ScansAs truths row (row_in (the me.0).at.held) (the me.0).stood.lock
 
--- a wait for a condition has this row at hand, since it has tested it; one for a variable has none
+-- a wait for a condition has this row at hand, since it has tested it; one for variables has none
 abbrev pub HasRow : {C : Type 0} → Subject C → List ℕ → List ℕ → Type 0
 HasRow (OnCondition c) row held = row ≡ held
-HasRow (OnVariable k) row held = Unit {0}
+HasRow (OnVariables variables) row held = Unit {0}
 
 -- so it has to load it where some waiter has a condition, as the word tells
 abbrev pub lacks_row : {C : Type 0} → Subject C → Word → Bool
 lacks_row (OnCondition c) word = false
-lacks_row (OnVariable k) word = word.cond
+lacks_row (OnVariables variables) word = word.cond

@@ -5,6 +5,7 @@ use Rattle.ns_word.specs.declared.cell_walk.CellPlace.TheVariants.{GetLoad, SetL
 use Rattle.ns_note.specs.declared.note.Note.{Note}
 use Rattle.ns_word.specs.Walks.{quiet_first, wait_first}
 use Rattle.ns_env.specs.declared.limits.Limits.{Limits}
+use Rattle.ns_model.specs.declared.cvs.Variables.TheVariants.{Only}
 use Rattle.ns_word.specs.declared.wait.Subject.TheVariants.{OnCondition, OnVariables}
 use Rattle.ns_word.specs.declared.wait.Wait.{Wait}
 use Rattle.ns_word.specs.declared.cell_walk.Judging.TheVariants.{ToTell}
@@ -58,7 +59,7 @@ waiting N mode c deadline note = wait_first N (waits_by mode c (limits_of deadli
 
 -- what a wait in this mode is for this variable, with these limits
 abbrev pub waits_for_variable : {C : Type 0} → Mode → ℕ → Limits → Wait C
-waits_for_variable mode k limits = record { mode = mode; on = OnVariable k; limits = limits }
+waits_for_variable mode k limits = record { mode = mode; on = OnVariables (Only k); limits = limits }
 
 -- such a wait with this deadline and this note, over a row of N cells
 abbrev pub variable_waiting : {C : Type 0} → ℕ → Mode → ℕ → Option ℕ → Option Note → Walk C

@@ -10,6 +10,7 @@ use crate::monitor::Monitor;
 use crate::watching::{Looker, Watch};
 use ns_env::limits::Limits;
 use ns_model::condition::Condition;
+use ns_model::cvs::Variables;
 use ns_model::event::Answer;
 use ns_note::env::Env;
 use ns_note::note::{Note, index_of};
@@ -42,7 +43,7 @@ impl<C: Condition<N>, const N: usize> Monitor<C, N> {
             hand: _,
         } = held;
         let mode = H::mode();
-        let on = Subject::OnVariable(k);
+        let on = Subject::OnVariables(Variables::Only(k));
         let wait = Waiting { mode, on, limits };
         let place = Walk::InWait(wait, WaitPlace::InQueuing(false, QueuePlace::Load));
         let word = self.begin_to_take(rt, &mut seat, place);

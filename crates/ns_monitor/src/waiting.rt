@@ -28,7 +28,7 @@ fn lacks_row<C: Copy>(on: Subject<C>, word: Word) -> bool
 {
     match on {
         Subject::OnCondition(_) => false,
-        Subject::OnVariable(_) => word.cond,
+        Subject::OnVariables(_) => word.cond,
     }
 }
 

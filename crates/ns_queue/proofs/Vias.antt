@@ -1,4 +1,4 @@
--- By whose wakes those came to the lock list whom a scan takes.
+-- Which variables those name whom a scan takes.
 use Rattle.std.proofs.Common.{◌≡◌, ℕ, ◌≤◌, inl, inr, Bool, List, [], ◌∷◌, map, Some, Option, filter, arith, refl, ap, sym, ◌∙◌}
 use Rattle.std.proofs.lemmas.Bool.{cases_Bool}
 use Rattle.ns_model.specs.Tallies.{Every}

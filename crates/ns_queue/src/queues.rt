@@ -101,7 +101,7 @@ impl<C: Queueable<N>, const N: usize> Queues<C, N> {
     }
 
     /// Whether the seat stands in the list of any variable.
-    pub fn stands_for_variable(&self, seat: u8) -> bool
+    pub fn stands_at_variables(&self, seat: u8) -> bool
         ensures { result ≡ nat_lt 0 (sum_by (times_in seat) self.now.cvs) }
     {
         stands_in_any(&self.cvs, seat)

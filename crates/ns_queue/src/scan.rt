@@ -17,13 +17,13 @@ use crate::room::Queueable;
 use crate::waiter::{Waiter, Which};
 use arrayvec::ArrayVec;
 
-/// What a scan did: the seats that it took out of the list, in order, by whose wakes they had come
-/// there, and how many conditions it tested.
+/// What a scan did: the seats that it took out of the list, in order, the variables that those named, and
+/// how many conditions it tested.
 #[derive(Drop)]
 pub struct Scan {
     /// The seats of those whom it took out, in list order.
     pub woken: ArrayVec<u8, 64>,
-    /// For each of them, in that order, the condition variable whose wake had moved it to the list.
+    /// For each of them, in that order, the condition variable that it names, if it names one.
     pub vias: ArrayVec<Option<u8>, 64>,
     /// How many conditions it tested.
     pub tests: u32,

@@ -18,12 +18,15 @@ pub struct Waiter<C> {
     /// How often it has queued again in one acquire, after it was woken and could not acquire: at
     /// most [`LONG_TRIES`].
     pub tries: u8,
-    /// The condition variable in whose list it stands, or stood before that one's signal or broadcast moved
-    /// it to the lock list.
+    /// The condition variable that it names: the one in whose list it stands, or from whose list it has come
+    /// to the lock's. The lists keep what they are given, but [`Queues::push_any`] names each list's own.
+    ///
+    /// [`Queues::push_any`]: crate::queues::Queues::push_any
     pub via: Option<u8>,
 }
 
-/// The blank that unused places of a list hold: seat 0, writing, without condition, untried, unmoved.
+/// The blank that unused places of a list hold: seat 0, writing, without condition, untried, naming no
+/// variable.
 impl<C> Default for Waiter<C> {
     ghost use Rattle.std.specs.Prelude.{◌≡◌, None};
     ghost use Rattle.ns_model.specs.declared.event.Mode.TheVariants.{Write};

@@ -229,7 +229,7 @@ fn stands_in_several(rt: HostRuntime) {
         seat: 7,
         mode: Mode::Write,
         cond: condition(None, &counter),
-        tries: 0,
+        tries: 2,
         via: None,
     };
     if !queues.holds(7) {
@@ -253,6 +253,13 @@ fn stands_in_several(rt: HostRuntime) {
     assert_eq!(rt;
         seats(&queues.waiters(Which::Cv(3))).as_slice(),
         [7, 8].as_slice()
+    );
+    let first = queues.waiters(Which::Cv(0));
+    assert_eq!(rt; vias(&first).as_slice(), [Some(0)].as_slice());
+    assert!(rt; first.iter().all(|waiter| waiter.tries == 2));
+    assert_eq!(rt;
+        vias(&queues.waiters(Which::Cv(2))).as_slice(),
+        [Some(2)].as_slice()
     );
     let signaled = queues.take_signal(3);
     assert_eq!(rt; seats(&signaled).as_slice(), [7].as_slice());

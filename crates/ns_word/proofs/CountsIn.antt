@@ -75,7 +75,7 @@ module _ {C : Type 0} where
   abbrev pub cvs_left : ℕ → Lists C → Lists C
   cvs_left who lists = record { lock = lists.lock; cvs = map (without_in who) lists.cvs }
 
-  gone_from : (who : ℕ) (cvs : List (List (Waiter C))) → sum_by (times_in who) (map (without_in who) cvs) ≡ 0
+  pub gone_from : (who : ℕ) (cvs : List (List (Waiter C))) → sum_by (times_in who) (map (without_in who) cvs) ≡ 0
   gone_from who [] = refl
   gone_from who (ws ∷ cvs) = omega (arith, sum_by-cons (times_in who) (without_in who ws) (map (without_in who) cvs), times_without who ws, gone_from who cvs)
 

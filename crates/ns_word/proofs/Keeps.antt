@@ -136,7 +136,7 @@ wakes_told b k took owed low (inr are) (inr none) = subst (λ xs. Every (Tells b
 wakes_told b k took owed low (inr are) (inl other) = subst (λ xs. Every (Tells b) xs) (sym are) (subst (λ c. Every (Tells c) (wakes_of k took)) (sym other) (wakes_tell k took low))
 
 -- the mode in which one waits
-abbrev stance_mode : {C : Type 0} → Option (Stance C) → Mode
+abbrev pub stance_mode : {C : Type 0} → Option (Stance C) → Mode
 stance_mode None = Write
 stance_mode (Some stance) = stance.mode
 
@@ -145,7 +145,7 @@ abbrev variables_on : {C : Type 0} → Option (Subject C) → Variables
 variables_on (Some (OnVariables variables)) = variables
 variables_on on = Only 0
 
-abbrev stance_variables : {C : Type 0} → Option (Stance C) → Variables
+abbrev pub stance_variables : {C : Type 0} → Option (Stance C) → Variables
 stance_variables None = Only 0
 stance_variables (Some stance) = variables_on stance.on
 

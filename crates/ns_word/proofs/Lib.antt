@@ -18,6 +18,7 @@ pub mod Kept
 pub mod Knows
 pub mod Leaving
 pub mod Leads
+pub mod Leavers
 pub mod Longs
 pub mod Made
 pub mod Mapped

@@ -59,10 +59,6 @@ module _ {C : Type 0} {N : ℕ} (truths : Truths C) (seats : ℕ) (h : List (Eve
   pub once_in_lock : (seat : ℕ) → times_in seat s.lists.lock ≤ 1
   once_in_lock seat = omega (arith, counts_once seat)
 
-  pub once_in_list : (which : Which) → IsList which → (seat : ℕ) → times_in seat (waiters_of s.lists which) ≤ 1
-  once_in_list Lock is seat = once_in_lock seat
-  once_in_list (Cv k) is seat = placed.once seat k is
-
   pub placed_below : (seat : ℕ) → 1 ≤ counts_in seat s.lists + owed_to seat s.views → seat < seats
   placed_below seat some = waiting_below truths seats (standing_after h) s.row seat s.views each (placed_awaits s.lists s.flags s.views seat placed some)
 

@@ -71,7 +71,7 @@ module _ (C : Type 0) (N : ℕ) (truths : Truths C) (seat : ℕ) where
   are_called waking k false lists = (refl, refl)
 
 -- the effect of a step whose walk is known
-effect_at : {C : Type 0} {N : ℕ} (truths : Truths C) (old new : LockState C N) (view : SeatView C N) (found : Found) (commits : List (Event C N)) (walk : Walk C) → (step : Step truths old view found new commits) → step.walk ≡ walk → Effect truths view.seat (want_of walk) (part_of old view.held view.owed) found (part_of new step.held step.owed) commits
+pub effect_at : {C : Type 0} {N : ℕ} (truths : Truths C) (old new : LockState C N) (view : SeatView C N) (found : Found) (commits : List (Event C N)) (walk : Walk C) → (step : Step truths old view found new commits) → step.walk ≡ walk → Effect truths view.seat (want_of walk) (part_of old view.held view.owed) found (part_of new step.held step.owed) commits
 effect_at truths old new view found commits walk step e = subst (λ w. Effect truths view.seat (want_of w) (part_of old view.held view.owed) found (part_of new step.held step.owed) commits) e step.effect
 
 pub queues_in_place : {C : Type 0} {N : ℕ} (truths : Truths C) (old new : LockState C N) (view : SeatView C N) (commits : List (Event C N)) (aim : Aim C) (arrival : Arrival) (last : Word) → (step : Step truths old view Made new commits) → step.walk ≡ InAcquire aim (Queue arrival last) →

@@ -35,7 +35,7 @@ queued seat mode cond tries front lock =
     if front then record { seat = seat; mode = mode; cond = cond; tries = tries; via = None } ∷ lock
     else lock ++ record { seat = seat; mode = mode; cond = cond; tries = tries; via = None } ∷ []
 
--- whether a seat stands where a wait does that has this home: in the lock list, or in any variable's
+-- whether a seat stands where a wait does that has this home: in the lock list, or in any variable's. Which variables' need not be asked: one that waits for some stands in the lists of just those, or in none (`VariablesTell`)
 abbrev pub stands_at : {C : Type 0} → ℕ → Home → Lists C → Bool
 stands_at seat AtLock lists = nat_lt 0 (times_in seat lists.lock)
 stands_at seat (AtVariables variables) lists = nat_lt 0 (sum_by (times_in seat) lists.cvs)

@@ -1,6 +1,9 @@
 -- Where a seat stands that queues, said of the lists before and after.
 use Rattle.std.specs.Prelude.{◌≡◌, ℕ, ◌+◌, ◌<◌, min, Bool, true, false, if◌then◌else◌, List, [], ◌∷◌, ◌++◌, map, Option, None, Some}
 use Rattle.ns_model.specs.Cvs.{has}
+use Rattle.ns_model.specs.declared.cvs.Variables.{Variables}
+use Rattle.ns_model.specs.declared.phase.Phase.{Phase}
+use Rattle.ns_model.specs.declared.phase.Phase.TheVariants.{Waiting, Woken}
 use Rattle.ns_model.specs.declared.event.Mode.{Mode}
 use Rattle.ns_model.specs.Truths.{Truths}
 use Rattle.ns_queue.specs.declared.waiter.Waiter.{Waiter}
@@ -30,6 +33,11 @@ WaitsFor truths seat mode (OnCondition c) true row old new = (new.lock ≡ waite
 WaitsFor truths seat mode (OnVariables variables) again row old new =
     ((k : ℕ) → k < 4 → waiters_of new (Cv k) ≡ (if has variables k then waiters_of old (Cv k) ++ waiter seat mode None 0 (Some k) ∷ [] else waiters_of old (Cv k)))
     × (new.lock ≡ left_of (meets_at truths row) old.lock)
+
+-- What a wait for variables finds that leaves: it stands in their lists, and waits for them still, by the history; or it doesn't, and one of them has woken it.
+abbrev pub IsFoundLeaving : {C : Type 0} → Bool → Variables → Mode → Phase C → Type 0
+IsFoundLeaving true variables mode phase = phase ≡ Waiting variables mode
+IsFoundLeaving false variables mode phase = (k : ℕ) × (has variables k ≡ true) × (phase ≡ Woken k mode)
 
 -- Those whom a call takes from a variable stand behind all others in the lock list, in their order, where the lock is held, and nobody is owed a wake; else that list stays, and they are owed their wakes in that order.
 abbrev pub AreCalled : {C : Type 0} → Bool → ℕ → List (Waiter C) → List (Waiter C) → List (Waiter C) → List Owed → Type 0

@@ -187,7 +187,7 @@ abbrev pub wake_of : {C : Type 0} {N : ℕ} → ℕ → Waking → ℕ → List 
 wake_of seat Signaling k taken = Signal seat k (taken_set taken)
 wake_of seat Broadcasting k taken = Broadcast seat k (taken_set taken)
 
--- that a wait for a variable was left, if it still stood there
+-- that a wait for variables was left, if its seat still stood in their lists
 abbrev pub leave_of : {C : Type 0} {N : ℕ} → ℕ → Home → Bool → List (Event C N)
 leave_of seat (AtVariables (Only k)) true = TheEvent.Leave seat k ∷ []
 leave_of seat (AtVariables (Any cvs)) true = TheEvent.LeaveAny seat cvs ∷ []

@@ -14,7 +14,7 @@ pub enum Change {
     /// One puts itself in, without condition, in this mode: at the back, or at the front if it was
     /// woken from the list before, so that it loses no turn.
     QueueSelf(Mode, Arrival),
-    /// One that waits takes itself out of all lists, if it still stands here.
+    /// One that waits takes itself out of all lists, if it still stands where this wait does.
     LeaveSelf(Home),
     /// Those whom this takes from the list of the variable leave all lists of variables. Where the
     /// lock is held they go to the back of the lock list, in the order taken; else they are owed their

@@ -112,10 +112,10 @@ pub fn wakes_tell_where_they_come_from<C: Condition<N>, const N: usize>()
         IsLawful C.means seats history s → slice_get s.views at ≡ Some view → Every (Tells (calls_from_lock view.walk)) view.owed }
 {}
 
-/// Who waits, and finds its flag cleared, is told what is so: a wait for a variable was woken by that,
-/// and finds its number in one of two values; any other was taken from the lock list, where nobody had
-/// moved it, and finds 0. Which of the two says from where it was taken
-/// (`wakes_tell_where_they_come_from`, `wakes_are_paid_as_owed`).
+/// Who waits, and finds its flag cleared, is told what is so: a wait for variables was woken by one of
+/// them, and finds its number in one of two values, of which the one or the other says from where it was
+/// taken (`wakes_tell_where_they_come_from`, `wakes_are_paid_as_owed`). Any other was taken from the lock
+/// list, where nobody had moved it, and finds 0.
 pub fn the_taken_are_told_what_is_so<C: Condition<N>, const N: usize>()
     ensures { (seats : ℕ) (history : List (Event C N)) (s : LockState C N) (seat : ℕ) → IsLawful C.means seats history s →
         s.flags seat ≢ 1 → IsToldSo (waits_in (walk_at seat s.views)) ((standing_after history).phases seat) (s.flags seat) }

@@ -77,7 +77,7 @@ pub fn queue_self<C: Queueable<N>, const N: usize>(
     queue(queues, waiter, arrival.is_woken());
 }
 
-/// Whether the seat stands where such a wait does.
+/// Whether the seat stands in the lock list, or in that of any variable.
 pub fn stands_at<C: Queueable<N>, const N: usize>(
     queues: &Queues<C, N>,
     seat: u8,
@@ -87,11 +87,12 @@ pub fn stands_at<C: Queueable<N>, const N: usize>(
 {
     match home {
         Home::AtLock => queues.stands(Which::Lock, seat),
-        Home::AtVariables(_) => queues.stands_for_variable(seat),
+        Home::AtVariables(_) => queues.stands_at_variables(seat),
     }
 }
 
-/// Takes the seat out of all lists, if it stands here, and answers whether it does.
+/// Takes the seat out of all lists, if it stands where a wait of this home does, and answers whether it
+/// did.
 pub fn leave_self<C: Queueable<N>, const N: usize>(
     queues: &mut Queues<C, N>,
     seat: u8,
@@ -238,7 +239,6 @@ fn change_leaving<C: Queueable<N>, const N: usize>(
     cause: Cause,
     place: LeavePlace,
 )
-    requires { IsInRange wait.on }
     ensures { queues.new ≡ wait_hand C.means seat wait (WaitPlace.InLeaving cause place) [] queues.old }
 {
     match place {

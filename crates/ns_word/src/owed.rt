@@ -36,8 +36,7 @@ pub fn variable_told(value: u8) -> u8
 }
 
 /// What the wake of one taken from the lock list sets its flag to, where the wake of this variable had
-/// moved it there, or of none. There are four variables, so a flag needs no value above 9, and no sum
-/// goes wrong.
+/// moved it there, or where none had. There are four variables, so no flag is above 9.
 fn value_of(via: Option<u8>) -> u8
     ensures { result ≡ value_of via }
 {

@@ -1,23 +1,30 @@
-//! The laws of the lists: where a seat stands that queues, and where those go that a call wakes.
+//! The laws of the lists: where a seat stands that queues, where those go that a call wakes, and what one
+//! finds that leaves.
 
-ghost use Rattle.std.specs.Prelude.{◌≡◌, ℕ, Bool, List};
+ghost use Rattle.std.specs.Prelude.{◌≡◌, nat_lt, ℕ, Bool, true, List};
 ghost use Rattle.ns_model.specs.declared.event.Event.{Event};
 ghost use Rattle.ns_queue.specs.declared.waiter.Which.TheVariants.{Cv};
-ghost use Rattle.ns_queue.specs.Queues.{waiters_of};
+ghost use Rattle.ns_queue.specs.Queues.{times, waiters_of};
+ghost use Rattle.ns_queue.specs.Waiters.{times_in};
 ghost use Rattle.ns_word.specs.declared.acquire_walk.AcquirePlace.TheVariants.{Queue};
-ghost use Rattle.ns_word.specs.declared.act.Found.TheVariants.{Made, Scanned, Woke};
+ghost use Rattle.ns_word.specs.declared.act.Found.TheVariants.{Left, Made, Scanned, Woke};
 ghost use Rattle.ns_word.specs.declared.act.Waking.{Waking};
 ghost use Rattle.ns_word.specs.declared.signal_walk.SignalPlace.TheVariants.{WakeAndReturn};
 ghost use Rattle.ns_word.specs.declared.view.SeatView.{SeatView};
 ghost use Rattle.ns_word.specs.declared.wait.Aim.{Aim};
+ghost use Rattle.ns_env.specs.declared.limits.Cause.{Cause};
+ghost use Rattle.ns_model.specs.declared.cvs.Variables.{Variables};
+ghost use Rattle.ns_model.specs.Histories.{standing_after};
+ghost use Rattle.ns_word.specs.declared.wait.LeavePlace.TheVariants.{Leave};
 ghost use Rattle.ns_word.specs.declared.wait.QueuePlace.TheVariants.{QueueToWait};
+ghost use Rattle.ns_word.specs.declared.wait.Subject.TheVariants.{OnCondition, OnVariables};
 ghost use Rattle.ns_word.specs.declared.wait.Wait.{Wait};
-ghost use Rattle.ns_word.specs.declared.wait.WaitPlace.TheVariants.{InQueuing};
+ghost use Rattle.ns_word.specs.declared.wait.WaitPlace.TheVariants.{InLeaving, InQueuing};
 ghost use Rattle.ns_word.specs.declared.walk.Walk.TheVariants.{InAcquire, InSignal, InWait};
 ghost use Rattle.ns_word.specs.declared.word.Arrival.{Arrival};
 ghost use Rattle.ns_word.specs.declared.word.Word.{Word};
 ghost use Rattle.ns_word.specs.Lawful.{IsLawful};
-ghost use Rattle.ns_word.specs.Stands.{AreCalled, QueuesFor, WaitsFor};
+ghost use Rattle.ns_word.specs.Stands.{AreCalled, IsFoundLeaving, QueuesFor, WaitsFor};
 ghost use Rattle.ns_word.specs.Steps.{LockState, Step, taken_by};
 ghost use Rattle.ns_word.specs.Waits.{mode_for};
 ghost use Rattle.ns_word.specs.Words.{is_held};
@@ -34,8 +41,8 @@ pub fn who_queues_stands_in_its_place<C: Condition<N>, const N: usize>()
 {}
 
 /// A wait for a condition stands with it behind all whom the scan has left, and before them where it
-/// queues again, after it was woken and found its condition false. A wait for a variable stands
-/// behind all that wait for that, and names it; nobody else names one.
+/// queues again, after it was woken and found its condition false; it names no variable. A wait for variables
+/// stands behind all that wait for any of them, and names that in its list; the other lists stay.
 pub fn who_waits_stands_in_its_place<C: Condition<N>, const N: usize>()
     ensures { (seats : ℕ) (history : List (Event C N)) (old new : LockState C N) (view : SeatView C N) (commits : List (Event C N)) (wait : Wait C) (again : Bool) (last : Word) (owes : Bool) (tests : ℕ) →
         (step : Step C.means old view (Scanned owes tests) new commits) → IsLawful C.means seats history old → step.walk ≡ InWait wait (InQueuing again (QueueToWait last)) →
@@ -49,4 +56,18 @@ pub fn the_taken_are_moved_or_called<C: Condition<N>, const N: usize>()
     ensures { (old new : LockState C N) (view : SeatView C N) (commits : List (Event C N)) (waking : Waking) (k : ℕ) (last : Word) (owes : Bool) →
         (step : Step C.means old view (Woke owes) new commits) → step.walk ≡ InSignal waking k (WakeAndReturn last) →
         AreCalled (is_held last) k (taken_by waking (waiters_of old.lists (Cv k))) old.lists.lock new.lists.lock step.owed }
+{}
+
+/// A wait that leaves finds out whether it still stands where it waits. One for variables stands in their
+/// lists just where it waits for them still, by the history; where it doesn't, one of them has woken it. One
+/// for a condition asks the lock list. Who stood there stands nowhere after that.
+pub fn who_leaves_waits_there_still<C: Condition<N>, const N: usize>()
+    ensures variables { (seats : ℕ) (history : List (Event C N)) (old new : LockState C N) (view : SeatView C N) (commits : List (Event C N)) (wait : Wait C) (cause : Cause) (last : Word) (stood : Bool) (variables : Variables) →
+        (step : Step C.means old view (Left stood) new commits) → step.walk ≡ InWait wait (InLeaving cause (Leave last)) → IsLawful C.means seats history old → wait.on ≡ OnVariables variables →
+        IsFoundLeaving stood variables wait.mode ((standing_after history).phases view.seat) }
+    ensures condition { (old new : LockState C N) (view : SeatView C N) (commits : List (Event C N)) (wait : Wait C) (cause : Cause) (last : Word) (stood : Bool) (c : C) →
+        (step : Step C.means old view (Left stood) new commits) → step.walk ≡ InWait wait (InLeaving cause (Leave last)) → wait.on ≡ OnCondition c →
+        stood ≡ nat_lt 0 (times_in view.seat old.lists.lock) }
+    ensures gone { (old new : LockState C N) (view : SeatView C N) (commits : List (Event C N)) (wait : Wait C) (cause : Cause) (last : Word) →
+        (step : Step C.means old view (Left true) new commits) → step.walk ≡ InWait wait (InLeaving cause (Leave last)) → times view.seat new.lists ≡ 0 }
 {}

@@ -59,7 +59,7 @@ pub enum Outcome {
     Ended(Cause),
 }
 
-/// Where a wait stands that has queued.
+/// Where a wait stands that has queued, until it is taken.
 #[derive(Clone, Copy)]
 pub enum Home {
     /// In the lock list.

@@ -82,7 +82,7 @@ module _ {C : Type 0} (N : ℕ) (P : Option ℕ → Type 0) where
 
   back_noted : (on : Subject C) (wait : Wait C) (outcome : Outcome) → P None → P wait.limits.note → Keeps P (back_with N on wait outcome)
   back_noted (OnCondition c) wait outcome none p = test_noted wait (OnReturn outcome) 0 p
-  back_noted (OnVariable k) wait outcome none p = record { note = none }
+  back_noted (OnVariables variables) wait outcome none p = record { note = none }
 
   acquired_noted : (aim : Aim C) → P None → P (note_for aim) → Keeps P (acquired_for N aim)
   acquired_noted (ForLock mode) none p = record { note = none }

@@ -8,6 +8,7 @@ use Rattle.ns_word.specs.declared.view.Held.{Held}
 use Rattle.ns_word.specs.declared.word.Releasing.TheVariants.{Writer, Reader}
 use Rattle.ns_env.specs.declared.limits.Limits.{Limits}
 use Rattle.ns_word.specs.declared.wait.Subject.{Subject}
+use Rattle.ns_model.specs.declared.cvs.Variables.TheVariants.{Only}
 use Rattle.ns_word.specs.declared.wait.Subject.TheVariants.{OnCondition, OnVariables}
 use Rattle.ns_word.specs.declared.wait.Wait.{Wait as WaitFor}
 use Rattle.ns_word.specs.declared.wait.Visit.TheVariants.{OnEntry}
@@ -75,9 +76,9 @@ module _ {C : Type 0} {N : ℕ} (truths : Truths C) (notes : ℕ → NoteStandin
   wait_fits c limits held false e some made settled = (grind (arith, nat_tests), (((refl, settled), omega (arith, some), tt), tt), made, refl)
 
   cv_wait_fits : (k : ℕ) (limits : Limits) (held : Held C N) → k < 4 → IfMade notes limits.note → IsSettled truths (Some held) →
-      StartFits truths notes (OnLock (InWait (wait_for held (OnVariable k) limits) (InQueuing false Load))) (Some held)
+      StartFits truths notes (OnLock (InWait (wait_for held (OnVariables (Only k)) limits) (InQueuing false Load))) (Some held)
   cv_wait_fits k limits held few made settled =
-      let may : MayWait truths (wait_for held (OnVariable k) limits) false held = record { mode = refl; unmet = few; settled = λ e. settled; back = λ e. absurd (cc) } in
+      let may : MayWait truths (wait_for held (OnVariables (Only k)) limits) false held = record { mode = refl; unmet = few; settled = λ e. settled; back = λ e. absurd (cc) } in
       ((refl, tt), ((may, tt), tt), made, refl)
 
   -- a call whose need is met begins at the first place of a walk: on the lock, at one that goes with the section in hand; on the clock and the notes, at one whose notes are made

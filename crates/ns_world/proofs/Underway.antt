@@ -50,6 +50,7 @@ use Rattle.ns_env.specs.declared.limits.Limits.{Limits}
 use Rattle.ns_word.specs.declared.request.Request.{Request}
 use Rattle.ns_word.specs.declared.view.Held.{Held}
 use Rattle.ns_word.specs.declared.view.SeatView.{SeatView}
+use Rattle.ns_model.specs.declared.cvs.Variables.TheVariants.{Only}
 use Rattle.ns_word.specs.declared.wait.Subject.TheVariants.{OnCondition, OnVariables}
 use Rattle.ns_word.specs.declared.wait.Visit.TheVariants.{OnEntry}
 use Rattle.ns_word.specs.declared.walk.Next.TheVariants as TheNext
@@ -592,7 +593,7 @@ module _ (C : Type 0) (N : ℕ) (before : Now C N) (earlier : List EnvEvent) (se
   first_at setup notes mode (Get i) fits = tt
   first_at setup notes mode (Set i value) fits = tt
   first_at setup notes mode (Wait c limits) fits = wait_is_first N (record { mode = mode_waited mode; on = OnCondition c; limits = limits })
-  first_at setup notes mode (CvWait k limits) fits = wait_is_first {C = C} N (record { mode = mode_waited mode; on = OnVariable k; limits = limits })
+  first_at setup notes mode (CvWait k limits) fits = wait_is_first {C = C} N (record { mode = mode_waited mode; on = OnVariables (Only k); limits = limits })
   first_at setup notes mode (Signal k) fits = tt
   first_at setup notes mode (Broadcast k) fits = tt
   first_at setup notes mode (NewNote parent deadline) fits = fits

@@ -125,7 +125,7 @@ wait_some truths wait again (Some held) can = refl
 -- and its list is one that there is
 unmet_in_range : {C : Type 0} (truths : Truths C) (on : Subject C) (row : List ℕ) → IsUnmet truths on row → IsInRange on
 unmet_in_range truths (OnCondition c) row p = tt
-unmet_in_range truths (OnVariable k) row p = p
+unmet_in_range truths (OnVariables variables) row p = p
 
 pub can_in_range : {C : Type 0} {N : ℕ} (truths : Truths C) (wait : Wait C) (again : Bool) (held : Option (Held C N)) → CanWait truths wait again held → IsInRange wait.on
 can_in_range truths wait again None p = absurd p

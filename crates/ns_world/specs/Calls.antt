@@ -16,6 +16,7 @@ use Rattle.ns_word.specs.declared.cell_walk.Judging.TheVariants.{ToRelease}
 use Rattle.ns_word.specs.declared.cell_walk.CellPlace.TheVariants.{GetLoad, SetLoad}
 use Rattle.ns_env.specs.declared.walk.Chain.TheVariants.{ForIsNotified, ForNoteWait}
 use Rattle.ns_env.specs.declared.walk.EnvWalk.TheVariants.{NextLoad, Notifying, Advancing, ClockLoad, ExpiryLoad}
+use Rattle.ns_model.specs.declared.cvs.Variables.TheVariants.{Only}
 use Rattle.ns_word.specs.declared.wait.Subject.TheVariants.{OnCondition, OnVariables}
 use Rattle.ns_word.specs.declared.act.Waking.TheVariants.{Signaling, Broadcasting}
 use Rattle.ns_word.specs.declared.signal_walk.SignalPlace.TheVariants.{SignalLoad}
@@ -49,7 +50,7 @@ start_of N mode UnlockQuiet = OnLock (quiet_first N ToRelease)
 start_of N mode (Get i) = OnLock (InCells (GetLoad i))
 start_of N mode (Set i v) = OnLock (InCells (SetLoad i v))
 start_of N mode (Wait c limits) = OnLock (wait_first N (record { mode = mode_waited mode; on = OnCondition c; limits = limits }))
-start_of N mode (CvWait k limits) = OnLock (wait_first N (record { mode = mode_waited mode; on = OnVariable k; limits = limits }))
+start_of N mode (CvWait k limits) = OnLock (wait_first N (record { mode = mode_waited mode; on = OnVariables (Only k); limits = limits }))
 start_of N mode (Signal k) = OnLock (InSignal Signaling k SignalLoad)
 start_of N mode (Broadcast k) = OnLock (InSignal Broadcasting k SignalLoad)
 start_of N mode (NewNote parent deadline) = Ask (NextLoad parent deadline)

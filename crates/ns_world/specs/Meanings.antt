@@ -18,6 +18,7 @@ use Rattle.ns_word.specs.declared.request.Request.{Request}
 use Rattle.ns_word.specs.declared.request.Request.TheVariants as TheRequest
 use Rattle.ns_word.specs.declared.view.Held.{Held}
 use Rattle.ns_word.specs.declared.view.SeatView.{SeatView}
+use Rattle.ns_model.specs.declared.cvs.Variables.TheVariants.{Only}
 use Rattle.ns_word.specs.declared.wait.Subject.TheVariants.{OnCondition, OnVariables}
 use Rattle.ns_word.specs.declared.walk.Reply.{Reply as WalkReply}
 use Rattle.ns_word.specs.declared.word.Releasing.TheVariants.{Writer, QuietWriter, Reader}
@@ -55,7 +56,7 @@ asks_of mode UnlockQuiet = OfLock (TheRequest.Release QuietWriter)
 asks_of mode (Get i) = OfLock (TheRequest.Get i)
 asks_of mode (Set i value) = OfLock (TheRequest.Set i value)
 asks_of mode (Wait c limits) = OfLock (TheRequest.Await (record { mode = mode_waited mode; on = OnCondition c; limits = limits }))
-asks_of mode (CvWait k limits) = OfLock (TheRequest.Await (record { mode = mode_waited mode; on = OnVariable k; limits = limits }))
+asks_of mode (CvWait k limits) = OfLock (TheRequest.Await (record { mode = mode_waited mode; on = OnVariables (Only k); limits = limits }))
 asks_of mode (Signal k) = OfLock (TheRequest.Wake Signaling k)
 asks_of mode (Broadcast k) = OfLock (TheRequest.Wake Broadcasting k)
 asks_of mode (NewNote parent deadline) = OfNotes (TheEnvRequest.NewNote parent deadline)

@@ -4,7 +4,7 @@ use Rattle.ns_env.specs.declared.reply.EnvReply.TheVariants as TheEnv
 use Rattle.ns_word.specs.declared.walk.Reply.{Reply as WalkReply}
 use Rattle.ns_word.specs.declared.walk.Reply.TheVariants as TheWalk
 use Rattle.ns_world.specs.declared.reply.Reply.{Reply}
-use Rattle.ns_world.specs.declared.reply.Reply.TheVariants.{Succeeded, Busy, Noisy, Number, NotesFull, Is, Expiry, Answered}
+use Rattle.ns_world.specs.declared.reply.Reply.TheVariants.{Succeeded, Busy, Noisy, Number, NotesFull, Is, Expiry, Answered, WokenBy}
 
 -- what a walk on the lock answers, as the answer of its call
 abbrev pub told : WalkReply → Reply
@@ -14,6 +14,7 @@ told TheWalk.Noisy = Noisy
 told (TheWalk.Number number) = Number number
 told (TheWalk.Is so) = Is so
 told (TheWalk.Answered answer) = Answered answer
+told (TheWalk.WokenBy by) = WokenBy by
 
 -- what one on the clock and the notes answers, likewise
 abbrev pub env_told : EnvReply → Reply

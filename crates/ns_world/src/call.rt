@@ -18,6 +18,7 @@ use ns_env::limits::Limits;
 use ns_env::note::NoteState;
 use ns_env::request::EnvRequest;
 use ns_env::walk::{Chain, EnvWalk};
+use ns_model::cvs::Variables;
 use ns_model::event::Mode;
 use ns_word::act::Waking;
 use ns_word::request::Request;
@@ -304,7 +305,7 @@ impl<C: Copy> Call<C> {
             }
             Call::CvWait(k, limits) => {
                 let met = is_made_or_none(notes, limits.note);
-                wait::<C, N>(mode, Subject::OnVariable(k), limits, met)
+                wait::<C, N>(mode, Subject::OnVariables(Variables::Only(k)), limits, met)
             }
             call => call.start_lock::<N>(mode),
         }

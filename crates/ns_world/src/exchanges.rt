@@ -123,14 +123,15 @@ fn commit_leave<C: Seated<N>, const N: usize>(
     ensures err { OnErr result (IsEvent seat (Change.LeaveSelf home) queues.now × (history.new.items ≡ history.old.items)) }
 {
     if let Home::AtVariables(variables) = home {
-        if queues.stands_for_variable(seat) {
+        if queues.stands_at_variables(seat) {
             history.push(leaving(seat, variables))?;
         }
     }
     Ok(())
 }
 
-/// Takes the seat out of all lists, if it still stands here, and puts the queues back, which
+/// Takes the seat out of all lists, if it still stands where a wait of this home does, and puts the queues
+/// back, which
 /// clears the spinlock bit. That a wait for variables was left is committed; where the event is
 /// refused, nothing has changed.
 fn return_left<C: Seated<N>, const N: usize>(
@@ -277,7 +278,12 @@ fn entry<C: Seated<N>, const N: usize>(section: &Held<C, N>) -> Entry<C>
                 Entry::Waited(cond, answer_of(cause))
             }
         }
-        Opening::CameBack(Subject::OnVariable(k), outcome) => Entry::AfterCv(k, outcome.answer()),
+        Opening::CameBack(Subject::OnVariables(Variables::Only(k)), outcome) => {
+            Entry::AfterCv(k, outcome.answer())
+        }
+        Opening::CameBack(Subject::OnVariables(Variables::Any(_)), outcome) => {
+            Entry::AfterAny(outcome.variable())
+        }
     }
 }
 
@@ -367,7 +373,8 @@ fn exit_for<C: Copy>(on: Subject<C>) -> Exit<C>
 {
     match on {
         Subject::OnCondition(cond) => Exit::CondWait(cond),
-        Subject::OnVariable(k) => Exit::CvWait(k),
+        Subject::OnVariables(Variables::Only(k)) => Exit::CvWait(k),
+        Subject::OnVariables(Variables::Any(cvs)) => Exit::AnyWait(cvs),
     }
 }
 

@@ -27,6 +27,8 @@ pub enum Reply {
     Expiry(Option<u64>),
     /// How a wait came back.
     Answered(Answer),
+    /// A wait for any condition variables of a set came back: the one that woke it, or none.
+    WokenBy(Option<u8>),
     /// The call's need was not met as it began. It made no step.
     Misuse,
     /// The change of a counter was refused.
@@ -48,6 +50,7 @@ pub(crate) fn told(reply: ns_word::walk::Reply) -> Reply
         ns_word::walk::Reply::Number(number) => Reply::Number(number),
         ns_word::walk::Reply::Is(so) => Reply::Is(so),
         ns_word::walk::Reply::Answered(answer) => Reply::Answered(answer),
+        ns_word::walk::Reply::WokenBy(by) => Reply::WokenBy(by),
     }
 }
 

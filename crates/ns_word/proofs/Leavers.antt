@@ -1,0 +1,100 @@
+-- Whether a wait that leaves still stands where it waits.
+use Rattle.std.proofs.Common.{◌≡◌, ℕ, ◌+◌, ◌≤◌, ◌<◌, ◌⊎◌, inl, inr, Bool, true, false, ltb, List, [], ◌∷◌, ◌++◌, length, cond, Option, None, Some, refl, ap, sym, ◌∙◌, subst, arith}
+use Rattle.std.specs.List.{sum_by}
+use Rattle.std.proofs.lemmas.Bool.{ltb-true, ltb-false}
+use Rattle.std.proofs.lemmas.List.Sums.{get_or-le-sum_by}
+use Rattle.ns_env.specs.declared.limits.Cause.{Cause}
+use Rattle.ns_model.specs.declared.cvs.Variables.{Variables}
+use Rattle.ns_model.specs.declared.event.Event.{Event}
+use Rattle.ns_model.specs.declared.event.Mode.{Mode}
+use Rattle.ns_model.specs.declared.phase.Phase.{Phase}
+use Rattle.ns_model.specs.declared.phase.Phase.TheVariants.{Waiting}
+use Rattle.ns_model.specs.Histories.{standing_after}
+use Rattle.ns_model.specs.Truths.{Truths}
+use Rattle.ns_queue.specs.declared.waiter.Which.TheVariants.{Cv}
+use Rattle.ns_queue.specs.Queues.{Lists, times, waiters_of, without}
+use Rattle.ns_queue.specs.Waiters.{times_in, without_in}
+use Rattle.ns_word.specs.declared.act.Found.{Found}
+use Rattle.ns_word.specs.declared.act.Found.TheVariants.{Left}
+use Rattle.ns_word.specs.declared.view.SeatView.{SeatView}
+use Rattle.ns_word.specs.declared.wait.LeavePlace.TheVariants.{Leave}
+use Rattle.ns_word.specs.declared.wait.Subject.{Subject}
+use Rattle.ns_word.specs.declared.wait.Subject.TheVariants.{OnCondition, OnVariables}
+use Rattle.ns_word.specs.declared.wait.Wait.{Wait}
+use Rattle.ns_word.specs.declared.wait.WaitPlace.TheVariants.{InLeaving}
+use Rattle.ns_word.specs.declared.walk.Walk.TheVariants.{InWait}
+use Rattle.ns_word.specs.declared.word.Word.{Word}
+use Rattle.ns_word.specs.Lawful.{EachFits, IsExpected, IsLawful, SectionFits, VariableWaiterFits, VariablesTell, ViewFits}
+use Rattle.ns_word.specs.Lists.{stands_at}
+use Rattle.ns_word.specs.Places.{PlaceFits}
+use Rattle.ns_word.specs.Stands.{IsFoundLeaving}
+use Rattle.ns_word.specs.Steps.{LockState, Step, changed}
+use Rattle.ns_word.specs.Views.{AreApart, walk_at}
+use Rattle.ns_word.specs.Waits.{home_of}
+use Rattle.ns_word.specs.Walks.{Stance, expected_for, phase_by, waits_in}
+use Rattle.ns_word.proofs.CountsIn.{gone_from, some_list}
+use Rattle.ns_word.proofs.Keeps.{stance_mode, stance_variables}
+use Rattle.ns_word.proofs.Scans.{times_without}
+use Rattle.ns_word.proofs.Stands.{effect_at}
+use Rattle.ns_word.proofs.Variables.{one_of}
+use Rattle.ns_word.proofs.Views.{apart_parts, each_parts, walk_here}
+
+module _ {C : Type 0} {N : ℕ} (phases : ℕ → Phase C) (lists : Lists C) (views : List (SeatView C N)) (seat : ℕ) (mode : Mode) (variables : Variables) where
+  -- one that waits for variables, by its place, and stands in some list, waits for them by the history
+  stands_still : VariablesTell phases lists views → length lists.cvs ≡ 4 → waits_in (walk_at seat views) ≡ Some (record { mode = mode; on = Some (OnVariables variables); tries = 0 }) → 1 ≤ sum_by (times_in seat) lists.cvs → phases seat ≡ Waiting variables mode
+  stands_still p four stance some =
+      let list = some_list seat lists four some in
+      let waiter = one_of (VariableWaiterFits phases views list.0) seat (waiters_of lists (Cv list.0)) list.2 (p.own list.0 list.1) in
+      let both : Some (record { mode = waiter.0.mode; on = Some (OnVariables waiter.2.among); tries = 0 }) ≡ Some (record { mode = mode; on = Some (OnVariables variables); tries = 0 }) =
+          sym waiter.2.stands ∙ ap (λ s. waits_in (walk_at s views)) waiter.1 ∙ stance in
+      let same_mode : waiter.0.mode ≡ mode = ap stance_mode both in
+      let same_among : waiter.2.among ≡ variables = ap stance_variables both in
+      subst (λ s. phases s ≡ Waiting waiter.2.among waiter.0.mode) waiter.1 waiter.2.waits ∙ (λ i. Waiting (same_among i) (same_mode i))
+
+  -- and who stands in none has been woken by one of them
+  stands_no_more : VariablesTell phases lists views → length lists.cvs ≡ 4 → IsExpected (expected_for (OnVariables variables) mode) (phases seat) → sum_by (times_in seat) lists.cvs ≡ 0 → IsFoundLeaving false variables mode (phases seat)
+  stands_no_more p four (inl waits) none =
+      let one = p.some variables seat mode waits in
+      let there = p.all variables one.0 seat mode waits one.1 in
+      let part = get_or-le-sum_by (times_in seat) lists.cvs one.0 [] (omega (arith, four, there.0)) in
+      absurd (omega (arith, part, none, there.1))
+  stands_no_more p four (inr woken) none = (woken.0, woken.1, woken.2)
+
+module _ {C : Type 0} {N : ℕ} (truths : Truths C) (old new : LockState C N) (view : SeatView C N) (commits : List (Event C N)) (wait : Wait C) (cause : Cause) (last : Word) (stood : Bool) (step : Step truths old view (Left stood) new commits) (walks : step.walk ≡ InWait wait (InLeaving cause (Leave last))) where
+  -- it finds whether it stands there
+  found_so : stands_at view.seat (home_of wait.on) old.lists ≡ stood
+  found_so = let e = effect_at truths old new view (Left stood) commits (InWait wait (InLeaving cause (Leave last))) step walks in let found : Left (stands_at view.seat (home_of wait.on) old.lists) ≡ Left stood = e.0 in cc
+
+  pub leaves_variables : (seats : ℕ) (h : List (Event C N)) (variables : Variables) → IsLawful truths seats h old → wait.on ≡ OnVariables variables → IsFoundLeaving stood variables wait.mode ((standing_after h).phases view.seat)
+  leaves_variables seats h variables lawful on = go stood (ap (λ on. stands_at view.seat (home_of on) old.lists) (sym on) ∙ found_so) where
+    place : view.walk ≡ Some (InWait wait (InLeaving cause (Leave last)))
+    place = step.walks ∙ ap Some walks
+
+    fits : ViewFits truths seats (standing_after h) old.row view
+    fits = (each_parts truths seats (standing_after h) old.row step.front view step.back (subst (λ vs. EachFits truths seats (standing_after h) old.row vs) step.was lawful.one_history.each)).1
+
+    stance : waits_in (walk_at view.seat old.views) ≡ Some (record { mode = wait.mode; on = Some (OnVariables variables); tries = 0 })
+    stance =
+        ap (λ vs. waits_in (walk_at view.seat vs)) step.was ∙ ap waits_in (walk_here step.front view step.back (apart_parts step.front view step.back (subst AreApart step.was lawful.apart)).0)
+        ∙ ap waits_in place ∙ ap (λ on. Some (record { mode = wait.mode; on = Some on; tries = 0 })) on
+
+    free : view.held ≡ None
+    free = (subst (λ w. PlaceFits truths w view.held) place fits.place).0.0
+
+    expected : IsExpected (expected_for (OnVariables variables) wait.mode) ((standing_after h).phases view.seat)
+    expected = subst (λ on. IsExpected (expected_for on wait.mode) ((standing_after h).phases view.seat)) on
+        (subst (λ w. IsExpected (phase_by w) ((standing_after h).phases view.seat)) place (subst (λ held. SectionFits (standing_after h) old.row view.seat view.walk held) free fits.section))
+
+    go : (b : Bool) → ltb 0 (sum_by (times_in view.seat) old.lists.cvs) ≡ b → IsFoundLeaving b variables wait.mode ((standing_after h).phases view.seat)
+    go true e = stands_still (standing_after h).phases old.lists old.views view.seat wait.mode variables lawful.variables_tell lawful.waiters_placed.four stance (ltb-true 0 _ e)
+    go false e = let none = ltb-false 0 (sum_by (times_in view.seat) old.lists.cvs) e in stands_no_more (standing_after h).phases old.lists old.views view.seat wait.mode variables lawful.variables_tell lawful.waiters_placed.four expected (omega (arith, none))
+
+  pub leaves_condition : (c : C) → wait.on ≡ OnCondition c → ltb 0 (times_in view.seat old.lists.lock) ≡ stood
+  leaves_condition c on = ap (λ on. stands_at view.seat (home_of on) old.lists) (sym on) ∙ found_so
+
+  -- and then it stands nowhere
+  pub is_gone : stood ≡ true → times view.seat new.lists ≡ 0
+  is_gone is =
+      let e = effect_at truths old new view (Left stood) commits (InWait wait (InLeaving cause (Leave last))) step walks in
+      let out : new.lists ≡ without view.seat old.lists = ap (λ p. p.lists) e.2 ∙ ap (λ b. cond b (without view.seat old.lists) old.lists) (found_so ∙ is) in
+      ap (λ l. times view.seat l) out ∙ omega (arith, times_without view.seat old.lists.lock, gone_from view.seat old.lists.cvs)
