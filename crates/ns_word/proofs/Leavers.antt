@@ -46,7 +46,7 @@ module _ {C : Type 0} {N : ℕ} (phases : ℕ → Phase C) (lists : Lists C) (vi
       let list = some_list seat lists four some in
       let waiter = one_of (VariableWaiterFits phases views list.0) seat (waiters_of lists (Cv list.0)) list.2 (p.own list.0 list.1) in
       let both : Some (record { mode = waiter.0.mode; on = Some (OnVariables waiter.2.among); tries = 0 }) ≡ Some (record { mode = mode; on = Some (OnVariables variables); tries = 0 }) =
-          sym waiter.2.stands ∙ ap (λ s. waits_in (walk_at s views)) waiter.1 ∙ stance in
+      sym waiter.2.stands ∙ ap (λ s. waits_in (walk_at s views)) waiter.1 ∙ stance in
       let same_mode : waiter.0.mode ≡ mode = ap stance_mode both in
       let same_among : waiter.2.among ≡ variables = ap stance_variables both in
       subst (λ s. phases s ≡ Waiting waiter.2.among waiter.0.mode) waiter.1 waiter.2.waits ∙ (λ i. Waiting (same_among i) (same_mode i))

@@ -59,11 +59,13 @@ module _ (C : Type 0) (N : ℕ) (truths : Truths C) (seat : ℕ) where
   waits_for mode (OnVariables variables) again row lists four range =
       let entered = entered_at variables seat mode again (with_lock lists (left_of (meets_at truths row) lists.lock)) four range in
       let stays : (k : ℕ) → List (Waiter C) = λ k. waiters_of lists (Cv k) in
-      let one_more : (k : ℕ) → List (Waiter C) = λ k. waiters_of lists (Cv k) ++ waiter seat mode None 0 (Some k) ∷ [] in
-      (λ k low. elim (cases_Bool (has variables k)) [
-        | inl is ↦ entered.into k low is ∙ sym (ap (λ b. cond b (one_more k) (stays k)) is)
-        | inr lacks ↦ entered.others k low lacks ∙ sym (ap (λ b. cond b (one_more k) (stays k)) lacks)
-      ], entered.lock)
+      let one_more : (k : ℕ) → List (Waiter C) = λ k. waiters_of lists (Cv k) ++ waiter seat mode None 0 (Some k) ∷ [] in (
+        λ k low. elim (cases_Bool (has variables k)) [
+          | inl is ↦ entered.into k low is ∙ sym (ap (λ b. cond b (one_more k) (stays k)) is)
+          | inr lacks ↦ entered.others k low lacks ∙ sym (ap (λ b. cond b (one_more k) (stays k)) lacks)
+        ],
+        entered.lock,
+      )
 
   are_called : (waking : Waking) (k : ℕ) (held : Bool) (lists : Lists C) → let taken = taken_by waking (waiters_of lists (Cv k)) in
       AreCalled held k taken lists.lock (moved_to held taken (cvs_without (taken_set taken) lists)).lock (cond held [] (wakes_of k taken))

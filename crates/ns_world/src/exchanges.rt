@@ -130,10 +130,9 @@ fn commit_leave<C: Seated<N>, const N: usize>(
     Ok(())
 }
 
-/// Takes the seat out of all lists, if it still stands where a wait of this home does, and puts the queues
-/// back, which
-/// clears the spinlock bit. That a wait for variables was left is committed; where the event is
-/// refused, nothing has changed.
+/// Takes the seat out of all lists, if it still stands where a wait of this home does, and puts the
+/// queues back, which clears the spinlock bit. That a wait for variables was left is committed; where
+/// the event is refused, nothing has changed.
 fn return_left<C: Seated<N>, const N: usize>(
     word: &mut Word,
     queues: &mut Queues<C, N>,
