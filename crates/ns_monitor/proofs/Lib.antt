@@ -7,6 +7,7 @@ pub mod Meetings
 pub mod Releases
 pub mod Returns
 pub mod Saves
+pub mod SeveralWaits
 pub mod Shows
 pub mod Standing
 pub mod Tests

@@ -7,6 +7,7 @@ use Rattle.ns_model.specs.Environments.{IsMade}
 use Rattle.ns_model.specs.declared.environment.EnvEvent.{EnvEvent}
 use Rattle.ns_env.specs.Chains.{HasLooked}
 use Rattle.ns_monitor.specs.Limits.{HasLookedOn, IsLooking, LookShows}
+use Rattle.ns_monitor.specs.Several.{at_will}
 use Rattle.ns_note.specs.Answers.{limits_by, LookAnswers}
 use Rattle.ns_note.specs.Known.{EnvKnown}
 use Rattle.ns_note.specs.declared.note.Note.{Note}
@@ -55,6 +56,10 @@ may_show given limits old new (Some Notified) is shows = subst IsSome (sym is) (
 pub nothing_named : (limits : Limits) (shown : Option Cause) → IfSome shown (λ cause. ⊥) → MayShow limits shown
 nothing_named limits None is = tt
 nothing_named limits (Some cause) is = absurd is
+
+-- a wait that its caller may end at any time may be shown that
+pub shown_at_will : (limits : Limits) (shown : Option Cause) → limits ≡ at_will → shown ≡ Some Expired → MayShow limits shown
+shown_at_will limits shown is shows = subst (λ (x : Limits × Option Cause). MayShow x.0 x.1) (λ i. (sym is i, sym shows i)) refl
 
 -- what a look has found that began later, one that began sooner has found
 sooner : (limits : Limits) (cause : Option Cause) (old mid new : List EnvEvent) → BeginsWith mid old → HasLooked limits cause mid new → HasLooked limits cause old new

@@ -1,7 +1,7 @@
 //! The loops that a call may go round in, each once. Each is told the place at which its call stands,
 //! which is for the proof alone: no code reads it.
 
-ghost use Rattle.std.specs.Prelude.{◌≡◌, ◌≢◌, None, Some, false};
+ghost use Rattle.std.specs.Prelude.{◌≡◌, ◌≢◌, None, Some, false, []};
 ghost use Rattle.ns_gate.specs.Prelude.{HasSince, IsAtPlace, IsAtRest, IsFirst, HasReached, PlaceFits, the, asked_of, IsPackable, has_some, got_of};
 ghost use Rattle.ns_monitor.specs.Prelude.{Decides, HasInHand, HasTakenAt, IsNumberOf, OwesTheWoken, Pays, PutsBack, Sleeps, WentOrTook, found_back, going_of, returning_at, returning_of};
 ghost use Rattle.ns_monitor.specs.declared.going.Going.TheVariants.{Changing};
@@ -176,6 +176,7 @@ impl<C: Condition<N>, const N: usize> Monitor<C, N> {
         ensures seat { seat.new.table_id ≡ self.now }
         ensures since { HasSince None (the seat.old.me.0) (the seat.new.me.0) }
         ensures paid { HasReached C.means (asked_of _walk) (got_of N _walk (Found.Paid false)) seat.new.me }
+        ensures none { (the seat.new.me.0).at.owed ≡ [] }
     {
         for &wake in owed.as_slice() {
             self.gate.pay_wake(seat, wake);

@@ -1,6 +1,6 @@
 //! A wait outside: it leaves its section and queues, waits to be woken or ended, and may leave its list.
 
-ghost use Rattle.std.specs.Prelude.{◌≡◌, None, Some, IfErr, true};
+ghost use Rattle.std.specs.Prelude.{◌≡◌, None, Some, IfErr, true, []};
 ghost use Rattle.ns_gate.specs.Prelude.{row_in, IsInRange, is_limited, AcquireLoad, ForWait, LeaveLoad, Load, AwaitWakeInWait, InLeaving, InQueuing, InAcquire, InWait, HasSince, IsAtPlace, the};
 ghost use Rattle.ns_monitor.specs.Prelude.{HasAcquired, HasRow, HasTakenAt, IfEnded, IsNumberOf, WokenOrEnded, lacks_row};
 
@@ -77,6 +77,7 @@ impl<C: Condition<N>, const N: usize> Monitor<C, N> {
         ensures seat { seat.new.table_id ≡ self.now }
         ensures since { HasSince None (the seat.old.me.0) (the seat.new.me.0) }
         ensures waits { IsAtPlace C.means (InWait wait AwaitWakeInWait) seat.new.me }
+        ensures owes { (the seat.new.me.0).at.owed ≡ [] }
     {
         self.gate.arm_flag(seat, number);
         let parts = word.parts();

@@ -2,8 +2,9 @@
 
 ghost use Rattle.std.specs.Prelude.{◌≡◌, refl, false, None, Some, Option, IfSome, option_map};
 ghost use Rattle.std.proofs.Common.{◌∙◌};
-ghost use Rattle.ns_gate.specs.Prelude.{is_met, MayShow, answer_of, is_limited, Cause, Limits};
-ghost use Rattle.ns_monitor.specs.Prelude.{HasLookedOn, IsLooking, LookShows, may_show, none_shown, nothing_named, same_looker, shown_since, still_looking, then_looker};
+ghost use Rattle.ns_gate.specs.Prelude.{is_met, MayShow, answer_of, is_limited, Cause, Expired, Limits};
+ghost use Rattle.ns_monitor.specs.Prelude.{HasLookedOn, IsLooking, LookShows, may_show, none_shown, nothing_named, same_looker, shown_at_will, shown_since, still_looking, then_looker};
+ghost use Rattle.ns_monitor.specs.Several.{at_will};
 
 use ns_env::limits::{Cause, Limits};
 use ns_model::event::Answer;
@@ -72,6 +73,34 @@ impl Watch for Nothing {
 
     fn look(&mut self, _limits: Limits) -> Option<Cause> {
         None
+    }
+}
+
+/// The wait's caller ends it: the first look shows that a deadline has come which is always over.
+#[derive(Drop)]
+pub struct AtOnce;
+
+impl Watch for AtOnce {
+    ghost watches = { λ me limits. limits ≡ at_will };
+
+    ghost since = { λ one two. Unit {0} };
+
+    ghost shows = { λ one two limits shown. shown ≡ Some Expired };
+
+    ghost same = { λ one. tt };
+
+    ghost then = { λ one two three s t. tt };
+
+    ghost still = { λ one two limits s watches. watches };
+
+    ghost later = { λ one two three limits shown s shows. shows };
+
+    ghost stays = { λ one two three limits shows s. shows };
+
+    ghost names = { λ one two limits shown watches shows. shown_at_will limits shown watches shows };
+
+    fn look(&mut self, _limits: Limits) -> Option<Cause> {
+        Some(Cause::Expired)
     }
 }
 

@@ -15,6 +15,8 @@ mod monitor;
 #[cfg(test)]
 mod note;
 #[cfg(test)]
+mod several;
+#[cfg(test)]
 mod showing;
 #[cfg(test)]
 mod variables;

@@ -53,6 +53,7 @@ returns g c = record {
   since = let scan = c.scan_and_queue_in_hand-scan in let after = (goal.at.returns g c).After-load_to_scan in
       since_then None _ _ _ (still_since g.C.Condition.means None _ c.load_to_scan.new.seat.me scan.new.seat.me scan.ensures.seat.1 (since_start g after)) (since_then None _ _ _ c.put_back.ensures.since c.pay.ensures.since);
   waits = search rules;
+  owes = c.pay.ensures.none;
 }
 
 pub called-owed-requires : goal.called-owed-requires

@@ -32,4 +32,5 @@ returns g c = record {
   since = c.loop-wake.invariant.2;
   paid = let inv = c.loop-wake.invariant in
       all_paid g.C.Condition.means c.args._walk c.loop-wake.seat.me (inv.1 ∙ drop_all c.loop-wake.wake-index c.as_slice-wake-items.result.now (omega arith)) inv.3;
+  none = c.loop-wake.invariant.1 ∙ drop_all c.loop-wake.wake-index c.as_slice-wake-items.result.now (omega arith);
 }

@@ -1,0 +1,132 @@
+-- Waits for any of several condition variables: where they stand, and what they tell once they are over.
+use Rattle.std.proofs.Common.{◌≡◌, ℕ, true, false, List, [], ◌∷◌, ◌++◌, Option, None, Some, append-nil, refl, ap, sym, ◌∙◌, subst}
+use Rattle.ns_env.specs.declared.limits.Cause.{Cause}
+use Rattle.ns_gate.specs.Prelude.{SeatOf, HasAnswered, HasMode, HasSince, IsAtPlace, IsSettled, IsWide, Performed, PlaceFits, the, AwaitWakeInWait, InQueuing, InWait, Load, LoadFlag, Flag, Look, Looked, Truths, Mode, TableId, row_after, Event, Course, InHand, section_of, Await, Held}
+use Rattle.ns_gate.proofs.Calls.{since, since_then}
+use Rattle.ns_model.specs.declared.cvs.Cvs.{Cvs}
+use Rattle.ns_model.specs.declared.event.Exit.TheVariants.{AnyWait}
+use Rattle.ns_monitor.proofs.Waits.{looks_out, waits_on}
+use Rattle.ns_monitor.specs.Prelude.{AreSome, HasBegunToWait, HasComeBackFromAny, IsByOneOf, IsFreshIn, IsWaitingForAny, Known, SaysWoken, WaitKnown, WaitsStill, any_waiting, at_will, known_of, waits_for_any}
+use Rattle.ns_word.specs.Courses.{HasLeft}
+use Rattle.ns_word.specs.Meanings.{AnyWaitMeans, MayEnd, leave_any_told}
+use Rattle.ns_word.specs.Walks.{pays}
+use Rattle.ns_word.specs.declared.act.Act.{Act}
+use Rattle.ns_word.specs.declared.act.Found.{Found}
+use Rattle.ns_word.specs.declared.owed.Owed.{Owed}
+use Rattle.ns_word.specs.declared.walk.Reply.TheVariants.{WokenBy}
+use Rattle.ns_word.specs.declared.walk.Walk.{Walk}
+use Rattle.ns_word.specs.Lists.{has_some}
+
+abbrev behind : {A : Type 0} → List A → List A
+behind [] = []
+behind (x ∷ xs) = xs
+
+none_in : (owed : List Owed) → has_some owed ≡ false → owed ≡ []
+none_in [] e = refl
+none_in (wake ∷ owed) e = let f : true ≡ false = e in absurd (cc)
+
+by_one : (cvs : Cvs) (looked : Option (Option Cause)) (by : Option ℕ) → MayEnd cvs at_will looked by → IsByOneOf cvs by
+by_one cvs looked None may = tt
+by_one cvs looked (Some k) may = may
+
+module _ {C : Type 0} {N : ℕ} (truths : Truths C) where
+  -- a seat at rest with a section in hand may begin to wait for variables that there are
+  pub may_wait_for_any : (mode : Mode) (cvs : Cvs) (held : Option (Held C N)) → AreSome cvs → HasMode mode held → IsSettled truths held → PlaceFits truths (Some (InWait (waits_for_any mode cvs) (InQueuing false Load))) held
+  may_wait_for_any mode cvs None are in_mode settled = absurd in_mode
+  may_wait_for_any mode cvs (Some held) are in_mode settled = ((record { mode = in_mode; unmet = are; settled = λ _. settled; back = λ e. absurd (let f : false ≡ true = e in cc) }, tt), tt)
+
+  -- behind a step that leads to a place where it pays none, a seat owes none
+  pub owes_none : (act : Act C) (found : Found) (walk : Walk C) (me now : SeatOf C N) → Performed truths None act found me now → (the now.0).at.walk ≡ Some walk → pays (Some walk) ≡ false → (the now.0).at.owed ≡ []
+  owes_none act found walk me now p at free = none_in (the now.0).at.owed (p.did.fits.owes.0 ∙ (ap pays at ∙ free))
+
+  module _ (mode : Mode) (cvs : Cvs) where
+    -- ---- it has begun
+
+    pub has_begun_to_wait : (old : Known C N) (was is : TableId) (me now : SeatOf C N) → known_of was me ≡ old → is ≡ old.monitor → HasSince (Some (any_waiting N mode cvs)) (the me.0) (the now.0) → IsWaitingForAny truths mode cvs now
+        → HasBegunToWait truths mode cvs old (record { known = known_of is now; cvs = cvs })
+    has_begun_to_wait old was is me now view same s w = subst (λ (k : Known C N). is ≡ k.monitor → HasBegunToWait truths mode cvs k (record { known = known_of is now; cvs = cvs })) view (λ same.
+        let left : HasLeft truths (the now.0).at.seat (waits_for_any mode cvs) None (the now.0).course = w.at.so_far in
+        let before : (the me.0).at.held ≡ Some left.was = sym s.began ∙ left.began in record {
+          variables = refl;
+          monitor = same;
+          seat_count = s.seat_count;
+          seat = s.seat;
+          begins = s.begins;
+          begun = s.calls;
+          mine = subst (λ (o : Option (Held C N)). InHand o (λ held. (the now.0).told.mine ≡ (the me.0).told.mine ++ section_of truths.holds (the me.0).at.seat held (AnyWait cvs) ∷ [])) (sym before)
+              (s.mine ∙ ap (λ es. (the me.0).told.mine ++ es) (sym s.committed ∙ (left.committed ∙ (λ i. section_of truths.holds (s.seat i) left.was (AnyWait cvs) ∷ []))));
+          held = w.at.fits.0.0;
+          owes = w.owes;
+          empty = w.at.empty refl;
+        }) same
+
+    -- ---- it waits still
+
+    -- it has found its flag set, and shown nothing to end it
+    pub still_waits : (flag : ℕ) (me mid now : SeatOf C N) → flag ≡ 1 → IsWaitingForAny truths mode cvs me → Performed truths None LoadFlag (Flag flag) me mid → Performed truths None (Look at_will false) (Looked None) mid now
+        → IsWaitingForAny truths mode cvs now × HasSince None (the me.0) (the now.0)
+    still_waits flag me mid now set w loads looks =
+        let out = looks_out truths (waits_for_any mode cvs) flag me mid set refl w.at loads in
+        let on = waits_on truths (waits_for_any mode cvs) None mid now refl out looks in (
+          record { at = on; owes = owes_none (Look at_will false) (Looked None) (InWait (waits_for_any mode cvs) AwaitWakeInWait) mid now looks on.walks refl; are = w.are },
+          since_then None _ _ _ (since truths None LoadFlag (Flag flag) me mid loads) (since truths None (Look at_will false) (Looked None) mid now looks),
+        )
+
+    pub tells_still : (old : WaitKnown C N) (was is : TableId) (me now : SeatOf C N) → record { known = known_of was me; cvs = cvs } ≡ old → is ≡ old.known.monitor → IsWaitingForAny truths mode cvs me → IsWaitingForAny truths mode cvs now → HasSince None (the me.0) (the now.0) → (the now.0).told.mine ≡ (the me.0).told.mine
+        → WaitsStill old (record { known = known_of is now; cvs = cvs })
+    tells_still old was is me now view same v w s mine = subst (λ (k : WaitKnown C N). is ≡ k.known.monitor → WaitsStill k (record { known = known_of is now; cvs = cvs })) view (λ same. record {
+      variables = refl;
+      monitor = same;
+      seat_count = s.seat_count;
+      seat = s.seat;
+      begins = s.begins;
+      begun = s.calls ∙ append-nil (the me.0).told.begun;
+      mine = mine;
+      held = w.at.fits.0.0 ∙ sym v.at.fits.0.0;
+      owes = w.owes;
+      empty = w.at.empty refl;
+    }) same
+
+    -- ---- it has come back
+
+    module _ (by : Option ℕ) (seat : ℕ) (row : List ℕ) (course : Course C N) where
+      abbrev Over : Held C N → Type 0
+      Over back = AnyWaitMeans truths seat row mode cvs at_will course by back
+
+      says : (held : Option (Held C N)) → InHand held Over → InHand held (SaysWoken truths row mode by)
+      says None m = absurd m
+      says (Some back) m = record { begins = m.begins; entry = m.entry }
+
+      told : (held : Option (Held C N)) → InHand held Over → (was : Held C N) × (course.committed ≡ section_of truths.holds seat was (AnyWait cvs) ∷ leave_any_told seat cvs by) × IsByOneOf cvs by
+      told None m = absurd m
+      told (Some back) m = (m.was, m.committed, by_one cvs course.looked by m.may)
+
+      fresh : (held : Option (Held C N)) → InHand held Over → IsWide held → IsFreshIn N mode held
+      fresh None m wide = absurd m
+      fresh (Some back) m wide = record { mode_is = m.begins.mode; width = wide.0; row_is = m.begins.cells ∙ sym m.begins.before }
+
+    -- the section that it came back with has just begun
+    pub any_back_fresh : (by : Option ℕ) (now : SeatOf C N) → HasAnswered truths (Await (waits_for_any mode cvs)) (WokenBy by) now → IsFreshIn N mode (the now.0).at.held
+    any_back_fresh by now a = fresh by (the now.0).at.seat (row_after (the now.0).told.seen) (the now.0).course (the now.0).at.held a.means a.rest.wide
+
+    pub has_come_back : (by : Option ℕ) (old : WaitKnown C N) (was is : TableId) (me now : SeatOf C N) → record { known = known_of was me; cvs = cvs } ≡ old → is ≡ old.known.monitor → IsWaitingForAny truths mode cvs me → HasSince None (the me.0) (the now.0) → HasAnswered truths (Await (waits_for_any mode cvs)) (WokenBy by) now
+        → HasComeBackFromAny truths mode by old (known_of is now)
+    has_come_back by old was is me now view same w s a = subst (λ (k : WaitKnown C N). is ≡ k.known.monitor → HasComeBackFromAny truths mode by k (known_of is now)) view (λ same.
+        let v = the me.0 in let u = the now.0 in
+        let left : HasLeft truths v.at.seat (waits_for_any mode cvs) None v.course = w.at.so_far in
+        let m = told by u.at.seat (row_after u.told.seen) u.course u.at.held a.means in
+        let whole : section_of truths.holds v.at.seat left.was (AnyWait cvs) ∷ s.commits ≡ section_of truths.holds u.at.seat m.0 (AnyWait cvs) ∷ leave_any_told u.at.seat cvs by = sym (ap (λ es. es ++ s.commits) left.committed) ∙ (sym s.committed ∙ m.1) in
+        let commits : s.commits ≡ leave_any_told v.at.seat cvs by = ap behind whole ∙ ap (λ n. leave_any_told n cvs by) s.seat in record {
+          monitor = same;
+          seat_count = s.seat_count;
+          seat = s.seat;
+          begins = s.begins;
+          begun = s.calls ∙ append-nil v.told.begun;
+          mine = s.mine ∙ ap (λ es. v.told.mine ++ es) commits;
+          among = m.2;
+          back = says by u.at.seat (row_after u.told.seen) u.course u.at.held a.means;
+          true_to = a.rest.true_to;
+          over = a.rest.over;
+          owes = a.rest.owes;
+          empty = a.rest.empty;
+        }) same

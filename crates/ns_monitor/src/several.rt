@@ -1,0 +1,169 @@
+//! Waits for any of several condition variables, in three calls: one leaves its section and begins to
+//! wait, one asks whether it was woken, and one ends the wait.
+//!
+//! So a caller may look at whatever else it waits for between two of them, as nsync's `nsync_wait_n` does
+//! inside.
+
+ghost use Rattle.std.specs.Prelude.{◌≡◌, Some, None, IfOk, IfErr, [], ℕ};
+ghost use Rattle.ns_gate.specs.Prelude.{AwaitWakeInWait, ForWait, HasSince, InWait, IsAtPlace, the};
+ghost use Rattle.ns_monitor.specs.Prelude.{AreSome, HasAcquired, HasBegunToWait, HasComeBackFromAny, IsNumberOf, IsWaitingForAny, WaitsStill, waits_for_any};
+
+use crate::caller::{Caller, Renewed};
+use crate::monitor::Monitor;
+use crate::watching::AtOnce;
+use ns_env::limits::Limits;
+use ns_gate::gate::GateSeat;
+use ns_model::condition::Condition;
+use ns_model::cvs::{Cvs, Variables};
+use ns_model::event::Mode;
+use ns_word::owed::variable_told;
+use ns_word::wait::{Aim, Outcome, QueuePlace, Subject, Wait as Waiting, WaitPlace, arrival_of};
+use ns_word::walk::Walk;
+use std::marker::Model;
+use std::sync::Wait;
+
+/// A wait for any of several condition variables that was begun and isn't over.
+///
+/// For contracts it carries what its caller knows, as [`Caller`] does, and the variables. Where it is
+/// dropped, its seat stays among the waiters of these variables, and a signal may be spent on it.
+#[derive(Drop)]
+pub struct AnyWaiting<H: Renewed<C, N>, C: Condition<N>, const N: usize> {
+    /// The seat of the gate, which carries what is known.
+    seat: GateSeat<C, N>,
+    /// The seat's number.
+    number: u8,
+    /// The variables.
+    cvs: Cvs,
+    /// What will be in hand once it comes back.
+    hand: H,
+}
+
+impl<H: Renewed<C, N>, C: Condition<N>, const N: usize> Model for AnyWaiting<H, C, N> {
+    ghost use Rattle.std.specs.Prelude.{Some};
+    ghost use Rattle.ns_monitor.specs.Known.{known_of};
+    ghost use Rattle.ns_monitor.specs.Saved.{IsFresh};
+    ghost use Rattle.ns_monitor.specs.Several.{IsWaitingForAny, WaitKnown};
+    ghost use Rattle.ns_monitor.specs.Standing.{IsNumberOf};
+    ghost use Rattle.ns_gate.specs.Prelude.{Held};
+
+    ghost Value = { WaitKnown C N };
+
+    ghost view = { λ w. record { known = known_of w.seat.table_id w.seat.me; cvs = w.cvs } };
+
+    ghost invariant = { λ w. IsWaitingForAny C.means H.Section.mode w.cvs w.seat.me × IsNumberOf w.number w.seat.me × ((held : Held C N) → IsFresh N H.Section.mode held → H.Hand.fits w.hand (Some held)) };
+}
+
+/// What a wait in this mode is for any of these variables: its caller may end it at any time.
+fn for_any<C: Copy>(mode: Mode, cvs: Cvs) -> Waiting<C>
+    ensures { result ≡ waits_for_any mode cvs }
+{
+    let on = Subject::OnVariables(Variables::Any(cvs));
+    let limits = Limits {
+        deadline: Some(0),
+        note: None,
+    };
+    Waiting { mode, on, limits }
+}
+
+impl<C: Condition<N>, const N: usize> Monitor<C, N> {
+    /// Leaves its section and begins to wait for any of these condition variables.
+    ///
+    /// In one step the section is committed and the caller stands among the waiters of each of them: no
+    /// signal and no broadcast comes between the two. It wakes those waiters who can go on, and returns
+    /// without waiting for the lock; but it waits while another call has the waiter queues.
+    ///
+    /// The behaviour is that of nsync's `nsync_wait_n` where it has put the caller into every queue. Needs
+    /// at least one variable, and each below 4.
+    pub fn any_begin<H: Renewed<C, N>, R: Wait>(
+        &self,
+        rt: &R,
+        held: Caller<H, C, N>,
+        cvs: Cvs,
+    ) -> AnyWaiting<H, C, N>
+        requires of { held.monitor ≡ self.now }
+        requires variables { AreSome cvs }
+        ensures { HasBegunToWait C.means H.mode cvs held result }
+    {
+        let Caller {
+            mut seat,
+            number,
+            hand: _,
+        } = held;
+        let wait = for_any(H::mode(), cvs);
+        let place = Walk::InWait(wait, WaitPlace::InQueuing(false, QueuePlace::Load));
+        let word = self.begin_to_take(rt, &mut seat, place);
+        let mut row = [0; N];
+        self.leave_section(rt, &mut seat, number, wait, false, word, &mut row);
+        let hand = H::begun();
+        AnyWaiting {
+            seat,
+            number,
+            cvs,
+            hand,
+        }
+    }
+
+    /// Asks whether a wait for any of several variables was woken. Where it was, acquires the lock again,
+    /// in the mode of the section that was left, and gives the section and the number of the variable whose
+    /// signal or broadcast took it; else gives the wait back, with nothing changed.
+    ///
+    /// Waits for the lock only where it was woken.
+    pub fn any_poll<H: Renewed<C, N>, R: Wait>(
+        &self,
+        rt: &R,
+        waiting: AnyWaiting<H, C, N>,
+    ) -> Result<(Caller<H, C, N>, usize), AnyWaiting<H, C, N>>
+        requires of { waiting.known.monitor ≡ self.now }
+        ensures woken { IfOk result (λ back. HasComeBackFromAny C.means H.mode (Some back.1) waiting back.0) }
+        ensures still { IfErr result (λ still. WaitsStill waiting still) }
+    {
+        let AnyWaiting {
+            mut seat,
+            number,
+            cvs,
+            hand,
+        } = waiting;
+        let wait = for_any(H::mode(), cvs);
+        let flag = self.gate.load_flag(&mut seat, number);
+        if flag == 1 {
+            self.gate.look(&mut seat, number, wait.limits, false, None);
+            return Err(AnyWaiting {
+                seat,
+                number,
+                cvs,
+                hand,
+            });
+        }
+        let k = variable_told(flag);
+        let aim = Aim::ForWait(wait, Outcome::Woken(Some(k)));
+        self.acquire(rt, &mut seat, number, aim, arrival_of(0, flag));
+        Ok((Caller { seat, number, hand }, k as usize))
+    }
+
+    /// Ends a wait for any of several variables, acquires the lock again, in the mode of the section that
+    /// was left, and gives the section. Where a signal or a broadcast had taken the wait already, it also
+    /// gives the number of the variable that this was of: a wake is never lost. Else it has left all the
+    /// variables before any took it.
+    pub fn any_leave<H: Renewed<C, N>, R: Wait>(
+        &self,
+        rt: &R,
+        waiting: AnyWaiting<H, C, N>,
+    ) -> (Caller<H, C, N>, Option<usize>)
+        requires of { waiting.known.monitor ≡ self.now }
+        ensures { HasComeBackFromAny C.means H.mode result.1 waiting result.0 }
+    {
+        let AnyWaiting {
+            mut seat,
+            number,
+            cvs,
+            hand,
+        } = waiting;
+        let wait = for_any(H::mode(), cvs);
+        let outcome = self.come_back(rt, &mut seat, number, wait, &mut AtOnce);
+        let by = match outcome.variable() {
+            Some(k) => Some(k as usize),
+            None => None,
+        };
+        (Caller { seat, number, hand }, by)
+    }
+}
