@@ -72,16 +72,23 @@ module _ {C : Type 0} {N : ℕ} (truths : Truths C) where
           since_then None _ _ _ (since truths None LoadFlag (Flag flag) me mid loads) (since truths None (Look at_will false) (Looked None) mid now looks),
         )
 
-    pub tells_still : (old : WaitKnown C N) (was is : TableId) (me now : SeatOf C N) → record { known = known_of was me; cvs = cvs } ≡ old → is ≡ old.known.monitor → IsWaitingForAny truths mode cvs me → IsWaitingForAny truths mode cvs now → HasSince None (the me.0) (the now.0) → (the now.0).told.mine ≡ (the me.0).told.mine
+    -- nothing was committed between two places where it waits
+    silent : (me now : SeatOf C N) → IsWaitingForAny truths mode cvs me → IsWaitingForAny truths mode cvs now → (s : HasSince None (the me.0) (the now.0)) → s.commits ≡ []
+    silent me now v w s =
+        let was : HasLeft truths (the me.0).at.seat (waits_for_any mode cvs) None (the me.0).course = v.at.so_far in
+        let is : HasLeft truths (the now.0).at.seat (waits_for_any mode cvs) None (the now.0).course = w.at.so_far in
+        let whole : section_of truths.holds (the me.0).at.seat was.was (AnyWait cvs) ∷ s.commits ≡ section_of truths.holds (the now.0).at.seat is.was (AnyWait cvs) ∷ [] = sym (ap (λ es. es ++ s.commits) was.committed) ∙ (sym s.committed ∙ is.committed) in ap behind whole
+
+    pub tells_still : (old : WaitKnown C N) (was is : TableId) (me now : SeatOf C N) → record { known = known_of was me; cvs = cvs } ≡ old → is ≡ old.known.monitor → IsWaitingForAny truths mode cvs me → IsWaitingForAny truths mode cvs now → HasSince None (the me.0) (the now.0)
         → WaitsStill old (record { known = known_of is now; cvs = cvs })
-    tells_still old was is me now view same v w s mine = subst (λ (k : WaitKnown C N). is ≡ k.known.monitor → WaitsStill k (record { known = known_of is now; cvs = cvs })) view (λ same. record {
+    tells_still old was is me now view same v w s = subst (λ (k : WaitKnown C N). is ≡ k.known.monitor → WaitsStill k (record { known = known_of is now; cvs = cvs })) view (λ same. record {
       variables = refl;
       monitor = same;
       seat_count = s.seat_count;
       seat = s.seat;
       begins = s.begins;
       begun = s.calls ∙ append-nil (the me.0).told.begun;
-      mine = mine;
+      mine = s.mine ∙ (ap (λ es. (the me.0).told.mine ++ es) (silent me now v w s) ∙ append-nil (the me.0).told.mine);
       held = w.at.fits.0.0 ∙ sym v.at.fits.0.0;
       owes = w.owes;
       empty = w.at.empty refl;

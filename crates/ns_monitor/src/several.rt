@@ -89,7 +89,8 @@ impl<C: Condition<N>, const N: usize> Monitor<C, N> {
             number,
             hand: _,
         } = held;
-        let wait = for_any(H::mode(), cvs);
+        let mode = H::mode();
+        let wait = for_any(mode, cvs);
         let place = Walk::InWait(wait, WaitPlace::InQueuing(false, QueuePlace::Load));
         let word = self.begin_to_take(rt, &mut seat, place);
         let mut row = [0; N];
@@ -123,7 +124,8 @@ impl<C: Condition<N>, const N: usize> Monitor<C, N> {
             cvs,
             hand,
         } = waiting;
-        let wait = for_any(H::mode(), cvs);
+        let mode = H::mode();
+        let wait = for_any(mode, cvs);
         let flag = self.gate.load_flag(&mut seat, number);
         if flag == 1 {
             self.gate.look(&mut seat, number, wait.limits, false, None);
@@ -158,7 +160,8 @@ impl<C: Condition<N>, const N: usize> Monitor<C, N> {
             cvs,
             hand,
         } = waiting;
-        let wait = for_any(H::mode(), cvs);
+        let mode = H::mode();
+        let wait = for_any(mode, cvs);
         let outcome = self.come_back(rt, &mut seat, number, wait, &mut AtOnce);
         let by = match outcome.variable() {
             Some(k) => Some(k as usize),

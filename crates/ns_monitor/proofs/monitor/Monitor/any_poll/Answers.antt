@@ -1,0 +1,58 @@
+use Rattle.std.proofs.Common.{◌≡◌, ◌∙◌, sym, subst, ap, refl, arith, false, Some, None}
+use Rattle.ns_env.specs.declared.limits.Limits.{Limits}
+use Rattle.ns_gate.specs.Prelude.{TableId, CanStep, HasAnswered, HasReached, HasSince, IsAtPlace, Performed, the, arrival_of, got_of, AcquireLoad, Await, AwaitWakeInWait, Flag, ForWait, InAcquire, InWait, LoadFlag, Look, Looked, LookOut, Wait}
+use Rattle.ns_gate.proofs.Calls.{can_go, goes, since, since_then}
+use Rattle.ns_gate.proofs.Room.{queues_fit}
+use Rattle.ns_monitor.proofs.Returns.{fits_fresh}
+use Rattle.ns_monitor.proofs.SeveralWaits.{any_back_fresh, has_come_back, still_waits, tells_still}
+use Rattle.ns_monitor.proofs.Standing.{same_number}
+use Rattle.ns_monitor.proofs.Waits.{looks_out, woken_next}
+use Rattle.ns_monitor.specs.Prelude.{HasAcquired, IsWaitingForAny, WaitKnown, at_will, waits_for_any}
+use Rattle.ns_word.specs.declared.wait.Outcome.TheVariants.{Woken}
+use Rattle.ns_word.specs.declared.walk.Reply.TheVariants.{WokenBy}
+use Rattle.ns_monitor.proofs.monitor.Monitor.any_poll.Given.{Over}
+use Rattle.ns_monitor.proofs.monitor.Monitor.any_poll.Goals.{After-look, After-acquire}
+use Rattle.ns_monitor.proofs.monitor.Monitor.any_poll.Goals as goal
+
+pub load_flag-flag-requires : goal.load_flag-flag-requires
+load_flag-flag-requires g c = let of = ◌∙◌ {A = TableId} (ap (λ (k : WaitKnown _ _). k.known.monitor) c.waiting.view_is) (◌∙◌ {A = TableId} c.requires.of (sym c.self.view_is)) in
+    (omega arith, (queues_fit g.row.C g.row.N g.met.C.Condition.has_room g.C.Condition, (omega arith, (of, (c.waiting.invariant.1, can_go g.C.Condition.means (InWait (waits_for_any g.H.Section.mode c.waiting.inside.cvs) AwaitWakeInWait) LoadFlag c.waiting.inside.seat.me refl c.waiting.invariant.0.at)))))
+
+pub look-requires : goal.look-requires
+look-requires g c = let t = g.C.Condition.means in let cvs = c.waiting.inside.cvs in let wait : Wait g.row.C.Denot = waits_for_any g.H.Section.mode cvs in let flag = c.load_flag-flag in let me = c.waiting.inside.seat.me in let mid = flag.new.seat.me in
+    let is = c.for_any-wait.ensures ∙ ap (λ m. waits_for_any {C = g.row.C.Denot} m cvs) c.mode-mode.ensures in
+    let of = ◌∙◌ {A = TableId} (ap (λ (k : WaitKnown _ _). k.known.monitor) c.waiting.view_is) (◌∙◌ {A = TableId} c.requires.of (sym c.self.view_is)) in
+    let out = looks_out t wait flag.result me mid c.if-flag-eq1.true refl c.waiting.invariant.0.at flag.ensures.did in
+    (omega arith, (queues_fit g.row.C g.row.N g.met.C.Condition.has_room g.C.Condition, (omega arith, (◌∙◌ {A = TableId} flag.ensures.seat of, (same_number t None c.waiting.inside.number me mid c.waiting.invariant.1 (since t None LoadFlag (Flag flag.result) me mid flag.ensures.did), (tt,
+    subst (λ (l : Limits). CanStep t None (Look l false) mid) (sym (ap (λ (v : Wait g.row.C.Denot). v.limits) is)) (can_go t (InWait wait LookOut) (Look at_will false) mid refl out)))))))
+
+-- it waits still
+still : (g : Over) (c : After-look g) → IsWaitingForAny g.C.Condition.means g.H.Section.mode c.waiting.inside.cvs c.look.new.seat.me × HasSince None (the c.waiting.inside.seat.me.0) (the c.look.new.seat.me.0)
+still g c = let t = g.C.Condition.means in let cvs = c.waiting.inside.cvs in let mid = c.load_flag-flag.new.seat.me in let now = c.look.new.seat.me in
+    let is = c.for_any-wait.ensures ∙ ap (λ m. waits_for_any {C = g.row.C.Denot} m cvs) c.mode-mode.ensures in
+    still_waits t g.H.Section.mode cvs c.load_flag-flag.result c.waiting.inside.seat.me mid now c.if-flag-eq1.true c.waiting.invariant.0 c.load_flag-flag.ensures.did
+    (subst (λ (l : Limits). Performed t None (Look l false) (Looked None) mid now) (ap (λ (v : Wait g.row.C.Denot). v.limits) is) c.look.ensures.did)
+
+pub returns-then-flag-eq1-clause-still : goal.returns-then-flag-eq1-clause-still
+returns-then-flag-eq1-clause-still g c = let s0 = c.waiting.inside.seat in let now = c.look.new.seat in
+    tells_still g.C.Condition.means g.H.Section.mode c.waiting.inside.cvs c.args.waiting s0.table_id now.table_id s0.me now.me c.waiting.view_is
+    (◌∙◌ {A = TableId} c.look.ensures.seat (◌∙◌ {A = TableId} c.load_flag-flag.ensures.seat (ap (λ (k : WaitKnown _ _). k.known.monitor) c.waiting.view_is))) c.waiting.invariant.0 (still g c).0 (still g c).1
+
+pub acquire-requires : goal.acquire-requires
+acquire-requires g c = let t = g.C.Condition.means in let cvs = c.waiting.inside.cvs in let wait : Wait g.row.C.Denot = waits_for_any g.H.Section.mode cvs in let flag = c.load_flag-flag in let me = c.waiting.inside.seat.me in let mid = flag.new.seat.me in
+    let is = c.for_any-wait.ensures ∙ ap (λ m. waits_for_any {C = g.row.C.Denot} m cvs) c.mode-mode.ensures in
+    let led = goes t (InWait wait AwaitWakeInWait) LoadFlag (Flag flag.result) (got_of g.row.N (InWait wait AwaitWakeInWait) (Flag flag.result)) me mid c.waiting.invariant.0.at refl refl refl flag.ensures.did in
+    let next = woken_next t wait flag.result (Woken (Some c.variable_told-k.result)) c.arrival_of.result mid c.if-flag-eq1.false (ap (λ n. Woken (Some n)) c.variable_told-k.ensures) c.arrival_of.ensures led in
+    (omega arith, (queues_fit g.row.C g.row.N g.met.C.Condition.has_room g.C.Condition, (omega arith, (◌∙◌ {A = TableId} flag.ensures.seat (◌∙◌ {A = TableId} (ap (λ (k : WaitKnown _ _). k.known.monitor) c.waiting.view_is) c.requires.of), (same_number t None c.waiting.inside.number me mid c.waiting.invariant.1 (since t None LoadFlag (Flag flag.result) me mid flag.ensures.did),
+    subst (λ (v : Wait g.row.C.Denot). IsAtPlace t (InAcquire (ForWait v (Woken (Some c.variable_told-k.result))) (AcquireLoad c.arrival_of.result)) mid) (sym is) next)))))
+
+-- it has come back
+over : (g : Over) (c : After-acquire g) → HasSince None (the c.waiting.inside.seat.me.0) (the c.acquire.new.seat.me.0)
+over g c = let mid = c.load_flag-flag.new.seat.me in since_then None _ _ _ (since g.C.Condition.means None LoadFlag (Flag c.load_flag-flag.result) c.waiting.inside.seat.me mid c.load_flag-flag.ensures.did) c.acquire.ensures.since
+
+answered : (g : Over) (c : After-acquire g) → HasAnswered g.C.Condition.means (Await (waits_for_any g.H.Section.mode c.waiting.inside.cvs)) (WokenBy (Some c.variable_told-k.result)) c.acquire.new.seat.me
+answered g c = subst (λ (v : Wait g.row.C.Denot). HasAcquired g.C.Condition.means (ForWait v (Woken (Some c.variable_told-k.result))) c.acquire.new.seat.me) (c.for_any-wait.ensures ∙ ap (λ m. waits_for_any m c.waiting.inside.cvs) c.mode-mode.ensures) c.acquire.ensures.acquired
+
+pub returns-clause-woken : goal.returns-clause-woken
+returns-clause-woken g c = let s0 = c.waiting.inside.seat in let now = c.acquire.new.seat in
+    has_come_back g.C.Condition.means g.H.Section.mode c.waiting.inside.cvs (Some c.variable_told-k.result) c.args.waiting s0.table_id now.table_id s0.me now.me c.waiting.view_is (◌∙◌ {A = TableId} c.acquire.ensures.seat (sym c.requires.of)) c.waiting.invariant.0 (over g c) (answered g c)
