@@ -172,10 +172,11 @@ impl<C: Condition<N>, const N: usize> Gate<C, N> {
         (scan, bits(queues))
     }
 
-    /// The same, and then puts a wait of the seat of this number into its list.
+    /// The same, and then puts a wait of the seat of this number into its list, or into those of all its
+    /// variables.
     ///
-    /// Needs a seat of this gate, which has the queues in hand as they stood; a wait for a variable
-    /// that there is, if it is for one; and a number below 64, whose seat stands in no list.
+    /// Needs a seat of this gate, which has the queues in hand as they stood; a wait for variables that there
+    /// are, at least one, if it is for any; and a number below 64, whose seat stands in no list.
     pub fn scan_and_queue_in_hand(
         &self,
         seat: &mut GateSeat<C, N>,

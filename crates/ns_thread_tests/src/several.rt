@@ -120,11 +120,7 @@ fn ask_on<R: Abort + Wait>(
 }
 
 /// Waits, and says in the first cell which variable has woken it.
-fn wait_and_tell<R: Abort + Wait>(
-    rt: &R,
-    monitor: &Monitor<AtLeast, 2>,
-    seat: Seat<AtLeast, 2>,
-)
+fn wait_and_tell<R: Abort + Wait>(rt: &R, monitor: &Monitor<AtLeast, 2>, seat: Seat<AtLeast, 2>)
     requires { seat.monitor ≡ monitor.now }
 {
     let (mut held, k) = ask_on(rt, monitor, seat);

@@ -1,10 +1,10 @@
 -- Where a wait for variables stands: in the list of each of them.
-use Rattle.std.proofs.Common.{◌≡◌, ◌≢◌, ℕ, zero, suc, ◌+◌, ◌≤◌, ◌<◌, ◌^◌, ◌⊎◌, inl, inr, Bool, true, false, cond, eqb, ltb, ◌&&◌, List, [], ◌∷◌, ◌++◌, length, Option, None, Some, refl, ap, sym, ◌∙◌, subst, arith}
+use Rattle.std.proofs.Common.{◌≡◌, ◌≢◌, ℕ, zero, suc, ◌+◌, ◌≤◌, ◌<◌, ◌*◌, ◌/◌, ◌%◌, ◌^◌, ◌⊎◌, inl, inr, Bool, true, false, cond, eqb, ltb, ◌&&◌, List, [], ◌∷◌, ◌++◌, length, Option, None, Some, refl, ap, sym, ◌∙◌, subst, arith}
 use Rattle.std.specs.Int.{bit_at}
 use Rattle.std.specs.List.{sum_by}
-use Rattle.std.proofs.lemmas.Bool.{cases_Bool, cases_eq, cases_lt, eq-eqb, eqb-true, ltb-true, ne_eqb}
+use Rattle.std.proofs.lemmas.Bool.{cases_Bool, cases_eq, cases_lt, eq-eqb, eqb-true, lt-ltb, ltb-true, ne_eqb}
 use Rattle.std.proofs.lemmas.List.Sums.{get_or-le-sum_by, sum_by-cons}
-use Rattle.std.proofs.lemmas.Nat.Bits.{bit_at-lt, bit_at-zero, bit_at_above, same_from_bits_below}
+use Rattle.std.proofs.lemmas.Nat.Bits.{bit_at-lt, bit_at-zero, bit_at_above, bit_at_cat_low, same_from_bits_below}
 use Rattle.ns_model.specs.Cvs.{has, is_in}
 use Rattle.ns_model.specs.declared.cvs.Cvs.{Cvs}
 use Rattle.ns_model.specs.declared.cvs.Variables.{Variables}
@@ -75,6 +75,38 @@ one_has (Any cvs) are = elim (cases_Bool (is_in cvs 0)) [
   all_clear (suc (suc zero)) low a b c d = clear_bit cvs 2 low c
   all_clear (suc (suc (suc zero))) low a b c d = clear_bit cvs 3 low d
   all_clear (suc (suc (suc (suc i)))) low a b c d = absurd (omega (arith, low))
+
+-- a set of which all are below 4, and which has some, is of variables that there are
+pub are_some : (cvs : Cvs) (k : ℕ) → cvs.0 < 256 → is_in cvs k ≡ true → ((j : ℕ) → is_in cvs j ≡ true → j < 4) → AreVariables (Any cvs)
+are_some cvs k byte is low = (some, few) where
+  some : 1 ≤ cvs.0
+  some = elim (cases_eq cvs.0 0) [
+    | inl none ↦
+        let one : bit_at cvs.0 k ≡ 1 = eqb-true (bit_at cvs.0 k) 1 (and_second (ltb k 8) (eqb (bit_at cvs.0 k) 1) is) in
+        let zero : bit_at cvs.0 k ≡ 0 = ap (λ n. bit_at n k) none ∙ bit_at-zero k in absurd (omega (arith, one, zero))
+    | inr any ↦ omega (arith, any)
+  ]
+
+  high_clear : (i : ℕ) → i < 8 → 4 ≤ i → bit_at cvs.0 i ≡ 0
+  high_clear i inside high = elim (cases_eq (bit_at cvs.0 i) 1) [
+    | inl one ↦ let here : is_in cvs i ≡ true = rw (lt-ltb i 8 inside, eq-eqb (bit_at cvs.0 i) 1 one) refl in absurd (omega (arith, low i here, high))
+    | inr other ↦ omega (arith, bit_at-lt cvs.0 i, other)
+  ]
+
+  low_bits : ℕ
+  low_bits = cvs.0 % 16
+
+  same_bit : (i : ℕ) → i < 8 → bit_at cvs.0 i ≡ bit_at low_bits i
+  same_bit i inside = elim (cases_lt i 4) [
+    | inl below ↦ ap (λ n. bit_at n i) split ∙ bit_at_cat_low (cvs.0 / 16) 4 low_bits i below
+    | inr high ↦ high_clear i inside high ∙ sym (bit_at_above low_bits 4 i (omega arith) high)
+  ]
+    where
+      split : cvs.0 ≡ cvs.0 / 16 * 2 ^ 4 + low_bits
+      split = omega arith
+
+  few : cvs.0 < 16
+  few = let same : cvs.0 ≡ low_bits = same_from_bits_below 8 cvs.0 low_bits byte (omega (arith, byte)) same_bit in omega (arith, same)
 
 -- ---- a waiter at the back of several lists
 

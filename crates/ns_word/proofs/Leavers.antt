@@ -32,7 +32,7 @@ use Rattle.ns_word.specs.Steps.{LockState, Step, changed}
 use Rattle.ns_word.specs.Views.{AreApart, walk_at}
 use Rattle.ns_word.specs.Waits.{home_of}
 use Rattle.ns_word.specs.Walks.{Stance, expected_for, phase_by, waits_in}
-use Rattle.ns_word.proofs.CountsIn.{gone_from, some_list}
+use Rattle.ns_word.proofs.CountsIn.{gone_from, left_at, some_list}
 use Rattle.ns_word.proofs.Keeps.{stance_mode, stance_variables}
 use Rattle.ns_word.proofs.Scans.{times_without}
 use Rattle.ns_word.proofs.Stands.{effect_at}
@@ -92,9 +92,19 @@ module _ {C : Type 0} {N : ℕ} (truths : Truths C) (old new : LockState C N) (v
   pub leaves_condition : (c : C) → wait.on ≡ OnCondition c → ltb 0 (times_in view.seat old.lists.lock) ≡ stood
   leaves_condition c on = ap (λ on. stands_at view.seat (home_of on) old.lists) (sym on) ∙ found_so
 
+  -- the lists without it
+  lists_left : stood ≡ true → new.lists ≡ without view.seat old.lists
+  lists_left is =
+      let e = effect_at truths old new view (Left stood) commits (InWait wait (InLeaving cause (Leave last))) step walks in
+      ap (λ p. p.lists) e.2 ∙ ap (λ b. cond b (without view.seat old.lists) old.lists) (found_so ∙ is)
+
   -- and then it stands nowhere
   pub is_gone : stood ≡ true → times view.seat new.lists ≡ 0
-  is_gone is =
-      let e = effect_at truths old new view (Left stood) commits (InWait wait (InLeaving cause (Leave last))) step walks in
-      let out : new.lists ≡ without view.seat old.lists = ap (λ p. p.lists) e.2 ∙ ap (λ b. cond b (without view.seat old.lists) old.lists) (found_so ∙ is) in
-      ap (λ l. times view.seat l) out ∙ omega (arith, times_without view.seat old.lists.lock, gone_from view.seat old.lists.cvs)
+  is_gone is = ap (λ l. times view.seat l) (lists_left is) ∙ omega (arith, times_without view.seat old.lists.lock, gone_from view.seat old.lists.cvs)
+
+-- who stays behind one that leaves
+pub stays_behind_leaver : {C : Type 0} {N : ℕ} (truths : Truths C) (seats : ℕ) (h : List (Event C N)) (old new : LockState C N) (view : SeatView C N) (commits : List (Event C N)) (wait : Wait C) (cause : Cause) (last : Word) (j : ℕ) → (step : Step truths old view (Left true) new commits) → step.walk ≡ InWait wait (InLeaving cause (Leave last)) → IsLawful truths seats h old → j < 4 →
+    (new.lists.lock ≡ without_in view.seat old.lists.lock) × (waiters_of new.lists (Cv j) ≡ without_in view.seat (waiters_of old.lists (Cv j)))
+stays_behind_leaver truths seats h old new view commits wait cause last j step walks lawful low =
+    let out = lists_left truths old new view commits wait cause last true step walks refl in
+    (ap (λ l. l.lock) out, ap (λ l. waiters_of l (Cv j)) out ∙ left_at view.seat j old.lists lawful.waiters_placed.four low)

@@ -1,6 +1,6 @@
 -- Where a seat stands that queues, and where those go that a call wakes.
 use Rattle.std.specs.Prelude.{min}
-use Rattle.std.proofs.Common.{◌≡◌, ℕ, ◌+◌, inl, inr, Bool, true, false, cond, ltb, List, [], ◌∷◌, ◌++◌, length, Option, None, Some, refl, ap, sym, ◌∙◌, subst, arith}
+use Rattle.std.proofs.Common.{◌≡◌, ℕ, ◌+◌, ◌<◌, inl, inr, Bool, true, false, cond, ltb, List, [], ◌∷◌, ◌++◌, length, Option, None, Some, refl, ap, sym, ◌∙◌, subst, arith}
 use Rattle.std.proofs.lemmas.Bool.{cases_Bool, ltb-true, ltb-false}
 use Rattle.ns_model.specs.Cvs.{has}
 use Rattle.ns_model.specs.Histories.{standing_after}
@@ -10,6 +10,8 @@ use Rattle.ns_model.specs.declared.event.Mode.{Mode}
 use Rattle.ns_word.proofs.Enters.{entered_at}
 use Rattle.ns_queue.specs.Queues.{Lists, cvs_without, waiters_of}
 use Rattle.ns_queue.specs.Signals.{taken_set}
+use Rattle.ns_queue.specs.Waiters.{outside}
+use Rattle.ns_word.proofs.CountsIn.{taken_at}
 use Rattle.ns_queue.specs.Scans.{left_of}
 use Rattle.ns_word.specs.Owed.{wakes_of}
 use Rattle.ns_queue.specs.declared.waiter.Waiter.{Waiter}
@@ -99,6 +101,18 @@ waits_in_place {C} {N} truths seats h old new view commits wait again last owes 
     can_range : (wait : Wait C) (again : Bool) (held : Option (Held C N)) → CanWait truths wait again held → IsInRange wait.on
     can_range wait again None p = absurd p
     can_range wait again (Some held) p = in_range wait.on held.row p.unmet
+
+-- who stays in a variable's list behind a wake
+pub stays_behind_wake : {C : Type 0} {N : ℕ} (truths : Truths C) (seats : ℕ) (h : List (Event C N)) (old new : LockState C N) (view : SeatView C N) (commits : List (Event C N)) (waking : Waking) (k : ℕ) (last : Word) (owes : Bool) (j : ℕ) → (step : Step truths old view (Woke owes) new commits) → step.walk ≡ InSignal waking k (WakeAndReturn last) →
+    IsLawful truths seats h old → j < 4 → waiters_of new.lists (Cv j) ≡ outside (taken_set (taken_by waking (waiters_of old.lists (Cv k)))) (waiters_of old.lists (Cv j))
+stays_behind_wake {C} {N} truths seats h old new view commits waking k last owes j step walks lawful low =
+    let e = effect_at truths old new view (Woke owes) commits (InSignal waking k (WakeAndReturn last)) step walks in
+    let taken = taken_by waking (waiters_of old.lists (Cv k)) in
+    ap (λ p. waiters_of p.lists (Cv j)) e.2 ∙ (moved_at (is_held last) taken (cvs_without (taken_set taken) old.lists) ∙ taken_at (taken_set taken) j old.lists lawful.waiters_placed.four low)
+  where
+    moved_at : (held : Bool) (taken : List (Waiter C)) (lists : Lists C) → waiters_of (moved_to held taken lists) (Cv j) ≡ waiters_of lists (Cv j)
+    moved_at true taken lists = refl
+    moved_at false taken lists = refl
 
 pub taken_called : {C : Type 0} {N : ℕ} (truths : Truths C) (old new : LockState C N) (view : SeatView C N) (commits : List (Event C N)) (waking : Waking) (k : ℕ) (last : Word) (owes : Bool) → (step : Step truths old view (Woke owes) new commits) → step.walk ≡ InSignal waking k (WakeAndReturn last) →
     AreCalled (is_held last) k (taken_by waking (waiters_of old.lists (Cv k))) old.lists.lock new.lists.lock step.owed

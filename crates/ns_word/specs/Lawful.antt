@@ -145,7 +145,7 @@ WaiterFits views w = lock_stance (waits_in (walk_at w.seat views)) ≡ Some (w.m
 abbrev pub WaitersOwn : {C : Type 0} {N : ℕ} → List (Waiter C) → List (SeatView C N) → Type 0
 WaitersOwn lock views = Every (WaiterFits views) lock
 
--- A waiter of a variable's list is its seat's own, and waits for that variable, or for several with it among them, by its place and by the history; it has no condition, and no tries, and names the variable.
+-- A waiter of a variable's list is its seat's own, and waits for that variable, or for a set with it, by its place and by the history; it has no condition, and no tries, and names the variable.
 pub record VariableWaiterFits {C : Type 0} {N : ℕ} (phases : ℕ → Phase C) (views : List (SeatView C N)) (k : ℕ) (w : Waiter C) : Type 0 where
   pub among : Variables
   pub stands : waits_in (walk_at w.seat views) ≡ Some (record { mode = w.mode; on = Some (OnVariables among); tries = 0 })

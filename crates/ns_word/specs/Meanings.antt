@@ -161,7 +161,7 @@ WaitMeans truths seat row mode (OnCondition c) limits course answer back = Condi
 WaitMeans truths seat row mode (OnVariables (Only k)) limits course answer back = VariableWaitMeans truths seat row mode k limits course answer back
 WaitMeans truths seat row mode (OnVariables (Any cvs)) limits course answer back = ⊥
 
--- a wait for any of several variables is over
+-- a wait for any of a set of variables is over, which nothing but the variable that woke it says
 abbrev pub AnyMeans : {C : Type 0} {N : ℕ} → Truths C → ℕ → List ℕ → Mode → Subject C → Limits → Course C N → Option ℕ → Held C N → Type 0
 AnyMeans truths seat row mode (OnVariables (Any cvs)) limits course by back = AnyWaitMeans truths seat row mode cvs limits course by back
 AnyMeans truths seat row mode on limits course by back = ⊥

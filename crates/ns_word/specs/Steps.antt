@@ -200,7 +200,7 @@ change_commits seat (LeaveSelf home) lists = leave_of seat home (stands_at seat 
 change_commits seat (WakeWaiters waking k) lists = wake_of seat waking k (taken_by waking (waiters_of lists (Cv k))) ∷ []
 change_commits seat Nothing lists = []
 
--- a waiter of its own list, with its condition if it waits for one; of the list of each variable, if it waits for several
+-- a waiter of its own list, with its condition if it waits for one; of the list of each variable, if it waits for any of a set
 abbrev pub waits_at : {C : Type 0} → Subject C → ℕ → Mode → Bool → Lists C → Lists C
 waits_at (OnCondition c) seat mode again lists = with_lock lists (queued seat mode (Some c) 0 again lists.lock)
 waits_at (OnVariables (Only k)) seat mode again lists = with_waiters lists (Cv k) (waiters_of lists (Cv k) ++ record { seat = seat; mode = mode; cond = None; tries = 0; via = Some k } ∷ [])

@@ -1,4 +1,4 @@
--- Waits, for a condition or for a condition variable.
+-- Waits, for a condition or for condition variables.
 use Rattle.std.specs.Prelude.{◌≡◌, ℕ, true, if◌then◌else◌, Option, None, Some}
 use Rattle.ns_model.specs.declared.event.Mode.{Mode}
 use Rattle.ns_model.specs.declared.event.Answer.{Answer}

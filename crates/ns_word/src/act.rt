@@ -46,7 +46,7 @@ pub enum Act<C> {
     /// Sets the spinlock bit and takes the queues.
     TakeQueues(Taking, Word),
     /// Changes the lists in hand, puts the queues back and clears the spinlock bit. It commits a
-    /// signal, a broadcast, or that a wait for a variable was left.
+    /// signal, a broadcast, or that a wait for variables was left.
     ReturnQueues(Change, Word),
     /// Releases the section without a scan, and commits it.
     Release(Releasing, Word),
@@ -54,7 +54,7 @@ pub enum Act<C> {
     /// spinlock bit, releases the section and commits it. The seat then owes the wakes.
     ReleaseReturning(Releasing, Word),
     /// The same for a wait, which also puts itself into its list: the lock list with its condition,
-    /// at the back, or at the front if it queues again, or that of its variable, at the back. Where
+    /// at the back, or at the front if it queues again, or those of its variables, at the back. Where
     /// it queues again, nothing is committed.
     WaitReturning(Wait<C>, bool, Word),
     /// Loads a cell.

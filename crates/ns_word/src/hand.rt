@@ -77,7 +77,7 @@ pub fn queue_self<C: Queueable<N>, const N: usize>(
     queue(queues, waiter, arrival.is_woken());
 }
 
-/// Whether the seat stands in the lock list, or in that of any variable.
+/// Whether the seat stands where a wait of this home does: in the lock list, or in that of any variable.
 pub fn stands_at<C: Queueable<N>, const N: usize>(
     queues: &Queues<C, N>,
     seat: u8,

@@ -154,7 +154,7 @@ pub fn variable_waits_answer_as_they_come_back<C: Condition<N>, const N: usize>(
         IsLawful C.means seats history old → step.walk ≡ InWait wait place → wait.on ≡ OnVariables variables → got_of N step.walk found ≢ Done reply }
 {}
 
-/// A wait answers that it was ended early only by what a look of its own has shown, the deadline or
+/// A wait answers by what it was ended early only where a look of its own has shown that, the deadline or
 /// the note. Its place keeps a cause only where the place before kept it, or where the step was a
 /// look that showed it; and it answers by a cause only where its place has kept that, or where the
 /// step was such a look.

@@ -1,11 +1,12 @@
 //! The laws of the lists: where a seat stands that queues, where those go that a call wakes, and what one
 //! finds that leaves.
 
-ghost use Rattle.std.specs.Prelude.{◌≡◌, nat_lt, ℕ, Bool, true, List};
+ghost use Rattle.std.specs.Prelude.{◌≡◌, ◌<◌, nat_lt, ℕ, Bool, true, List};
 ghost use Rattle.ns_model.specs.declared.event.Event.{Event};
 ghost use Rattle.ns_queue.specs.declared.waiter.Which.TheVariants.{Cv};
 ghost use Rattle.ns_queue.specs.Queues.{times, waiters_of};
-ghost use Rattle.ns_queue.specs.Waiters.{times_in};
+ghost use Rattle.ns_queue.specs.Signals.{taken_set};
+ghost use Rattle.ns_queue.specs.Waiters.{outside, times_in, without_in};
 ghost use Rattle.ns_word.specs.declared.acquire_walk.AcquirePlace.TheVariants.{Queue};
 ghost use Rattle.ns_word.specs.declared.act.Found.TheVariants.{Left, Made, Scanned, Woke};
 ghost use Rattle.ns_word.specs.declared.act.Waking.{Waking};
@@ -13,7 +14,10 @@ ghost use Rattle.ns_word.specs.declared.signal_walk.SignalPlace.TheVariants.{Wak
 ghost use Rattle.ns_word.specs.declared.view.SeatView.{SeatView};
 ghost use Rattle.ns_word.specs.declared.wait.Aim.{Aim};
 ghost use Rattle.ns_env.specs.declared.limits.Cause.{Cause};
+ghost use Rattle.ns_model.specs.Cvs.{is_in};
+ghost use Rattle.ns_model.specs.declared.cvs.Cvs.{Cvs};
 ghost use Rattle.ns_model.specs.declared.cvs.Variables.{Variables};
+ghost use Rattle.ns_model.specs.declared.cvs.Variables.TheVariants.{Any, Only};
 ghost use Rattle.ns_model.specs.Histories.{standing_after};
 ghost use Rattle.ns_word.specs.declared.wait.LeavePlace.TheVariants.{Leave};
 ghost use Rattle.ns_word.specs.declared.wait.QueuePlace.TheVariants.{QueueToWait};
@@ -24,6 +28,7 @@ ghost use Rattle.ns_word.specs.declared.walk.Walk.TheVariants.{InAcquire, InSign
 ghost use Rattle.ns_word.specs.declared.word.Arrival.{Arrival};
 ghost use Rattle.ns_word.specs.declared.word.Word.{Word};
 ghost use Rattle.ns_word.specs.Lawful.{IsLawful};
+ghost use Rattle.ns_word.specs.Places.{IsInRange};
 ghost use Rattle.ns_word.specs.Stands.{AreCalled, IsFoundLeaving, QueuesFor, WaitsFor};
 ghost use Rattle.ns_word.specs.Steps.{LockState, Step, taken_by};
 ghost use Rattle.ns_word.specs.Waits.{mode_for};
@@ -60,7 +65,7 @@ pub fn the_taken_are_moved_or_called<C: Condition<N>, const N: usize>()
 
 /// A wait that leaves finds out whether it still stands where it waits. One for variables stands in their
 /// lists just where it waits for them still, by the history; where it doesn't, one of them has woken it. One
-/// for a condition asks the lock list. Who stood there stands nowhere after that.
+/// for a condition finds out whether it stands in the lock list. Who stood there stands nowhere after that.
 pub fn who_leaves_waits_there_still<C: Condition<N>, const N: usize>()
     ensures variables { (seats : ℕ) (history : List (Event C N)) (old new : LockState C N) (view : SeatView C N) (commits : List (Event C N)) (wait : Wait C) (cause : Cause) (last : Word) (stood : Bool) (variables : Variables) →
         (step : Step C.means old view (Left stood) new commits) → step.walk ≡ InWait wait (InLeaving cause (Leave last)) → IsLawful C.means seats history old → wait.on ≡ OnVariables variables →
@@ -70,4 +75,22 @@ pub fn who_leaves_waits_there_still<C: Condition<N>, const N: usize>()
         stood ≡ nat_lt 0 (times_in view.seat old.lists.lock) }
     ensures gone { (old new : LockState C N) (view : SeatView C N) (commits : List (Event C N)) (wait : Wait C) (cause : Cause) (last : Word) →
         (step : Step C.means old view (Left true) new commits) → step.walk ≡ InWait wait (InLeaving cause (Leave last)) → times view.seat new.lists ≡ 0 }
+{}
+
+/// Those who stay in a variable's list keep their places there, where a signal or a broadcast takes others
+/// out of all the lists of variables, and where one leaves all lists.
+pub fn who_stays_keeps_its_place<C: Condition<N>, const N: usize>()
+    ensures woken { (seats : ℕ) (history : List (Event C N)) (old new : LockState C N) (view : SeatView C N) (commits : List (Event C N)) (waking : Waking) (k : ℕ) (last : Word) (owes : Bool) (j : ℕ) →
+        (step : Step C.means old view (Woke owes) new commits) → step.walk ≡ InSignal waking k (WakeAndReturn last) → IsLawful C.means seats history old → j < 4 →
+        waiters_of new.lists (Cv j) ≡ outside (taken_set (taken_by waking (waiters_of old.lists (Cv k)))) (waiters_of old.lists (Cv j)) }
+    ensures left { (seats : ℕ) (history : List (Event C N)) (old new : LockState C N) (view : SeatView C N) (commits : List (Event C N)) (wait : Wait C) (cause : Cause) (last : Word) (j : ℕ) →
+        (step : Step C.means old view (Left true) new commits) → step.walk ≡ InWait wait (InLeaving cause (Leave last)) → IsLawful C.means seats history old → j < 4 →
+        (new.lists.lock ≡ without_in view.seat old.lists.lock) × (waiters_of new.lists (Cv j) ≡ without_in view.seat (waiters_of old.lists (Cv j))) }
+{}
+
+/// A wait may be for any variables that there are: for one of a number below 4, and for any of a set that has
+/// some variable, and none but those.
+pub fn waits_may_be_for_all_variables<C: Condition<N>, const N: usize>()
+    ensures one { (k : ℕ) → k < 4 → IsInRange {C = C} (OnVariables (Only k)) }
+    ensures several { (cvs : Cvs) (k : ℕ) → cvs.0 < 256 → is_in cvs k ≡ true → ((j : ℕ) → is_in cvs j ≡ true → j < 4) → IsInRange {C = C} (OnVariables (Any cvs)) }
 {}

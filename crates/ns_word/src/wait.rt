@@ -15,7 +15,7 @@ use std::alloc::AllocError;
 pub enum Subject<C> {
     /// A condition on the row.
     OnCondition(C),
-    /// A condition variable of a number below 4, or any of several.
+    /// A condition variable of a number below 4, or any of a set of them.
     OnVariables(Variables),
 }
 

@@ -221,7 +221,7 @@ env_done (inl acts) = []
 env_done (inr (inl asks)) = asks.events
 env_done (inr (inr looks)) = []
 
--- The seat's next step finds the word that it has seen, and so commits an event: a release, a call that wakes, or that a wait for a variable is left in whose list it still stands.
+-- The seat's next step finds the word that it has seen, and so commits an event: a release, a call that wakes, or that a wait for variables is left in whose lists it still stands.
 abbrev pub CommitsNext : {C : Type 0} {N : ℕ} → Now C N → ℕ → Type 0
 CommitsNext world seat = (walking : IsWalking world seat) × Commits seat (want_of walking.walk) world.state.word world.state.lists
 

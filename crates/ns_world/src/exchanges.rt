@@ -261,7 +261,8 @@ pub(crate) fn return_queues<C: Seated<N>, const N: usize>(
 
 /// How the section is said to begin in the history. A wait for a condition that came back is said to
 /// have met it where it is true of the row that the section began at, or where nothing has ended the
-/// wait. A wait for a variable says what it was ended by, or that it was woken.
+/// wait. A wait for a variable says what it was ended by, or that it was woken; one for any of a set, which
+/// of them has woken it, or that none has.
 fn entry<C: Seated<N>, const N: usize>(section: &Held<C, N>) -> Entry<C>
     ensures { result ≡ entry_of C.means.holds section.now.before section.now.entry }
 {

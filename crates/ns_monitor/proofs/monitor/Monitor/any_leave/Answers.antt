@@ -13,9 +13,25 @@ use Rattle.ns_monitor.proofs.monitor.Monitor.any_leave.Goals as goal
 
 pub come_back-outcome-requires : goal.come_back-outcome-requires
 come_back-outcome-requires g c = let t = g.C.Condition.means in let w = c.waiting.invariant.0 in let cvs = c.waiting.inside.cvs in
-    let is = c.for_any-wait.ensures ∙ ap (λ m. waits_for_any {C = g.row.C.Denot} m cvs) c.mode-mode.ensures in
-    (omega arith, (queues_fit g.row.C g.row.N g.met.C.Condition.has_room g.C.Condition, (omega arith, (◌∙◌ {A = TableId} (ap (λ (k : WaitKnown _ _). k.known.monitor) c.waiting.view_is) c.requires.of, (c.waiting.invariant.1, (subst (λ (v : Wait g.row.C.Denot). IsInRange v.on) (sym is) w.are,
-    (ap (λ (v : Wait g.row.C.Denot). v.limits) is, subst (λ (v : Wait g.row.C.Denot). IsAtPlace t (InWait v AwaitWakeInWait) c.waiting.inside.seat.me) (sym is) w.at)))))))
+    let is = c.for_any-wait.ensures ∙ ap (λ m. waits_for_any {C = g.row.C.Denot} m cvs) c.mode-mode.ensures in (
+      omega arith,
+      (
+        queues_fit g.row.C g.row.N g.met.C.Condition.has_room g.C.Condition,
+        (
+          omega arith,
+          (
+            ◌∙◌ {A = TableId} (ap (λ (k : WaitKnown _ _). k.known.monitor) c.waiting.view_is) c.requires.of,
+            (
+              c.waiting.invariant.1,
+              (
+                subst (λ (v : Wait g.row.C.Denot). IsInRange v.on) (sym is) w.are,
+                (ap (λ (v : Wait g.row.C.Denot). v.limits) is, subst (λ (v : Wait g.row.C.Denot). IsAtPlace t (InWait v AwaitWakeInWait) c.waiting.inside.seat.me) (sym is) w.at),
+              ),
+            ),
+          ),
+        ),
+      ),
+    )
 
 -- the variable that has woken it, if one has
 by_is : (g : Over) (c : Joined-variable g) → c.match-variable.by ≡ variable_in c.come_back-outcome.result

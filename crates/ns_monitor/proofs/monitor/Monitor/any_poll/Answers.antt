@@ -22,9 +22,25 @@ pub look-requires : goal.look-requires
 look-requires g c = let t = g.C.Condition.means in let cvs = c.waiting.inside.cvs in let wait : Wait g.row.C.Denot = waits_for_any g.H.Section.mode cvs in let flag = c.load_flag-flag in let me = c.waiting.inside.seat.me in let mid = flag.new.seat.me in
     let is = c.for_any-wait.ensures ∙ ap (λ m. waits_for_any {C = g.row.C.Denot} m cvs) c.mode-mode.ensures in
     let of = ◌∙◌ {A = TableId} (ap (λ (k : WaitKnown _ _). k.known.monitor) c.waiting.view_is) (◌∙◌ {A = TableId} c.requires.of (sym c.self.view_is)) in
-    let out = looks_out t wait flag.result me mid c.if-flag-eq1.true refl c.waiting.invariant.0.at flag.ensures.did in
-    (omega arith, (queues_fit g.row.C g.row.N g.met.C.Condition.has_room g.C.Condition, (omega arith, (◌∙◌ {A = TableId} flag.ensures.seat of, (same_number t None c.waiting.inside.number me mid c.waiting.invariant.1 (since t None LoadFlag (Flag flag.result) me mid flag.ensures.did), (tt,
-    subst (λ (l : Limits). CanStep t None (Look l false) mid) (sym (ap (λ (v : Wait g.row.C.Denot). v.limits) is)) (can_go t (InWait wait LookOut) (Look at_will false) mid refl out)))))))
+    let out = looks_out t wait flag.result me mid c.if-flag-eq1.true refl c.waiting.invariant.0.at flag.ensures.did in (
+      omega arith,
+      (
+        queues_fit g.row.C g.row.N g.met.C.Condition.has_room g.C.Condition,
+        (
+          omega arith,
+          (
+            ◌∙◌ {A = TableId} flag.ensures.seat of,
+            (
+              same_number t None c.waiting.inside.number me mid c.waiting.invariant.1 (since t None LoadFlag (Flag flag.result) me mid flag.ensures.did),
+              (
+                tt,
+                subst (λ (l : Limits). CanStep t None (Look l false) mid) (sym (ap (λ (v : Wait g.row.C.Denot). v.limits) is)) (can_go t (InWait wait LookOut) (Look at_will false) mid refl out),
+              ),
+            ),
+          ),
+        ),
+      ),
+    )
 
 -- it waits still
 still : (g : Over) (c : After-look g) → IsWaitingForAny g.C.Condition.means g.H.Section.mode c.waiting.inside.cvs c.look.new.seat.me × HasSince None (the c.waiting.inside.seat.me.0) (the c.look.new.seat.me.0)
@@ -42,9 +58,22 @@ pub acquire-requires : goal.acquire-requires
 acquire-requires g c = let t = g.C.Condition.means in let cvs = c.waiting.inside.cvs in let wait : Wait g.row.C.Denot = waits_for_any g.H.Section.mode cvs in let flag = c.load_flag-flag in let me = c.waiting.inside.seat.me in let mid = flag.new.seat.me in
     let is = c.for_any-wait.ensures ∙ ap (λ m. waits_for_any {C = g.row.C.Denot} m cvs) c.mode-mode.ensures in
     let led = goes t (InWait wait AwaitWakeInWait) LoadFlag (Flag flag.result) (got_of g.row.N (InWait wait AwaitWakeInWait) (Flag flag.result)) me mid c.waiting.invariant.0.at refl refl refl flag.ensures.did in
-    let next = woken_next t wait flag.result (Woken (Some c.variable_told-k.result)) c.arrival_of.result mid c.if-flag-eq1.false (ap (λ n. Woken (Some n)) c.variable_told-k.ensures) c.arrival_of.ensures led in
-    (omega arith, (queues_fit g.row.C g.row.N g.met.C.Condition.has_room g.C.Condition, (omega arith, (◌∙◌ {A = TableId} flag.ensures.seat (◌∙◌ {A = TableId} (ap (λ (k : WaitKnown _ _). k.known.monitor) c.waiting.view_is) c.requires.of), (same_number t None c.waiting.inside.number me mid c.waiting.invariant.1 (since t None LoadFlag (Flag flag.result) me mid flag.ensures.did),
-    subst (λ (v : Wait g.row.C.Denot). IsAtPlace t (InAcquire (ForWait v (Woken (Some c.variable_told-k.result))) (AcquireLoad c.arrival_of.result)) mid) (sym is) next)))))
+    let next = woken_next t wait flag.result (Woken (Some c.variable_told-k.result)) c.arrival_of.result mid c.if-flag-eq1.false (ap (λ n. Woken (Some n)) c.variable_told-k.ensures) c.arrival_of.ensures led in (
+      omega arith,
+      (
+        queues_fit g.row.C g.row.N g.met.C.Condition.has_room g.C.Condition,
+        (
+          omega arith,
+          (
+            ◌∙◌ {A = TableId} flag.ensures.seat (◌∙◌ {A = TableId} (ap (λ (k : WaitKnown _ _). k.known.monitor) c.waiting.view_is) c.requires.of),
+            (
+              same_number t None c.waiting.inside.number me mid c.waiting.invariant.1 (since t None LoadFlag (Flag flag.result) me mid flag.ensures.did),
+              subst (λ (v : Wait g.row.C.Denot). IsAtPlace t (InAcquire (ForWait v (Woken (Some c.variable_told-k.result))) (AcquireLoad c.arrival_of.result)) mid) (sym is) next,
+            ),
+          ),
+        ),
+      ),
+    )
 
 -- it has come back
 over : (g : Over) (c : After-acquire g) → HasSince None (the c.waiting.inside.seat.me.0) (the c.acquire.new.seat.me.0)
