@@ -10,8 +10,8 @@ use Rattle.ns_counters.specs.Objects.{objects_after}
 use Rattle.ns_note.specs.Known.{Grows as EnvGrows}
 use Rattle.ns_note.proofs.Rests.{made_grows}
 use Rattle.ns_objects.specs.declared.any.Item.{Item}
-use Rattle.ns_objects.specs.declared.any.Item.TheVariants.{Note, Counter}
-use Rattle.ns_objects.specs.Any.{BothKnown, IsKnown, WasReady, WasPast, AnyAnswers}
+use Rattle.ns_objects.specs.declared.any.Item.TheVariants.{Note, Counter, Cv}
+use Rattle.ns_objects.specs.Any.{BothKnown, IsKnown, IsNamed, WasReady, WasPast, AnyAnswers}
 use Rattle.ns_objects.specs.Known.{Grows}
 
 -- a caller that knows more of both
@@ -25,11 +25,15 @@ between a b p c d before at after = (begins_through p b a at.0 before, begins_th
 pub was_within : (so : Bool) (item : Item) (first old new last : BothKnown) → BothGrow first old → BothGrow new last → WasReady so old new item → WasReady so first last item
 was_within so (Note note) first old new last a b at = (at.0, between first.1.seen old.1.seen at.0 new.1.seen last.1.seen a.1.begins at.1 b.1.begins, at.2)
 was_within so (Counter counter) first old new last a b at = (at.0, between first.0.seen old.0.seen at.0 new.0.seen last.0.seen a.0.begins at.1 b.0.begins, subst (λ (s : Setup). is_ready ((objects_after s at.0).counters counter) ≡ so) a.0.setup at.2)
+was_within true (Cv k) first old new last a b at = at
+was_within false (Cv k) first old new last a b at = at
 
 -- what was so in a call was so in one that goes on
 pub was_later : (so : Bool) (item : Item) (old new last : BothKnown) → BothGrow new last → WasReady so old new item → WasReady so old last item
 was_later so (Note note) old new last b at = (at.0, between old.1.seen old.1.seen at.0 new.1.seen last.1.seen (begins_itself old.1.seen) at.1 b.1.begins, at.2)
 was_later so (Counter counter) old new last b at = (at.0, between old.0.seen old.0.seen at.0 new.0.seen last.0.seen (begins_itself old.0.seen) at.1 b.0.begins, at.2)
+was_later true (Cv k) old new last b at = at
+was_later false (Cv k) old new last b at = at
 
 pub none_later : (items : List Item) (old new last : BothKnown) → BothGrow new last → Every (WasReady false old new) items → Every (WasReady false old last) items
 none_later items old new last b none = every_map (WasReady false old new) (WasReady false old last) (λ item at. was_later false item old new last b at) items none
@@ -50,12 +54,22 @@ answers_within items deadline first old new last place a b at = (none_within (ta
   by (inr none) = inr (none.0, past_within deadline first old new last a b none.1)
 
 -- what was known of an item is known later
-pub known_later : (item : Item) (old new : BothKnown) → BothGrow old new → IsKnown old.0 old.1 item → IsKnown new.0 new.1 item
+pub known_later : (item : Item) (old new : BothKnown) → BothGrow old new → IsNamed old.0 old.1 item → IsNamed new.0 new.1 item
 known_later (Note note) old new grow known = made_grows old.1 new.1 note.index grow.1 known
 known_later (Counter counter) old new grow known = subst (λ (s : Setup). counter < s.counters) (sym grow.0.setup) known
+known_later (Cv k) old new grow known = known
 
-pub all_known_later : (items : List Item) (old new : BothKnown) → BothGrow old new → Every (IsKnown old.0 old.1) items → Every (IsKnown new.0 new.1) items
-all_known_later items old new grow known = every_map (IsKnown old.0 old.1) (IsKnown new.0 new.1) (λ item k. known_later item old new grow k) items known
+pub all_known_later : (items : List Item) (old new : BothKnown) → BothGrow old new → Every (IsNamed old.0 old.1) items → Every (IsNamed new.0 new.1) items
+all_known_later items old new grow known = every_map (IsNamed old.0 old.1) (IsNamed new.0 new.1) (λ item k. known_later item old new grow k) items known
+
+-- what is known is no variable
+named_too : (now : BothKnown) (item : Item) → IsKnown now.0 now.1 item → IsNamed now.0 now.1 item
+named_too now (Note note) known = known
+named_too now (Counter counter) known = known
+named_too now (Cv k) known = absurd known
+
+pub all_named : (items : List Item) (now : BothKnown) → Every (IsKnown now.0 now.1) items → Every (IsNamed now.0 now.1) items
+all_named items now known = every_map (IsKnown now.0 now.1) (IsNamed now.0 now.1) (named_too now) items known
 
 -- of each of a list, and of one of them
 pub every_get : {A : Type 0} (P : A → Type 0) (l : List A) (i : ℕ) (d : A) → i < length l → Every P l → P (get_or l i d)

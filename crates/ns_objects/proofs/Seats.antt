@@ -1,8 +1,8 @@
 -- Seats of new objects, and seats that meet.
-use Rattle.std.proofs.Common.{◌≡◌, ℕ, zero, suc, ◌+◌, ◌≤◌, eqb, List, [], ◌∷◌, sym, refl, subst, arith, ◌∙◌}
+use Rattle.std.proofs.Common.{ℕ, zero, suc, ◌+◌, ◌≤◌, eqb, List, [], ◌∷◌, sym, refl, subst, arith, ◌∙◌}
 use Rattle.atomic_table.specs.Seated.{TableId}
 use Rattle.atomic_table.specs.Table.{Me, Allows}
-use Rattle.ns_model.specs.Tallies.{total, Every, one_if}
+use Rattle.ns_model.specs.Tallies.{Every, one_if}
 use Rattle.ns_model.proofs.Beginnings.{begins_itself}
 use Rattle.ns_counters.specs.declared.object.ObjectEvent.{ObjectEvent}
 use Rattle.ns_counters.specs.declared.object.ObjectView.{ObjectView}

@@ -9,22 +9,31 @@ use Rattle.ns_counters.specs.Counters.{is_ready}
 use Rattle.ns_counters.specs.Objects.{objects_after}
 use Rattle.ns_note.specs.Known.{EnvKnown}
 use Rattle.ns_objects.specs.declared.any.Item.{Item}
-use Rattle.ns_objects.specs.declared.any.Item.TheVariants.{Note, Counter}
+use Rattle.ns_objects.specs.declared.any.Item.TheVariants.{Note, Counter, Cv}
 use Rattle.ns_objects.specs.Known.{ObjectsKnown}
 
 -- what a caller knows of both
 abbrev pub BothKnown : Type 0
 BothKnown = ObjectsKnown × EnvKnown
 
--- a counter that there is, or a note that was seen made
+-- a counter that there is, or a note that was seen made; no variable
 abbrev pub IsKnown : ObjectsKnown → EnvKnown → Item → Type 0
 IsKnown seat watch (Note note) = IsMade watch.seen note.index
 IsKnown seat watch (Counter counter) = counter < seat.setup.counters
+IsKnown seat watch (Cv k) = ⊥
 
--- At a point of the call the item was ready, or wasn't: a note that is notified, and a counter whose value is 0.
+-- the same, or one of four variables
+abbrev pub IsNamed : ObjectsKnown → EnvKnown → Item → Type 0
+IsNamed seat watch (Note note) = IsMade watch.seen note.index
+IsNamed seat watch (Counter counter) = counter < seat.setup.counters
+IsNamed seat watch (Cv k) = k < 4
+
+-- At a point of the call the item was ready, or wasn't: a note that is notified, and a counter whose value is 0. A variable never is: it is passed over.
 abbrev pub WasReady : Bool → BothKnown → BothKnown → Item → Type 0
 WasReady so old new (Note note) = (point : List EnvEvent) × IsBetween old.1.seen point new.1.seen × (is_notified point note.index ≡ so)
 WasReady so old new (Counter counter) = (point : List ObjectEvent) × IsBetween old.0.seen point new.0.seen × (is_ready ((objects_after old.0.setup point).counters counter) ≡ so)
+WasReady true old new (Cv k) = ⊥
+WasReady false old new (Cv k) = Unit {0}
 
 -- At a point of the call the clock had reached the deadline.
 abbrev pub WasPast : Option ℕ → BothKnown → BothKnown → Type 0

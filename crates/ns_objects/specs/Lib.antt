@@ -1,4 +1,5 @@
 pub mod Any
+pub mod Held
 pub mod Known
 pub mod Law
 pub mod Running

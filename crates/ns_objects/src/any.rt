@@ -3,7 +3,7 @@
 ghost use Rattle.std.specs.Prelude.{◌≡◌, ◌≤◌, length};
 ghost use Rattle.ns_model.specs.Tallies.{Every};
 ghost use Rattle.ns_note.specs.Known.{Grows as EnvGrows, IsTrueToHistory as EnvTrue};
-ghost use Rattle.ns_objects.specs.Any.{AnyAnswers, IsKnown, RoundAnswers, WasReady};
+ghost use Rattle.ns_objects.specs.Any.{AnyAnswers, IsKnown, IsNamed, RoundAnswers, WasReady};
 ghost use Rattle.ns_objects.specs.Known.{Grows, IsTrueToHistory};
 
 use crate::objects::Objects;
@@ -21,6 +21,9 @@ pub enum Item {
     Note(Note),
     /// A counter, by its number, which is ready where its value is 0.
     Counter(u8),
+    /// A condition variable of a monitor, by its number below 4. A look at it shows nothing: it wakes who
+    /// waits for it, which is [`Objects::wait_any_held`] alone.
+    Cv(u8),
 }
 
 impl Objects {
@@ -28,7 +31,7 @@ impl Objects {
     fn is_ready(&self, seat: &mut ObjSeat, item: Item, env: &Env, watch: &mut EnvSeat) -> bool
         requires objects { seat.old.objects ≡ self.now }
         requires env { watch.old.env ≡ env.now }
-        requires known { IsKnown seat.old watch.old item }
+        requires known { IsNamed seat.old watch.old item }
         requires true_to { IsTrueToHistory seat.old }
         requires env_true_to { EnvTrue watch.old }
         ensures grows { Grows seat.old seat.new }
@@ -40,6 +43,7 @@ impl Objects {
         match item {
             Item::Note(note) => env.is_notified(watch, note),
             Item::Counter(counter) => self.counter_value(seat, counter) == 0,
+            Item::Cv(_) => false,
         }
     }
 
@@ -56,7 +60,7 @@ impl Objects {
     ) -> Option<usize>
         requires objects { seat.old.objects ≡ self.now }
         requires env { watch.old.env ≡ env.now }
-        requires known { Every (IsKnown seat.old watch.old) items.now }
+        requires known { Every (IsNamed seat.old watch.old) items.now }
         requires true_to { IsTrueToHistory seat.old }
         ensures grows { Grows seat.old seat.new }
         ensures mine { seat.new.mine ≡ seat.old.mine }
@@ -81,8 +85,9 @@ impl Objects {
     /// the deadline came first. With no deadline it waits for the items alone. nsync's `nsync_wait_n`.
     /// The call turns for a while, and then sleeps for at most 64 milliseconds at a time.
     ///
-    /// Begins no wait for a counter: it may rise from 0 later. Needs at most 16 items, counters of these
-    /// objects, notes that the caller's seat of the environment has seen made, and that seat.
+    /// Begins no wait for a counter: it may rise from 0 later. Needs at most 16 items, of which none is a
+    /// variable, counters of these objects, notes that the caller's seat of the environment has seen made,
+    /// and that seat.
     pub fn wait_any<R: Wait>(
         &self,
         rt: &R,

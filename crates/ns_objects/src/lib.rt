@@ -1,4 +1,5 @@
-//! Counters and once cells, shared between threads, and waits for any of several.
+//! Counters and once cells, shared between threads, and waits for any of several, condition variables
+//! of a monitor among them.
 //!
 //! A counter counts up and down in 32 bits, and who waits for it waits for 0. A once cell has a
 //! function run once: by the first that calls, while the others wait for its end.
@@ -34,6 +35,9 @@
 
 mod adding;
 pub mod any;
+pub mod held;
+#[cfg(test)]
+mod held_tests;
 pub mod objects;
 mod plays;
 pub mod running;

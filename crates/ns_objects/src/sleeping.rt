@@ -15,7 +15,7 @@
 
 ghost use Rattle.std.specs.Prelude.{◌≡◌, ◌<◌};
 ghost use Rattle.ns_model.specs.Tallies.{Every};
-ghost use Rattle.ns_objects.specs.Any.{IsKnown};
+ghost use Rattle.ns_objects.specs.Any.{IsNamed};
 
 use crate::any::Item;
 use crate::objects::Objects;
@@ -111,7 +111,7 @@ impl Objects {
         pause: &mut Pause,
     )
         requires env { watch.old.env ≡ env.now }
-        requires known { Every (IsKnown seat.now watch.old) items.now }
+        requires known { Every (IsNamed seat.now watch.old) items.now }
         ensures watch { watch.new ≡ watch.old }
     {
         let Some(longest) = pause.next() else {

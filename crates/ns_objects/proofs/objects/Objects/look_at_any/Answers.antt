@@ -1,12 +1,12 @@
 use Rattle.std.proofs.Common.{◌∙◌, inl, Some, sym, ap, subst, false, true, take}
 use Rattle.std.proofs.lemmas.Option.{slice_get-get_or}
-use Rattle.ns_objects.specs.Any.{BothKnown, IsKnown, WasReady}
+use Rattle.ns_objects.specs.Any.{BothKnown, IsNamed, WasReady}
 use Rattle.ns_objects.proofs.Rests.{env_grows_not, env_grows_through, grows_not, grows_through}
 use Rattle.ns_objects.proofs.Rounds.{BothGrow, known_later, every_get, every_more, none_later, was_within}
 use Rattle.ns_objects.proofs.objects.Objects.look_at_any.Goals as goal
 
 pub is_ready-requires-clause-known : goal.is_ready-requires-clause-known
-is_ready-requires-clause-known c = let d = c.index-items-i.result in let known = every_get (IsKnown c.args.seat.now c.args.watch.now) c.args.items.now c.loop-i.i d c.loop-i-test.true c.requires.known in
+is_ready-requires-clause-known c = let d = c.index-items-i.result in let known = every_get (IsNamed c.args.seat.now c.args.watch.now) c.args.items.now c.loop-i.i d c.loop-i-test.true c.requires.known in
     known_later d (c.args.seat.now, c.args.watch.now) (c.loop-i.seat, c.loop-i.watch) (c.loop-i.invariant.0, env_grows_through _ _ _ c.now-clock.ensures.grows c.loop-i.invariant.2) (rw (← c.index-items-i.is) at known)
 
 pub returns-then-is_ready-clause-answers : goal.returns-then-is_ready-clause-answers

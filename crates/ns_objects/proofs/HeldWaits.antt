@@ -1,0 +1,136 @@
+-- Waits for condition variables among notes and counters: which variables those are, and what the parts of such a wait tell together.
+use Rattle.std.proofs.Common.{◌≡◌, inl, inr, ℕ, ◌+◌, ◌-◌, ◌%◌, ◌^◌, ◌<◌, ◌≤◌, max, true, List, [], ◌∷◌, ◌++◌, append_assoc, Option, None, Some, sym, ◌∙◌, subst, arith}
+use Rattle.std.proofs.lemmas.Bool.{eqb-true, false≢true, or_cases}
+use prog.Memory.{align, size, up}
+use mir.Syntax.{Ty}
+use Rattle.ns_model.specs.Room.{room, room_enough}
+use Rattle.ns_model.specs.Tallies.{Every}
+use Rattle.ns_model.specs.Truths.{Truths}
+use Rattle.ns_model.proofs.Beginnings.{begins_through}
+use Rattle.ns_model.proofs.Tallies.{every_map}
+use Rattle.ns_model.specs.declared.cvs.Cvs.{Cvs}
+use Rattle.ns_model.specs.declared.event.Exit.TheVariants.{AnyWait}
+use Rattle.ns_model.specs.declared.event.Mode.{Mode}
+use Rattle.ns_monitor.specs.Known.{Known}
+use Rattle.ns_monitor.specs.Several.{AreSome, HasBegunToWait, HasComeBackFromAny, IsByOneOf, WaitKnown, WaitsStill}
+use Rattle.ns_word.specs.Meanings.{InHand, leave_any_told}
+use Rattle.ns_word.specs.Steps.{section_of}
+use Rattle.ns_word.specs.declared.view.Held.{Held}
+use Rattle.ns_word.proofs.Enters.{are_some}
+use Rattle.ns_objects.specs.Any.{BothKnown, IsNamed}
+use Rattle.ns_objects.proofs.Rounds.{BothGrow, answers_within}
+use Rattle.ns_objects.specs.Held.{AreAmong, HasWaitedForAny, IsLow, PlaceBy, is_among, is_variable, place_in}
+use Rattle.ns_objects.specs.declared.any.Item.{Item}
+use Rattle.ns_objects.specs.declared.any.Item.TheVariants.{Note, Counter, Cv}
+
+-- an item that is named is no variable above 3
+low_too : (now : BothKnown) (item : Item) → IsNamed now.0 now.1 item → IsLow item
+low_too now (Note note) named = tt
+low_too now (Counter counter) named = tt
+low_too now (Cv k) named = named
+
+low_if_is : (item : Item) (k : ℕ) → IsLow item → is_variable k item ≡ true → k < 4
+low_if_is (Note note) k low is = absurd (false≢true is)
+low_if_is (Counter counter) k low is = absurd (false≢true is)
+low_if_is (Cv j) k low is = let same : j ≡ k = eqb-true j k is in subst (λ n. n < 4) same low
+
+low_if_among : (items : List Item) (k : ℕ) → Every IsLow items → is_among k items ≡ true → k < 4
+low_if_among [] k low is = absurd (false≢true is)
+low_if_among (item ∷ items) k low is = elim (or_cases (is_variable k item) (is_among k items) is) [
+  | inl here ↦ low_if_is item k low.0 here
+  | inr there ↦ low_if_among items k low.1 there
+]
+
+pub all_low : (items : List Item) (now : BothKnown) → Every (IsNamed now.0 now.1) items → Every IsLow items
+all_low items now named = every_map (IsNamed now.0 now.1) IsLow (low_too now) items named
+
+module _ {C : Type 0} {N : ℕ} where
+  -- who waits still, and then still
+  pub still_on : (a b c : WaitKnown C N) → WaitsStill a b → WaitsStill b c → WaitsStill a c
+  still_on a b c s t = record {
+    variables = t.variables ∙ s.variables;
+    monitor = t.monitor ∙ s.monitor;
+    seat_count = t.seat_count ∙ s.seat_count;
+    seat = t.seat ∙ s.seat;
+    begins = begins_through c.known.seen b.known.seen a.known.seen t.begins s.begins;
+    begun = t.begun ∙ s.begun;
+    mine = t.mine ∙ s.mine;
+    held = t.held ∙ s.held;
+    owes = t.owes;
+    empty = t.empty;
+  }
+
+  module _ (truths : Truths C) (mode : Mode) (by : Option ℕ) where
+    -- who waited still, and then has come back
+    pub back_from_still : (a b : WaitKnown C N) (new : Known C N) → WaitsStill a b → HasComeBackFromAny truths mode by b new → HasComeBackFromAny truths mode by a new
+    back_from_still a b new s t = record {
+      monitor = t.monitor ∙ s.monitor;
+      seat_count = t.seat_count ∙ s.seat_count;
+      seat = t.seat ∙ s.seat;
+      begins = begins_through new.seen b.known.seen a.known.seen t.begins s.begins;
+      begun = t.begun ∙ s.begun;
+      mine = t.mine ∙ (λ i. s.mine i ++ leave_any_told (s.seat i) (s.variables i) by);
+      among = subst (λ cvs. IsByOneOf cvs by) s.variables t.among;
+      back = t.back;
+      true_to = t.true_to;
+      over = t.over;
+      owes = t.owes;
+      empty = t.empty;
+    }
+
+    -- who has begun to wait, and come back
+    pub waited : (cvs : Cvs) (old : Known C N) (w : WaitKnown C N) (new : Known C N) → HasBegunToWait truths mode cvs old w → HasComeBackFromAny truths mode by w new → HasWaitedForAny truths mode cvs by old new
+    waited cvs old w new b t = record {
+      grows = record {
+        monitor = t.monitor ∙ b.monitor;
+        seat_count = t.seat_count ∙ b.seat_count;
+        seat = t.seat ∙ b.seat;
+        begins = begins_through new.seen w.known.seen old.seen t.begins b.begins;
+        begun = t.begun ∙ b.begun;
+        true_to = t.true_to;
+        over = t.over;
+        owes = t.owes;
+        empty = t.empty;
+      };
+      mine = told old.held b.mine;
+      among = subst (λ set. IsByOneOf set by) b.variables t.among;
+      back = t.back;
+    } where
+      told : (held : Option (Held C N)) → InHand held (λ was. w.known.mine ≡ old.mine ++ section_of truths.holds old.seat was (AnyWait cvs) ∷ []) → InHand held (λ was. new.mine ≡ old.mine ++ section_of truths.holds old.seat was (AnyWait cvs) ∷ leave_any_told old.seat cvs by)
+      told None m = m
+      told (Some was) m = t.mine ∙ ((λ i. m i ++ leave_any_told (b.seat i) (b.variables i) by) ∙ append_assoc old.mine (section_of truths.holds old.seat was (AnyWait cvs) ∷ []) (leave_any_told old.seat cvs by))
+
+mod_most : (a k : ℕ) → a % k ≤ a
+mod_most a k = omega arith
+
+up_most : (k e : ℕ) → up k e ≤ e + k
+up_most k e = omega (arith, mod_most (k - e % k) k)
+
+-- what is aligned to a, and takes s, fits with a few bytes before it
+beside_small : (a s n k : ℕ) → n ≤ 2 → k ≤ a + 1 → a + s < 2 ^ 32 → up k (up a n + s) < 2 ^ 63
+beside_small a s n k few most small = omega (arith, up_most a n, up_most k (up a n + s), few, most, small)
+
+-- what takes little by the bound is small; of any type, so that no size is worked out
+small_by : (τ : Ty) → room τ < 2 ^ 32 → align τ + size τ < 2 ^ 32
+small_by τ few = let most = room_enough τ in omega (arith, most, few)
+
+-- a section in hand fits, where what stands for it takes little
+pub caller_fits : (τ : Ty) → room τ < 2 ^ 32 → up (max 1 (max 1 (max (align τ) 1))) (up (align τ) 1 + size τ) < 2 ^ 63
+caller_fits τ few = beside_small (align τ) (size τ) 1 (max 1 (max 1 (max (align τ) 1))) (omega arith) (omega arith) (small_by τ few)
+
+-- so does a wait that it was left for
+pub waiting_fits : (τ : Ty) → room τ < 2 ^ 32 → up (max 1 (max 1 (max 1 (max (align τ) 1)))) (up (align τ) 2 + size τ) < 2 ^ 63
+waiting_fits τ few = beside_small (align τ) (size τ) 2 (max 1 (max 1 (max 1 (max (align τ) 1)))) (omega arith) (omega arith) (small_by τ few)
+
+-- the wait is for variables that there are, where one is among the items
+pub some_wait : (cvs : Cvs) (items : List Item) (k : ℕ) → cvs.0 < 256 → AreAmong cvs items → Every IsLow items → is_among k items ≡ true → AreSome cvs
+some_wait cvs items k byte are low one = are_some cvs k byte (are k ∙ one) (λ j is. low_if_among items j low (sym (are j) ∙ is))
+
+-- the place of the variable that has woken a wait
+pub place_by : (items : List Item) (deadline : Option ℕ) (old new : BothKnown) (cvs : Cvs) (k place : ℕ) → AreAmong cvs items → IsByOneOf cvs (Some k) → place ≡ place_in k items → PlaceBy items deadline old new (Some k) place
+place_by items deadline old new cvs k place are by at = (sym (are k) ∙ by, at)
+
+-- a place that is answered at the end of a part of a call is answered of the whole of it
+pub place_within : (items : List Item) (deadline : Option ℕ) (by : Option ℕ) (first old new : BothKnown) (place : ℕ) → BothGrow first old → BothGrow new new → PlaceBy items deadline old new by place → PlaceBy items deadline first new by place
+place_within items deadline None first old new place a b at = answers_within items deadline first old new new place a b at
+place_within items deadline (Some k) first old new place a b at = at

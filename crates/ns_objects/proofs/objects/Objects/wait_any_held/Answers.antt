@@ -1,0 +1,61 @@
+use Rattle.std.proofs.Common.{◌≡◌, ◌∙◌, inr, sym, subst, arith}
+use denote.Param.{layout}
+use Rattle.ns_model.specs.Cvs.{is_in}
+use Rattle.ns_model.specs.declared.cvs.Cvs.{Cvs}
+use Rattle.ns_objects.specs.Any.{BothKnown}
+use Rattle.ns_objects.specs.Held.{is_among}
+use Rattle.ns_objects.proofs.HeldWaits.{all_low, caller_fits, place_within, some_wait, waited, waiting_fits}
+use Rattle.ns_objects.proofs.Rests.{env_grows_not, grows_not}
+use Rattle.ns_objects.proofs.Rounds.{all_known_later}
+use Rattle.ns_objects.proofs.objects.Objects.wait_any_held.Goals as goal
+
+pub any_begin-waiting-requires : goal.any_begin-waiting-requires
+any_begin-waiting-requires g c = (
+  omega arith,
+  (
+    caller_fits (layout g.row.H) c.requires.small,
+    (
+      waiting_fits (layout g.row.H) c.requires.small,
+      (
+        c.requires.monitor,
+        some_wait c.variables_in.result c.args.items.now c.requires.variable.0 c.variables_in.ensures.byte c.variables_in.ensures.among (all_low c.args.items.now (c.args.seat.now, c.args.watch.now) c.requires.named) c.requires.variable.1,
+      ),
+    ),
+  ),
+)
+
+pub await_any-requires : goal.await_any-requires
+await_any-requires g c = let look = c.look_at_any.ensures in let begun = c.any_begin-waiting.ensures in (
+  omega arith,
+  (
+    waiting_fits (layout g.row.H) c.requires.small,
+    (
+      caller_fits (layout g.row.H) c.requires.small,
+      (
+        look.grows.objects ∙ c.requires.objects,
+        (
+          begun.monitor ∙ c.requires.monitor,
+          (
+            (begun.owes, begun.empty),
+            (
+              λ k. subst (λ (cvs : Cvs). is_in cvs k ≡ is_among k c.args.items.now) (sym begun.variables) (c.variables_in.ensures.among k),
+              (look.watch.env ∙ c.requires.env, (all_known_later c.args.items.now (c.args.seat.now, c.args.watch.now) (c.look_at_any.new.seat, c.look_at_any.new.watch) (look.grows, look.watch) c.requires.named, (look.grows.true_to, look.watch.true_to))),
+            ),
+          ),
+        ),
+      ),
+    ),
+  ),
+)
+
+pub returns-clause-answers : goal.returns-clause-answers
+returns-clause-answers g c =
+    let first : BothKnown = (c.args.seat.now, c.args.watch.now) in let old : BothKnown = (c.look_at_any.new.seat, c.look_at_any.new.watch) in let new : BothKnown = (c.await_any.new.seat, c.await_any.new.watch) in
+    let look = c.look_at_any.ensures in let e = c.await_any.ensures in let cvs = c.variables_in.result in
+    inr (
+      cvs,
+      e.answers.0,
+      c.variables_in.ensures.among,
+      waited g.C.Condition.means g.H.Section.mode e.answers.0 cvs c.args.held c.any_begin-waiting.result c.await_any.result.0 c.any_begin-waiting.ensures e.answers.1,
+      place_within c.args.items.now c.args.deadline e.answers.0 first old new c.await_any.result.1 (look.grows, look.watch) (grows_not new.0 e.grows.true_to, env_grows_not new.1 e.watch.true_to) e.answers.2,
+    )

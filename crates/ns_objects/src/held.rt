@@ -1,0 +1,146 @@
+//! Waits for condition variables of a monitor among notes and counters, from a section.
+
+ghost use Rattle.std.specs.Prelude.{◌≡◌, ◌≤◌, ◌<◌, ℕ, [], length, true};
+ghost use Rattle.ns_model.specs.Tallies.{Every};
+ghost use Rattle.ns_note.specs.Known.{Grows as EnvGrows, IsTrueToHistory as EnvTrue};
+ghost use Rattle.ns_objects.specs.Any.{IsNamed};
+ghost use Rattle.ns_objects.specs.Held.{AreAmong, HeldAnswers, IsLow, IsSmall, WaitAnswers, is_among, place_in};
+ghost use Rattle.ns_objects.specs.Known.{Grows, IsTrueToHistory};
+
+use crate::objects::Objects;
+use crate::seat::ObjSeat;
+use ns_model::condition::Condition;
+use ns_model::cvs::Cvs;
+use ns_monitor::caller::{Caller, Renewed};
+use ns_monitor::monitor::Monitor;
+use ns_monitor::several::AnyWaiting;
+use ns_note::env::Env;
+use ns_note::pause::Pause;
+use ns_note::seat::EnvSeat;
+use std::sync::Wait;
+
+/// What a wait with a section in hand is for: a note, a counter, or a condition variable.
+pub use crate::any::Item as AnyItem;
+
+/// The variables among the items.
+fn variables_in(items: &[AnyItem]) -> Cvs
+    requires { Every IsLow items.now }
+    ensures among { AreAmong result items.now }
+    ensures byte { result.0 < 256 }
+{
+    let mut cvs = Cvs::none();
+    for item in items {
+        if let AnyItem::Cv(k) = *item {
+            cvs = cvs.with(k);
+        }
+    }
+    cvs
+}
+
+/// The place of the first item that is this variable, or the number of items where none is.
+fn place_of(items: &[AnyItem], k: usize) -> usize
+    ensures { result ≡ place_in k items.now }
+{
+    for (i, item) in items.iter().enumerate() {
+        if let AnyItem::Cv(j) = *item {
+            if j as usize == k {
+                return i;
+            }
+        }
+    }
+    items.len()
+}
+
+impl Objects {
+    /// Goes round between a wait for variables that was begun and the notes and counters among the items,
+    /// until a signal or a broadcast has woken it, or something else is ready, or the deadline has come.
+    fn await_any<H: Renewed<C, N>, C: Condition<N>, const N: usize, R: Wait>(
+        &self,
+        rt: &R,
+        seat: &mut ObjSeat,
+        monitor: &Monitor<C, N>,
+        waiting: AnyWaiting<H, C, N>,
+        items: &[AnyItem],
+        deadline: Option<u64>,
+        env: &Env,
+        watch: &mut EnvSeat,
+    ) -> (Caller<H, C, N>, usize)
+        requires objects { seat.old.objects ≡ self.now }
+        requires monitor { waiting.known.monitor ≡ monitor.now }
+        requires idle { (waiting.known.owed ≡ []) × (waiting.known.carries ≡ []) }
+        requires variables { AreAmong waiting.cvs items.now }
+        requires env { watch.old.env ≡ env.now }
+        requires named { Every (IsNamed seat.old watch.old) items.now }
+        requires true_to { IsTrueToHistory seat.old }
+        requires env_true_to { EnvTrue watch.old }
+        ensures grows { Grows seat.old seat.new }
+        ensures mine { seat.new.mine ≡ seat.old.mine }
+        ensures watch { EnvGrows watch.old watch.new }
+        ensures watched { watch.new.mine ≡ watch.old.mine }
+        ensures answers { WaitAnswers C.means H.mode items.now deadline (waiting, (seat.old, watch.old)) (result.0, (seat.new, watch.new)) result.1 }
+    {
+        let mut pause = Pause::new();
+        let mut waiting = waiting;
+        for _ in rt.forever() {
+            waiting = match monitor.any_poll(rt, waiting) {
+                Ok((held, k)) => return (held, place_of(items, k)),
+                Err(waiting) => waiting,
+            };
+            if let Some(place) = self.look_at_any(seat, items, deadline, env, watch) {
+                let (held, by) = monitor.any_leave(rt, waiting);
+                return match by {
+                    Some(k) => (held, place_of(items, k)),
+                    None => (held, place),
+                };
+            }
+            self.rest_for_any(rt, seat, items, env, watch, &mut pause);
+        }
+        unreachable!()
+    }
+
+    /// Waits, with a section of a monitor in hand, until a signal or a broadcast of one of its condition
+    /// variables among the items, or until one of the notes and counters among them is ready, or until the
+    /// clock of the environment has reached the deadline, in ticks. Answers the place of the first item that
+    /// is the variable which has woken it, of the first other item that is ready, or the number of items
+    /// where the deadline came first. nsync's `nsync_wait_n` with a mutex.
+    ///
+    /// Where another item is ready as the call begins, or the deadline has come, nothing is released. Else the
+    /// section is left for all the variables at once, and it comes back with another one in the same mode.
+    /// A wake is never lost: where one has come before the wait is left, its place is the answer. The call
+    /// turns for a while, and then sleeps for at most 64 milliseconds at a time.
+    ///
+    /// Needs a section of that monitor; at most 16 items, at least one of them a variable, and variables
+    /// below 4; and what [`Objects::wait_any`] needs.
+    pub fn wait_any_held<H: Renewed<C, N>, C: Condition<N>, const N: usize, R: Wait>(
+        &self,
+        rt: &R,
+        seat: &mut ObjSeat,
+        monitor: &Monitor<C, N>,
+        held: Caller<H, C, N>,
+        items: &[AnyItem],
+        deadline: Option<u64>,
+        env: &Env,
+        watch: &mut EnvSeat,
+    ) -> (Caller<H, C, N>, usize)
+        requires objects { seat.old.objects ≡ self.now }
+        requires monitor { held.monitor ≡ monitor.now }
+        requires env { watch.old.env ≡ env.now }
+        requires few { length items.now ≤ 16 }
+        requires small { IsSmall H.row }
+        requires named { Every (IsNamed seat.old watch.old) items.now }
+        requires variable { (k : ℕ) × (is_among k items.now ≡ true) }
+        ensures grows { Grows seat.old seat.new }
+        ensures mine { seat.new.mine ≡ seat.old.mine }
+        ensures watch { EnvGrows watch.old watch.new }
+        ensures watched { watch.new.mine ≡ watch.old.mine }
+        ensures answers { HeldAnswers C.means H.mode items.now deadline (held, (seat.old, watch.old)) (result.0, (seat.new, watch.new)) result.1 }
+    {
+        seat.attest();
+        watch.attest();
+        if let Some(place) = self.look_at_any(seat, items, deadline, env, watch) {
+            return (held, place);
+        }
+        let waiting = monitor.any_begin(rt, held, variables_in(items));
+        self.await_any(rt, seat, monitor, waiting, items, deadline, env, watch)
+    }
+}

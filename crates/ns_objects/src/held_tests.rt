@@ -1,0 +1,340 @@
+//! What no clause says of waits for condition variables among notes and counters: that they come back,
+//! by whichever of them it is.
+
+ghost use Rattle.std.specs.Prelude.{◌≡◌, ◌<◌, false, IfSome};
+ghost use Rattle.std.specs.Thread.{IsSync};
+ghost use Rattle.ns_model.specs.Environments.{IsMade};
+ghost use Rattle.ns_model.specs.Truths.{truths};
+
+use crate::held::AnyItem;
+use crate::objects::Objects;
+use crate::seat::ObjSeat;
+use ns_counters::counter::CounterFault;
+use ns_model::condition::Condition;
+use ns_monitor::caller::{Seat, WriteHeld};
+use ns_monitor::monitor::Monitor;
+use ns_note::env::Env;
+use ns_note::note::Note;
+use ns_note::seat::EnvSeat;
+use std::alloc::Global;
+use std::sync::Wait;
+use std::test::Fail;
+use std::thread::{Threads, join, yield_now};
+
+/// How often a thread tries that has to succeed.
+const MANY_TRIES: u32 = 1_000_000;
+
+/// A condition that is never true, of rows of one cell: nobody waits for one here.
+#[derive(Clone, Copy)]
+struct Never;
+
+impl Condition<1> for Never {
+    ghost use Rattle.std.proofs.Common.{rules};
+
+    ghost means = { truths (λ c row. false) (λ c d. false) (λ before after. false) };
+
+    fn test(&self, _row: &[u64; 1]) -> bool {
+        false
+    }
+
+    fn same(&self, _other: &Self) -> bool {
+        false
+    }
+
+    fn quiet(_before: &[u64; 1], _after: &[u64; 1]) -> bool {
+        false
+    }
+
+    ghost same_agrees = { λ c d row n e. absurd (Prim.cc) };
+
+    ghost quiet_keeps = { λ c before after n m quiet h. absurd (Prim.cc) };
+
+    ghost has_cells = { Prim.search rules };
+
+    ghost has_room = { Prim.search rules };
+}
+
+/// What a thread has to call with: a seat of the monitor, of the objects and of the environment.
+struct Kit {
+    /// Of the monitor.
+    seat: Seat<Never, 1>,
+    /// Of the objects, which have one counter.
+    objects: ObjSeat,
+    /// Of the environment.
+    watch: EnvSeat,
+}
+
+/// What two threads call.
+struct Commons {
+    /// A monitor of one cell.
+    monitor: Monitor<Never, 1>,
+    /// Objects with one counter.
+    objects: Objects,
+    /// An environment.
+    env: Env,
+}
+
+/// These, and what each of two threads has.
+fn two(alloc: Global, value: u32) -> Option<(Commons, Kit, Kit)>
+    ensures first { IfSome result (λ r. (r.1.seat.monitor ≡ r.0.monitor) × (r.1.objects.objects ≡ r.0.objects) × (r.1.objects.setup.counters ≡ 1) × (r.1.watch.env ≡ r.0.env)) }
+    ensures second { IfSome result (λ r. (r.2.seat.monitor ≡ r.0.monitor) × (r.2.objects.objects ≡ r.0.objects) × (r.2.objects.setup.counters ≡ 1) × (r.2.watch.env ≡ r.0.env)) }
+{
+    let (monitor, mut seats) = Monitor::<Never, 1>::new(alloc, 2).ok()?;
+    let (objects, mut object_seats) = Objects::new(alloc, &[value], 0, 2).ok()?;
+    let (env, mut watches) = Env::new(alloc, 2).ok()?;
+    let second = Kit {
+        seat: seats.pop()?,
+        objects: object_seats.pop()?,
+        watch: watches.pop()?,
+    };
+    let first = Kit {
+        seat: seats.pop()?,
+        objects: object_seats.pop()?,
+        watch: watches.pop()?,
+    };
+    let commons = Commons {
+        monitor,
+        objects,
+        env,
+    };
+    Some((commons, first, second))
+}
+
+/// Ends a section, where it says in the cell that the wait is over.
+fn tell<R: Wait>(rt: &R, monitor: &Monitor<Never, 1>, held: WriteHeld<Never, 1>)
+    requires { held.monitor ≡ monitor.now }
+{
+    let mut held = held;
+    monitor.set(&mut held, 0, 1);
+    monitor.unlock(rt, held);
+}
+
+/// Waits for variable 0 or the counter, up to this tick, and then tells so.
+fn wait_for_either<R: Wait>(rt: &R, commons: &Commons, kit: Kit, deadline: Option<u64>) -> usize
+    requires of { (kit.seat.monitor ≡ commons.now.monitor) × (kit.objects.objects ≡ commons.now.objects) × (kit.watch.env ≡ commons.now.env) }
+    requires counter { kit.objects.setup.counters ≡ 1 }
+{
+    let Kit {
+        seat,
+        mut objects,
+        mut watch,
+    } = kit;
+    let held = commons.monitor.lock(rt, seat);
+    let items = [AnyItem::Cv(0), AnyItem::Counter(0)];
+    let (held, place) = commons.objects.wait_any_held(
+        rt,
+        &mut objects,
+        &commons.monitor,
+        held,
+        &items,
+        deadline,
+        &commons.env,
+        &mut watch,
+    );
+    tell(rt, &commons.monitor, held);
+    place
+}
+
+/// Waits for variable 0 or 1 or the note, where the seat knows that, and then tells so.
+fn wait_for_a_signal<R: Wait>(rt: &R, commons: &Commons, kit: Kit, note: Note) -> Option<usize>
+    requires { (kit.seat.monitor ≡ commons.now.monitor) × (kit.objects.objects ≡ commons.now.objects) × (kit.watch.env ≡ commons.now.env) }
+{
+    let Kit {
+        seat,
+        mut objects,
+        mut watch,
+    } = kit;
+    if !commons.env.knows(&mut watch, note) {
+        return None;
+    }
+    let held = commons.monitor.lock(rt, seat);
+    let items = [AnyItem::Cv(0), AnyItem::Cv(1), AnyItem::Note(note)];
+    let (held, place) = commons.objects.wait_any_held(
+        rt,
+        &mut objects,
+        &commons.monitor,
+        held,
+        &items,
+        None,
+        &commons.env,
+        &mut watch,
+    );
+    tell(rt, &commons.monitor, held);
+    Some(place)
+}
+
+/// Whether the other has told that its wait is over.
+fn is_told<R: Wait>(
+    rt: &R,
+    monitor: &Monitor<Never, 1>,
+    seat: Seat<Never, 1>,
+) -> (Seat<Never, 1>, bool)
+    requires { seat.monitor ≡ monitor.now }
+    ensures { result.0.monitor ≡ monitor.now }
+{
+    let mut held = monitor.lock(rt, seat);
+    let told = monitor.get(&mut held, 0) == 1;
+    (monitor.unlock(rt, held), told)
+}
+
+/// Signals variable 1 until the other tells that its wait is over, or often enough.
+fn signal_until_told<R: Wait>(rt: &R, monitor: &Monitor<Never, 1>, seat: Seat<Never, 1>)
+    requires { seat.monitor ≡ monitor.now }
+{
+    let mut seat = seat;
+    for _ in 0..MANY_TRIES {
+        monitor.signal(rt, &mut seat, 1);
+        let (back, told) = is_told(rt, monitor, seat);
+        if told {
+            return;
+        }
+        seat = back;
+        yield_now();
+    }
+}
+
+/// One thread waits for a variable or the counter, which the other counts down; what each was answered.
+fn count_down_beside<R: Threads + Wait + Sync>(
+    rt: &R,
+    commons: &Commons,
+    first: Kit,
+    second: Kit,
+) -> (usize, Result<u32, CounterFault>)
+    requires of { (first.seat.monitor ≡ commons.now.monitor) × (first.objects.objects ≡ commons.now.objects) × (first.watch.env ≡ commons.now.env) }
+    requires counter { (first.objects.setup.counters ≡ 1) × (second.objects.setup.counters ≡ 1) }
+    requires theirs { second.objects.objects ≡ commons.now.objects }
+{
+    join(
+        rt,
+        move || -> usize
+            requires { IsSync R.row × (first.seat.monitor ≡ commons.now.monitor) × (first.objects.objects ≡ commons.now.objects) × (first.watch.env ≡ commons.now.env) × (first.objects.setup.counters ≡ 1) }
+        { wait_for_either(rt, commons, first, Some(5)) },
+        move || -> Result<u32, CounterFault>
+            requires { IsSync R.row × (second.objects.objects ≡ commons.now.objects) × (second.objects.setup.counters ≡ 1) }
+        {
+            let Kit {
+                seat: _,
+                mut objects,
+                watch: _,
+            } = second;
+            commons.objects.counter_add(rt, &mut objects, 0, -1)
+        },
+    )
+}
+
+/// A counter ends it, and its place is the answer: that of the variable before it counts.
+#[test]
+fn a_counter_ends_it(rt: HostRuntime) -> Result<(), Fail> {
+    let Some((commons, first, second)) = two(rt.alloc(), 1) else {
+        panic!(rt; "no monitor, objects and environment")
+    };
+    let came = count_down_beside(&rt, &commons, first, second);
+    assert_eq!(rt; came, (1, Ok(0)));
+    Ok(())
+}
+
+/// One thread waits for a variable or the counter, up to a tick to which the other moves the clock; the place
+/// that the first was answered.
+fn advance_beside<R: Threads + Wait + Sync>(
+    rt: &R,
+    commons: &Commons,
+    first: Kit,
+    second: Kit,
+) -> usize
+    requires of { (first.seat.monitor ≡ commons.now.monitor) × (first.objects.objects ≡ commons.now.objects) × (first.watch.env ≡ commons.now.env) }
+    requires counter { first.objects.setup.counters ≡ 1 }
+    requires theirs { second.watch.env ≡ commons.now.env }
+{
+    let (place, ()) = join(
+        rt,
+        move || -> usize
+            requires { IsSync R.row × (first.seat.monitor ≡ commons.now.monitor) × (first.objects.objects ≡ commons.now.objects) × (first.watch.env ≡ commons.now.env) × (first.objects.setup.counters ≡ 1) }
+        { wait_for_either(rt, commons, first, Some(5)) },
+        move || -> ()
+            requires { second.watch.env ≡ commons.now.env }
+        {
+            let Kit {
+                seat: _,
+                objects: _,
+                mut watch,
+            } = second;
+            commons.env.advance(&mut watch, 5);
+        },
+    );
+    place
+}
+
+/// The deadline ends it, and the answer is the number of items, the variable among them.
+#[test]
+fn the_deadline_ends_it(rt: HostRuntime) -> Result<(), Fail> {
+    let Some((commons, first, second)) = two(rt.alloc(), 1) else {
+        panic!(rt; "no monitor, objects and environment")
+    };
+    let place = advance_beside(&rt, &commons, first, second);
+    assert_eq!(rt; place, 2);
+    Ok(())
+}
+
+/// One thread waits for two variables or a note; the other signals the second of them until the first tells,
+/// and then notifies the note, where the first would be left. The place that the first was answered.
+fn signal_beside<R: Threads + Wait + Sync>(
+    rt: &R,
+    commons: &Commons,
+    first: Kit,
+    second: Kit,
+    note: Note,
+) -> Option<usize>
+    requires of { (first.seat.monitor ≡ commons.now.monitor) × (first.objects.objects ≡ commons.now.objects) × (first.watch.env ≡ commons.now.env) }
+    requires theirs { (second.seat.monitor ≡ commons.now.monitor) × (second.watch.env ≡ commons.now.env) }
+{
+    let (place, ()) = join(
+        rt,
+        move || -> Option<usize>
+            requires { IsSync R.row × (first.seat.monitor ≡ commons.now.monitor) × (first.objects.objects ≡ commons.now.objects) × (first.watch.env ≡ commons.now.env) }
+        { wait_for_a_signal(rt, commons, first, note) },
+        move || -> ()
+            requires { IsSync R.row × (second.seat.monitor ≡ commons.now.monitor) × (second.watch.env ≡ commons.now.env) }
+        {
+            let Kit {
+                seat,
+                objects: _,
+                mut watch,
+            } = second;
+            signal_until_told(rt, &commons.monitor, seat);
+            if commons.env.knows(&mut watch, note) {
+                commons.env.notify(&mut watch, note);
+            }
+        },
+    );
+    place
+}
+
+/// A signal ends it, and the answer is the place of its variable.
+#[test]
+fn a_signal_ends_it(rt: HostRuntime) -> Result<(), Fail> {
+    let Some((commons, mut first, second)) = two(rt.alloc(), 1) else {
+        panic!(rt; "no monitor, objects and environment")
+    };
+    let Ok(note) = commons.env.note_new(&mut first.watch, None, None) else {
+        panic!(rt; "no note")
+    };
+    let place = signal_beside(&rt, &commons, first, second, note);
+    assert_eq!(rt; place, Some(1));
+    Ok(())
+}
+
+/// What is ready as the call begins is answered at once, and so is a deadline that has come.
+#[test]
+fn what_is_ready_is_answered_at_once(rt: HostRuntime) -> Result<(), Fail> {
+    let Some((commons, first, _)) = two(rt.alloc(), 0) else {
+        panic!(rt; "no monitor, objects and environment")
+    };
+    let ready = wait_for_either(&rt, &commons, first, None);
+    assert_eq!(rt; ready, 1);
+    let Some((commons, first, _)) = two(rt.alloc(), 1) else {
+        panic!(rt; "no monitor, objects and environment")
+    };
+    let past = wait_for_either(&rt, &commons, first, Some(0));
+    assert_eq!(rt; past, 2);
+    Ok(())
+}
