@@ -55,6 +55,7 @@ impl Condition<1> for Never {
 }
 
 /// What a thread has to call with: a seat of the monitor, of the objects and of the environment.
+#[derive(Drop)]
 struct Kit {
     /// Of the monitor.
     seat: Seat<Never, 1>,
@@ -65,6 +66,7 @@ struct Kit {
 }
 
 /// What two threads call.
+#[derive(Drop)]
 struct Commons {
     /// A monitor of one cell.
     monitor: Monitor<Never, 1>,
@@ -74,23 +76,53 @@ struct Commons {
     env: Env,
 }
 
-/// These, and what each of two threads has.
+/// A monitor and its two seats.
+fn two_seats(alloc: Global) -> Option<(Monitor<Never, 1>, Seat<Never, 1>, Seat<Never, 1>)>
+    ensures { IfSome result (λ r. (r.1.monitor ≡ r.0) × (r.2.monitor ≡ r.0)) }
+{
+    let (monitor, mut seats) = Monitor::<Never, 1>::new(alloc, 2).ok()?;
+    let second = seats.pop()?;
+    let first = seats.pop()?;
+    Some((monitor, first, second))
+}
+
+/// Objects with one counter of this value, and two seats of them.
+fn two_object_seats(alloc: Global, value: u32) -> Option<(Objects, ObjSeat, ObjSeat)>
+    ensures { IfSome result (λ r. (r.1.objects ≡ r.0) × (r.2.objects ≡ r.0) × (r.1.setup.counters ≡ 1) × (r.2.setup.counters ≡ 1)) }
+{
+    let (objects, mut seats) = Objects::new(alloc, &[value], 0, 2).ok()?;
+    let second = seats.pop()?;
+    let first = seats.pop()?;
+    Some((objects, first, second))
+}
+
+/// An environment and two seats of it.
+fn two_watches(alloc: Global) -> Option<(Env, EnvSeat, EnvSeat)>
+    ensures { IfSome result (λ r. (r.1.env ≡ r.0) × (r.2.env ≡ r.0)) }
+{
+    let (env, mut seats) = Env::new(alloc, 2).ok()?;
+    let second = seats.pop()?;
+    let first = seats.pop()?;
+    Some((env, first, second))
+}
+
+/// All these, and what each of two threads has.
 fn two(alloc: Global, value: u32) -> Option<(Commons, Kit, Kit)>
     ensures first { IfSome result (λ r. (r.1.seat.monitor ≡ r.0.monitor) × (r.1.objects.objects ≡ r.0.objects) × (r.1.objects.setup.counters ≡ 1) × (r.1.watch.env ≡ r.0.env)) }
     ensures second { IfSome result (λ r. (r.2.seat.monitor ≡ r.0.monitor) × (r.2.objects.objects ≡ r.0.objects) × (r.2.objects.setup.counters ≡ 1) × (r.2.watch.env ≡ r.0.env)) }
 {
-    let (monitor, mut seats) = Monitor::<Never, 1>::new(alloc, 2).ok()?;
-    let (objects, mut object_seats) = Objects::new(alloc, &[value], 0, 2).ok()?;
-    let (env, mut watches) = Env::new(alloc, 2).ok()?;
-    let second = Kit {
-        seat: seats.pop()?,
-        objects: object_seats.pop()?,
-        watch: watches.pop()?,
-    };
+    let (monitor, my_seat, their_seat) = two_seats(alloc)?;
+    let (objects, mine, theirs) = two_object_seats(alloc, value)?;
+    let (env, my_watch, their_watch) = two_watches(alloc)?;
     let first = Kit {
-        seat: seats.pop()?,
-        objects: object_seats.pop()?,
-        watch: watches.pop()?,
+        seat: my_seat,
+        objects: mine,
+        watch: my_watch,
+    };
+    let second = Kit {
+        seat: their_seat,
+        objects: theirs,
+        watch: their_watch,
     };
     let commons = Commons {
         monitor,
