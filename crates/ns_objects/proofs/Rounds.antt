@@ -11,7 +11,7 @@ use Rattle.ns_note.specs.Known.{Grows as EnvGrows}
 use Rattle.ns_note.proofs.Rests.{made_grows}
 use Rattle.ns_objects.specs.declared.any.Item.{Item}
 use Rattle.ns_objects.specs.declared.any.Item.TheVariants.{Note, Counter, Cv}
-use Rattle.ns_objects.specs.Any.{BothKnown, IsKnown, IsNamed, WasReady, WasPast, AnyAnswers}
+use Rattle.ns_objects.specs.Any.{BothKnown, IsKnown, IsNamed, RoundAnswers, WasBefore, WasReady, WasPast, AnyAnswers}
 use Rattle.ns_objects.specs.Known.{Grows}
 
 -- a caller that knows more of both
@@ -37,6 +37,14 @@ was_later false (Cv k) old new last b at = at
 
 pub none_later : (items : List Item) (old new last : BothKnown) → BothGrow new last → Every (WasReady false old new) items → Every (WasReady false old last) items
 none_later items old new last b none = every_map (WasReady false old new) (WasReady false old last) (λ item at. was_later false item old new last b at) items none
+
+before_later : (deadline : Option ℕ) (old new last : BothKnown) → BothGrow new last → WasBefore deadline old new → WasBefore deadline old last
+before_later None old new last b before = before
+before_later (Some d) old new last b before = (before.0, between old.1.seen old.1.seen before.0 new.1.seen last.1.seen (begins_itself old.1.seen) before.1 b.1.begins, before.2)
+
+-- a round that answered nothing, in a call that goes on
+pub nothing_later : (items : List Item) (deadline : Option ℕ) (old new last : BothKnown) → BothGrow new last → RoundAnswers items deadline old new None → RoundAnswers items deadline old last None
+nothing_later items deadline old new last b nothing = (none_later items old new last b nothing.0, before_later deadline old new last b nothing.1)
 
 pub none_within : (items : List Item) (first old new last : BothKnown) → BothGrow first old → BothGrow new last → Every (WasReady false old new) items → Every (WasReady false first last) items
 none_within items first old new last a b none = every_map (WasReady false old new) (WasReady false first last) (λ item at. was_within false item first old new last a b at) items none

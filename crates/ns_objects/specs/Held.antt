@@ -16,7 +16,7 @@ use Rattle.ns_word.specs.Meanings.{InHand, leave_any_told}
 use Rattle.ns_word.specs.Steps.{section_of}
 use Rattle.ns_objects.specs.declared.any.Item.{Item}
 use Rattle.ns_objects.specs.declared.any.Item.TheVariants.{Cv}
-use Rattle.ns_objects.specs.Any.{AnyAnswers, BothKnown}
+use Rattle.ns_objects.specs.Any.{AnyAnswers, BothKnown, RoundAnswers}
 
 -- what stands for a section in hand takes little memory, so that code over any such fits
 abbrev pub IsSmall : RattleType → Type 0
@@ -61,8 +61,8 @@ pub record HasWaitedForAny {C : Type 0} {N : ℕ} (truths : Truths C) (mode : Mo
 abbrev pub WaitAnswers : {C : Type 0} {N : ℕ} → Truths C → Mode → List Item → Option ℕ → WaitKnown C N × BothKnown → Known C N × BothKnown → ℕ → Type 0
 WaitAnswers truths mode items deadline old new place = (by : Option ℕ) × HasComeBackFromAny truths mode by old.0 new.0 × PlaceBy items deadline old.1 new.1 by place
 
--- Nothing was released: the section is as it was, and the answer is what a wait for the notes and counters alone would give. Or the section was left for all the variables among the items, and another has come back.
+-- Nothing was released: the section is as it was, and the answer is what a wait for the notes and counters alone would give. Or none of these was ready at some point of the call, each at its own, and the deadline had not come at another; and the section was left for all the variables among the items, and another has come back.
 abbrev pub HeldAnswers : {C : Type 0} {N : ℕ} → Truths C → Mode → List Item → Option ℕ → Known C N × BothKnown → Known C N × BothKnown → ℕ → Type 0
 HeldAnswers truths mode items deadline old new place =
     ((new.0 ≡ old.0) × AnyAnswers items deadline old.1 new.1 place)
-    ⊎ ((cvs : Cvs) × (by : Option ℕ) × AreAmong cvs items × HasWaitedForAny truths mode cvs by old.0 new.0 × PlaceBy items deadline old.1 new.1 by place)
+    ⊎ (RoundAnswers items deadline old.1 new.1 None × (cvs : Cvs) × (by : Option ℕ) × AreAmong cvs items × HasWaitedForAny truths mode cvs by old.0 new.0 × PlaceBy items deadline old.1 new.1 by place)

@@ -104,13 +104,16 @@ impl Objects {
     /// is the variable which has woken it, of the first other item that is ready, or the number of items
     /// where the deadline came first. nsync's `nsync_wait_n` with a mutex.
     ///
-    /// Where another item is ready as the call begins, or the deadline has come, nothing is released. Else the
+    /// Where another item is ready as the call begins, or the deadline has come, nothing is released: that it
+    /// looks before it leaves the section, and not behind that, is how it is written, and no clause. Else the
     /// section is left for all the variables at once, and it comes back with another one in the same mode.
     /// A wake is never lost: where one has come before the wait is left, its place is the answer. The call
-    /// turns for a while, and then sleeps for at most 64 milliseconds at a time.
+    /// turns for a while, and then sleeps for at most 64 milliseconds at a time, while which a release may
+    /// have woken it to acquire the lock next: others who wait for the lock then wait so long, too.
     ///
-    /// Needs a section of that monitor; at most 16 items, at least one of them a variable, and variables
-    /// below 4; and what [`Objects::wait_any`] needs.
+    /// Needs a section of that monitor, of a kind that takes little memory, as the two that there are; at
+    /// most 16 items, at least one of them a variable, and variables below 4; and what
+    /// [`Objects::wait_any`] needs.
     pub fn wait_any_held<H: Renewed<C, N>, C: Condition<N>, const N: usize, R: Wait>(
         &self,
         rt: &R,

@@ -65,6 +65,17 @@ struct Kit {
     watch: EnvSeat,
 }
 
+/// The same with a section in hand.
+#[derive(Drop)]
+struct Inside {
+    /// The section.
+    held: WriteHeld<Never, 1>,
+    /// Of the objects, which have one counter.
+    objects: ObjSeat,
+    /// Of the environment.
+    watch: EnvSeat,
+}
+
 /// What two threads call.
 #[derive(Drop)]
 struct Commons {
@@ -132,6 +143,24 @@ fn two(alloc: Global, value: u32) -> Option<(Commons, Kit, Kit)>
     Some((commons, first, second))
 }
 
+/// Begins a section.
+fn enter<R: Wait>(rt: &R, commons: &Commons, kit: Kit) -> Inside
+    requires { kit.seat.monitor ≡ commons.now.monitor }
+    ensures { (result.held.monitor ≡ commons.now.monitor) × (result.objects ≡ kit.objects) × (result.watch ≡ kit.watch) }
+{
+    let Kit {
+        seat,
+        objects,
+        watch,
+    } = kit;
+    let held = commons.monitor.lock(rt, seat);
+    Inside {
+        held,
+        objects,
+        watch,
+    }
+}
+
 /// Ends a section, where it says in the cell that the wait is over.
 fn tell<R: Wait>(rt: &R, monitor: &Monitor<Never, 1>, held: WriteHeld<Never, 1>)
     requires { held.monitor ≡ monitor.now }
@@ -142,16 +171,20 @@ fn tell<R: Wait>(rt: &R, monitor: &Monitor<Never, 1>, held: WriteHeld<Never, 1>)
 }
 
 /// Waits for variable 0 or the counter, up to this tick, and then tells so.
-fn wait_for_either<R: Wait>(rt: &R, commons: &Commons, kit: Kit, deadline: Option<u64>) -> usize
-    requires of { (kit.seat.monitor ≡ commons.now.monitor) × (kit.objects.objects ≡ commons.now.objects) × (kit.watch.env ≡ commons.now.env) }
-    requires counter { kit.objects.setup.counters ≡ 1 }
+fn wait_for_either<R: Wait>(
+    rt: &R,
+    commons: &Commons,
+    inside: Inside,
+    deadline: Option<u64>,
+) -> usize
+    requires of { (inside.held.monitor ≡ commons.now.monitor) × (inside.objects.objects ≡ commons.now.objects) × (inside.watch.env ≡ commons.now.env) }
+    requires counter { inside.objects.setup.counters ≡ 1 }
 {
-    let Kit {
-        seat,
+    let Inside {
+        held,
         mut objects,
         mut watch,
-    } = kit;
-    let held = commons.monitor.lock(rt, seat);
+    } = inside;
     let items = [AnyItem::Cv(0), AnyItem::Counter(0)];
     let (held, place) = commons.objects.wait_any_held(
         rt,
@@ -167,7 +200,8 @@ fn wait_for_either<R: Wait>(rt: &R, commons: &Commons, kit: Kit, deadline: Optio
     place
 }
 
-/// Waits for variable 0 or 1 or the note, where the seat knows that, and then tells so.
+/// Waits for variable 0, 1 or 2 or the note, where the seat knows that, and then tells so. Variable 1 stands
+/// there twice.
 fn wait_for_a_signal<R: Wait>(rt: &R, commons: &Commons, kit: Kit, note: Note) -> Option<usize>
     requires { (kit.seat.monitor ≡ commons.now.monitor) × (kit.objects.objects ≡ commons.now.objects) × (kit.watch.env ≡ commons.now.env) }
 {
@@ -180,7 +214,13 @@ fn wait_for_a_signal<R: Wait>(rt: &R, commons: &Commons, kit: Kit, note: Note) -
         return None;
     }
     let held = commons.monitor.lock(rt, seat);
-    let items = [AnyItem::Cv(0), AnyItem::Cv(1), AnyItem::Note(note)];
+    let items = [
+        AnyItem::Cv(0),
+        AnyItem::Cv(1),
+        AnyItem::Note(note),
+        AnyItem::Cv(1),
+        AnyItem::Cv(2),
+    ];
     let (held, place) = commons.objects.wait_any_held(
         rt,
         &mut objects,
@@ -209,8 +249,8 @@ fn is_told<R: Wait>(
     (monitor.unlock(rt, held), told)
 }
 
-/// Signals variable 1 until the other tells that its wait is over, or often enough.
-fn signal_until_told<R: Wait>(rt: &R, monitor: &Monitor<Never, 1>, seat: Seat<Never, 1>)
+/// Signals variable 1 until the other tells that its wait is over, or often enough. Answers whether it told.
+fn signal_until_told<R: Wait>(rt: &R, monitor: &Monitor<Never, 1>, seat: Seat<Never, 1>) -> bool
     requires { seat.monitor ≡ monitor.now }
 {
     let mut seat = seat;
@@ -218,82 +258,90 @@ fn signal_until_told<R: Wait>(rt: &R, monitor: &Monitor<Never, 1>, seat: Seat<Ne
         monitor.signal(rt, &mut seat, 1);
         let (back, told) = is_told(rt, monitor, seat);
         if told {
-            return;
+            return true;
         }
         seat = back;
         yield_now();
     }
+    false
 }
 
-/// One thread waits for a variable or the counter, which the other counts down; what each was answered.
+/// One thread waits for a variable or the counter, in a section that it has in hand, and the other comes inside
+/// behind that and then counts down. What the first was answered; and whether the second found it told, and
+/// what it was answered.
 fn count_down_beside<R: Threads + Wait + Sync>(
     rt: &R,
     commons: &Commons,
-    first: Kit,
+    first: Inside,
     second: Kit,
-) -> (usize, Result<u32, CounterFault>)
-    requires of { (first.seat.monitor ≡ commons.now.monitor) × (first.objects.objects ≡ commons.now.objects) × (first.watch.env ≡ commons.now.env) }
+) -> (usize, (bool, Result<u32, CounterFault>))
+    requires of { (first.held.monitor ≡ commons.now.monitor) × (first.objects.objects ≡ commons.now.objects) × (first.watch.env ≡ commons.now.env) }
     requires counter { (first.objects.setup.counters ≡ 1) × (second.objects.setup.counters ≡ 1) }
-    requires theirs { second.objects.objects ≡ commons.now.objects }
+    requires theirs { (second.seat.monitor ≡ commons.now.monitor) × (second.objects.objects ≡ commons.now.objects) }
 {
     join(
         rt,
         move || -> usize
-            requires { IsSync R.row × (first.seat.monitor ≡ commons.now.monitor) × (first.objects.objects ≡ commons.now.objects) × (first.watch.env ≡ commons.now.env) × (first.objects.setup.counters ≡ 1) }
+            requires { IsSync R.row × (first.held.monitor ≡ commons.now.monitor) × (first.objects.objects ≡ commons.now.objects) × (first.watch.env ≡ commons.now.env) × (first.objects.setup.counters ≡ 1) }
         { wait_for_either(rt, commons, first, Some(5)) },
-        move || -> Result<u32, CounterFault>
-            requires { IsSync R.row × (second.objects.objects ≡ commons.now.objects) × (second.objects.setup.counters ≡ 1) }
+        move || -> (bool, Result<u32, CounterFault>)
+            requires { IsSync R.row × (second.seat.monitor ≡ commons.now.monitor) × (second.objects.objects ≡ commons.now.objects) × (second.objects.setup.counters ≡ 1) }
         {
             let Kit {
-                seat: _,
+                seat,
                 mut objects,
                 watch: _,
             } = second;
-            commons.objects.counter_add(rt, &mut objects, 0, -1)
+            let (_, told) = is_told(rt, &commons.monitor, seat);
+            (told, commons.objects.counter_add(rt, &mut objects, 0, -1))
         },
     )
 }
 
-/// A counter ends it, and its place is the answer: that of the variable before it counts.
+/// A counter ends it, and its place is the answer: that of the variable before it counts. Who comes inside
+/// meanwhile finds that it has left its section, and waits.
 #[test]
 fn a_counter_ends_it(rt: HostRuntime) -> Result<(), Fail> {
     let Some((commons, first, second)) = two(rt.alloc(), 1) else {
         panic!(rt; "no monitor, objects and environment")
     };
-    let came = count_down_beside(&rt, &commons, first, second);
-    assert_eq!(rt; came, (1, Ok(0)));
+    let inside = enter(&rt, &commons, first);
+    let came = count_down_beside(&rt, &commons, inside, second);
+    assert_eq!(rt; came, (1, (false, Ok(0))));
     Ok(())
 }
 
-/// One thread waits for a variable or the counter, up to a tick to which the other moves the clock; the place
-/// that the first was answered.
+/// One thread waits for a variable or the counter, in a section that it has in hand, up to a tick to which the
+/// other moves the clock once it has come inside behind that. The place that the first was answered, and
+/// whether the second found it told.
 fn advance_beside<R: Threads + Wait + Sync>(
     rt: &R,
     commons: &Commons,
-    first: Kit,
+    first: Inside,
     second: Kit,
-) -> usize
-    requires of { (first.seat.monitor ≡ commons.now.monitor) × (first.objects.objects ≡ commons.now.objects) × (first.watch.env ≡ commons.now.env) }
+) -> (usize, bool)
+    requires of { (first.held.monitor ≡ commons.now.monitor) × (first.objects.objects ≡ commons.now.objects) × (first.watch.env ≡ commons.now.env) }
     requires counter { first.objects.setup.counters ≡ 1 }
-    requires theirs { second.watch.env ≡ commons.now.env }
+    requires theirs { (second.seat.monitor ≡ commons.now.monitor) × (second.watch.env ≡ commons.now.env) }
 {
-    let (place, ()) = join(
+    join(
         rt,
         move || -> usize
-            requires { IsSync R.row × (first.seat.monitor ≡ commons.now.monitor) × (first.objects.objects ≡ commons.now.objects) × (first.watch.env ≡ commons.now.env) × (first.objects.setup.counters ≡ 1) }
+            requires { IsSync R.row × (first.held.monitor ≡ commons.now.monitor) × (first.objects.objects ≡ commons.now.objects) × (first.watch.env ≡ commons.now.env) × (first.objects.setup.counters ≡ 1) }
         { wait_for_either(rt, commons, first, Some(5)) },
-        move || -> ()
-            requires { second.watch.env ≡ commons.now.env }
+        move || -> bool
+            requires { IsSync R.row × (second.seat.monitor ≡ commons.now.monitor) × (second.watch.env ≡ commons.now.env) }
         {
             let Kit {
-                seat: _,
+                seat,
                 objects: _,
                 mut watch,
             } = second;
+            let (_, told) = is_told(rt, &commons.monitor, seat);
             commons.env.advance(&mut watch, 5);
+            told
         },
-    );
-    place
+    )
 }
 
 /// The deadline ends it, and the answer is the number of items, the variable among them.
@@ -302,29 +350,31 @@ fn the_deadline_ends_it(rt: HostRuntime) -> Result<(), Fail> {
     let Some((commons, first, second)) = two(rt.alloc(), 1) else {
         panic!(rt; "no monitor, objects and environment")
     };
-    let place = advance_beside(&rt, &commons, first, second);
-    assert_eq!(rt; place, 2);
+    let inside = enter(&rt, &commons, first);
+    let came = advance_beside(&rt, &commons, inside, second);
+    assert_eq!(rt; came, (2, false));
     Ok(())
 }
 
 /// One thread waits for two variables or a note; the other signals the second of them until the first tells,
-/// and then notifies the note, where the first would be left. The place that the first was answered.
+/// and then notifies the note, where the first would be left. The place that the first was answered, and whether
+/// the second was told.
 fn signal_beside<R: Threads + Wait + Sync>(
     rt: &R,
     commons: &Commons,
     first: Kit,
     second: Kit,
     note: Note,
-) -> Option<usize>
+) -> (Option<usize>, bool)
     requires of { (first.seat.monitor ≡ commons.now.monitor) × (first.objects.objects ≡ commons.now.objects) × (first.watch.env ≡ commons.now.env) }
     requires theirs { (second.seat.monitor ≡ commons.now.monitor) × (second.watch.env ≡ commons.now.env) }
 {
-    let (place, ()) = join(
+    join(
         rt,
         move || -> Option<usize>
             requires { IsSync R.row × (first.seat.monitor ≡ commons.now.monitor) × (first.objects.objects ≡ commons.now.objects) × (first.watch.env ≡ commons.now.env) }
         { wait_for_a_signal(rt, commons, first, note) },
-        move || -> ()
+        move || -> bool
             requires { IsSync R.row × (second.seat.monitor ≡ commons.now.monitor) × (second.watch.env ≡ commons.now.env) }
         {
             let Kit {
@@ -332,16 +382,16 @@ fn signal_beside<R: Threads + Wait + Sync>(
                 objects: _,
                 mut watch,
             } = second;
-            signal_until_told(rt, &commons.monitor, seat);
+            let told = signal_until_told(rt, &commons.monitor, seat);
             if commons.env.knows(&mut watch, note) {
                 commons.env.notify(&mut watch, note);
             }
+            told
         },
-    );
-    place
+    )
 }
 
-/// A signal ends it, and the answer is the place of its variable.
+/// A signal ends it, before the note does, and the answer is the first place of its variable.
 #[test]
 fn a_signal_ends_it(rt: HostRuntime) -> Result<(), Fail> {
     let Some((commons, mut first, second)) = two(rt.alloc(), 1) else {
@@ -350,8 +400,8 @@ fn a_signal_ends_it(rt: HostRuntime) -> Result<(), Fail> {
     let Ok(note) = commons.env.note_new(&mut first.watch, None, None) else {
         panic!(rt; "no note")
     };
-    let place = signal_beside(&rt, &commons, first, second, note);
-    assert_eq!(rt; place, Some(1));
+    let came = signal_beside(&rt, &commons, first, second, note);
+    assert_eq!(rt; came, (Some(1), true));
     Ok(())
 }
 
@@ -361,12 +411,14 @@ fn what_is_ready_is_answered_at_once(rt: HostRuntime) -> Result<(), Fail> {
     let Some((commons, first, _)) = two(rt.alloc(), 0) else {
         panic!(rt; "no monitor, objects and environment")
     };
-    let ready = wait_for_either(&rt, &commons, first, None);
+    let inside = enter(&rt, &commons, first);
+    let ready = wait_for_either(&rt, &commons, inside, None);
     assert_eq!(rt; ready, 1);
     let Some((commons, first, _)) = two(rt.alloc(), 1) else {
         panic!(rt; "no monitor, objects and environment")
     };
-    let past = wait_for_either(&rt, &commons, first, Some(0));
+    let inside = enter(&rt, &commons, first);
+    let past = wait_for_either(&rt, &commons, inside, Some(0));
     assert_eq!(rt; past, 2);
     Ok(())
 }

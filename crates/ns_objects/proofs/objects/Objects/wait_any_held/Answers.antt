@@ -2,11 +2,11 @@ use Rattle.std.proofs.Common.{◌≡◌, ◌∙◌, inr, sym, subst, arith}
 use denote.Param.{layout}
 use Rattle.ns_model.specs.Cvs.{is_in}
 use Rattle.ns_model.specs.declared.cvs.Cvs.{Cvs}
-use Rattle.ns_objects.specs.Any.{BothKnown}
+use Rattle.ns_objects.specs.Any.{BothKnown, RoundAnswers}
 use Rattle.ns_objects.specs.Held.{is_among}
 use Rattle.ns_objects.proofs.HeldWaits.{all_low, caller_fits, place_within, some_wait, waited, waiting_fits}
 use Rattle.ns_objects.proofs.Rests.{env_grows_not, grows_not}
-use Rattle.ns_objects.proofs.Rounds.{all_known_later}
+use Rattle.ns_objects.proofs.Rounds.{all_known_later, nothing_later}
 use Rattle.ns_objects.proofs.objects.Objects.wait_any_held.Goals as goal
 
 pub any_begin-waiting-requires : goal.any_begin-waiting-requires
@@ -53,6 +53,7 @@ returns-clause-answers g c =
     let first : BothKnown = (c.args.seat.now, c.args.watch.now) in let old : BothKnown = (c.look_at_any.new.seat, c.look_at_any.new.watch) in let new : BothKnown = (c.await_any.new.seat, c.await_any.new.watch) in
     let look = c.look_at_any.ensures in let e = c.await_any.ensures in let cvs = c.variables_in.result in
     inr (
+      nothing_later c.args.items.now c.args.deadline first old new (e.grows, e.watch) (subst (RoundAnswers c.args.items.now c.args.deadline first old) c.in_default.is look.answers),
       cvs,
       e.answers.0,
       c.variables_in.ensures.among,
