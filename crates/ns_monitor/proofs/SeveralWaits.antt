@@ -1,12 +1,12 @@
 -- Waits for any of several condition variables: where they stand, and what they tell once they are over.
 use Rattle.std.proofs.Common.{◌≡◌, ℕ, true, false, List, [], ◌∷◌, ◌++◌, Option, None, Some, append-nil, refl, ap, sym, ◌∙◌, subst}
 use Rattle.ns_env.specs.declared.limits.Cause.{Cause}
-use Rattle.ns_gate.specs.Prelude.{SeatOf, HasAnswered, HasMode, HasSince, IsAtPlace, IsSettled, IsWide, Performed, PlaceFits, the, AwaitWakeInWait, InQueuing, InWait, Load, LoadFlag, Flag, Look, Looked, Truths, Mode, TableId, row_after, Event, Course, InHand, section_of, Await, Held}
+use Rattle.ns_gate.specs.Prelude.{SeatOf, HasAnswered, HasMode, HasSince, IsSettled, IsTold, IsWide, Performed, PlaceFits, the, AwaitWakeInWait, InQueuing, InWait, Load, LoadFlag, Flag, Look, Looked, Truths, Mode, TableId, row_after, Course, InHand, section_of, Await, Held}
 use Rattle.ns_gate.proofs.Calls.{since, since_then}
 use Rattle.ns_model.specs.declared.cvs.Cvs.{Cvs}
 use Rattle.ns_model.specs.declared.event.Exit.TheVariants.{AnyWait}
 use Rattle.ns_monitor.proofs.Waits.{looks_out, waits_on}
-use Rattle.ns_monitor.specs.Prelude.{AreSome, HasBegunToWait, HasComeBackFromAny, IsByOneOf, IsFreshIn, IsWaitingForAny, Known, SaysWoken, WaitKnown, WaitsStill, any_waiting, at_will, known_of, waits_for_any}
+use Rattle.ns_monitor.specs.Prelude.{AreSome, HasBegunToWait, HasComeBackFromAny, HasSeenTrue, IsByOneOf, IsFreshIn, IsWaitingForAny, Known, SaysWoken, WaitKnown, WaitsStill, any_waiting, at_will, known_of, waits_for_any}
 use Rattle.ns_word.specs.Courses.{HasLeft}
 use Rattle.ns_word.specs.Meanings.{AnyWaitMeans, MayEnd, leave_any_told}
 use Rattle.ns_word.specs.Walks.{pays}
@@ -30,6 +30,13 @@ by_one cvs looked None may = tt
 by_one cvs looked (Some k) may = may
 
 module _ {C : Type 0} {N : ℕ} (truths : Truths C) where
+  -- behind each step, what a seat has seen is such a history
+  pub true_now : (b : Option (Walk C)) (act : Act C) (found : Found) (me now : SeatOf C N) → Performed truths b act found me now → HasSeenTrue truths now
+  true_now b act found me now p =
+      let d = p.did in let w = the now.0 in
+      let told = subst (λ n. IsTold truths.holds n (d.history ++ d.commits) w.at.seat w.at.walk w.told) (sym d.seat_count) d.told_now in
+      record { legal = told.legal; by_seats = told.by_seats; own = sym told.own_seen }
+
   -- a seat at rest with a section in hand may begin to wait for variables that there are
   pub may_wait_for_any : (mode : Mode) (cvs : Cvs) (held : Option (Held C N)) → AreSome cvs → HasMode mode held → IsSettled truths held → PlaceFits truths (Some (InWait (waits_for_any mode cvs) (InQueuing false Load))) held
   may_wait_for_any mode cvs None are in_mode settled = absurd in_mode
@@ -55,6 +62,8 @@ module _ {C : Type 0} {N : ℕ} (truths : Truths C) where
           begun = s.calls;
           mine = subst (λ (o : Option (Held C N)). InHand o (λ held. (the now.0).told.mine ≡ (the me.0).told.mine ++ section_of truths.holds (the me.0).at.seat held (AnyWait cvs) ∷ [])) (sym before)
               (s.mine ∙ ap (λ es. (the me.0).told.mine ++ es) (sym s.committed ∙ (left.committed ∙ (λ i. section_of truths.holds (s.seat i) left.was (AnyWait cvs) ∷ []))));
+          true_to = w.true_to;
+          call = w.at.walks;
           held = w.at.fits.0.0;
           owes = w.owes;
           empty = w.at.empty refl;
@@ -68,7 +77,7 @@ module _ {C : Type 0} {N : ℕ} (truths : Truths C) where
     still_waits flag me mid now set w loads looks =
         let out = looks_out truths (waits_for_any mode cvs) flag me mid set refl w.at loads in
         let on = waits_on truths (waits_for_any mode cvs) None mid now refl out looks in (
-          record { at = on; owes = owes_none (Look at_will false) (Looked None) (InWait (waits_for_any mode cvs) AwaitWakeInWait) mid now looks on.walks refl; are = w.are },
+          record { at = on; true_to = true_now None (Look at_will false) (Looked None) mid now looks; owes = owes_none (Look at_will false) (Looked None) (InWait (waits_for_any mode cvs) AwaitWakeInWait) mid now looks on.walks refl; are = w.are },
           since_then None _ _ _ (since truths None LoadFlag (Flag flag) me mid loads) (since truths None (Look at_will false) (Looked None) mid now looks),
         )
 
@@ -80,8 +89,8 @@ module _ {C : Type 0} {N : ℕ} (truths : Truths C) where
         let whole : section_of truths.holds (the me.0).at.seat was.was (AnyWait cvs) ∷ s.commits ≡ section_of truths.holds (the now.0).at.seat is.was (AnyWait cvs) ∷ [] = sym (ap (λ es. es ++ s.commits) was.committed) ∙ (sym s.committed ∙ is.committed) in ap behind whole
 
     pub tells_still : (old : WaitKnown C N) (was is : TableId) (me now : SeatOf C N) → record { known = known_of was me; cvs = cvs } ≡ old → is ≡ old.known.monitor → IsWaitingForAny truths mode cvs me → IsWaitingForAny truths mode cvs now → HasSince None (the me.0) (the now.0)
-        → WaitsStill old (record { known = known_of is now; cvs = cvs })
-    tells_still old was is me now view same v w s = subst (λ (k : WaitKnown C N). is ≡ k.known.monitor → WaitsStill k (record { known = known_of is now; cvs = cvs })) view (λ same. record {
+        → WaitsStill truths old (record { known = known_of is now; cvs = cvs })
+    tells_still old was is me now view same v w s = subst (λ (k : WaitKnown C N). is ≡ k.known.monitor → WaitsStill truths k (record { known = known_of is now; cvs = cvs })) view (λ same. record {
       variables = refl;
       monitor = same;
       seat_count = s.seat_count;
@@ -89,6 +98,8 @@ module _ {C : Type 0} {N : ℕ} (truths : Truths C) where
       begins = s.begins;
       begun = s.calls ∙ append-nil (the me.0).told.begun;
       mine = s.mine ∙ (ap (λ es. (the me.0).told.mine ++ es) (silent me now v w s) ∙ append-nil (the me.0).told.mine);
+      true_to = w.true_to;
+      call = w.at.walks ∙ sym v.at.walks;
       held = w.at.fits.0.0 ∙ sym v.at.fits.0.0;
       owes = w.owes;
       empty = w.at.empty refl;

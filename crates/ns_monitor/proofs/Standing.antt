@@ -3,8 +3,8 @@ use Rattle.std.proofs.Common.{◌≡◌, ℕ, ◌<◌, Bool, true, false, cond, 
 use Rattle.ns_gate.proofs.Calls.{begins, can_go, goes, goes_on, since}
 use Rattle.ns_gate.proofs.Findings.{does}
 use Rattle.ns_word.specs.declared.owed.Owed.{Owed}
-use Rattle.ns_word.specs.Owed.{called_of, wakes_of}
-use Rattle.ns_gate.specs.Prelude.{SeatOf, HasSince, IsAtPlace, IsAtRest, HasReached, OwesBelow, GateView, rest_of, rest, the, act_returning, carried_by, Carries, found_returned, lists_returned, some_returned, CanStep, HasStepped, IsOwedNext, Performed, standing_after, view_in, woken_of, seats_of, row_in, SectionFits, changed, meets_at, moves, Change, Bits, Request, Held, Queue, Leave, QueueToWait, Truths, Event, Lists, asked_of, IsPackable, owes_more, bits_of, has_some, Effect, LockState, Part, part_of, Told, got_of, has_queues, want_of, release_has_queues, scan_place, word_taken, Act, LoadWord, LoadFlag, PayWake, TakeQueues, Acquire, Release, ReturnQueues, ReleaseReturning, WaitReturning, Found, Saw, Made, Flag, Paid, AcquireLoad, ReleaseLoad, ScanCells, ScanAndRelease, SignalLoad, SeatView, ForLock, ForWait, LeaveLoad, Load, InQueuing, InLeaving, On, Idle, Walk, InTry, InAcquire, InRelease, InCells, InWait, InSignal, InShow, ReturnShown, Taking, ToChange, ToQueue, Word}
+use Rattle.ns_word.specs.Owed.{called_of}
+use Rattle.ns_gate.specs.Prelude.{SeatOf, HasSince, IsAtPlace, IsAtRest, HasReached, OwesBelow, GateView, rest_of, rest, the, act_returning, carried_by, Carries, found_returned, lists_returned, some_returned, CanStep, HasStepped, IsOwedNext, Performed, standing_after, view_in, woken_of, row_in, SectionFits, changed, meets_at, moves, Change, Bits, Request, Held, Queue, Leave, QueueToWait, Truths, Event, Lists, asked_of, IsPackable, owes_more, bits_of, has_some, Effect, LockState, Part, part_of, Told, got_of, has_queues, want_of, release_has_queues, scan_place, word_taken, Act, LoadWord, LoadFlag, PayWake, TakeQueues, Acquire, Release, ReturnQueues, ReleaseReturning, WaitReturning, Found, Saw, Made, Flag, Paid, AcquireLoad, ReleaseLoad, ScanCells, ScanAndRelease, SignalLoad, SeatView, ForLock, ForWait, LeaveLoad, Load, InQueuing, InLeaving, On, Idle, Walk, InTry, InAcquire, InRelease, InCells, InWait, InSignal, InShow, ReturnShown, Taking, ToChange, ToQueue, Word}
 use Rattle.ns_gate.specs.declared.queues.Returning.{Returning}
 use Rattle.ns_gate.specs.declared.queues.Returning.TheVariants.{Changed, Released, Waited}
 use Rattle.ns_gate.specs.declared.queues.Turned.{Turned}

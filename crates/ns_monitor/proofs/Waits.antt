@@ -1,5 +1,5 @@
 -- A wait outside, step by step: it queues, waits to be woken or ended, and may leave its list.
-use Rattle.std.proofs.Common.{◌≡◌, ◌≢◌, ℕ, Bool, true, false, cond, nat_lt, ne_eqb, Option, None, Some, refl, ap, sym, ◌∙◌, subst}
+use Rattle.std.proofs.Common.{◌≡◌, ◌≢◌, ℕ, Bool, true, false, cond, ne_eqb, Option, None, Some, refl, ap, sym, ◌∙◌, subst}
 use Rattle.std.proofs.lemmas.Bool.{cond_both}
 use Rattle.ns_gate.proofs.Calls.{goes}
 use Rattle.ns_gate.specs.Prelude.{SeatOf, IsAtPlace, HasReached, the, Performed, Truths, Home, stands_at, arrival_of, home_of, is_limited, outcome_taken, armed_place, got_of, AcquireLoad, ArmFlag, LoadFlag, Look, LeaveSelf, Flag, Looked, Made, Cause, Await, ForWait, AwaitWakeToLeave, Leave, LeaveLoad, Outcome, Ended, ArmToWait, Load, QueueToWait, Subject, OnCondition, OnVariables, Wait, AwaitWakeInWait, InLeaving, InQueuing, LookOut, Idle, On, InAcquire, InWait, Arrival, AsFresh, Word, LoadToScan, wait_has_queues}

@@ -44,13 +44,22 @@ pub record WaitKnown (C : Type 0) (N : ℕ) : Type 0 where
   pub known : Known C N
   pub cvs : Cvs
 
+-- what a seat has seen is a legal history by the seats that there are, in which its own events are just its own
+abbrev pub HasSeenTrue : {C : Type 0} {N : ℕ} → Truths C → SeatOf C N → Type 0
+HasSeenTrue truths me = IsTrueToHistory truths (the me.0).seat_count (the me.0).at.seat (the me.0).told.seen (the me.0).told.mine
+
+-- the same, as contracts see it
+abbrev pub KnowsTruly : {C : Type 0} {N : ℕ} → Truths C → Known C N → Type 0
+KnowsTruly truths known = IsTrueToHistory truths known.seat_count known.seat known.seen known.mine
+
 -- a seat waits so: it stands where it waits to be woken, and owes nobody a wake
 pub record IsWaitingForAny {C : Type 0} {N : ℕ} (truths : Truths C) (mode : Mode) (cvs : Cvs) (me : SeatOf C N) : Type 0 where
   pub at : IsAtPlace truths (InWait (waits_for_any mode cvs) AwaitWakeInWait) me
+  pub true_to : HasSeenTrue truths me
   pub owes : (the me.0).at.owed ≡ []
   pub are : AreSome cvs
 
--- The caller has begun to wait for these variables: the section that was in hand was committed, with the wait for them as its exit, and nothing else; nothing is in hand. What it has seen begins with what it had seen. It has begun that call, which isn't over; and it owes no wake, and carries nothing.
+-- The caller has begun to wait for these variables: the section that was in hand was committed, with the wait for them as its exit, and nothing else; nothing is in hand. What it has seen begins with what it had seen, and is a legal history by the seats that there are, in which its own events are just its own. It has begun that call, in which it waits to be woken; and it owes no wake, and carries nothing.
 pub record HasBegunToWait {C : Type 0} {N : ℕ} (truths : Truths C) (mode : Mode) (cvs : Cvs) (old : Known C N) (new : WaitKnown C N) : Type 0 where
   pub variables : new.cvs ≡ cvs
   pub monitor : new.known.monitor ≡ old.monitor
@@ -59,12 +68,14 @@ pub record HasBegunToWait {C : Type 0} {N : ℕ} (truths : Truths C) (mode : Mod
   pub begins : BeginsWith new.known.seen old.seen
   pub begun : new.known.begun ≡ old.begun ++ any_waiting N mode cvs ∷ []
   pub mine : InHand old.held (λ was. new.known.mine ≡ old.mine ++ section_of truths.holds old.seat was (AnyWait cvs) ∷ [])
+  pub true_to : KnowsTruly truths new.known
+  pub call : new.known.call ≡ Some (InWait (waits_for_any mode cvs) AwaitWakeInWait)
   pub held : new.known.held ≡ None
   pub owes : new.known.owed ≡ []
   pub empty : new.known.carries ≡ []
 
--- It waits still: nothing of it has changed but what it has seen.
-pub record WaitsStill {C : Type 0} {N : ℕ} (old new : WaitKnown C N) : Type 0 where
+-- It waits still: nothing of it has changed but what it has seen, which is such a history.
+pub record WaitsStill {C : Type 0} {N : ℕ} (truths : Truths C) (old new : WaitKnown C N) : Type 0 where
   pub variables : new.cvs ≡ old.cvs
   pub monitor : new.known.monitor ≡ old.known.monitor
   pub seat_count : new.known.seat_count ≡ old.known.seat_count
@@ -72,6 +83,8 @@ pub record WaitsStill {C : Type 0} {N : ℕ} (old new : WaitKnown C N) : Type 0 
   pub begins : BeginsWith new.known.seen old.known.seen
   pub begun : new.known.begun ≡ old.known.begun
   pub mine : new.known.mine ≡ old.known.mine
+  pub true_to : KnowsTruly truths new.known
+  pub call : new.known.call ≡ old.known.call
   pub held : new.known.held ≡ old.known.held
   pub owes : new.known.owed ≡ []
   pub empty : new.known.carries ≡ []

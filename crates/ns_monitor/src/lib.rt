@@ -26,7 +26,7 @@
 //!
 //! What is promised: there is one legal history of all sections and wakes, that begins with what each
 //! caller has seen, and in which its own events are just what it has done: the sections that it has
-//! released or left by a wait, its signals and broadcasts, and that it has left a variable. A section
+//! released or left by a wait, its signals and broadcasts, and that it has left a variable, or several. A section
 //! begins at the row after that history. Two callers compare what they have seen by
 //! [`Monitor::meet`], or, with sections that read, by [`Monitor::both_read`]; between callers that never
 //! met, nothing is said of the order. The words that say so in contracts are in `Rattle.ns_monitor.specs`.
@@ -34,7 +34,9 @@
 //! [`Monitor::wait`] leaves a section until a condition on the row is true, and comes back with
 //! another in the same mode; the one with a deadline may be ended by that or by a note of ns_note, and
 //! says which. [`Monitor::cv_wait_with_deadline`] waits for one of four condition variables, by number,
-//! until [`Monitor::signal`] or [`Monitor::broadcast`] wakes the caller, or it is ended likewise.
+//! until [`Monitor::signal`] or [`Monitor::broadcast`] wakes the caller, or it is ended likewise. One for
+//! any of several variables is three calls, for callers that look at other things between them:
+//! [`Monitor::any_begin`], [`Monitor::any_poll`] and [`Monitor::any_leave`].
 //! [`Monitor::debug_state_and_waiters`] tells how the lock stands, and who waits.
 //!
 //! The behaviour is that of nsync's `nsync_mu`, `nsync_mu_wait` and `nsync_cv`: waiters queue, one

@@ -3,7 +3,7 @@
 
 ghost use Rattle.std.specs.Prelude.{◌≡◌, ◌≢◌, None, Some, false, []};
 ghost use Rattle.ns_gate.specs.Prelude.{HasSince, IsAtPlace, IsAtRest, IsFirst, HasReached, PlaceFits, the, asked_of, IsPackable, has_some, got_of};
-ghost use Rattle.ns_monitor.specs.Prelude.{Decides, HasInHand, HasTakenAt, IsNumberOf, OwesTheWoken, Pays, PutsBack, Sleeps, WentOrTook, found_back, going_of, returning_at, returning_of};
+ghost use Rattle.ns_monitor.specs.Prelude.{Decides, HasInHand, HasSeenTrue, HasTakenAt, IsNumberOf, OwesTheWoken, Pays, PutsBack, Sleeps, WentOrTook, found_back, going_of, returning_at, returning_of};
 ghost use Rattle.ns_monitor.specs.declared.going.Going.TheVariants.{Changing};
 
 use crate::going::Going;
@@ -129,6 +129,7 @@ impl<C: Condition<N>, const N: usize> Monitor<C, N> {
         ensures since { HasSince None (the seat.old.me.0) (the seat.new.me.0) }
         ensures returned { HasReached C.means (asked_of _walk) (got_of N _walk (found_back C.means returning first seat.old.me)) seat.new.me }
         ensures owes { OwesTheWoken C.means returning seat.old.me (the seat.new.me.0).at.owed }
+        ensures true_to { HasSeenTrue C.means seat.new.me }
     {
         let mut word = first;
         for _ in rt.forever() {
@@ -177,6 +178,7 @@ impl<C: Condition<N>, const N: usize> Monitor<C, N> {
         ensures since { HasSince None (the seat.old.me.0) (the seat.new.me.0) }
         ensures paid { HasReached C.means (asked_of _walk) (got_of N _walk (Found.Paid false)) seat.new.me }
         ensures none { (the seat.new.me.0).at.owed ≡ [] }
+        ensures true_to { HasSeenTrue C.means seat.old.me → HasSeenTrue C.means seat.new.me }
     {
         for &wake in owed.as_slice() {
             self.gate.pay_wake(seat, wake);

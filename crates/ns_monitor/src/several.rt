@@ -25,7 +25,9 @@ use std::sync::Wait;
 /// A wait for any of several condition variables that was begun and isn't over.
 ///
 /// For contracts it carries what its caller knows, as [`Caller`] does, and the variables. Where it is
-/// dropped, its seat stays among the waiters of these variables, and a signal may be spent on it.
+/// dropped, its seat stays among the waiters of these variables, and a signal may be spent on it; where
+/// that has moved it to the waiters for the lock, and a release has woken it, no release wakes any other
+/// from then on. So it should be asked again soon.
 #[derive(Drop)]
 pub struct AnyWaiting<H: Renewed<C, N>, C: Condition<N>, const N: usize> {
     /// The seat of the gate, which carries what is known.
@@ -108,7 +110,8 @@ impl<C: Condition<N>, const N: usize> Monitor<C, N> {
     /// in the mode of the section that was left, and gives the section and the number of the variable whose
     /// signal or broadcast took it; else gives the wait back, with nothing changed.
     ///
-    /// Waits for the lock only where it was woken.
+    /// Waits for the lock only where it was woken. The behaviour is that of `nsync_wait_n` where it looks
+    /// whether it was woken. Needs a wait of this monitor.
     pub fn any_poll<H: Renewed<C, N>, R: Wait>(
         &self,
         rt: &R,
@@ -116,7 +119,7 @@ impl<C: Condition<N>, const N: usize> Monitor<C, N> {
     ) -> Result<(Caller<H, C, N>, usize), AnyWaiting<H, C, N>>
         requires of { waiting.known.monitor ≡ self.now }
         ensures woken { IfOk result (λ back. HasComeBackFromAny C.means H.mode (Some back.1) waiting back.0) }
-        ensures still { IfErr result (λ still. WaitsStill waiting still) }
+        ensures still { IfErr result (λ still. WaitsStill C.means waiting still) }
     {
         let AnyWaiting {
             mut seat,
@@ -146,6 +149,10 @@ impl<C: Condition<N>, const N: usize> Monitor<C, N> {
     /// was left, and gives the section. Where a signal or a broadcast had taken the wait already, it also
     /// gives the number of the variable that this was of: a wake is never lost. Else it has left all the
     /// variables before any took it.
+    ///
+    /// Waits for the lock, while another call has the waiter queues, and where somebody owes it a wake until
+    /// that has come. The behaviour is that of `nsync_wait_n` where it takes the caller out of every queue.
+    /// Needs a wait of this monitor.
     pub fn any_leave<H: Renewed<C, N>, R: Wait>(
         &self,
         rt: &R,

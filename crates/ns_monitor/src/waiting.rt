@@ -2,7 +2,7 @@
 
 ghost use Rattle.std.specs.Prelude.{◌≡◌, None, Some, IfErr, true, []};
 ghost use Rattle.ns_gate.specs.Prelude.{row_in, IsInRange, is_limited, AcquireLoad, ForWait, LeaveLoad, Load, AwaitWakeInWait, InLeaving, InQueuing, InAcquire, InWait, HasSince, IsAtPlace, the};
-ghost use Rattle.ns_monitor.specs.Prelude.{HasAcquired, HasRow, HasTakenAt, IfEnded, IsNumberOf, WokenOrEnded, lacks_row};
+ghost use Rattle.ns_monitor.specs.Prelude.{HasAcquired, HasRow, HasSeenTrue, HasTakenAt, IfEnded, IsNumberOf, WokenOrEnded, lacks_row};
 
 use crate::monitor::Monitor;
 use crate::watching::Watch;
@@ -78,6 +78,7 @@ impl<C: Condition<N>, const N: usize> Monitor<C, N> {
         ensures since { HasSince None (the seat.old.me.0) (the seat.new.me.0) }
         ensures waits { IsAtPlace C.means (InWait wait AwaitWakeInWait) seat.new.me }
         ensures owes { (the seat.new.me.0).at.owed ≡ [] }
+        ensures true_to { HasSeenTrue C.means seat.new.me }
     {
         self.gate.arm_flag(seat, number);
         let parts = word.parts();

@@ -46,8 +46,8 @@ all_low items now named = every_map (IsNamed now.0 now.1) IsLow (low_too now) it
 
 module _ {C : Type 0} {N : ℕ} where
   -- who waits still, and then still
-  pub still_on : (a b c : WaitKnown C N) → WaitsStill a b → WaitsStill b c → WaitsStill a c
-  still_on a b c s t = record {
+  pub still_on : (truths : Truths C) (a b c : WaitKnown C N) → WaitsStill truths a b → WaitsStill truths b c → WaitsStill truths a c
+  still_on truths a b c s t = record {
     variables = t.variables ∙ s.variables;
     monitor = t.monitor ∙ s.monitor;
     seat_count = t.seat_count ∙ s.seat_count;
@@ -55,6 +55,8 @@ module _ {C : Type 0} {N : ℕ} where
     begins = begins_through c.known.seen b.known.seen a.known.seen t.begins s.begins;
     begun = t.begun ∙ s.begun;
     mine = t.mine ∙ s.mine;
+    true_to = t.true_to;
+    call = t.call ∙ s.call;
     held = t.held ∙ s.held;
     owes = t.owes;
     empty = t.empty;
@@ -62,7 +64,7 @@ module _ {C : Type 0} {N : ℕ} where
 
   module _ (truths : Truths C) (mode : Mode) (by : Option ℕ) where
     -- who waited still, and then has come back
-    pub back_from_still : (a b : WaitKnown C N) (new : Known C N) → WaitsStill a b → HasComeBackFromAny truths mode by b new → HasComeBackFromAny truths mode by a new
+    pub back_from_still : (a b : WaitKnown C N) (new : Known C N) → WaitsStill truths a b → HasComeBackFromAny truths mode by b new → HasComeBackFromAny truths mode by a new
     back_from_still a b new s t = record {
       monitor = t.monitor ∙ s.monitor;
       seat_count = t.seat_count ∙ s.seat_count;

@@ -2,6 +2,7 @@
 
 ghost use Rattle.std.specs.Prelude.{◌≡◌, ◌≤◌, ◌<◌, ℕ, [], length, true};
 ghost use Rattle.ns_model.specs.Tallies.{Every};
+ghost use Rattle.ns_monitor.specs.Several.{KnowsTruly};
 ghost use Rattle.ns_note.specs.Known.{Grows as EnvGrows, IsTrueToHistory as EnvTrue};
 ghost use Rattle.ns_objects.specs.Any.{IsNamed};
 ghost use Rattle.ns_objects.specs.Held.{AreAmong, HeldAnswers, IsLow, IsSmall, WaitAnswers, is_among, place_in};
@@ -68,6 +69,7 @@ impl Objects {
         requires objects { seat.old.objects ≡ self.now }
         requires monitor { waiting.known.monitor ≡ monitor.now }
         requires idle { (waiting.known.owed ≡ []) × (waiting.known.carries ≡ []) }
+        requires seen { KnowsTruly C.means waiting.known }
         requires variables { AreAmong waiting.cvs items.now }
         requires env { watch.old.env ≡ env.now }
         requires named { Every (IsNamed seat.old watch.old) items.now }

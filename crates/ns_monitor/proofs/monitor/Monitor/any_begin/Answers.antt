@@ -1,4 +1,4 @@
-use Rattle.std.proofs.Common.{◌≡◌, ◌∙◌, sym, subst, ap, refl, arith, true, false, Some, None}
+use Rattle.std.proofs.Common.{◌≡◌, ◌∙◌, sym, subst, ap, refl, arith, false, Some}
 use Rattle.ns_gate.specs.Prelude.{TableId, HasSince, IsAtPlace, IsInRange, the, HasMode, AwaitWakeInWait, InQueuing, InWait, Load, Wait}
 use Rattle.ns_gate.proofs.Calls.{since_then}
 use Rattle.ns_gate.proofs.Room.{queues_fit}
@@ -31,6 +31,7 @@ left g c = subst (λ (w : Wait g.row.C.Denot). HasSince (Some (InWait w (InQueui
 waits : (g : Over) (c : After-drop-held-inside g) → IsWaitingForAny g.C.Condition.means g.H.Section.mode c.args.cvs c.leave_section.new.seat.me
 waits g c = record {
   at = subst (λ (w : Wait g.row.C.Denot). IsAtPlace g.C.Condition.means (InWait w AwaitWakeInWait) c.leave_section.new.seat.me) (wait_is g c) c.leave_section.ensures.waits;
+  true_to = c.leave_section.ensures.true_to;
   owes = c.leave_section.ensures.owes;
   are = c.requires.variables;
 }

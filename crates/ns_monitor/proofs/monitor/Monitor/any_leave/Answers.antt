@@ -1,4 +1,4 @@
-use Rattle.std.proofs.Common.{◌≡◌, ◌∙◌, sym, subst, ap, refl, arith, Some, None}
+use Rattle.std.proofs.Common.{◌≡◌, ◌∙◌, sym, subst, ap, arith, None}
 use Rattle.ns_gate.specs.Prelude.{TableId, HasAnswered, IsAtPlace, IsInRange, the, Await, AwaitWakeInWait, ForWait, InWait, Wait}
 use Rattle.ns_gate.proofs.Room.{queues_fit}
 use Rattle.ns_monitor.proofs.Returns.{fits_fresh}

@@ -1,10 +1,9 @@
-use Rattle.std.proofs.Common.{◌≡◌, ◌∙◌, sym, subst, ap, refl, arith, false, Some, None}
+use Rattle.std.proofs.Common.{◌∙◌, sym, subst, ap, refl, arith, false, Some, None}
 use Rattle.ns_env.specs.declared.limits.Limits.{Limits}
-use Rattle.ns_gate.specs.Prelude.{TableId, CanStep, HasAnswered, HasReached, HasSince, IsAtPlace, Performed, the, arrival_of, got_of, AcquireLoad, Await, AwaitWakeInWait, Flag, ForWait, InAcquire, InWait, LoadFlag, Look, Looked, LookOut, Wait}
+use Rattle.ns_gate.specs.Prelude.{TableId, CanStep, HasAnswered, HasSince, IsAtPlace, Performed, the, got_of, AcquireLoad, Await, AwaitWakeInWait, Flag, ForWait, InAcquire, InWait, LoadFlag, Look, Looked, LookOut, Wait}
 use Rattle.ns_gate.proofs.Calls.{can_go, goes, since, since_then}
 use Rattle.ns_gate.proofs.Room.{queues_fit}
-use Rattle.ns_monitor.proofs.Returns.{fits_fresh}
-use Rattle.ns_monitor.proofs.SeveralWaits.{any_back_fresh, has_come_back, still_waits, tells_still}
+use Rattle.ns_monitor.proofs.SeveralWaits.{has_come_back, still_waits, tells_still}
 use Rattle.ns_monitor.proofs.Standing.{same_number}
 use Rattle.ns_monitor.proofs.Waits.{looks_out, woken_next}
 use Rattle.ns_monitor.specs.Prelude.{HasAcquired, IsWaitingForAny, WaitKnown, at_will, waits_for_any}

@@ -54,6 +54,7 @@ returns g c = record {
       since_then None _ _ _ (still_since g.C.Condition.means None _ c.load_to_scan.new.seat.me scan.new.seat.me scan.ensures.seat.1 (since_start g after)) (since_then None _ _ _ c.put_back.ensures.since c.pay.ensures.since);
   waits = search rules;
   owes = c.pay.ensures.none;
+  true_to = c.pay.ensures.true_to c.put_back.ensures.true_to;
 }
 
 pub called-owed-requires : goal.called-owed-requires

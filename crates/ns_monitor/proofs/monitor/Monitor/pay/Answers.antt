@@ -3,6 +3,7 @@ use Rattle.std.proofs.lemmas.List.{drop_all, drop_more}
 use Rattle.ns_gate.specs.Prelude.{Owed, TableId, the, owes_more, PayWake}
 use Rattle.ns_gate.proofs.Calls.{can_go, since, since_itself, since_then}
 use Rattle.ns_gate.proofs.Room.{queues_fit}
+use Rattle.ns_monitor.proofs.SeveralWaits.{true_now}
 use Rattle.ns_monitor.proofs.Standing.{all_paid, can_pay, is_paid, owes_next}
 use Rattle.ns_monitor.proofs.monitor.Monitor.pay.Goals as goal
 
@@ -11,7 +12,7 @@ abbrev none : Owed
 none = record { seat = 0; value = 0 }
 
 pub loop-wake-init : goal.loop-wake-init
-loop-wake-init g c = (refl, c.requires.owed ∙ sym c.as_slice-wake-items.ensures.value, since_itself (the c.args.seat.now.me.0), c.requires.at)
+loop-wake-init g c = (refl, c.requires.owed ∙ sym c.as_slice-wake-items.ensures.value, since_itself (the c.args.seat.now.me.0), c.requires.at, λ t. t)
 
 pub pay_wake-requires : goal.pay_wake-requires
 pay_wake-requires g c = let t = g.C.Condition.means in let inv = c.loop-wake.invariant in let i = c.loop-wake.wake-index in let items = c.as_slice-wake-items.result.now in
@@ -24,7 +25,7 @@ loop-wake-preserved g c = let t = g.C.Condition.means in let inv = c.loop-wake.i
     let some = inv.1 ∙ drop_more items i none c.loop-wake-test.true in
     let at = can_pay t c.args._walk (get_or items i none) (drop (i + 1) items) me c.requires.pays some inv.3 in
     let paid = is_paid t c.args._walk (get_or items i none) (drop (i + 1) items) me now c.requires.pays some at c.pay_wake.ensures.did in
-    (◌∙◌ {A = TableId} c.pay_wake.ensures.seat inv.0, paid.0, since_then None _ _ _ inv.2 (since t None PayWake (owes_more (the me.0).at.owed) me now c.pay_wake.ensures.did), paid.1)
+    (◌∙◌ {A = TableId} c.pay_wake.ensures.seat inv.0, paid.0, since_then None _ _ _ inv.2 (since t None PayWake (owes_more (the me.0).at.owed) me now c.pay_wake.ensures.did), paid.1, λ seen. true_now t None PayWake _ me now c.pay_wake.ensures.did)
 
 pub returns : goal.returns
 returns g c = record {
@@ -32,5 +33,6 @@ returns g c = record {
   since = c.loop-wake.invariant.2;
   paid = let inv = c.loop-wake.invariant in
       all_paid g.C.Condition.means c.args._walk c.loop-wake.seat.me (inv.1 ∙ drop_all c.loop-wake.wake-index c.as_slice-wake-items.result.now (omega arith)) inv.3;
+  true_to = c.loop-wake.invariant.4;
   none = c.loop-wake.invariant.1 ∙ drop_all c.loop-wake.wake-index c.as_slice-wake-items.result.now (omega arith);
 }

@@ -3,6 +3,7 @@ use Rattle.ns_gate.specs.Prelude.{TableId, the, act_returning, CanStep, Performe
 use Rattle.ns_gate.proofs.Calls.{since, since_itself, since_then}
 use Rattle.ns_gate.proofs.Stays.{stays_itself, stays_through}
 use Rattle.ns_gate.proofs.Room.{queues_fit}
+use Rattle.ns_monitor.proofs.SeveralWaits.{true_now}
 use Rattle.ns_monitor.proofs.Standing.{can_put_back, hand_stays, is_back_for, misses_back}
 use Rattle.ns_monitor.specs.Prelude.{found_back}
 use Rattle.ns_monitor.proofs.monitor.Monitor.put_back.Goals as goal
@@ -24,6 +25,7 @@ returns-in-Ok g c = record {
       (is_back_for g.C.Condition.means c.args.returning c.args._walk c.args.first c.loop.word c.args.turned c.args.seat.now.me c.loop.seat.me c.exchange_to_return.new.seat.me c.requires.returning c.requires.puts inv.6 inv.5 c.requires.hand c.in-Ok.ensures.did).0;
   owes = let inv = c.loop.invariant in
       (is_back_for g.C.Condition.means c.args.returning c.args._walk c.args.first c.loop.word c.args.turned c.args.seat.now.me c.loop.seat.me c.exchange_to_return.new.seat.me c.requires.returning c.requires.puts inv.6 inv.5 c.requires.hand c.in-Ok.ensures.did).1;
+  true_to = true_now g.C.Condition.means None (act_returning c.args.returning c.loop.word) (found_back g.C.Condition.means c.args.returning c.loop.word c.loop.seat.me) c.loop.seat.me c.exchange_to_return.new.seat.me c.in-Ok.ensures.did;
 }
 
 pub loop-preserved : goal.loop-preserved

@@ -21,7 +21,7 @@ pub returns-in-Some-look_at_any-clause-answers : goal.returns-in-Some-look_at_an
 returns-in-Some-look_at_any-clause-answers g c =
     let t = g.C.Condition.means in let mode = g.H.Section.mode in let items = c.args.items.now in
     let first : BothKnown = (c.args.seat.now, c.args.watch.now) in let old : BothKnown = (c.loop.seat, c.loop.watch) in let new : BothKnown = (c.look_at_any.new.seat, c.look_at_any.new.watch) in
-    let still = still_on c.args.waiting c.loop.waiting c.in-Err.waiting c.loop.invariant.6 c.in-Err.ensures.still in
+    let still = still_on t c.args.waiting c.loop.waiting c.in-Err.waiting c.loop.invariant.6 c.in-Err.ensures.still in
     let left = c.any_leave-held.result in let e = c.look_at_any.ensures in
     elim c.match-by.branch [
       | in-Some-by w ↦

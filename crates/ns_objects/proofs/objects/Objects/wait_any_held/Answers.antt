@@ -38,8 +38,11 @@ await_any-requires g c = let look = c.look_at_any.ensures in let begun = c.any_b
           (
             (begun.owes, begun.empty),
             (
-              λ k. subst (λ (cvs : Cvs). is_in cvs k ≡ is_among k c.args.items.now) (sym begun.variables) (c.variables_in.ensures.among k),
-              (look.watch.env ∙ c.requires.env, (all_known_later c.args.items.now (c.args.seat.now, c.args.watch.now) (c.look_at_any.new.seat, c.look_at_any.new.watch) (look.grows, look.watch) c.requires.named, (look.grows.true_to, look.watch.true_to))),
+              begun.true_to,
+              (
+                λ k. subst (λ (cvs : Cvs). is_in cvs k ≡ is_among k c.args.items.now) (sym begun.variables) (c.variables_in.ensures.among k),
+                (look.watch.env ∙ c.requires.env, (all_known_later c.args.items.now (c.args.seat.now, c.args.watch.now) (c.look_at_any.new.seat, c.look_at_any.new.watch) (look.grows, look.watch) c.requires.named, (look.grows.true_to, look.watch.true_to))),
+              ),
             ),
           ),
         ),
