@@ -9,10 +9,13 @@ use crate::kit::{Commons, Kit};
 use crate::rousing::draw_variable;
 use crate::wish::{DONE, GOODS, ROOM, SUM, Wish};
 use ns_model::condition::Condition;
+use ns_model::cvs::Cvs;
 use ns_model::event::Answer;
-use ns_monitor::caller::{Caller, ReadHeld, Renewed, Seat, WriteHeld};
+use ns_monitor::caller::{Caller, ReadHeld, Reading, Renewed, Seat, WriteHeld, Writing};
+use ns_monitor::several::AnyWaiting;
 use ns_note::note::Note;
 use std::sync::Wait;
+use std::thread::yield_now;
 
 /// What code over sections in either mode, or seats, knows of the room that one takes.
 pub trait Fits {
@@ -29,6 +32,14 @@ impl Fits for WriteHeld<Wish, 4> {
 }
 
 impl Fits for ReadHeld<Wish, 4> {
+    ghost fits = { Prim.search rules };
+}
+
+impl Fits for AnyWaiting<Writing<4>, Wish, 4> {
+    ghost fits = { Prim.search rules };
+}
+
+impl Fits for AnyWaiting<Reading, Wish, 4> {
     ghost fits = { Prim.search rules };
 }
 
@@ -135,7 +146,48 @@ where
     (held, is_met)
 }
 
-/// Waits in a section for a variable by which somebody is roused again and again, with limits that are drawn.
+/// Whether it is one of the two variables by which somebody is roused.
+fn is_rousing(variable: usize) -> bool {
+    variable == 2 || variable == 3
+}
+
+/// Waits in a section for either of the two variables by which somebody is roused again and again: asks some
+/// times, and then ends it.
+fn wait_for_either<H: Renewed<Wish, 4>, R: Wait>(
+    rt: &R,
+    commons: Commons<'_>,
+    held: Caller<H, Wish, 4>,
+    kit: &mut Kit,
+) -> Caller<H, Wish, 4>
+where
+    Caller<H, Wish, 4>: Fits,
+    AnyWaiting<H, Wish, 4>: Fits,
+    requires { held.monitor ≡ commons.monitor.now }
+    ensures { (result.monitor ≡ commons.entry.monitor.now) × (kit.new.env_seat ≡ kit.old.env_seat) }
+{
+    commons.door.leave(H::mode());
+    let mut waiting = commons.monitor.any_begin(rt, held, Cvs(12));
+    for _ in 0..kit.draw(64) {
+        waiting = match commons.monitor.any_poll(rt, waiting) {
+            Ok((held, variable)) => {
+                kit.enter(commons.door, H::mode());
+                kit.expect(is_rousing(variable), "woken by another variable");
+                return held;
+            }
+            Err(waiting) => waiting,
+        };
+        yield_now();
+    }
+    let (held, by) = commons.monitor.any_leave(rt, waiting);
+    kit.enter(commons.door, H::mode());
+    if let Some(variable) = by {
+        kit.expect(is_rousing(variable), "woken by another variable");
+    }
+    held
+}
+
+/// Waits in a section for a variable by which somebody is roused again and again, with limits that are drawn,
+/// or for either of them.
 pub fn wait_to_be_roused<H: Renewed<Wish, 4>, R: Wait>(
     rt: &R,
     commons: Commons<'_>,
@@ -144,9 +196,13 @@ pub fn wait_to_be_roused<H: Renewed<Wish, 4>, R: Wait>(
 ) -> Caller<H, Wish, 4>
 where
     Caller<H, Wish, 4>: Fits,
+    AnyWaiting<H, Wish, 4>: Fits,
     requires { (held.monitor ≡ commons.monitor.now) × (kit.old.env_seat.env ≡ commons.env.now) }
     ensures { (result.monitor ≡ commons.entry.monitor.now) × (kit.new.env_seat.env ≡ kit.old.env_seat.env) }
 {
+    if kit.draw(3) == 0 {
+        return wait_for_either(rt, commons, held, kit);
+    }
     let variable = draw_variable(kit);
     let deadline = draw_deadline(commons, kit);
     let note = draw_note(commons, kit);
@@ -177,6 +233,7 @@ pub fn wait_until_met<H: Renewed<Wish, 4>, R: Wait>(
 ) -> Caller<H, Wish, 4>
 where
     Caller<H, Wish, 4>: Fits,
+    AnyWaiting<H, Wish, 4>: Fits,
     requires { (held.monitor ≡ commons.monitor.now) × (kit.old.env_seat.env ≡ commons.env.now) }
     ensures { (result.monitor ≡ commons.entry.monitor.now) × (kit.new.env_seat.env ≡ kit.old.env_seat.env) }
 {
