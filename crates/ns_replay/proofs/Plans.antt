@@ -25,7 +25,7 @@ use Rattle.ns_replay.specs.Objects.{any_wait_of, item_of, items_behind, items_in
 use Rattle.ns_replay.specs.Words.{parts, number_of, below, change_of, moment_of, moment_or_none_of, note_or_none_of}
 use Rattle.ns_replay.specs.Waits.{condition_of, note_limit_of, limits_of, wait_of, variable_wait_of}
 use Rattle.ns_replay.specs.Calls.{add_of, call_of, brief_call_of, plain_call_of, short_call_of, long_call_of, actor_of, turn_of}
-use Rattle.ns_replay.specs.Script.{Plan, list_of, at_most, list_in, call_at, calls_at, threads_of, words_of, turn_at, schedule_of, members_of, version_of, counter_at, counters_of, onces_of, variables_of, plan_in, json_of, script_of}
+use Rattle.ns_replay.specs.Script.{Plan, list_of, at_most, list_in, call_at, calls_at, threads_of, words_of, turn_at, schedule_of, members_of, version_of, counter_at, counters_of, onces_of, variables_of, any_variables, plan_in, json_of, script_of}
 use Rattle.ns_replay.specs.Runnable.{IsShort, IsRunnable}
 
 -- ---- what a reading that succeeded went through
@@ -33,6 +33,9 @@ use Rattle.ns_replay.specs.Runnable.{IsShort, IsRunnable}
 bind_ok : {A B : Type 0} (r : Result A Fault) (f : A → Result B Fault) (y : B) → (r >>= f) ≡ Ok y → (x : A) × (r ≡ Ok x) × (f x ≡ Ok y)
 bind_ok (Ok x) f y e = (x, refl, e)
 bind_ok (Err fault) f y e = absurd cc
+
+ok_is : {A : Type 0} (r : Result A Fault) (x y : A) → r ≡ Ok x → r ≡ Ok y → x ≡ y
+ok_is r x y e f = cc
 
 need_ok : {A : Type 0} (path : ScriptPath) (o : Option A) (x : A) → need path o ≡ Ok x → o ≡ Some x
 need_ok path None x e = absurd cc
@@ -251,21 +254,21 @@ one_few true items more item low e =
     rw (← is) (omega (arith, room))
 one_few false items more item low e = absurd cc
 
-items_few : (counters : ℕ) (words : List (List ℕ)) (items all : Items) → items.count ≤ 16 → items_behind counters items words ≡ Some all → all.count ≤ 16
-items_few counters [] items all few e = let is : items ≡ all = cc in rw (← is) few
-items_few counters (word ∷ words) items all few e =
-    let (it, item, rest) = then_some (λ item. option_and_then (λ more. items_behind counters more words) (one_more items item)) (item_of counters word) all e in
-    let (more, one, others) = then_some (λ more. items_behind counters more words) (one_more items it) all rest in
-    items_few counters words more all (one_few (nat_lt items.count 16) items more it refl one) others
+items_few : (declared : Declared) (words : List (List ℕ)) (items all : Items) → items.count ≤ 16 → items_behind declared items words ≡ Some all → all.count ≤ 16
+items_few declared [] items all few e = let is : items ≡ all = cc in rw (← is) few
+items_few declared (word ∷ words) items all few e =
+    let (it, item, rest) = then_some (λ item. option_and_then (λ more. items_behind declared more words) (one_more items item)) (item_of declared word) all e in
+    let (more, one, others) = then_some (λ more. items_behind declared more words) (one_more items it) all rest in
+    items_few declared words more all (one_few (nat_lt items.count 16) items more it refl one) others
 
-any_wait_fits : (counters : ℕ) (words : List (List ℕ)) (call : Call ScriptCondition) → option_map (λ w. WaitAny w.0 w.1) (any_wait_of counters words) ≡ Some call → CallInRange 8 call
+any_wait_fits : (declared : Declared) (words : List (List ℕ)) (call : Call ScriptCondition) → option_map (λ w. WaitAny w.0 w.1) (any_wait_of declared words) ≡ Some call → CallInRange 8 call
 unfolding any_wait_of
-any_wait_fits counters [] call e = absurd cc
-any_wait_fits counters (word ∷ words) call e =
-    let (w, any, is) = map_some (λ w. WaitAny w.0 w.1) (any_wait_of counters (word ∷ words)) call e in
-    let (items, all, more) = then_some (λ items. option_map (λ deadline. (items, deadline)) (moment_or_none_of word)) (items_in counters words) w any in
+any_wait_fits declared [] call e = absurd cc
+any_wait_fits declared (word ∷ words) call e =
+    let (w, any, is) = map_some (λ w. WaitAny w.0 w.1) (any_wait_of declared (word ∷ words)) call e in
+    let (items, all, more) = then_some (λ items. option_map (λ deadline. (items, deadline)) (moment_or_none_of word)) (items_in declared words) w any in
     let (deadline, moment, both) = map_some (λ deadline. (items, deadline)) (moment_or_none_of word) w more in
-    subst (CallInRange {C = ScriptCondition} 8) is (subst (λ x. CallInRange {C = ScriptCondition} 8 (WaitAny x.0 x.1)) both (items_few counters words no_items items (omega arith) all, moment_or_none_fits word deadline moment))
+    subst (CallInRange {C = ScriptCondition} 8) is (subst (λ x. CallInRange {C = ScriptCondition} 8 (WaitAny x.0 x.1)) both (items_few declared words no_items items (omega arith) all, moment_or_none_fits word deadline moment))
 
 call_fits : (declared : Declared) → declared.cvs ≤ 4 → (words : List (List ℕ)) (call : Call ScriptCondition) → call_of declared words ≡ Some call → CallInRange 8 call
 unfolding call_of
@@ -273,7 +276,7 @@ call_fits declared few [] call e = absurd cc
 call_fits declared few (name ∷ words) call e =
     named (bytes_eq name (codes "wait")) _ _ call (wait_call_fits words call)
     (named (bytes_eq name (codes "cvwait")) _ _ call (variable_call_fits declared.cvs few words call)
-    (named (bytes_eq name (codes "waitany")) _ _ call (any_wait_fits declared.counters words call)
+    (named (bytes_eq name (codes "waitany")) _ _ call (any_wait_fits declared words call)
     (named (bytes_eq name (codes "add")) _ _ call (add_fits declared.counters words call) (brief_fits declared few (name ∷ words) call)))) e
 
 call_at_fits : (declared : Declared) → declared.cvs ≤ 4 → (thread number : ℕ) (d : Data) (call : Call ScriptCondition) → call_at declared thread number d ≡ Ok call → CallInRange 8 call
@@ -395,11 +398,11 @@ plan_runs d plan e =
     let (counters, starts, e2a) = bind_ok (counters_of (get (codes "counters") d)) _ plan e2 in
     let (onces, cells, e2b) = bind_ok (onces_of (get (codes "onces") d)) _ plan e2a in
     let (cvs, variables, e2') = bind_ok (variables_of (get (codes "cvs") d)) _ plan e2b in
-    let declared : Declared = record { counters = length counters; onces = onces; cvs = cvs } in
+    let declared : Declared = record { counters = length counters; onces = onces; cvs = cvs; any_cvs = any_variables n cvs } in
     let (threads, calls, e3) = bind_ok (threads_of declared d) _ plan e2' in
     let few = variables_few (get (codes "cvs") d) cvs variables in
     let (schedule, turns, made) = bind_ok (schedule_of (length threads) d) _ plan e3 in
-    let is : record { counters = counters; onces = onces; cvs = cvs; threads = threads; schedule = schedule } ≡ plan = cc in
+    let is : record { counters = counters; onces = onces; cvs = cvs; threads = threads; schedule = schedule } ≡ plan = ok_is _ _ plan refl made in
     subst IsRunnable is (record {
       counters = counters_few (get (codes "counters") d) counters starts;
       onces = onces_few (get (codes "onces") d) onces cells;

@@ -18,9 +18,9 @@ use Rattle.ns_world.specs.declared.call.Start.{Start}
 use Rattle.ns_world.specs.declared.call.Start.TheVariants.{OnLock, Ask, OnObjects}
 use Rattle.ns_world.specs.Begins.{begun_at}
 use Rattle.ns_world.specs.Calls.{start_of, mode_of}
-use Rattle.ns_world.specs.Whole.{Whole, WholeMoves, WholeStep, fresh_whole, whole_busy}
+use Rattle.ns_world.specs.Whole.{Whole, fresh_whole, whole_busy}
 use Rattle.ns_world.specs.World.{Now, is_walking, is_asking, is_busy}
-use Rattle.ns_world.proofs.Turns.{moves_stay}
+use Rattle.ns_world.proofs.Turns.{step_stays}
 use Rattle.ns_world.proofs.Walks.{none_stand}
 use Rattle.ns_world.specs.Runs.{Runs, Progress, GoesOnOrBegins, TurnOf, TurnsOf, Turned, Item, items_of, rest_of, is_end, progressed, start, StopsFor, RunFault, ListFits}
 use Rattle.ns_world.proofs.Fresh.{length_views}
@@ -43,16 +43,6 @@ module _ {C : Type 0} {N : ℕ} where
   begun_keeps old seat view (Ask walk) = refl
   begun_keeps old seat view (OnObjects walk) = refl
 
-  moves_keep : (old new : Whole C N) (seat : ℕ) (step : Step) → WholeMoves old new seat step → seats_of new ≡ seats_of old
-  moves_keep old new seat step (inl p) = moves_stay old.lock new.lock seat step p.moves
-  moves_keep old new seat step (inr p) = ap (λ (lock : Now C N). length lock.state.views) p.same
-
-  step_keeps : (old new : Whole C N) (seat : ℕ) (step : Step) → WholeStep old new seat step → seats_of new ≡ seats_of old
-  step_keeps old new seat Went h = moves_keep old new seat Went h
-  step_keeps old new seat Idle h = moves_keep old new seat Idle h
-  step_keeps old new seat (Finished reply) h = moves_keep old new seat (Finished reply) h
-  step_keeps old new seat Nothing h = rw h.0 refl
-
   leads_keeps : (lists : List (List (Call C))) (p : Progress C N) (seat : ℕ) (now : Whole C N) → GoesOnOrBegins lists p seat now → seats_of now ≡ seats_of p.world
   leads_keeps lists p seat now (inl (busy, e)) = rw e refl
   leads_keeps lists p seat now (inr (call, next, begins)) =
@@ -67,7 +57,7 @@ module _ {C : Type 0} {N : ℕ} where
 
   turn_keeps : (lists : List (List (Call C))) (p : Progress C N) (seat : ℕ) (step : Step) (q : Progress C N) → TurnOf lists p seat step q → seats_of q.world ≡ seats_of p.world
   turn_keeps lists p seat step q (inl m) =
-      ap (λ (r : Progress C N). seats_of r.world) m.after ∙ ap seats_of (progressed_world p seat step m.world) ∙ step_keeps m.begun m.world seat step m.steps ∙ leads_keeps lists p seat m.begun m.leads
+      ap (λ (r : Progress C N). seats_of r.world) m.after ∙ ap seats_of (progressed_world p seat step m.world) ∙ step_stays m.begun m.world seat step m.steps ∙ leads_keeps lists p seat m.begun m.leads
   turn_keeps lists p seat step q (inr (inl m)) = ap (λ (r : Progress C N). seats_of r.world) m.after
   turn_keeps lists p seat step q (inr (inr r)) = ap (λ (r : Progress C N). seats_of r.world) r.after
 

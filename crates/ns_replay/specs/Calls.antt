@@ -59,7 +59,7 @@ unfoldable pub call_of : Declared → List (List ℕ) → Option (Call ScriptCon
 call_of declared (name ∷ words) =
     if bytes_eq name (codes "wait") then option_map (λ w. Wait w.0 w.1) (wait_of words) else
     (if bytes_eq name (codes "cvwait") then option_map (λ w. CvWait w.0 w.1) (variable_wait_of declared.cvs words) else
-    (if bytes_eq name (codes "waitany") then option_map (λ w. WaitAny w.0 w.1) (any_wait_of declared.counters words) else
+    (if bytes_eq name (codes "waitany") then option_map (λ w. WaitAny w.0 w.1) (any_wait_of declared words) else
     (if bytes_eq name (codes "add") then add_of declared.counters words else brief_call_of declared (name ∷ words))))
 call_of declared [] = None
 

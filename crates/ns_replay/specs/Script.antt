@@ -88,9 +88,9 @@ are_known (member name d ms) = is_known name && are_known ms
 unfoldable pub members_of : Data → Result Members Fault
 members_of d = need at.Root (as_object d) >>= λ ms. if are_known ms then Ok ms else Err (BadScript at.Root)
 
--- `version`: the number 1
+-- `version`: the number 1 or 2
 unfoldable pub version_of : Data → Result ℕ Fault
-version_of d = need at.Version (option_and_then (λ n. if n == 1 then Some n else None) (option_and_then as_u64 (option_and_then as_number (get (codes "version") d))))
+version_of d = need at.Version (option_and_then (λ n. if n == 1 || n == 2 then Some n else None) (option_and_then as_u64 (option_and_then as_number (get (codes "version") d))))
 
 -- one of `counters`: a whole number of 32 bits
 unfoldable pub counter_at : ℕ → Data → Result ℕ Fault
@@ -119,6 +119,10 @@ unfoldable pub variables_of : Option Data → Result ℕ Fault
 variables_of None = Ok 0
 variables_of (Some d) = variables_in d
 
+-- how many condition variables a wait for any of several objects may name: all of so many in version 2, and none in version 1
+abbrev pub any_variables : ℕ → ℕ → ℕ
+any_variables version cvs = if version == 2 then cvs else 0
+
 -- the members in order
 unfoldable pub plan_in : Data → Result Plan Fault
 plan_in d = do
@@ -127,7 +131,7 @@ plan_in d = do
   counters ← counters_of (get (codes "counters") d)
   onces ← onces_of (get (codes "onces") d)
   cvs ← variables_of (get (codes "cvs") d)
-  threads ← threads_of (record { counters = length counters; onces = onces; cvs = cvs }) d
+  threads ← threads_of (record { counters = length counters; onces = onces; cvs = cvs; any_cvs = any_variables version cvs }) d
   schedule ← schedule_of (length threads) d
   Ok (record { counters = counters; onces = onces; cvs = cvs; threads = threads; schedule = schedule })
 

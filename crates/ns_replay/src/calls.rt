@@ -169,7 +169,7 @@ pub fn call(
                     None => Ok(None),
                 }
             } else if *name == "waitany" {
-                match any_wait(alloc, rest, declared.counters)? {
+                match any_wait(alloc, rest, declared)? {
                     Some((items, deadline)) => Ok(Some(Call::WaitAny(items, deadline))),
                     None => Ok(None),
                 }

@@ -16,6 +16,9 @@ pub struct Declared {
     pub onces: u8,
     /// How many condition variables.
     pub cvs: u8,
+    /// How many of these a wait for any of several objects may name: all of them in version 2, and
+    /// none in version 1.
+    pub any_cvs: u8,
 }
 
 /// What stands behind the letter at which these are the parts of a word, if that is its first.
@@ -29,29 +32,34 @@ fn after_letter<'a>(words: &[&'a str]) -> Option<&'a str>
     }
 }
 
-/// One of several objects: `nM` or `cC`, where there are so many counters.
+/// One of several objects: `nM`, `cC` or `vK`, where so many counters and condition variables may be
+/// named.
 #[tactic(auto, unfolding(crate::specs::Objects::item_of))]
-fn item(alloc: Global, word: &str, counters: u8) -> Result<Option<Item>, AllocError>
-    ensures { IfOk result (λ o. o ≡ item_of counters word.now) }
+fn item(alloc: Global, word: &str, declared: Declared) -> Result<Option<Item>, AllocError>
+    ensures { IfOk result (λ o. o ≡ item_of declared word.now) }
 {
     let at_note = parts_at(alloc, word, 'n')?;
     if let Some(note) = after_letter(&at_note) {
         return Ok(number_below(note, NOTES).map(Item::OnNote));
     }
     let at_counter = parts_at(alloc, word, 'c')?;
-    match after_letter(&at_counter) {
-        Some(counter) => Ok(number_below(counter, counters).map(Item::OnCounter)),
+    if let Some(counter) = after_letter(&at_counter) {
+        return Ok(number_below(counter, declared.counters).map(Item::OnCounter));
+    }
+    let at_variable = parts_at(alloc, word, 'v')?;
+    match after_letter(&at_variable) {
+        Some(variable) => Ok(number_below(variable, declared.any_cvs).map(Item::OnVariable)),
         None => Ok(None),
     }
 }
 
 /// Several objects, of which there are at most 16.
-fn items(alloc: Global, words: &[&str], counters: u8) -> Result<Option<Items>, AllocError>
-    ensures { IfOk result (λ o. o ≡ items_in counters (map (λ x. x.now) words.now)) }
+fn items(alloc: Global, words: &[&str], declared: Declared) -> Result<Option<Items>, AllocError>
+    ensures { IfOk result (λ o. o ≡ items_in declared (map (λ x. x.now) words.now)) }
 {
     let mut items = Items::none();
     for word in words {
-        match item(alloc, word, counters)? {
+        match item(alloc, word, declared)? {
             Some(item) if items.count < 16 => items.push(item),
             _ => return Ok(None),
         }
@@ -64,12 +72,12 @@ fn items(alloc: Global, words: &[&str], counters: u8) -> Result<Option<Items>, A
 pub fn any_wait(
     alloc: Global,
     words: &[&str],
-    counters: u8,
+    declared: Declared,
 ) -> Result<Option<(Items, Option<u64>)>, AllocError>
-    ensures { IfOk result (λ o. o ≡ any_wait_of counters (map (λ x. x.now) words.now)) }
+    ensures { IfOk result (λ o. o ≡ any_wait_of declared (map (λ x. x.now) words.now)) }
 {
     match words {
-        [word, rest @ ..] => match (items(alloc, rest, counters)?, moment_or_none(word)) {
+        [word, rest @ ..] => match (items(alloc, rest, declared)?, moment_or_none(word)) {
             (Some(items), Some(deadline)) => Ok(Some((items, deadline))),
             _ => Ok(None),
         },

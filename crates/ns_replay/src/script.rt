@@ -224,6 +224,7 @@ fn version(value: &Value) -> Result<u64, Fault>
 {
     match value.get("version").and_then(Value::as_u64) {
         Some(1) => Ok(1),
+        Some(2) => Ok(2),
         _ => Err(Fault::BadScript(ScriptPath::Version)),
     }
 }
@@ -303,7 +304,7 @@ fn script_in(alloc: Global, value: &Value) -> Result<Script, Fault>
     ensures { Gives plan_of result (plan_in (view value.now)) }
 {
     let _ = members(value)?;
-    let _ = version(value)?;
+    let version = version(value)?;
     let counters = counters(alloc, value.get("counters"))?;
     let onces = onces(value.get("onces"))?;
     let cvs = variables(value.get("cvs"))?;
@@ -311,6 +312,7 @@ fn script_in(alloc: Global, value: &Value) -> Result<Script, Fault>
         counters: counters.len() as u8,
         onces,
         cvs,
+        any_cvs: if version == 2 { cvs } else { 0 },
     };
     let threads = threads(alloc, value, declared)?;
     let schedule = schedule(alloc, value, threads.len() as u8)?;

@@ -79,6 +79,7 @@ fn push_items(out: &mut String, items: &Items) -> Result<(), AllocError> {
         match items.get(place) {
             Some(Item::OnNote(note)) => write!(out, " n{note}")?,
             Some(Item::OnCounter(counter)) => write!(out, " c{counter}")?,
+            Some(Item::OnVariable(k)) => write!(out, " v{k}")?,
             None => {}
         }
     }

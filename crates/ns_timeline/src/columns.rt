@@ -49,7 +49,8 @@ fn bar(sight: &Sight, thread: u8) -> char
     }
 }
 
-/// The number of the condition variable that a thread waits for, or `z` if it waits in the lock's list.
+/// The number of the condition variable that a thread waits for, the lowest where it waits for several, or
+/// `z` if it waits in the lock's list.
 fn list(sight: &Sight, thread: u8) -> Option<char>
     requires { thread < 64 }
 {

@@ -12,16 +12,21 @@ use Rattle.ns_word.specs.declared.walk.Next.TheVariants as TheNext
 use Rattle.ns_env.specs.declared.walk.EnvNext.{EnvNext}
 use Rattle.ns_env.specs.declared.walk.EnvNext.TheVariants.{Go, Repeat, Over, LookOver}
 use Rattle.ns_env.specs.Walks.{env_got_of, env_walk_after}
-use Rattle.ns_word.specs.Walks.{got_of, walk_after}
+use Rattle.ns_word.specs.Walks.{got_of, walk_after, wait_first}
 use Rattle.ns_world.specs.Asks.{env_step_of}
 use Rattle.ns_world.specs.declared.call.Call.{Call}
 use Rattle.ns_world.specs.declared.schedule.Line.{Line}
 use Rattle.ns_world.specs.declared.step.Step.{Step}
 use Rattle.ns_world.specs.declared.step.Step.TheVariants.{Went, Idle, Finished, Nothing}
-use Rattle.ns_world.specs.Calls.{CallInRange, start_of, object_start, mode_of}
+use Rattle.ns_world.specs.Calls.{CallInRange, start_of, object_start, mode_of, mode_waited}
 use Rattle.ns_world.specs.Performs.{step_of}
 use Rattle.ns_world.specs.Looks.{look_of}
-use Rattle.ns_world.specs.World.{Now, Goes, LookGoes, Moves, is_walking, is_asking, is_busy}
+use Rattle.ns_world.specs.World.{Now, Goes, LookGoes, Moves, is_walking, is_asking, is_busy, Acts}
+use Rattle.ns_word.specs.declared.walk.Walk.{Walk}
+use Rattle.ns_world.specs.declared.call.Start.TheVariants.{OnLock}
+use Rattle.ns_world.specs.declared.object_walk.ObjectWalk.TheVariants.{InRound}
+use Rattle.ns_world.specs.declared.objects.AnyWait.{AnyWait}
+use Rattle.ns_world.specs.Among.{is_for_lock, round_due, shown_by, step_told, waited_after, waits_for_any}
 use Rattle.ns_world.specs.Runs.{Progress, progress, progressed, calls_of, GoesOnOrBegins, TurnOf, Counts, IsCounted, ListFits}
 use Rattle.ns_world.proofs.Busy.{both, walking_at, walking_set_same, walking_set_other, asking_set_same, asking_set_other, asking_set_none}
 use Rattle.ns_world.proofs.Turns.{is_idle_of, is_whole_busy, is_whole_idle, begun_others}
@@ -30,9 +35,9 @@ use Rattle.ns_world.specs.declared.object_walk.ObjectNext.{ObjectNext}
 use Rattle.ns_world.specs.declared.object_walk.ObjectNext.TheVariants as TheObject
 use Rattle.ns_world.specs.declared.object_walk.ObjectWalk.{ObjectWalk}
 use Rattle.ns_world.specs.declared.objects.Objects.{Objects}
-use Rattle.ns_world.specs.Objects.{walk_in, object_step_of, objects_begun}
+use Rattle.ns_world.specs.Objects.{walk_in, object_step_of, objects_begun, HasOperated, stood_at, wait_in}
 use Rattle.ns_world.specs.ObjectWalks.{object_got, object_after}
-use Rattle.ns_world.specs.Whole.{Whole, WholeMoves, whole_busy}
+use Rattle.ns_world.specs.Whole.{Whole, WholeMoves, whole_busy, Awaits}
 
 -- ---- the lists
 
@@ -75,6 +80,16 @@ over_nowhere (TheObject.Over answer) reply e = refl
 begun_elsewhere : (objects : Objects) (seat : ℕ) (place : Option ObjectWalk) (other : ℕ) → other ≢ seat → walk_in (objects_begun objects seat place).walks other ≡ walk_in objects.walks other
 begun_elsewhere objects seat None other ne = refl
 begun_elsewhere objects seat (Some walk) other ne = put_there objects.walks seat (Some walk) other ne
+
+-- a step of a wait on the lock leaves where others stand
+waited_others : {C : Type 0} (objects : Objects) (seat : ℕ) (wait : AnyWait) (walk : Option (Walk C)) (other : ℕ) → other ≢ seat → walk_in (waited_after objects seat wait walk).walks other ≡ walk_in objects.walks other
+waited_others objects seat wait None other ne = put_there objects.walks seat None other ne
+waited_others objects seat wait (Some walk) other ne = put_there objects.walks seat (round_due wait walk) other ne
+
+-- who waits for a set of variables is told nothing by the last step of a round
+waits_nowhere : (wait : Option AnyWait) (walk : ObjectWalk) (reply : Reply) → is_for_lock wait walk (Finished reply) ≡ false → wait ≡ None
+waits_nowhere None walk reply not = refl
+waits_nowhere (Some wait) walk reply not = absurd (cc)
 
 set_others : (over : List ℕ) (seat n other : ℕ) → other ≢ seat → slice_index (slice_set over seat n) other ≡ slice_index over other
 set_others over seat n other ne = get_or-set_other over seat other n 0 ne
@@ -139,16 +154,53 @@ module _ {C : Type 0} {N : ℕ} where
       (ap (λ (world : Now C N). is_walking world.state.views seat) asks.others ∙ walking_at old.state.views seat asks.view asks.at ∙ ap is_some asks.idle)
       (ap (λ askings. is_asking askings seat) asks.makes.becomes ∙ asking_set_same old.asking seat _ (slice_get_within old.asking seat (Some asks.makes.walk) asks.makes.walks) ∙ over_unasked (env_got_of asks.makes.walk asks.found) reply asks.answers)
 
+  -- a step of a round that tells the lock what it has shown leaves where others stand, and its seat nowhere
+  module _ (old new : Whole C N) (seat : ℕ) (told : Step) (walk : ObjectWalk) (then : Objects) (wait : Option AnyWait) (q : HasOperated old.lock.env seat walk old.objects then told) (becomes : new.objects ≡ stood_at then seat None wait) where
+    told_others : (other : ℕ) → other ≢ seat → walk_in new.objects.walks other ≡ walk_in old.objects.walks other
+    told_others other ne =
+        ap (λ (o : Objects). walk_in o.walks other) becomes ∙ put_there then.walks seat None other ne ∙ ap (λ (o : Objects). walk_in o.walks other) q.becomes ∙ put_there old.objects.walks seat (object_after (object_got walk q.found)) other ne
+
+    told_nowhere : walk_in new.objects.walks seat ≡ None
+    told_nowhere = ap (λ (o : Objects). walk_in o.walks seat) becomes ∙ put_none then.walks seat
+
+  awaits_others : (old new : Whole C N) (seat : ℕ) (step : Step) → Awaits old new seat step → (other : ℕ) → other ≢ seat → whole_busy new other ≡ whole_busy old other
+  awaits_others old new seat step (inl p) other ne =
+      (λ i. (ap (λ (world : Now C N). is_busy world.state.views world.asking other) p.begins ∙ begun_others old.lock seat p.view (OnLock (wait_first N (waits_for_any (mode_waited (mode_of p.view.held)) p.cvs))) other ne) i
+      || is_some (told_others old new seat Idle (InRound p.round p.place) p.then (Some (record { round = p.round; shown = None })) p.operated p.becomes other ne i))
+  awaits_others old new seat step (inr (inl p)) other ne =
+      (λ i. moves_others old.lock new.lock seat step (inl p.acts) other ne i || is_some (told_others old new seat p.told p.walk p.then (Some (record { round = p.wait.round; shown = shown_by p.told })) p.operated p.becomes other ne i))
+  awaits_others old new seat step (inr (inr p)) other ne =
+      (λ i. moves_others old.lock new.lock seat p.told (inl p.acts) other ne i
+      || is_some ((ap (λ (o : Objects). walk_in o.walks other) p.becomes ∙ waited_others old.objects seat p.wait (walk_after (got_of N p.acts.goes.makes.walk p.acts.goes.found)) other ne) i))
+
   whole_others : (old new : Whole C N) (seat : ℕ) (step : Step) → WholeMoves old new seat step → (other : ℕ) → other ≢ seat → whole_busy new other ≡ whole_busy old other
   whole_others old new seat step (inl p) other ne = (λ i. moves_others old.lock new.lock seat step p.moves other ne i || is_some (walk_in (p.same i).walks other))
-  whole_others old new seat step (inr p) other ne =
+  whole_others old new seat step (inr (inl p)) other ne =
       (λ i. is_busy (p.same i).state.views (p.same i).asking other || is_some ((ap (λ (o : Objects). walk_in o.walks other) p.operated.becomes ∙ put_there old.objects.walks seat (object_after (object_got p.walk p.operated.found)) other ne) i))
+  whole_others old new seat step (inr (inr p)) other ne = awaits_others old new seat step p other ne
+
+  -- a wait on the lock that is over
+  waited_over : (old new : Whole C N) (seat : ℕ) (reply : Reply) (wait : AnyWait) (told : Step) (acts : Acts old.lock new.lock seat told) → new.objects ≡ waited_after old.objects seat wait (walk_after (got_of N acts.goes.makes.walk acts.goes.found)) → Finished reply ≡ step_told wait told → whole_busy new seat ≡ false
+  waited_over old new seat reply wait (Finished answer) acts becomes told =
+      let over = over_idle (got_of N acts.goes.makes.walk acts.goes.found) answer acts.goes.answers in
+      (λ i. goes_over old.lock new.lock seat answer acts.goes i || is_some ((ap (λ (o : Objects). walk_in o.walks seat) (becomes ∙ ap (waited_after old.objects seat wait) over) ∙ put_none old.objects.walks seat) i))
+  waited_over old new seat reply wait Went acts becomes told = absurd (cc)
+  waited_over old new seat reply wait Idle acts becomes told = absurd (cc)
+  waited_over old new seat reply wait Nothing acts becomes told = absurd (cc)
+
+  awaits_over : (old new : Whole C N) (seat : ℕ) (reply : Reply) → Awaits old new seat (Finished reply) → whole_busy new seat ≡ false
+  awaits_over old new seat reply (inl p) = let no : Finished reply ≡ Went = p.answer in absurd (cc)
+  awaits_over old new seat reply (inr (inl p)) =
+      (λ i. goes_over old.lock new.lock seat reply p.acts.goes i || is_some (told_nowhere old new seat p.told p.walk p.then (Some (record { round = p.wait.round; shown = shown_by p.told })) p.operated p.becomes i))
+  awaits_over old new seat reply (inr (inr p)) = waited_over old new seat reply p.wait p.told p.acts p.becomes p.answer
 
   whole_over : (old new : Whole C N) (seat : ℕ) (reply : Reply) → WholeMoves old new seat (Finished reply) → whole_busy new seat ≡ false
   whole_over old new seat reply (inl p) = (λ i. moves_over old.lock new.lock seat reply p.moves i || is_some ((ap (λ (o : Objects). walk_in o.walks seat) p.same ∙ p.elsewhere) i))
-  whole_over old new seat reply (inr p) =
-      (λ i. (ap (λ (world : Now C N). is_busy world.state.views world.asking seat) p.same ∙ is_idle_of old.lock seat p.idle) i
+  whole_over old new seat reply (inr (inl p)) =
+      let idle = p.idle (waits_nowhere (wait_in old.objects.waits seat) p.walk reply p.not_for_lock) in
+      (λ i. (ap (λ (world : Now C N). is_busy world.state.views world.asking seat) p.same ∙ is_idle_of old.lock seat idle) i
       || is_some ((ap (λ (o : Objects). walk_in o.walks seat) p.operated.becomes ∙ ap (λ w. walk_in (slice_set old.objects.walks seat w) seat) (over_nowhere (object_got p.walk p.operated.found) reply p.operated.answers) ∙ put_none old.objects.walks seat) i))
+  whole_over old new seat reply (inr (inr p)) = awaits_over old new seat reply p
 
   -- a call that goes on or begins is one of the seat's, so it is not past its last
   leads_below : (lists : List (List (Call C))) (p : Progress C N) (seat : ℕ) (begun : Whole C N) → length (calls_of lists seat) ≤ 256 → GoesOnOrBegins lists p seat begun →

@@ -66,7 +66,7 @@ module _ (C : Type 0) (N : ℕ) where
   numbered first (suc n) = (refl, numbered (first + 1) n)
 
   -- and in no call
-  no_walk : (first n seat : ℕ) (view : SeatView C N) → slice_get (fresh_views {C = C} {N = N} first n) seat ≡ Some view → view.walk ≡ None
+  pub no_walk : (first n seat : ℕ) (view : SeatView C N) → slice_get (fresh_views {C = C} {N = N} first n) seat ≡ Some view → view.walk ≡ None
   no_walk first zero seat view at = absurd (cc)
   no_walk first (suc n) zero view at =
       let fresh_view : SeatView C N = record { seat = first; walk = None; held = None; owed = [] } in

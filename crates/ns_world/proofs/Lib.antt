@@ -1,7 +1,10 @@
+pub mod AnyLooks
+pub mod Awaits
 pub mod Busy
 pub mod Counted
 pub mod EnvGrows
 pub mod Fresh
+pub mod Listed
 pub mod Looking
 pub mod Mapped
 pub mod ObjectCourses
@@ -12,10 +15,12 @@ pub mod Released
 pub mod Schedules
 pub mod Showing
 pub mod States
+pub mod Tells
 pub mod Turns
 pub mod Underway
 pub mod Waited
 pub mod Walks
 pub mod WholeCalls
+pub mod WholeLed
 pub mod Wholes
 pub mod Worlds

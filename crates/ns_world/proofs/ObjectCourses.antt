@@ -1,6 +1,6 @@
 -- How far a call on counters and once cells has come: whatever others do leaves that as it is, and each step of its own takes it on to an answer that means what it says.
 use Rattle.std.specs.Prelude.{nat_lt, nat_le, IsSomeAnd}
-use Rattle.std.proofs.Common.{◌≡◌, ℕ, zero, suc, ◌<◌, ◌≤◌, ℤ, Bool, true, false, cond, eqb, List, [], ◌∷◌, ◌++◌, Option, None, Some, slice_get, slice_index, Result, Ok, Err, refl, ap, sym, ◌∙◌, subst, arith, inl, inr, append-nil, eq-eqb}
+use Rattle.std.proofs.Common.{◌≡◌, ℕ, zero, suc, ◌<◌, ◌≤◌, ℤ, Bool, true, false, cond, eqb, List, [], ◌∷◌, ◌++◌, Option, None, Some, drop, slice_get, slice_index, Result, Ok, Err, refl, ap, sym, ◌∙◌, subst, arith, inl, inr, append-nil, eq-eqb}
 use Rattle.std.proofs.lemmas.Bool.{cases_eq, ltb-true, ltb-false, leb-true, leb-false, eqb-true}
 use Rattle.std.proofs.lemmas.List.Sums.{fold-append}
 use Rattle.ns_model.specs.declared.environment.EnvEvent.{EnvEvent}
@@ -43,7 +43,7 @@ use Rattle.ns_env.specs.Asks.{EnvState, IsLawfulEnv}
 use Rattle.ns_env.specs.Walks.{env_got_of}
 use Rattle.ns_env.proofs.Chains.{chain_answers}
 use Rattle.ns_world.specs.declared.items.Item.{Item}
-use Rattle.ns_world.specs.declared.items.Item.TheVariants.{OnNote, OnCounter as OnCounterItem}
+use Rattle.ns_world.specs.declared.items.Item.TheVariants.{OnNote, OnCounter as OnCounterItem, OnVariable}
 use Rattle.ns_world.specs.declared.items.Items.{Items}
 use Rattle.ns_world.specs.declared.object_walk.ObjectNext.TheVariants.{Repeat, Over}
 use Rattle.ns_world.specs.declared.object_walk.ObjectWalk.{ObjectWalk}
@@ -56,12 +56,13 @@ use Rattle.ns_world.specs.declared.round.RoundNext.{RoundNext}
 use Rattle.ns_world.specs.declared.round.RoundNext.TheVariants.{RoundGo, RoundOver}
 use Rattle.ns_world.specs.declared.round.RoundPlace.{RoundPlace}
 use Rattle.ns_world.specs.declared.round.RoundPlace.TheVariants.{FirstClock, AtNote, AtCounter}
-use Rattle.ns_world.specs.Items.{item_at}
+use Rattle.ns_world.specs.Items.{item_at, items_of}
 use Rattle.ns_world.specs.Objects.{ObjectEffect, WalkFits}
-use Rattle.ns_world.specs.ObjectMeanings.{Past, past_and, object_asked, AnyAnswers, AtSomeMoment, HadValue, ObjectGoes, ObjectSoFar, RoundSoFar, WasDue, WasReady, WereThere, WereUnready}
+use Rattle.ns_world.specs.ObjectMeanings.{Past, past_and, object_asked, AnyAnswers, AtSomeMoment, HadValue, ObjectGoes, ObjectSoFar, RoundSoFar, WasDue, WasEarly, WasReady, WereThere, WereUnready}
 use Rattle.ns_world.specs.ObjectWalks.{by_answer, by_begun, by_deadline, by_judging, by_round, by_stage, has_run, object_got, object_place, object_want, waited_next}
-use Rattle.ns_world.specs.Rounds.{by_chain, chain_from, from_place, to_item}
+use Rattle.ns_world.specs.Rounds.{by_chain, chain_from, from_items, from_place, round_got, round_want}
 use Rattle.ns_world.proofs.ObjectLaw.{clock_found, counter_there, note_found, note_there}
+use Rattle.ns_world.proofs.Listed.{listed, nothing_at}
 
 -- ---- more that has happened
 
@@ -74,7 +75,7 @@ between_now : {A : Type 0} (earlier now : List A) → BeginsWith now earlier →
 between_now earlier now since = (since, begins_itself now)
 
 module _ (setup : Setup) (earlier : Past) (seat : ℕ) (now more : Past) where
-  point_on : (P : List EnvEvent → Type 0) → AtSomePoint earlier.notes now.notes P → AtSomePoint earlier.notes (now.notes ++ more.notes) P
+  pub point_on : (P : List EnvEvent → Type 0) → AtSomePoint earlier.notes now.notes P → AtSomePoint earlier.notes (now.notes ++ more.notes) P
   point_on P so = (so.0, between_on earlier.notes so.0 now.notes more.notes so.1, so.2)
 
   moment_on : (P : ObjectStanding → Type 0) → AtSomeMoment setup earlier.objects now.objects P → AtSomeMoment setup earlier.objects (now.objects ++ more.objects) P
@@ -83,14 +84,27 @@ module _ (setup : Setup) (earlier : Past) (seat : ℕ) (now more : Past) where
   ready_on : (so : Bool) (item : Item) → WasReady setup so earlier now item → WasReady setup so earlier (past_and now more) item
   ready_on so (OnNote note) was = point_on (λ point. is_notified point note ≡ so) was
   ready_on so (OnCounterItem counter) was = moment_on (λ standing. is_ready (standing.counters counter) ≡ so) was
+  ready_on true (OnVariable k) was = absurd was
+  ready_on false (OnVariable k) was = tt
 
-  unready_on : (items : Items) (place : ℕ) → WereUnready setup earlier now items place → WereUnready setup earlier (past_and now more) items place
+  pub unready_on : (items : Items) (place : ℕ) → WereUnready setup earlier now items place → WereUnready setup earlier (past_and now more) items place
   unready_on items place were = λ i item low at. ready_on false item (were i item low at)
 
   had_on : (counter value : ℕ) → HadValue setup earlier now seat counter value → HadValue setup earlier (past_and now more) seat counter value
   had_on counter value had = (had.0, between_on earlier.objects had.0 now.objects more.objects had.1, had.2, had.3)
 
-  round_on : (round : Round) (place : RoundPlace) → RoundSoFar setup earlier now round place → RoundSoFar setup earlier (past_and now more) round place
+  due_on : (deadline : Option ℕ) → WasDue deadline earlier now → WasDue deadline earlier (past_and now more)
+  due_on None due = absurd due
+  due_on (Some d) due = point_on (λ point. d ≤ clock_of point) due
+
+  pub early_on : (deadline : Option ℕ) → WasEarly deadline earlier now → WasEarly deadline earlier (past_and now more)
+  early_on deadline early = point_on (λ point. is_due (clock_of point) deadline ≡ false) early
+
+  pub any_on : (items : Items) (deadline : Option ℕ) (place : ℕ) → AnyAnswers setup earlier now items deadline place → AnyAnswers setup earlier (past_and now more) items deadline place
+  any_on items deadline place (unready, inl ready) = (unready_on items place unready, inl (ready.0, ready.1, ready_on true ready.0 ready.2))
+  any_on items deadline place (unready, inr due) = (unready_on items place unready, inr (due.0, due_on deadline due.1))
+
+  pub round_on : (round : Round) (place : RoundPlace) → RoundSoFar setup earlier now round place → RoundSoFar setup earlier (past_and now more) round place
   round_on round FirstClock so = tt
   round_on round (AtNote at clock asked note) so = (unready_on round.items at so.0, point_on (λ point. (clock ≡ clock_of point) × IsLeftAt point asked (Some note)) so.1)
   round_on round (AtCounter at clock counter) so = (unready_on round.items at so.0, point_on (λ point. clock ≡ clock_of point) so.1)
@@ -176,27 +190,14 @@ module _ (setup : Setup) (earlier : Past) (seat : ℕ) (now : Past) (more : List
 
     -- ---- rounds
 
-    abbrev RoundGoes : Round → RoundNext → Type 0
+    abbrev pub RoundGoes : Round → RoundNext → Type 0
     RoundGoes round (RoundGo place) = RoundSoFar setup earlier later round place
-    RoundGoes round (RoundOver None) = Unit {0}
+    RoundGoes round (RoundOver None) = WereUnready setup earlier later round.items round.items.count × WasEarly round.deadline earlier later
     RoundGoes round (RoundOver (Some answer)) = AnyAnswers setup earlier later round.items round.deadline answer
 
     due_at : (deadline : Option ℕ) (clock : ℕ) → AtSomePoint earlier.notes later.notes (λ point. clock ≡ clock_of point) → IsSomeAnd deadline (λ d. d ≤ clock) → WasDue deadline earlier later
     due_at None clock seen due = absurd due
     due_at (Some d) clock seen due = (seen.0, seen.1, subst (λ c. d ≤ c) seen.2 due)
-
-    from_goes : (round : Round) (clock at : ℕ) → WereThere setup earlier round.items → WereUnready setup earlier later round.items at → AtSomePoint earlier.notes later.notes (λ point. clock ≡ clock_of point) → RoundGoes round (from_place round clock at)
-    from_goes round clock at there unready seen = by (item_at round.items at) refl where
-      ends : (b : Bool) → is_due clock round.deadline ≡ b → item_at round.items at ≡ None → RoundGoes round (cond b (RoundOver (Some round.items.count)) (RoundOver None))
-      ends true due none = ((λ i item low here. unready i item (none_behind round.items at i item none here) here), inr (refl, due_at round.deadline clock seen (due_is clock round.deadline due)))
-      ends false due none = tt
-
-      by : (item : Option Item) → item_at round.items at ≡ item → RoundGoes round (to_item round clock at item)
-      by (Some (OnNote note)) is =
-          let made = made_begins seen.0 earlier.notes note (legal_begins later.notes seen.0 legal_later seen.1.1) seen.1.0 (note_there setup (env_after earlier.notes).notes round.items at note there is) in
-          (unready, (seen.0, seen.1, (seen.2, line_starts seen.0 note made)))
-      by (Some (OnCounterItem counter)) is = (unready, seen)
-      by None is = ends (is_due clock round.deadline) refl is
 
     -- one more object was unready
     unready_more : (items : Items) (at : ℕ) (item : Item) → WereUnready setup earlier later items at → item_at items at ≡ Some item → WasReady setup false earlier later item → WereUnready setup earlier later items (suc at)
@@ -204,6 +205,24 @@ module _ (setup : Setup) (earlier : Past) (seat : ℕ) (now : Past) (more : List
       | inl e ↦ let same : Some item ≡ Some other = sym here ∙ ap (item_at items) (sym e) ∙ is in let is_other : item ≡ other = cc in subst (WasReady setup false earlier later) is_other was
       | inr ne ↦ unready i other (omega (arith, low, ne)) is
     ]
+
+    from_goes : (round : Round) (clock at : ℕ) → WereThere setup earlier round.items → WereUnready setup earlier later round.items at → AtSomePoint earlier.notes later.notes (λ point. clock ≡ clock_of point) → RoundGoes round (from_place round clock at)
+    from_goes round clock at there unready seen = by (drop at (items_of round.items)) at refl unready where
+      before_end : (at : ℕ) → item_at round.items at ≡ None → WereUnready setup earlier later round.items at → WereUnready setup earlier later round.items round.items.count
+      before_end at none unready = λ i item low here. unready i item (none_behind round.items at i item none here) here
+
+      ends : (b : Bool) (at : ℕ) → is_due clock round.deadline ≡ b → item_at round.items at ≡ None → WereUnready setup earlier later round.items at → RoundGoes round (cond b (RoundOver (Some round.items.count)) (RoundOver None))
+      ends true at due none unready = (before_end at none unready, inr (refl, due_at round.deadline clock seen (due_is clock round.deadline due)))
+      ends false at due none unready = (before_end at none unready, (seen.0, seen.1, subst (λ c. is_due c round.deadline ≡ false) seen.2 due))
+
+      by : (items : List Item) (at : ℕ) → drop at (items_of round.items) ≡ items → WereUnready setup earlier later round.items at → RoundGoes round (from_items round clock at items)
+      by [] at is unready = ends (is_due clock round.deadline) at refl (nothing_at round.items at is) unready
+      by (OnNote note ∷ items) at is unready =
+          let here = (listed round.items at (OnNote note) items is).0 in
+          let made = made_begins seen.0 earlier.notes note (legal_begins later.notes seen.0 legal_later seen.1.1) seen.1.0 (note_there setup (env_after earlier.notes).notes round.items at note there here) in
+          (unready, (seen.0, seen.1, (seen.2, line_starts seen.0 note made)))
+      by (OnCounterItem counter ∷ items) at is unready = (unready, seen)
+      by (OnVariable k ∷ items) at is unready = let here = listed round.items at (OnVariable k) items is in by items (suc at) here.1 (unready_more round.items at (OnVariable k) unready here.0 tt)
 
     round_goes : (round : Round) (next : RoundNext) (done : List ObjectEvent) → done ≡ [] → WereThere setup earlier round.items → RoundGoes round next → ObjectGoes setup earlier later seat (InRound round FirstClock) done (by_round round next)
     round_goes round (RoundGo place) done none there goes = (refl, (none, there, goes))
@@ -262,6 +281,44 @@ module _ (setup : Setup) (earlier : Past) (seat : ℕ) (now : Past) (words : Lis
     stage_goes once TheStage.Running done none is = (refl, none)
     stage_goes once TheStage.Done done none is = (none, moment_now (λ standing. is_done (standing.onces once) ≡ true) (done_is (stands.onces once) is))
 
+    -- a round's step is no event
+    pub round_makes_none : (place : RoundPlace) (found : ObjectFound) (words' : List ℕ) → ObjectEffect seat Free (round_want place) words state.plain found words' more → more ≡ []
+    round_makes_none FirstClock (Env found) words' effect = effect.2
+    round_makes_none (AtNote at clock asked note) (Env found) words' effect = effect.2
+    round_makes_none (AtCounter at clock counter) (Word word) words' effect = effect.2
+    round_makes_none FirstClock (Word word) words' effect = absurd effect
+    round_makes_none (AtNote at clock asked note) (Word word) words' effect = absurd effect
+    round_makes_none (AtCounter at clock counter) (Env found) words' effect = absurd effect
+
+    -- What a round's step shows is so.
+    pub round_by : (round : Round) (place : RoundPlace) (found : ObjectFound) (words' : List ℕ) → WalkFits setup stands state.plain.notes seat (InRound round place) → ObjectSoFar setup earlier now seat events (InRound round place) → ObjectEffect seat Free (round_want place) words state.plain found words' more →
+        RoundGoes setup earlier seat now more since led.lawful.meets.legal round (round_got round place found)
+    round_by round FirstClock (Env (Clock clock)) words' fits so effect =
+        from_goes setup earlier seat now more since led.lawful.meets.legal round clock 0 so.1 (λ i item low here. absurd (omega (arith, low))) (point_now setup earlier seat now more since led.lawful.meets.legal (λ point. clock ≡ clock_of point) (clock_found clock state.plain.clock effect.0.found_is ∙ led.lawful.meets.clock))
+    round_by round (AtNote at clock asked note) (Env (Note found)) words' fits so effect =
+        let point = so.2.1 in
+        let answers = chain_answers point.0 now.notes state (ForIsNotified asked) clock note found led point.1.1 (refl, point.2.0, point.2.1) (note_found found (state.plain.notes note) effect.0.found_is) in
+        chain_goes setup earlier seat now more since led.lawful.meets.legal round at clock asked (env_got_of (chain_from asked clock note) (Note found)) point.0 so.1
+        (λ i item low here. ready_on setup earlier seat now (record { notes = []; objects = more }) false item (so.2.0 i item low here)) fits.1.0 point.1 point.2.0 answers
+    round_by round (AtCounter at clock counter) (Word word) words' fits so effect = by (eqb (counter_of word).value 0) refl where
+      ready : (b : Bool) → eqb (counter_of word).value 0 ≡ b → AtSomeMoment setup earlier.objects so_far.objects (λ standing. is_ready (standing.counters counter) ≡ b)
+      ready b is = moment_now (λ standing. is_ready (standing.counters counter) ≡ b) (sym (ap (λ w. is_ready (counter_of w)) effect.0 ∙ ap is_ready (counter_is setup words now.objects law counter (counter_there setup state.plain.notes round.items at counter fits.0 fits.1))) ∙ is)
+
+      clock_seen : AtSomePoint earlier.notes so_far.notes (λ point. clock ≡ clock_of point)
+      clock_seen = (so.2.1.0, between_on earlier.notes so.2.1.0 now.notes [] so.2.1.1, so.2.1.2)
+
+      unready : WereUnready setup earlier so_far round.items at
+      unready = λ i item low here. ready_on setup earlier seat now (record { notes = []; objects = more }) false item (so.2.0 i item low here)
+
+      by : (b : Bool) → eqb (counter_of word).value 0 ≡ b → RoundGoes setup earlier seat now more since led.lawful.meets.legal round (cond b (RoundOver (Some at)) (from_place round clock (suc at)))
+      by true is = (unready, inl (OnCounterItem counter, fits.1, ready true is))
+      by false is = from_goes setup earlier seat now more since led.lawful.meets.legal round clock (suc at) so.1 (unready_more setup earlier seat now more since led.lawful.meets.legal round.items at (OnCounterItem counter) unready fits.1 (ready false is)) clock_seen
+    round_by round FirstClock (Word word) words' fits so effect = absurd effect
+    round_by round FirstClock (Env found) words' fits so effect = let no = effect.0.found_is in absurd (cc)
+    round_by round (AtNote at clock asked note) (Word word) words' fits so effect = absurd effect
+    round_by round (AtNote at clock asked note) (Env found) words' fits so effect = let no = effect.0.found_is in absurd (cc)
+    round_by round (AtCounter at clock counter) (Env found) words' fits so effect = absurd effect
+
     -- A step on a word takes the call on.
     pub word_takes_on : (walk : ObjectWalk) (word : ℕ) (words' : List ℕ) → WalkFits setup stands state.plain.notes seat walk → ObjectSoFar setup earlier now seat events walk → ObjectEffect seat (object_place (Some walk)) (object_want walk) words state.plain (Word word) words' more →
         ObjectGoes setup earlier so_far seat (object_asked walk) (events ++ more) (object_got walk (Word word))
@@ -302,22 +359,8 @@ module _ (setup : Setup) (earlier : Past) (seat : ℕ) (now : Past) (words : Lis
     word_takes_on (OnceEnd once) word words' fits so effect = λ i. so i ++ effect.2 i
     word_takes_on (DoneLoad once) word words' fits so effect =
         (joined events more [] so effect.2, moment_now (λ standing. is_done (standing.onces once) ≡ has_run (stage_of word)) (sym (ap (λ w. has_run (stage_of w)) effect.0 ∙ ap has_run (stage_is setup words now.objects law once fits) ∙ has_run_is (stands.onces once))))
-    word_takes_on (InRound round FirstClock) word words' fits so effect = absurd effect
-    word_takes_on (InRound round (AtNote at clock asked note)) word words' fits so effect = absurd effect
-    word_takes_on (InRound round (AtCounter at clock counter)) word words' fits so effect =
-        round_goes setup earlier seat now more since led.lawful.meets.legal round (cond (eqb (counter_of word).value 0) (RoundOver (Some at)) (from_place round clock (suc at))) (events ++ more) (joined events more [] so.0 effect.2) so.1 (by (eqb (counter_of word).value 0) refl) where
-          ready : (b : Bool) → eqb (counter_of word).value 0 ≡ b → AtSomeMoment setup earlier.objects so_far.objects (λ standing. is_ready (standing.counters counter) ≡ b)
-          ready b is = moment_now (λ standing. is_ready (standing.counters counter) ≡ b) (sym (ap (λ w. is_ready (counter_of w)) effect.0 ∙ ap is_ready (counter_is setup words now.objects law counter (counter_there setup state.plain.notes round.items at counter fits.0 fits.1))) ∙ is)
-
-          clock_seen : AtSomePoint earlier.notes so_far.notes (λ point. clock ≡ clock_of point)
-          clock_seen = (so.2.1.0, between_on earlier.notes so.2.1.0 now.notes [] so.2.1.1, so.2.1.2)
-
-          unready : WereUnready setup earlier so_far round.items at
-          unready = λ i item low here. ready_on setup earlier seat now (record { notes = []; objects = more }) false item (so.2.0 i item low here)
-
-          by : (b : Bool) → eqb (counter_of word).value 0 ≡ b → RoundGoes setup earlier seat now more since led.lawful.meets.legal round (cond b (RoundOver (Some at)) (from_place round clock (suc at)))
-          by true is = (unready, inl (OnCounterItem counter, fits.1, ready true is))
-          by false is = from_goes setup earlier seat now more since led.lawful.meets.legal round clock (suc at) so.1 (unready_more setup earlier seat now more since led.lawful.meets.legal round.items at (OnCounterItem counter) unready fits.1 (ready false is)) clock_seen
+    word_takes_on (InRound round place) word words' fits so effect =
+        round_goes setup earlier seat now more since led.lawful.meets.legal round (round_got round place (Word word)) (events ++ more) (joined events more [] so.0 (round_makes_none place (Word word) words' effect)) so.1 (round_by round place (Word word) words' fits so effect)
 
     -- And so does a load of the clock or of a note.
     pub env_takes_on : (walk : ObjectWalk) (found : EnvFound) (words' : List ℕ) → WalkFits setup stands state.plain.notes seat walk → ObjectSoFar setup earlier now seat events walk → ObjectEffect seat (object_place (Some walk)) (object_want walk) words state.plain (Env found) words' more →
@@ -335,15 +378,8 @@ module _ (setup : Setup) (earlier : Past) (seat : ℕ) (now : Past) (words : Lis
       by : (b : Bool) → nat_lt clock moment ≡ b → ObjectGoes setup earlier so_far seat (WaitMark counter (Some moment)) (events ++ more) (cond b (Repeat (WaitLoad counter (Some moment))) (Over (Number value)))
       by true early = (refl, done)
       by false due = (done, had_on setup earlier seat now (record { notes = []; objects = more }) counter value so.1, λ ne. point_now setup earlier seat now more since led.lawful.meets.legal (λ point. moment ≤ clock_of point) (subst (λ c. moment ≤ c) clock_is (ltb-false clock moment due)))
-    env_takes_on (InRound round FirstClock) (Clock clock) words' fits so effect =
-        round_goes setup earlier seat now more since led.lawful.meets.legal round (from_place round clock 0) (events ++ more) (joined events more [] so.0 effect.2) so.1
-        (from_goes setup earlier seat now more since led.lawful.meets.legal round clock 0 so.1 (λ i item low here. absurd (omega (arith, low))) (point_now setup earlier seat now more since led.lawful.meets.legal (λ point. clock ≡ clock_of point) (clock_found clock state.plain.clock effect.0.found_is ∙ led.lawful.meets.clock)))
-    env_takes_on (InRound round (AtNote at clock asked note)) (Note found) words' fits so effect =
-        let point = so.2.1 in
-        let answers = chain_answers point.0 now.notes state (ForIsNotified asked) clock note found led point.1.1 (refl, point.2.0, point.2.1) (note_found found (state.plain.notes note) effect.0.found_is) in
-        round_goes setup earlier seat now more since led.lawful.meets.legal round (by_chain round at clock asked (env_got_of (chain_from asked clock note) (Note found))) (events ++ more) (joined events more [] so.0 effect.2) so.1
-        (chain_goes setup earlier seat now more since led.lawful.meets.legal round at clock asked (env_got_of (chain_from asked clock note) (Note found)) point.0 so.1
-        (λ i item low here. ready_on setup earlier seat now (record { notes = []; objects = more }) false item (so.2.0 i item low here)) fits.1.0 point.1 point.2.0 answers)
+    env_takes_on (InRound round place) found words' fits so effect =
+        round_goes setup earlier seat now more since led.lawful.meets.legal round (round_got round place (Env found)) (events ++ more) (joined events more [] so.0 (round_makes_none place (Env found) words' effect)) so.1 (round_by round place (Env found) words' fits so effect)
     env_takes_on (AddLoad counter delta) found words' fits so effect = absurd effect
     env_takes_on (AddExchange counter delta seen value) found words' fits so effect = absurd effect
     env_takes_on (ValueLoad counter) found words' fits so effect = absurd effect
@@ -353,10 +389,7 @@ module _ (setup : Setup) (earlier : Past) (seat : ℕ) (now : Past) (words : Lis
     env_takes_on (OnceBegin once) found words' fits so effect = absurd effect
     env_takes_on (OnceEnd once) found words' fits so effect = absurd effect
     env_takes_on (DoneLoad once) found words' fits so effect = absurd effect
-    env_takes_on (InRound round (AtCounter at clock counter)) found words' fits so effect = absurd effect
     env_takes_on (WaitClock counter moment value) found words' fits so effect = let no = effect.0.found_is in absurd (cc)
-    env_takes_on (InRound round FirstClock) found words' fits so effect = let no = effect.0.found_is in absurd (cc)
-    env_takes_on (InRound round (AtNote at clock asked note)) found words' fits so effect = let no = effect.0.found_is in absurd (cc)
 
     -- A step of the call's own takes it on.
     pub operates_on : (walk : ObjectWalk) (found : ObjectFound) (words' : List ℕ) → WalkFits setup stands state.plain.notes seat walk → ObjectSoFar setup earlier now seat events walk → ObjectEffect seat (object_place (Some walk)) (object_want walk) words state.plain found words' more →

@@ -1,7 +1,7 @@
 -- A step of a call on counters and once cells keeps their law, and leaves each seat where it may stand.
 use Rattle.std.specs.Prelude.{nat_lt}
 use Rattle.std.specs.List.{list_all}
-use Rattle.std.proofs.Common.{◌≡◌, ◌≢◌, ℕ, zero, suc, ◌<◌, ◌≤◌, ◌%◌, ◌^◌, ℤ, Bool, true, false, cond, ◌&&◌, eqb, List, [], ◌∷◌, ◌++◌, Option, None, Some, take, slice_get, slice_set, slice_index, Result, Ok, Err, refl, ap, sym, ◌∙◌, subst, arith, inl, inr, append-nil}
+use Rattle.std.proofs.Common.{◌≡◌, ◌≢◌, ℕ, zero, suc, ◌<◌, ◌≤◌, ◌%◌, ◌^◌, ℤ, Bool, true, false, cond, ◌&&◌, eqb, List, [], ◌∷◌, ◌++◌, Option, None, Some, take, drop, slice_get, slice_set, slice_index, Result, Ok, Err, refl, ap, sym, ◌∙◌, subst, arith, inl, inr, append-nil}
 use Rattle.std.proofs.lemmas.Bool.{cases_eq, ltb-true}
 use Rattle.ns_model.specs.Environments.{NoteStanding}
 use Rattle.ns_model.specs.declared.environment.EnvEvent.{EnvEvent}
@@ -44,7 +44,7 @@ use Rattle.ns_env.specs.Notes.{standing_of, state_of}
 use Rattle.ns_env.specs.Walks.{env_got_of}
 use Rattle.ns_env.proofs.Looks.{chain_up}
 use Rattle.ns_world.specs.declared.items.Item.{Item}
-use Rattle.ns_world.specs.declared.items.Item.TheVariants.{OnNote, OnCounter}
+use Rattle.ns_world.specs.declared.items.Item.TheVariants.{OnNote, OnCounter, OnVariable}
 use Rattle.ns_world.specs.declared.items.Items.{Items}
 use Rattle.ns_world.specs.declared.object_walk.ObjectNext.{ObjectNext}
 use Rattle.ns_world.specs.declared.object_walk.ObjectNext.TheVariants.{Go, Repeat, Over}
@@ -59,11 +59,12 @@ use Rattle.ns_world.specs.declared.round.Round.{Round}
 use Rattle.ns_world.specs.declared.round.RoundNext.{RoundNext}
 use Rattle.ns_world.specs.declared.round.RoundNext.TheVariants.{RoundGo, RoundOver}
 use Rattle.ns_world.specs.declared.round.RoundPlace.TheVariants.{FirstClock, AtNote, AtCounter}
-use Rattle.ns_world.specs.Items.{item_at}
+use Rattle.ns_world.specs.Items.{item_at, items_of}
 use Rattle.ns_world.specs.Objects.{AreLedTo, AreThere, ObjectEffect, RoundFits, WalkFits, is_there, walk_in, word_left}
 use Rattle.ns_world.specs.ObjectWalks.{by_answer, by_begun, by_deadline, by_judging, by_round, by_stage, object_after, object_got, object_place, object_want, waited_next}
-use Rattle.ns_world.specs.Rounds.{by_chain, chain_from, from_place, round_got, to_item}
+use Rattle.ns_world.specs.Rounds.{by_chain, chain_from, from_items, from_place, round_got}
 use Rattle.ns_world.proofs.Walks.{put_here, put_there, stands_within}
+use Rattle.ns_world.proofs.Listed.{listed}
 
 -- ---- objects of a list
 
@@ -109,15 +110,16 @@ module _ (setup : Setup) (notes : ℕ → NoteStanding) where
   RoundStands round (RoundOver shown) = Unit {0}
 
   from_stands : (round : Round) (clock at : ℕ) → AreThere setup notes round.items → RoundStands round (from_place round clock at)
-  from_stands round clock at there = by (item_at round.items at) refl where
+  from_stands round clock at there = by (drop at (items_of round.items)) at refl where
     ends : (b : Bool) → RoundStands round (cond b (RoundOver (Some round.items.count)) (RoundOver None))
     ends true = tt
     ends false = tt
 
-    by : (item : Option Item) → item_at round.items at ≡ item → RoundStands round (to_item round clock at item)
-    by (Some (OnNote note)) is = (is, note_there round.items at note there is)
-    by (Some (OnCounter counter)) is = is
-    by None is = ends _
+    by : (items : List Item) (at : ℕ) → drop at (items_of round.items) ≡ items → RoundStands round (from_items round clock at items)
+    by [] at is = ends _
+    by (OnNote note ∷ items) at is = let here = listed round.items at (OnNote note) items is in (here.0, note_there round.items at note there here.0)
+    by (OnCounter counter ∷ items) at is = (listed round.items at (OnCounter counter) items is).0
+    by (OnVariable k ∷ items) at is = by items (suc at) (listed round.items at (OnVariable k) items is).1
 
 -- ---- where a step leads
 
@@ -396,7 +398,7 @@ module _ (objects : Objects) (env : EnvPlain) (happened : List EnvEvent) (meets 
 
   -- the objects after the step
   abbrev after : List ℕ → ObjectNext → Objects
-  after words next = record { setup = setup; words = words; walks = slice_set objects.walks seat (object_after next) }
+  after words next = record objects { words = words; walks = slice_set objects.walks seat (object_after next) }
 
   -- each seat stands where it may, after a step that leads its seat there and leaves others where they were
   each_after : (later : ObjectStanding) (words : List ℕ) (next : ObjectNext) → NextFits setup later env.notes seat next →

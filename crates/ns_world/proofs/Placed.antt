@@ -41,7 +41,7 @@ module _ {C : Type 0} {N : ℕ} (truths : Truths C) (word : Word) (row : List �
   busy_here is busy = busy_by seat.walk seat.asking refl refl (got-map view_of seats i seat within ∙ ap (λ s. Some (view_of s)) (sym is)) (got-map (λ s. s.asking) seats i seat within ∙ ap (λ (s : Seat C N). Some s.asking) (sym is)) busy
 
   -- what a seat put at the first place of a call is
-  begun_here : (start : Start C) → now_with truths word row queues flags env (slice_set seats i (placed (get_or seats i seat) start)) history ≡ begun_at (now_with truths word row queues flags env seats history) i (view_of (get_or seats i seat)) start
+  pub begun_here : (start : Start C) → now_with truths word row queues flags env (slice_set seats i (placed (get_or seats i seat) start)) history ≡ begun_at (now_with truths word row queues flags env seats history) i (view_of (get_or seats i seat)) start
   begun_here (OnLock walk) =
       let old : Now C N = now_with truths word row queues flags env seats history in
       let next : Seat C N = placed (get_or seats i seat) (OnLock walk) in

@@ -30,6 +30,7 @@ use Rattle.ns_world.specs.declared.step.Step.{Step}
 use Rattle.ns_world.specs.declared.step.Step.TheVariants.{Went, Idle, Finished, Nothing}
 use Rattle.ns_counters.specs.declared.object.Setup.{Setup}
 use Rattle.ns_world.specs.declared.object_walk.ObjectWalk.{ObjectWalk}
+use Rattle.ns_world.specs.declared.object_walk.ObjectWalk.TheVariants.{InRound}
 use Rattle.ns_world.specs.Calls.{start_of, object_start, mode_of, mode_waited}
 use Rattle.ns_world.specs.Objects.{walk_in}
 use Rattle.ns_world.specs.Whole.{Whole, WholeIsBusy, WholeIsIdle, WholeStarts, WholeBegins, WholeMoves, WholeStep, WholeFault, WholeCommits, whole_busy}
@@ -162,7 +163,10 @@ module _ {C : Type 0} {N : ℕ} where
 
   whole_busy_of : (old new : Whole C N) (seat : ℕ) (step : Step) → WholeMoves old new seat step → WholeIsBusy old seat
   whole_busy_of old new seat step (inl p) = inl (busy_of old.lock new.lock seat step p.moves)
-  whole_busy_of old new seat step (inr p) = inr (p.walk, p.walks)
+  whole_busy_of old new seat step (inr (inl p)) = inr (p.walk, p.walks)
+  whole_busy_of old new seat step (inr (inr (inl p))) = inr (InRound p.round p.place, p.walks)
+  whole_busy_of old new seat step (inr (inr (inr (inl p)))) = inr (p.walk, p.walks)
+  whole_busy_of old new seat step (inr (inr (inr (inr p)))) = inl (busy_of old.lock new.lock seat p.told (inl p.acts))
 
   pub is_whole_busy : (world : Whole C N) (seat : ℕ) → WholeIsBusy world seat → whole_busy world seat ≡ true
   is_whole_busy world seat (inl busy) = ap (λ b. b || is_some (walk_in world.objects.walks seat)) (is_busy_of world.lock seat busy)
@@ -268,9 +272,12 @@ module _ {C : Type 0} {N : ℕ} where
 
   whole_stays : (old new : Whole C N) (seat : ℕ) (step : Step) → WholeMoves old new seat step → length new.lock.state.views ≡ length old.lock.state.views
   whole_stays old new seat step (inl p) = moves_stay old.lock new.lock seat step p.moves
-  whole_stays old new seat step (inr p) = ap (λ (world : Now C N). length world.state.views) p.same
+  whole_stays old new seat step (inr (inl p)) = ap (λ (world : Now C N). length world.state.views) p.same
+  whole_stays old new seat step (inr (inr (inl p))) = ap (λ (world : Now C N). length world.state.views) p.begins ∙ length-set old.lock.state.views seat _
+  whole_stays old new seat step (inr (inr (inr (inl p)))) = moves_stay old.lock new.lock seat step (inl p.acts)
+  whole_stays old new seat step (inr (inr (inr (inr p)))) = moves_stay old.lock new.lock seat p.told (inl p.acts)
 
-  step_stays : (old new : Whole C N) (seat : ℕ) (step : Step) → WholeStep old new seat step → length new.lock.state.views ≡ length old.lock.state.views
+  pub step_stays : (old new : Whole C N) (seat : ℕ) (step : Step) → WholeStep old new seat step → length new.lock.state.views ≡ length old.lock.state.views
   step_stays old new seat Went p = whole_stays old new seat Went p
   step_stays old new seat Idle p = whole_stays old new seat Idle p
   step_stays old new seat (Finished reply) p = whole_stays old new seat (Finished reply) p

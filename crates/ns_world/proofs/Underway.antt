@@ -1,6 +1,6 @@
 -- From its beginning to its answer a call is under way, whatever others do, and its answer means what it says.
 use Rattle.std.specs.Prelude.{slice_get}
-use Rattle.std.proofs.Common.{◌≡◌, ◌≢◌, inl, inr, ℕ, List, [], ◌++◌, Option, None, Some, slice_set, refl, ap, sym, ◌∙◌, subst, Bool, length}
+use Rattle.std.proofs.Common.{◌≡◌, ◌≢◌, inl, inr, ℕ, List, [], ◌++◌, Option, None, Some, slice_set, refl, ap, sym, ◌∙◌, subst, Bool, true, false, length}
 use Rattle.std.proofs.lemmas.List.{append-nil, append_assoc}
 use Rattle.std.proofs.lemmas.Option.{slice_get_within}
 use Rattle.ns_model.proofs.Beginnings.{begins_through, begins_itself}
@@ -50,7 +50,8 @@ use Rattle.ns_env.specs.declared.limits.Limits.{Limits}
 use Rattle.ns_word.specs.declared.request.Request.{Request}
 use Rattle.ns_word.specs.declared.view.Held.{Held}
 use Rattle.ns_word.specs.declared.view.SeatView.{SeatView}
-use Rattle.ns_model.specs.declared.cvs.Variables.TheVariants.{Only}
+use Rattle.ns_model.specs.declared.cvs.Variables.TheVariants.{Any, Only}
+use Rattle.ns_word.specs.declared.wait.Subject.{Subject}
 use Rattle.ns_word.specs.declared.wait.Subject.TheVariants.{OnCondition, OnVariables}
 use Rattle.ns_word.specs.declared.wait.Visit.TheVariants.{OnEntry}
 use Rattle.ns_word.specs.declared.walk.Next.TheVariants as TheNext
@@ -65,17 +66,18 @@ use Rattle.ns_world.specs.Asks.{env_state, env_step_of}
 use Rattle.ns_counters.specs.declared.object.Setup.{Setup}
 use Rattle.ns_world.specs.Begins.{Starts, begun_at}
 use Rattle.ns_world.specs.Calls.{mode_of, start_of, mode_waited, CallFits}
-use Rattle.ns_world.specs.Looks.{looks_at, LookFits, AsksFor, look_of, note_in}
-use Rattle.ns_world.specs.Meanings.{WasShown, AnswersOfLock, AnswersOfNotes, held_at, limits_of, asks_of, held_in}
+use Rattle.ns_word.specs.declared.walk.Walk.TheVariants.{InAcquire, InCells, InRelease, InShow, InSignal, InTry, InWait}
+use Rattle.ns_world.specs.Looks.{looks_at, LookFits, AsksFor, is_among, is_for_any, look_of, note_in}
+use Rattle.ns_world.specs.Meanings.{WasShown, AnswersOfLock, AnswersOfNotes, held_at, limits_for, limits_of, asks_of, held_in}
 use Rattle.ns_world.specs.Performs.{step_of}
-use Rattle.ns_world.specs.World.{Goes, LookGoes, Moves, Now, Asks, IsLawfulWorld, LedTo, env_done}
+use Rattle.ns_world.specs.World.{Goes, LookGoes, Moves, Now, Asks, IsLawfulWorld, LedTo, env_done, Acts}
 use Rattle.ns_world.specs.declared.call.Asked.TheVariants.{OfLock, OfNotes, OfObjects}
 use Rattle.ns_world.specs.declared.call.Asked.{Asked}
 use Rattle.ns_world.specs.declared.call.Call.TheVariants.{Lock, RLock, TryLock, TryRLock, Unlock, RUnlock, UnlockQuiet, Get, Set, Wait, CvWait, Signal, Broadcast, NewNote, Notify, Advance, IsNotified, Expiry, NoteWait, Add, Value, CounterWait, Once, Done, WaitAny}
 use Rattle.ns_world.specs.declared.call.Call.{Call}
 use Rattle.ns_world.specs.declared.call.Start.TheVariants.{Ask, OnLock, OnObjects}
 use Rattle.ns_world.specs.declared.call.Start.{Start}
-use Rattle.ns_world.specs.declared.step.Step.TheVariants.{Finished}
+use Rattle.ns_world.specs.declared.step.Step.TheVariants.{Went, Idle, Finished, Nothing}
 use Rattle.ns_world.specs.declared.step.Step.{Step}
 
 -- what a history begins with, it begins with when it has grown
@@ -86,9 +88,44 @@ begins_on front now more begins = begins_through (now ++ more) now front (more, 
 some_point_on : (earlier now more : List EnvEvent) (P : List EnvEvent → Type 0) → AtSomePoint earlier now P → AtSomePoint earlier (now ++ more) P
 some_point_on earlier now more P so = (so.0, (so.1.0, begins_on so.0 now more so.1.1), so.2)
 
-shown_on : (earlier now more : List EnvEvent) (limits : Limits) (looked : Option (Option Cause)) → WasShown earlier now limits looked → WasShown earlier (now ++ more) limits looked
+shown_on : (earlier now more : List EnvEvent) (limits : Option Limits) (looked : Option (Option Cause)) → WasShown earlier now limits looked → WasShown earlier (now ++ more) limits looked
 shown_on earlier now more limits None shown = tt
-shown_on earlier now more limits (Some cause) shown = some_point_on earlier now more (Shows limits cause) shown
+shown_on earlier now more None (Some cause) shown = tt
+shown_on earlier now more (Some limits) (Some cause) shown = some_point_on earlier now more (Shows limits cause) shown
+
+-- the limits of what was asked, if it has any by which it looks itself, are these
+abbrev Says : Option Limits → Limits → Type 0
+Says None limits = Unit {0}
+Says (Some by) limits = by ≡ limits
+
+says_for : {C : Type 0} (on : Subject C) (by limits : Limits) → by ≡ limits → Says (limits_for on by) limits
+says_for (OnCondition c) by limits e = e
+says_for (OnVariables (Only k)) by limits e = e
+says_for (OnVariables (Any cvs)) by limits e = tt
+
+shown_so : (earlier now : List EnvEvent) (o : Option Limits) (limits : Limits) (cause : Option Cause) → Says o limits → AtSomePoint earlier now (Shows limits cause) → WasShown earlier now o (Some cause)
+shown_so earlier now None limits cause says so = tt
+shown_so earlier now (Some by) limits cause says so = subst (λ l. AtSomePoint earlier now (Shows l cause)) (sym says) so
+
+-- a wait for any of a set of variables looks at no limits of its own
+shown_none : (earlier now : List EnvEvent) (o : Option Limits) (looked : Option (Option Cause)) → o ≡ None → WasShown earlier now o looked
+shown_none earlier now o None e = tt
+shown_none earlier now None (Some cause) e = tt
+shown_none earlier now (Some by) (Some cause) e = absurd (cc)
+
+among_for : {C : Type 0} (on : Subject C) (limits : Limits) → is_for_any on ≡ true → limits_for on limits ≡ None
+among_for (OnVariables (Any cvs)) limits e = refl
+among_for (OnVariables (Only k)) limits e = absurd (cc)
+among_for (OnCondition c) limits e = absurd (cc)
+
+among_says : {C : Type 0} (walk : Walk C) → is_among walk ≡ true → limits_of (asked_of walk) ≡ None
+among_says (InWait wait place) e = among_for wait.on wait.limits e
+among_says (InTry mode place) e = absurd (cc)
+among_says (InAcquire aim place) e = absurd (cc)
+among_says (InRelease releasing place) e = absurd (cc)
+among_says (InCells place) e = absurd (cc)
+among_says (InSignal waking k place) e = absurd (cc)
+among_says (InShow place) e = absurd (cc)
 
 -- what a look of a wait has come to that is under way, and began after the wait
 abbrev pub LookSoFar : List EnvEvent → ℕ → List EnvEvent → Option EnvWalk → Type 0
@@ -173,6 +210,25 @@ module _ (C : Type 0) (N : ℕ) (before : Now C N) (earlier : List EnvEvent) (se
   Outcome asked (Finished reply) events world = LockAnswers asked reply world events
   Outcome asked step events world = Underway asked events world
 
+  -- what the last look has shown of a call that has come so far, or is over
+  abbrev pub HasLooked : (request : Request C) (step : Step) (events : List EnvEvent) (world : Now C N) → Outcome (OfLock request) step events world → Option (Option Cause) → Type 0
+  HasLooked request (Finished reply) events world o looked = o.course.looked ≡ looked
+  HasLooked request Went events world o looked = o.course.looked ≡ looked
+  HasLooked request Idle events world o looked = o.course.looked ≡ looked
+  HasLooked request Nothing events world o looked = o.course.looked ≡ looked
+
+  -- this holds of what the last look has shown of a call on the lock
+  abbrev pub LooksAs : (P : Option (Option Cause) → Type 0) (asked : Asked C) (events : List EnvEvent) (world : Now C N) → Underway asked events world → Type 0
+  LooksAs P (OfLock request) events world u = P u.course.looked
+  LooksAs P (OfNotes request) events world u = Unit {0}
+  LooksAs P (OfObjects asked) events world u = Unit {0}
+
+  -- what says nothing holds
+  pub looks_any : (asked : Asked C) (events : List EnvEvent) (world : Now C N) (u : Underway asked events world) → LooksAs (λ looked. Unit {0}) asked events world u
+  looks_any (OfLock request) events world u = tt
+  looks_any (OfNotes request) events world u = tt
+  looks_any (OfObjects asked) events world u = tt
+
   -- the call is one on the lock, or on the clock and the notes
   abbrev pub IsOfLock : Asked C → Type 0
   IsOfLock (OfLock request) = Unit {0}
@@ -230,6 +286,12 @@ module _ (C : Type 0) (N : ℕ) (before : Now C N) (earlier : List EnvEvent) (se
   rests (OfLock request) events more old new same own_same u = lock_rests request events more old new same own_same u
   rests (OfNotes request) events more old new same own_same u = notes_rest request events more old new same own_same u
   rests (OfObjects asked) events more old new same own_same u = elsewhere_rests events more old new same own_same u
+
+  pub rests_look : (P : Option (Option Cause) → Type 0) (asked : Asked C) (events more : List EnvEvent) (old new : Now C N) (same : Untouched old new) (own_same : env_own (events ++ more) seat ≡ env_own events seat) (u : Underway asked events old) → LooksAs P asked events old u → LooksAs P asked (events ++ more) new (rests asked events more old new same own_same u)
+  unfolding rests lock_rests
+  rests_look P (OfLock request) events more old new same own_same u looks = looks
+  rests_look P (OfNotes request) events more old new same own_same u looks = tt
+  rests_look P (OfObjects asked) events more old new same own_same u looks = tt
 
   -- another seat's step on the lock
   goes_there : (old new : Now C N) (other : ℕ) (step : Step) → other ≢ seat → Goes old new other step → Untouched old new
@@ -310,23 +372,27 @@ module _ (C : Type 0) (N : ℕ) (before : Now C N) (earlier : List EnvEvent) (se
     }
 
     settles : (number : ℕ) (next : Next C) (held : Option (Held C N)) (owed : List Owed) → CallGoes new.truths seat (row_after new.history) request course next held → slice_get new.state.views seat ≡ Some (record { seat = number; walk = walk_after next; held = held; owed = owed }) →
-        slice_get new.asking seat ≡ Some (look_of (walk_after next)) → LookSoFar earlier seat events (look_of (walk_after next)) → Outcome (OfLock request) (step_of next) events new
-    settles number (On walk) held owed goes at asks looking = goes_on number walk held owed goes at asks looking
-    settles number (TheNext.Idle walk) held owed goes at asks looking = goes_on number walk held owed goes at asks looking
-    settles number (Done reply) held owed goes at asks looking = record {
-      course = course;
-      began = began;
-      added = added;
-      shown = shown;
-      still = still;
-      answer = reply;
-      tells = refl;
-      means = subst (λ h. Means new.truths seat (row_after new.history) request course reply h) (sym (ap held_in at)) goes;
-    }
+        slice_get new.asking seat ≡ Some (look_of (walk_after next)) → LookSoFar earlier seat events (look_of (walk_after next)) → (o : Outcome (OfLock request) (step_of next) events new) × HasLooked request (step_of next) events new o course.looked
+    unfolding goes_on
+    settles number (On walk) held owed goes at asks looking = (goes_on number walk held owed goes at asks looking, refl)
+    settles number (TheNext.Idle walk) held owed goes at asks looking = (goes_on number walk held owed goes at asks looking, refl)
+    settles number (Done reply) held owed goes at asks looking = (
+      record {
+        course = course;
+        began = began;
+        added = added;
+        shown = shown;
+        still = still;
+        answer = reply;
+        tells = refl;
+        means = subst (λ h. Means new.truths seat (row_after new.history) request course reply h) (sym (ap held_in at)) goes;
+      },
+      refl,
+    )
 
   -- a step of the seat on the lock leads its call on
   lock_goes : (request : Request C) (events : List EnvEvent) (old new : Now C N) (step : Step) → IsLawfulWorld old → BeginsWith events earlier → (u : LockUnderway request events old) → (p : Goes old new seat step) →
-      WasShown earlier events (limits_of request) (looked_after p.found u.course.looked) → Outcome (OfLock request) step events new
+      WasShown earlier events (limits_of request) (looked_after p.found u.course.looked) → (o : Outcome (OfLock request) step events new) × HasLooked request step events new o (looked_after p.found u.course.looked)
   lock_goes request events old new step lawful since u p shown =
       let views : Some p.view ≡ Some u.view = sym p.at ∙ u.at in
       let view_is : p.view ≡ u.view = cc in
@@ -351,7 +417,7 @@ module _ (C : Type 0) (N : ℕ) (before : Now C N) (earlier : List EnvEvent) (se
       let asks = ap (λ xs. slice_get xs seat) p.asking ∙ set_here old.asking seat (look_of (walk_after next)) (slice_get_within old.asking seat u.asking u.asks) in
       let made : IfMade old.env.notes (note_in (walk_after next)) = noted N (IfMade old.env.notes) p.makes.walk p.found tt (subst (λ w. IfMade old.env.notes (note_in w)) p.makes.walks (lawful.noted seat p.view p.at)) in
       let looking = look_begins earlier seat events old.env.notes (look_of (walk_after next)) since (first_if old.env.notes (walk_after next) made) in
-      subst (λ s. Outcome (OfLock request) s events new) (sym p.answers) (settles request events new course u.began added shown u.still p.view.seat next p.makes.held p.makes.owed goes_here at asks looking)
+      subst (λ s. (o : Outcome (OfLock request) s events new) × HasLooked request s events new o course.looked) (sym p.answers) (settles request events new course u.began added shown u.still p.view.seat next p.makes.held p.makes.owed goes_here at asks looking)
 
   -- ---- a look of the wait
 
@@ -373,11 +439,11 @@ module _ (C : Type 0) (N : ℕ) (before : Now C N) (earlier : List EnvEvent) (se
   is_look LoadFlag limits e = absurd (cc)
   is_look (Look by again) limits e = let same : by ≡ limits = cc in (again, ap (λ l. Look l again) same)
 
-  limits_are : (walk : Walk C) (request : Request C) (limits : Limits) → asked_of walk ≡ request → looks_at (want_of walk) ≡ Some limits → limits_of request ≡ limits
+  limits_are : (walk : Walk C) (request : Request C) (limits : Limits) → asked_of walk ≡ request → looks_at (want_of walk) ≡ Some limits → Says (limits_of request) limits
   limits_are walk request limits asked e =
       let look = is_look (want_of walk) limits e in
       let found = looks_by_asked limits look.0 walk look.1 in
-      ap limits_of (sym asked ∙ found.1) ∙ found.2
+      subst (λ r. Says (limits_of r) limits) (sym (sym asked ∙ found.1)) (says_for found.0.on found.0.limits limits found.2)
 
   place_asks : (limits : Limits) (place : EnvWalk) → LookFits limits place → env_asked_of place ≡ TheEnvRequest.Look limits
   place_asks limits (ClockLoad (ForLook by)) fits = ap TheEnvRequest.Look fits
@@ -393,7 +459,7 @@ module _ (C : Type 0) (N : ℕ) (before : Now C N) (earlier : List EnvEvent) (se
 
   module _ (request : Request C) (events : List EnvEvent) (old new : Now C N) (step : Step) (lawful : IsLawfulWorld old) (since : BeginsWith events earlier) (u : LockUnderway request events old) where
     -- the look goes on, or the wait goes on with what it has shown
-    look_goes : (walk : Walk C) (view : SeatView C N) (look : EnvCourse) (asked : EnvRequest) (limits : Limits) (next : EnvNext) → limits_of request ≡ limits → asked ≡ TheEnvRequest.Look limits → BeginsWith look.before earlier → EnvGoes events seat asked look next → LookGoes next old new seat step → Outcome (OfLock request) step events new
+    look_goes : (walk : Walk C) (view : SeatView C N) (look : EnvCourse) (asked : EnvRequest) (limits : Limits) (next : EnvNext) → Says (limits_of request) limits → asked ≡ TheEnvRequest.Look limits → BeginsWith look.before earlier → EnvGoes events seat asked look next → LookGoes next old new seat step → Outcome (OfLock request) step events new
     look_goes walk view look asked limits (Go place) given is after goes p =
         subst (λ s. Outcome (OfLock request) s events new) (sym p.1) (subst (λ world. LockUnderway request events world) (sym p.0) (record {
           view = u.view;
@@ -412,8 +478,8 @@ module _ (C : Type 0) (N : ℕ) (before : Now C N) (earlier : List EnvEvent) (se
           still = u.still;
         }))
     look_goes walk view look asked limits (LookOver cause) given is after goes p =
-        lock_goes request events old new step lawful since u p.0 (subst (λ found. WasShown earlier events (limits_of request) (looked_after found u.course.looked)) (sym p.1)
-        (subst (λ l. AtSomePoint earlier events (Shows l cause)) (sym given) (look_means events look limits asked cause is after goes)))
+        (lock_goes request events old new step lawful since u p.0 (subst (λ found. WasShown earlier events (limits_of request) (looked_after found u.course.looked)) (sym p.1)
+        (shown_so earlier events (limits_of request) limits cause given (look_means events look limits asked cause is after goes)))).0
     look_goes walk view look asked limits next given is after goes p = absurd p
 
   -- ---- a call on the clock and the notes
@@ -487,15 +553,37 @@ module _ (C : Type 0) (N : ℕ) (before : Now C N) (earlier : List EnvEvent) (se
   pub same_world : (world : Now C N) → Untouched world world
   same_world world = record { views = refl; asking = refl; own_same = refl; means = refl }
 
+  -- a step that is no look of its own leaves what was shown
+  shown_by : (events : List EnvEvent) (b : Bool) {among : Bool} → among ≡ b → (o : Option Limits) (was now : Option (Option Cause)) → (among ≡ false → now ≡ was) → (among ≡ true → o ≡ None) → WasShown earlier events o was → WasShown earlier events o now
+  shown_by events true is o was now same none shown = shown_none earlier events o now (none is)
+  shown_by events false is o was now same none shown = subst (λ looked. WasShown earlier events o looked) (sym (same is)) shown
+
+  -- a step on the lock, of a call that nothing ends by a look of its own
+  pub acts_on : (request : Request C) → limits_of request ≡ None → (events : List EnvEvent) (old new : Now C N) (step : Step) → IsLawfulWorld old → BeginsWith events earlier → (u : LockUnderway request events old) → (p : Acts old new seat step) →
+      (o : Outcome (OfLock request) step (events ++ []) new) × HasLooked request step (events ++ []) new o (looked_after p.goes.found u.course.looked)
+  unfolding lock_rests
+  acts_on request none events old new step lawful since u p =
+      lock_goes request (events ++ []) old new step lawful (begins_on earlier events [] since) (lock_rests request events [] old old (same_world old) (no_more events) u) p.goes (shown_none earlier (events ++ []) (limits_of request) (looked_after p.goes.found u.course.looked) none)
+
+  -- where it wants no look, it shows nothing
+  pub acts_show_not : (old new : Now C N) (step : Step) (p : Acts old new seat step) (looked : Option (Option Cause)) → looks_at (want_of p.goes.makes.walk) ≡ None → looked_after p.goes.found looked ≡ looked
+  acts_show_not old new step p looked none =
+      still_looked old.truths (want_of p.goes.makes.walk) (part_of old.state p.goes.view.held p.goes.view.owed) p.goes.found (part_of new.state p.goes.makes.held p.goes.makes.owed) p.goes.commits looked none
+      (subst (λ n. Effect old.truths n (want_of p.goes.makes.walk) (part_of old.state p.goes.view.held p.goes.view.owed) p.goes.found (part_of new.state p.goes.makes.held p.goes.makes.owed) p.goes.commits) p.goes.number p.goes.makes.effect)
+
   -- of a call on the lock
   lock_moves : (request : Request C) (events : List EnvEvent) (old new : Now C N) (step : Step) → IsLawfulWorld old → LedTo events old → BeginsWith events earlier → LockUnderway request events old → (p : Moves old new seat step) → LedToOutcome (OfLock request) events new step (env_done p)
   unfolding lock_rests
   lock_moves request events old new step lawful led since u (inl p) =
       let now = lock_rests request events [] old old (same_world old) (no_more events) u in
-      let same : looked_after p.goes.found u.course.looked ≡ u.course.looked = still_looked old.truths (want_of p.goes.makes.walk) (part_of old.state p.goes.view.held p.goes.view.owed) p.goes.found (part_of new.state p.goes.makes.held p.goes.makes.owed) p.goes.commits u.course.looked p.is_no_look
-      (subst (λ n. Effect old.truths n (want_of p.goes.makes.walk) (part_of old.state p.goes.view.held p.goes.view.owed) p.goes.found (part_of new.state p.goes.makes.held p.goes.makes.owed) p.goes.commits) p.goes.number p.goes.makes.effect) in (
+      let same : is_among p.goes.makes.walk ≡ false → looked_after p.goes.found u.course.looked ≡ u.course.looked = λ not. acts_show_not old new step p u.course.looked (p.is_no_look not) in
+      let views : Some p.goes.view ≡ Some u.view = sym p.goes.at ∙ u.at in
+      let view_is : p.goes.view ≡ u.view = cc in
+      let walks : Some p.goes.makes.walk ≡ Some u.walk = sym p.goes.makes.walks ∙ ap (λ v. v.walk) view_is ∙ u.walks in
+      let walk_is : p.goes.makes.walk ≡ u.walk = cc in
+      let none : is_among p.goes.makes.walk ≡ true → limits_of request ≡ None = λ is. ap limits_of (sym u.asked ∙ ap asked_of (sym walk_is)) ∙ among_says p.goes.makes.walk is in (
         no_event events new (acts_led events old new seat step lawful led p),
-        lock_goes request (events ++ []) old new step lawful (begins_on earlier events [] since) now p.goes (subst (λ looked. WasShown earlier (events ++ []) (limits_of request) looked) (sym same) now.shown),
+        (lock_goes request (events ++ []) old new step lawful (begins_on earlier events [] since) now p.goes (shown_by (events ++ []) (is_among p.goes.makes.walk) refl (limits_of request) u.course.looked (looked_after p.goes.found u.course.looked) same none now.shown)).0,
       )
   lock_moves request events old new step lawful led since u (inr (inl p)) =
       let views : Some p.view ≡ Some u.view = sym p.at ∙ u.at in
@@ -658,37 +746,73 @@ module _ (C : Type 0) (N : ℕ) (before : Now C N) (earlier : List EnvEvent) (se
 
   -- ---- from the beginning to the answer
 
-  -- these events have led to a world in which the call is under way
-  pub record IsUnderway (asked : Asked C) (events : List EnvEvent) (world : Now C N) : Type 0 where
+  -- a call that is elsewhere goes on as one on the lock, from the section in hand
+  pub goes_to_lock : (request : Request C) (events : List EnvEvent) (old new : Now C N) (view : SeatView C N) (walk : Walk C) → asked_of walk ≡ request → IsFirst N walk → slice_get old.state.views seat ≡ Some view → slice_get old.asking seat ≡ Some None → new ≡ begun_at old seat view (OnLock walk) → Elsewhere events old →
+      (u : LockUnderway request (events ++ []) new) × (u.course.looked ≡ None)
+  goes_to_lock request events old new view walk asked first at unasked is u =
+      let views : Some u.view ≡ Some view = sym u.at ∙ at in
+      let view_is : u.view ≡ view = cc in
+      let same : view.held ≡ held_at before seat = ap (λ (v : SeatView C N). v.held) (sym view_is) ∙ u.same in
+      subst (λ (world : Now C N). (u : LockUnderway request (events ++ []) world) × (u.course.looked ≡ None)) (sym is) (
+        record {
+          view = record view { walk = Some walk };
+          at = set_here old.state.views seat (record view { walk = Some walk }) (slice_get_within old.state.views seat view at);
+          walk = walk;
+          walks = refl;
+          asked = asked;
+          course = course_from view.held;
+          began = same;
+          added = u.silent ∙ sym (append-nil (own before.history seat));
+          so_far = begins_unchanged C N old.truths seat view.held walk first;
+          shown = tt;
+          asking = None;
+          asks = unasked;
+          looking = tt;
+          still = no_more events ∙ u.still;
+        },
+        refl,
+      )
+
+  -- these events have led to a world in which the call is under way, and this holds of what its last look on the lock has shown
+  pub record IsUnderway (P : Option (Option Cause) → Type 0) (asked : Asked C) (events : List EnvEvent) (world : Now C N) : Type 0 where
     pub since : BeginsWith events earlier
     pub led : LedTo events world
     pub underway : Underway asked events world
+    pub looks : LooksAs P asked events world underway
 
-  pub begins_underway : (setup : Setup) (begun : Now C N) (call : Call C) → LedTo earlier before → Starts setup before begun seat call → IsUnderway (asks_of (mode_of (held_at before seat)) call) earlier begun
+  pub begins_underway : (setup : Setup) (begun : Now C N) (call : Call C) → LedTo earlier before → Starts setup before begun seat call → IsUnderway (λ looked. Unit {0}) (asks_of (mode_of (held_at before seat)) call) earlier begun
   begins_underway setup begun call led p =
       let mode = mode_of p.view.held in
       let is : held_at before seat ≡ p.view.held = ap held_in p.at in
       let first = first_at setup before.env.notes mode call p.fits in
-      subst (λ held. IsUnderway (asks_of (mode_of held) call) earlier begun) (sym is) (subst (λ world. IsUnderway (asks_of mode call) earlier world) (sym p.begins) (record {
+      subst (λ held. IsUnderway (λ looked. Unit {0}) (asks_of (mode_of held) call) earlier begun) (sym is) (subst (λ world. IsUnderway (λ looked. Unit {0}) (asks_of mode call) earlier world) (sym p.begins) (record {
         since = begins_itself earlier;
         led = begins_led earlier before seat p.view (start_of N mode call) p.unasked first led;
         underway = starts_at (asks_of mode call) (start_of N mode call) p.view (asked_at mode call) first p.at p.idle p.unasked;
+        looks = looks_any (asks_of mode call) earlier (begun_at before seat p.view (start_of N mode call)) (starts_at (asks_of mode call) (start_of N mode call) p.view (asked_at mode call) first p.at p.idle p.unasked);
       }))
 
   -- a step of another
-  pub moves_away : (asked : Asked C) (events : List EnvEvent) (old new : Now C N) (other : ℕ) (step : Step) → other ≢ seat → IsLawfulWorld old → (p : Moves old new other step) → IsUnderway asked events old → IsUnderway asked (events ++ env_done p) new
-  moves_away asked events old new other step ne lawful p u =
+  pub moves_away : (P : Option (Option Cause) → Type 0) (asked : Asked C) (events : List EnvEvent) (old new : Now C N) (other : ℕ) (step : Step) → other ≢ seat → IsLawfulWorld old → (p : Moves old new other step) → IsUnderway P asked events old → IsUnderway P asked (events ++ env_done p) new
+  moves_away P asked events old new other step ne lawful p u =
       let led = moves_led events old new other step lawful u.led p in
       let more = env_done p in
       let own_same : env_own (events ++ more) seat ≡ env_own events seat = env_own-append events more seat ∙ ap (λ es. env_own events seat ++ es) (env_own_none other seat more ne led.0) ∙ append-nil (env_own events seat) in
-      record { since = begins_on earlier events more u.since; led = led.1; underway = rests asked events more old new (moves_there old new other step ne p) own_same u.underway }
+      let there = moves_there old new other step ne p in
+      record { since = begins_on earlier events more u.since; led = led.1; underway = rests asked events more old new there own_same u.underway; looks = rests_look P asked events more old new there own_same u.underway u.looks }
 
   -- another seat begins a call
-  pub begin_away : (asked : Asked C) (setup : Setup) (events : List EnvEvent) (old new : Now C N) (other : ℕ) (call : Call C) → other ≢ seat → Starts setup old new other call → IsUnderway asked events old → IsUnderway asked (events ++ []) new
-  begin_away asked setup events old new other call ne p u =
+  pub begin_away : (P : Option (Option Cause) → Type 0) (asked : Asked C) (setup : Setup) (events : List EnvEvent) (old new : Now C N) (other : ℕ) (call : Call C) → other ≢ seat → Starts setup old new other call → IsUnderway P asked events old → IsUnderway P asked (events ++ []) new
+  begin_away P asked setup events old new other call ne p u =
       let led = subst (λ world. LedTo events world) (sym p.begins) (begins_led events old other p.view (start_of N (mode_of p.view.held) call) p.unasked (first_at setup old.env.notes (mode_of p.view.held) call p.fits) u.led) in
-      record { since = begins_on earlier events [] u.since; led = no_event events new led; underway = rests asked events [] old new (begin_there setup old new other call ne p) (no_more events) u.underway }
+      let there = begin_there setup old new other call ne p in
+      record { since = begins_on earlier events [] u.since; led = no_event events new led; underway = rests asked events [] old new there (no_more events) u.underway; looks = rests_look P asked events [] old new there (no_more events) u.underway u.looks }
 
   -- nothing happens here
-  pub stays_underway : (asked : Asked C) (events : List EnvEvent) (world : Now C N) → IsUnderway asked events world → IsUnderway asked (events ++ []) world
-  stays_underway asked events world u = record { since = begins_on earlier events [] u.since; led = no_event events world u.led; underway = rests asked events [] world world (same_world world) (no_more events) u.underway }
+  pub stays_underway : (P : Option (Option Cause) → Type 0) (asked : Asked C) (events : List EnvEvent) (world : Now C N) → IsUnderway P asked events world → IsUnderway P asked (events ++ []) world
+  stays_underway P asked events world u = record {
+    since = begins_on earlier events [] u.since;
+    led = no_event events world u.led;
+    underway = rests asked events [] world world (same_world world) (no_more events) u.underway;
+    looks = rests_look P asked events [] world world (same_world world) (no_more events) u.underway u.looks;
+  }

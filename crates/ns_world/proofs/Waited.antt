@@ -1,6 +1,6 @@
 -- What the exchanges do that put the queues back, over plain data.
 use Rattle.std.proofs.Common.{◌≡◌, ◌≢◌, ℕ, not, ◌&&◌, Bool, true, false, List, [], ◌∷◌, ◌++◌, Option, None, Some, refl, ap, sym, ◌∙◌, is_some}
-use Rattle.std.specs.Prelude.{IfSome, IfOk, OnErr, nat_lt, if◌then◌else◌}
+use Rattle.std.specs.Prelude.{IfSome, IfOk, OnErr, if◌then◌else◌}
 use Rattle.std.specs.declared.result.Result.{Result}
 use Rattle.std.specs.declared.result.Result.TheVariants.{Ok, Err}
 use Rattle.std.proofs.lemmas.List.{append-nil}
@@ -11,9 +11,8 @@ use Rattle.ns_model.specs.declared.cvs.Variables.TheVariants.{Any, Only}
 use Rattle.ns_word.specs.declared.wait.Home.{Home}
 use Rattle.ns_word.specs.declared.wait.Home.TheVariants.{AtLock, AtVariables}
 use Rattle.ns_queue.specs.declared.waiter.Which.TheVariants.{Cv}
-use Rattle.ns_queue.specs.Queues.{cvs_without, Lists, waiters_of, with_waiters}
+use Rattle.ns_queue.specs.Queues.{cvs_without, Lists, waiters_of}
 use Rattle.ns_queue.specs.Signals.{taken_set}
-use Rattle.ns_queue.specs.Waiters.{seats_of, times_in}
 use Rattle.ns_queue.specs.Scans.{woken_of, tests_of}
 use Rattle.ns_word.specs.Owed.{called_of, wakes_of}
 use Rattle.ns_word.specs.declared.owed.Owed.{Owed}

@@ -1,7 +1,13 @@
 -- From its beginning to its answer a call in a whole world is under way, whatever others do, and its answer means what it says.
-use Rattle.std.proofs.Common.{◌≡◌, ◌≢◌, ℕ, zero, suc, List, [], ◌++◌, Option, None, Some, slice_set, refl, ap, sym, ◌∙◌, subst, inl, inr, ◌⊎◌}
+use Rattle.std.proofs.Common.{◌≡◌, ◌≢◌, ℕ, zero, suc, List, [], ◌++◌, Option, None, Some, slice_set, refl, ap, sym, ◌∙◌, subst, inl, inr, ◌⊎◌, true, false, cond, Bool, is_some, ◌<◌}
 use Rattle.std.proofs.lemmas.Bool.{cases_eq}
 use Rattle.std.proofs.lemmas.List.{append-nil, append_assoc}
+use Rattle.ns_env.proofs.Asks.{set_there}
+use Rattle.ns_word.specs.declared.walk.Walk.{Walk}
+use Rattle.ns_word.specs.Walks.{got_of, walk_after, wait_first, want_of}
+use Rattle.ns_world.specs.declared.object_walk.ObjectWalk.TheVariants.{InRound}
+use Rattle.ns_world.specs.declared.objects.AnyWait.{AnyWait}
+use Rattle.ns_world.specs.Among.{round_due, shown_by, waited_after, at_will, cause_of, is_for_lock, place_told, reply_told, step_told, waits_for_any}
 use Rattle.ns_model.proofs.Beginnings.{begins_itself}
 use Rattle.ns_model.specs.Beginnings.{BeginsWith}
 use Rattle.ns_model.specs.Environments.{env_after}
@@ -24,65 +30,108 @@ use Rattle.ns_world.specs.declared.step.Begun.TheVariants.{Started}
 use Rattle.ns_world.specs.declared.step.Step.{Step}
 use Rattle.ns_world.specs.declared.step.Step.TheVariants.{Went, Idle, Finished, Nothing}
 use Rattle.ns_world.specs.Asks.{env_state}
-use Rattle.ns_world.specs.Calls.{CallFits, object_start, mode_of}
-use Rattle.ns_world.specs.Meanings.{AnswersCall, AnswersTo, Happens, HasLedTo, IsUnfinished, Meanwhile, asks_of, done_by, done_in, happened, held_at, held_in, nothing_done}
-use Rattle.ns_world.specs.ObjectMeanings.{Past, past_and, object_asked, ObjectGoes, ObjectSoFar}
-use Rattle.ns_world.specs.Objects.{AreLedTo, AreThere, WalkFits, object_step_of, objects_begun, walk_in}
-use Rattle.ns_world.specs.ObjectWalks.{object_after, object_got}
-use Rattle.ns_world.specs.Whole.{Whole, AreObjectsBy, HaveLedTo, IsLawfulWhole, LockSteps, Operates, WholeBegins, WholeMoves, WholeStarts, WholeStep, notes_done, objects_done}
-use Rattle.ns_world.specs.World.{Now, AreEnvBy, IsIdle, LedTo, env_done}
-use Rattle.ns_world.proofs.EnvGrows.{moves_led}
-use Rattle.ns_world.proofs.ObjectCourses.{operates_on, so_far_on}
-use Rattle.ns_world.proofs.ObjectLaw.{operates_keeps}
-use Rattle.ns_world.proofs.Underway.{IsOfLock, IsUnderway, Outcome, Underway, begin_away, begins_on, begins_underway, moves_away, moves_on, not_idle, stays_underway}
-use Rattle.ns_world.proofs.Walks.{put_here, put_there, stands_within}
-use Rattle.ns_world.proofs.Wholes.{begun_led, led_more, moves_make}
-
--- ---- what has led to a world
-
-no_more : {C : Type 0} {N : ℕ} (past : Past) (world : Whole C N) → HasLedTo past world → HasLedTo (past_and past nothing_done) world
-no_more past world led = (subst (λ es. LedTo es world.lock) (sym (append-nil past.notes)) led.0, subst (λ es. HaveLedTo es world) (sym (append-nil past.objects)) led.1)
-
-module _ {C : Type 0} {N : ℕ} (past : Past) (old new : Whole C N) (seat : ℕ) (step : Step) (lawful : IsLawfulWhole old) (led : HasLedTo past old) where
-  -- by a step of the lock
-  lock_led : (p : LockSteps old new seat step) → AreEnvBy seat (env_done p.moves) × HasLedTo (past_and past (record { notes = env_done p.moves; objects = [] })) new
-  lock_led p =
-      let notes = moves_led past.notes old.lock new.lock seat step lawful.lock led.0 p.moves in
-      let objects = led_more past.objects old.objects old.lock.env.notes new.lock.env.notes (moves_make old.lock new.lock seat step p.moves) led.1 in
-      (notes.0, (notes.1, subst (λ es. AreLedTo es new.objects new.lock.env.notes) (sym (append-nil past.objects)) (subst (λ (o : Objects). AreLedTo past.objects o new.lock.env.notes) (sym p.same) objects)))
-
-  -- by one of a call on counters and once cells
-  operated_led : (p : Operates old new seat step) → AreObjectsBy seat p.operated.events × HasLedTo (past_and past (record { notes = []; objects = p.operated.events })) new
-  operated_led p =
-      let q = p.operated in
-      let kept = operates_keeps old.objects old.lock.env past.notes led.0.lawful.meets past.objects led.1 seat p.walk p.walks q.found q.words q.events q.effect in
-      let objects = subst (λ (o : Objects). AreLedTo (past.objects ++ q.events) o old.lock.env.notes) (sym q.becomes) kept.0 in
-      (kept.1, (subst (λ es. LedTo es new.lock) (sym (append-nil past.notes)) (subst (LedTo past.notes) (sym p.same) led.0), subst (λ (lock : Now C N). AreLedTo (past.objects ++ q.events) new.objects lock.env.notes) (sym p.same) objects))
-
-  whole_led : (p : WholeMoves old new seat step) → AreEnvBy seat (notes_done p) × AreObjectsBy seat (objects_done p) × HasLedTo (past_and past (record { notes = notes_done p; objects = objects_done p })) new
-  whole_led (inl p) = let on = lock_led p in (on.0, tt, on.1)
-  whole_led (inr p) = let on = operated_led p in (tt, on.0, on.1)
-
--- what has led to a world, and the events of a step, which are its seat's, lead to the world after it
-pub steps_led : {C : Type 0} {N : ℕ} (past : Past) (old new : Whole C N) (seat : ℕ) (step : Step) → IsLawfulWhole old → HasLedTo past old → (p : WholeStep old new seat step) →
-    AreEnvBy seat (done_in old new seat step p).notes × AreObjectsBy seat (done_in old new seat step p).objects × HasLedTo (past_and past (done_in old new seat step p)) new
-steps_led past old new seat Nothing lawful led p = (tt, tt, no_more past new (subst (HasLedTo past) (sym p.0) led))
-steps_led past old new seat Went lawful led p = whole_led past old new seat Went lawful led p
-steps_led past old new seat Idle lawful led p = whole_led past old new seat Idle lawful led p
-steps_led past old new seat (Finished reply) lawful led p = whole_led past old new seat (Finished reply) lawful led p
-
--- and when a call has begun
-starts_led : {C : Type 0} {N : ℕ} (history : List ObjectEvent) (old new : Whole C N) (seat : ℕ) (call : Call C) → IsLawfulWhole old → IsLawfulWhole new → WholeStarts old new seat call → HaveLedTo history old → HaveLedTo history new
-starts_led history old new seat call lawful now_lawful p led =
-    subst (λ (o : Objects). AreLedTo history o new.lock.env.notes) (sym p.becomes) (begun_led old lawful new.lock seat call p.starts now_lawful.lock p.elsewhere history led (object_start call) refl)
+use Rattle.ns_world.specs.Calls.{CallFits, object_start, mode_of, mode_waited}
+use Rattle.ns_world.specs.Meanings.{AnswersCall, AnswersTo, Happens, HasLedTo, IsUnfinished, Meanwhile, asks_of, done_by, done_in, happened, held_at, held_in, nothing_done, AnswersOfLock, PlaceBy}
+use Rattle.ns_world.specs.ObjectMeanings.{Past, past_and, object_asked, ObjectGoes, ObjectSoFar, AnyAnswers, RoundSoFar, WasEarly, WereThere, WereUnready}
+use Rattle.ns_world.specs.Objects.{AreThere, HasOperated, WalkFits, object_step_of, objects_begun, stood_at, walk_in, wait_in}
+use Rattle.ns_world.specs.ObjectWalks.{object_after, object_got, by_round}
+use Rattle.ns_world.specs.Whole.{Whole, AreObjectsBy, BeginsToWait, EndsLook, HaveLedTo, IsLawfulWhole, LockSteps, Operates, WaitSteps, WholeBegins, WholeMoves, WholeStarts, WholeStep, notes_done, objects_done, LooksWhere}
+use Rattle.ns_world.specs.World.{Now, IsIdle, env_done, Acts}
+use Rattle.ns_world.proofs.ObjectCourses.{operates_on, so_far_on, RoundGoes, any_on, early_on, round_by, round_makes_none, round_on, unready_on}
+use Rattle.ns_world.proofs.Underway.{IsOfLock, IsUnderway, Outcome, Underway, Untouched, begin_away, begins_on, begins_underway, moves_away, moves_on, no_more as no_more_notes, not_idle, rests, stays_underway, HasLooked, LockUnderway, acts_on, acts_show_not, goes_to_lock, looks_any, rests_look}
+use Rattle.ns_world.proofs.Walks.{put_here, put_there, stands_within, wait_there}
+use Rattle.ns_world.proofs.WholeLed.{lock_led, operated_led, begins_to_wait_led, ends_look_led, wait_steps_led, starts_led}
+use Rattle.std.specs.Prelude.{unwrap_or}
+use Rattle.ns_model.specs.Histories.{row_after}
+use Rattle.ns_model.specs.declared.cvs.Cvs.{Cvs}
+use Rattle.ns_model.specs.declared.cvs.Variables.TheVariants.{Any}
+use Rattle.ns_model.specs.declared.event.Answer.{Answer}
+use Rattle.ns_env.specs.declared.limits.Cause.{Cause}
+use Rattle.ns_word.specs.declared.act.Found.{Found}
+use Rattle.ns_word.specs.declared.request.Request.{Request}
+use Rattle.ns_word.specs.declared.request.Request.TheVariants as TheRequest
+use Rattle.ns_word.specs.declared.view.Held.{Held}
+use Rattle.ns_word.specs.declared.view.SeatView.{SeatView}
+use Rattle.ns_word.specs.declared.wait.Subject.TheVariants.{OnVariables}
+use Rattle.ns_word.specs.declared.walk.Next.{Next}
+use Rattle.ns_word.specs.declared.walk.Next.TheVariants.{On, Done}
+use Rattle.ns_word.specs.declared.walk.Next.TheVariants as TheNext
+use Rattle.ns_word.specs.declared.walk.Reply.{Reply as WalkReply}
+use Rattle.ns_word.specs.declared.walk.Reply.TheVariants as TheWalk
+use Rattle.ns_word.specs.Asked.{asked_of}
+use Rattle.ns_word.specs.Courses.{looked_after}
+use Rattle.ns_word.specs.Meanings.{AnyMeans, InHand, MayEnd, Means, WaitMeans}
+use Rattle.ns_word.proofs.Starts.{wait_is_first}
+use Rattle.ns_world.specs.declared.round.Round.{Round}
+use Rattle.ns_world.specs.declared.round.RoundNext.{RoundNext}
+use Rattle.ns_world.specs.declared.round.RoundNext.TheVariants.{RoundGo, RoundOver}
+use Rattle.ns_world.specs.declared.round.RoundPlace.{RoundPlace}
+use Rattle.ns_world.specs.declared.round.RoundPlace.TheVariants.{FirstClock}
+use Rattle.ns_world.specs.Items.{AreAmong, is_among, items_of, place_in}
+use Rattle.ns_world.proofs.Listed.{first_place, some_among}
+use Rattle.ns_world.specs.Looks.{looks_at}
+use Rattle.ns_world.specs.Performs.{step_of}
+use Rattle.ns_world.specs.Replies.{told as reply_of_lock}
+use Rattle.ns_world.specs.Rounds.{round_got}
+use Rattle.ns_world.proofs.Awaits.{becomes_over, leads, low_if, low_over, many_over, others_over, same_walk, setup_same, stands_here, there_as, waits_here}
+use Rattle.ns_world.proofs.Wholes.{begun_waits_not}
 
 -- ---- a call that is under way
 
+-- A call on counters and once cells has gone on to wait on the lock: by this round it looks, for these variables it waits, and its last round has shown this.
+record Waiting : Type 0 where
+  round : Round
+  cvs : Cvs
+  shown : Option ℕ
+
+-- what its last look has shown to the lock, its last round has shown
+abbrev AsShown : Option ℕ → Option (Option Cause) → Type 0
+AsShown shown None = Unit {0}
+AsShown shown (Some cause) = cause ≡ cause_of shown
+
+-- a place that goes on
+goes_after : {C : Type 0} (next : Next C) → IsUnfinished (step_of next) → (walk : Walk C) × (walk_after next ≡ Some walk)
+goes_after (On walk) goes = (walk, refl)
+goes_after (TheNext.Idle walk) goes = (walk, refl)
+goes_after (Done reply) goes = absurd goes
+
+-- a call that begins leaves what objects there are, and who waits on the lock for variables
+begun_setup : (objects : Objects) (who : ℕ) (place : Option ObjectWalk) → (objects_begun objects who place).setup ≡ objects.setup
+begun_setup objects who None = refl
+begun_setup objects who (Some walk) = refl
+
+begun_waits : (objects : Objects) (who : ℕ) (place : Option ObjectWalk) → wait_in (objects_begun objects who place).waits who ≡ wait_in objects.waits who
+begun_waits objects who None = refl
+begun_waits objects who (Some walk) = refl
+
 module _ (C : Type 0) (N : ℕ) (before : Whole C N) (earlier : Past) (seat : ℕ) where
+  -- the wait on the lock that a call goes on to, for these variables
+  abbrev wait_for : Cvs → Request C
+  wait_for cvs = TheRequest.Await (waits_for_any (mode_waited (mode_of (held_at before.lock seat))) cvs)
+
+  -- a call goes on as it was asked, or has gone on to wait on the lock
+  abbrev Phase : Type 0
+  Phase = Asked C ⊎ Waiting
+
+  -- what was asked
+  abbrev asked_in : Phase → Asked C
+  asked_in (inl asked) = asked
+  asked_in (inr w) = OfObjects (InRound w.round FirstClock)
+
+  -- what it is for the lock
+  abbrev lock_of : Phase → Asked C
+  lock_of (inl asked) = asked
+  lock_of (inr w) = OfLock (wait_for w.cvs)
+
+  abbrev Looks : Phase → Option (Option Cause) → Type 0
+  Looks (inl asked) looked = Unit {0}
+  Looks (inr w) looked = AsShown w.shown looked
+
   -- one on counters and once cells has come so far
   record ObjectsUnderway (asked : ObjectWalk) (past : Past) (world : Whole C N) : Type 0 where
     walk : ObjectWalk
     walks : walk_in world.objects.walks seat ≡ Some walk
+    waits_not : wait_in world.objects.waits seat ≡ None
     is_asked : object_asked walk ≡ asked
     events : List ObjectEvent
     added : objects_own past.objects seat ≡ objects_own earlier.objects seat ++ events
@@ -91,34 +140,81 @@ module _ (C : Type 0) (N : ℕ) (before : Whole C N) (earlier : Past) (seat : �
   -- while another is, its seat does nothing to counters and once cells
   record Apart (past : Past) (world : Whole C N) : Type 0 where
     nowhere : walk_in world.objects.walks seat ≡ None
+    waits_not : wait_in world.objects.waits seat ≡ None
     untouched : objects_own past.objects seat ≡ objects_own earlier.objects seat
 
-  abbrev OnObjects : Asked C → Past → Whole C N → Type 0
-  OnObjects (OfLock request) past world = Apart past world
-  OnObjects (OfNotes request) past world = Apart past world
-  OnObjects (OfObjects asked) past world = ObjectsUnderway asked past world
+  -- a round has come so far, by which a wait looks
+  abbrev RoundOn : Round → Past → Option ObjectWalk → Type 0
+  RoundOn round past None = Unit {0}
+  RoundOn round past (Some (InRound by place)) = (by ≡ round) × RoundSoFar before.objects.setup earlier past round place
+  RoundOn round past (Some walk) = ⊥
+
+  -- what a round has shown is so
+  abbrev ShownOn : Round → Past → Option ℕ → Type 0
+  ShownOn round past None = Unit {0}
+  ShownOn round past (Some place) = AnyAnswers before.objects.setup earlier past round.items round.deadline place
+
+  -- a wait on the lock has come so far on the objects, at which it looks
+  record Awaiting (w : Waiting) (past : Past) (world : Whole C N) : Type 0 where
+    waits : wait_in world.objects.waits seat ≡ Some (record { round = w.round; shown = w.shown })
+    some : (k : ℕ) × (is_among k (items_of w.round.items) ≡ true)
+    among : AreAmong w.cvs (items_of w.round.items)
+    were_there : WereThere before.objects.setup earlier w.round.items
+    unready : WereUnready before.objects.setup earlier past w.round.items w.round.items.count
+    early : WasEarly w.round.deadline earlier past
+    shown : ShownOn w.round past w.shown
+    round : RoundOn w.round past (walk_in world.objects.walks seat)
+    untouched : objects_own past.objects seat ≡ objects_own earlier.objects seat
+
+  abbrev OnObjects : Phase → Past → Whole C N → Type 0
+  OnObjects (inl (OfLock request)) past world = Apart past world
+  OnObjects (inl (OfNotes request)) past world = Apart past world
+  OnObjects (inl (OfObjects asked)) past world = ObjectsUnderway asked past world
+  OnObjects (inr w) past world = Awaiting w past world
 
   -- this has led to a world in which the call is under way
-  record UnderwayIn (asked : Asked C) (past : Past) (world : Whole C N) : Type 0 where
+  record UnderwayIn (phase : Phase) (past : Past) (world : Whole C N) : Type 0 where
     setup : world.objects.setup ≡ before.objects.setup
     since : BeginsWith past.objects earlier.objects
     led : HaveLedTo past.objects world
-    lock : IsUnderway C N before.lock earlier.notes seat asked past.notes world.lock
-    objects : OnObjects asked past world
+    lock : IsUnderway C N before.lock earlier.notes seat (Looks phase) (lock_of phase) past.notes world.lock
+    objects : OnObjects phase past world
 
   -- ---- what others do
 
+  round_rests : (round : Round) (past more : Past) (walk : Option ObjectWalk) → RoundOn round past walk → RoundOn round (past_and past more) walk
+  round_rests round past more None on = tt
+  round_rests round past more (Some (InRound by place)) on = (on.0, round_on before.objects.setup earlier seat past more round place on.1)
+  round_rests round past more (Some walk) on = absurd on
+
+  shown_rests : (round : Round) (past more : Past) (shown : Option ℕ) → ShownOn round past shown → ShownOn round (past_and past more) shown
+  shown_rests round past more None on = tt
+  shown_rests round past more (Some place) on = any_on before.objects.setup earlier seat past more round.items round.deadline place on
+
   -- nothing of the seat has changed of counters and once cells
-  objects_rest : (asked : Asked C) (past more : Past) (old new : Whole C N) → walk_in new.objects.walks seat ≡ walk_in old.objects.walks seat → objects_own (past.objects ++ more.objects) seat ≡ objects_own past.objects seat → OnObjects asked past old → OnObjects asked (past_and past more) new
-  objects_rest (OfLock request) past more old new same own_same u = record { nowhere = same ∙ u.nowhere; untouched = own_same ∙ u.untouched }
-  objects_rest (OfNotes request) past more old new same own_same u = record { nowhere = same ∙ u.nowhere; untouched = own_same ∙ u.untouched }
-  objects_rest (OfObjects asked) past more old new same own_same u = record {
+  objects_rest : (phase : Phase) (past more : Past) (old new : Whole C N) → walk_in new.objects.walks seat ≡ walk_in old.objects.walks seat → wait_in new.objects.waits seat ≡ wait_in old.objects.waits seat → objects_own (past.objects ++ more.objects) seat ≡ objects_own past.objects seat → OnObjects phase past old →
+      OnObjects phase (past_and past more) new
+  objects_rest (inl (OfLock request)) past more old new same waits own_same u = record { nowhere = same ∙ u.nowhere; waits_not = waits ∙ u.waits_not; untouched = own_same ∙ u.untouched }
+  objects_rest (inl (OfNotes request)) past more old new same waits own_same u = record { nowhere = same ∙ u.nowhere; waits_not = waits ∙ u.waits_not; untouched = own_same ∙ u.untouched }
+  objects_rest (inl (OfObjects asked)) past more old new same waits own_same u = record {
     walk = u.walk;
     walks = same ∙ u.walks;
+    waits_not = waits ∙ u.waits_not;
     is_asked = u.is_asked;
     events = u.events;
     added = own_same ∙ u.added;
     so_far = so_far_on before.objects.setup earlier seat past more u.events u.walk u.so_far;
+  }
+  objects_rest (inr w) past more old new same waits own_same u = record {
+    waits = waits ∙ u.waits;
+    some = u.some;
+    among = u.among;
+    were_there = u.were_there;
+    unready = unready_on before.objects.setup earlier seat past more w.round.items w.round.items.count u.unready;
+    early = early_on before.objects.setup earlier seat past more w.round.deadline u.early;
+    shown = shown_rests w.round past more w.shown u.shown;
+    round = subst (RoundOn w.round (past_and past more)) (sym same) (round_rests w.round past more (walk_in old.objects.walks seat) u.round);
+    untouched = own_same ∙ u.untouched;
   }
 
   no_own : (past : List ObjectEvent) → objects_own (past ++ []) seat ≡ objects_own past seat
@@ -127,55 +223,130 @@ module _ (C : Type 0) (N : ℕ) (before : Whole C N) (earlier : Past) (seat : �
   others_own : (past more : List ObjectEvent) (other : ℕ) → other ≢ seat → AreObjectsBy other more → objects_own (past ++ more) seat ≡ objects_own past seat
   others_own past more other ne by = own-append past more seat ∙ ap (λ es. objects_own past seat ++ es) (own_none more other seat ne by) ∙ append-nil (objects_own past seat)
 
-  -- another seat's step by the lock
-  lock_away : (asked : Asked C) (past : Past) (old new : Whole C N) (other : ℕ) (step : Step) → other ≢ seat → IsLawfulWhole old → (p : LockSteps old new other step) → UnderwayIn asked past old → UnderwayIn asked (past_and past (record { notes = env_done p.moves; objects = [] })) new
-  lock_away asked past old new other step ne lawful p u =
-      let led = lock_led past old new other step lawful (u.lock.led, u.led) p in
-      record {
-        setup = ap (λ (o : Objects). o.setup) p.same ∙ u.setup;
-        since = begins_on earlier.objects past.objects [] u.since;
-        led = led.1.1;
-        lock = moves_away C N before.lock earlier.notes seat asked past.notes old.lock new.lock other step ne lawful.lock p.moves u.lock;
-        objects = objects_rest asked past (record { notes = env_done p.moves; objects = [] }) old new (ap (λ (o : Objects). walk_in o.walks seat) p.same) (no_own past.objects) u.objects;
-      }
+  module _ (phase : Phase) (past : Past) (old new : Whole C N) (other : ℕ) (ne : other ≢ seat) (lawful : IsLawfulWhole old) (u : UnderwayIn phase past old) where
+    there : seat ≢ other
+    there e = ne (sym e)
 
-  -- another seat's step of a call on counters and once cells
-  operates_away : (asked : Asked C) (past : Past) (old new : Whole C N) (other : ℕ) (step : Step) → other ≢ seat → IsLawfulWhole old → (p : Operates old new other step) → UnderwayIn asked past old → UnderwayIn asked (past_and past (record { notes = []; objects = p.operated.events })) new
-  operates_away asked past old new other step ne lawful p u =
-      let led = operated_led past old new other step lawful (u.lock.led, u.led) p in
-      let q = p.operated in
-      record {
-        setup = ap (λ (o : Objects). o.setup) q.becomes ∙ u.setup;
-        since = begins_on earlier.objects past.objects q.events u.since;
-        led = led.1.1;
-        lock = subst (λ world. IsUnderway C N before.lock earlier.notes seat asked (past.notes ++ []) world) (sym p.same) (stays_underway C N before.lock earlier.notes seat asked past.notes old.lock u.lock);
-        objects = objects_rest asked past (record { notes = []; objects = q.events }) old new (ap (λ (o : Objects). walk_in o.walks seat) q.becomes ∙ put_there old.objects.walks other (object_after (object_got p.walk q.found)) seat (λ e. ne (sym e))) (others_own past.objects q.events other ne led.0) u.objects;
-      }
+    -- another seat's step by the lock
+    lock_away : (step : Step) (p : LockSteps old new other step) → UnderwayIn phase (past_and past (record { notes = env_done p.moves; objects = [] })) new
+    lock_away step p =
+        let led = lock_led past old new other step lawful (u.lock.led, u.led) p in
+        record {
+          setup = ap (λ (o : Objects). o.setup) p.same ∙ u.setup;
+          since = begins_on earlier.objects past.objects [] u.since;
+          led = led.1.1;
+          lock = moves_away C N before.lock earlier.notes seat (Looks phase) (lock_of phase) past.notes old.lock new.lock other step ne lawful.lock p.moves u.lock;
+          objects = objects_rest phase past (record { notes = env_done p.moves; objects = [] }) old new (ap (λ (o : Objects). walk_in o.walks seat) p.same) (ap (λ (o : Objects). wait_in o.waits seat) p.same) (no_own past.objects) u.objects;
+        }
 
-  -- another seat begins a call
-  begun_away : (objects : Objects) (other : ℕ) (place : Option ObjectWalk) → other ≢ seat → walk_in (objects_begun objects other place).walks seat ≡ walk_in objects.walks seat
-  begun_away objects other None ne = refl
-  begun_away objects other (Some walk) ne = put_there objects.walks other (Some walk) seat (λ e. ne (sym e))
+    -- another seat's step of a call on counters and once cells
+    operates_away : (step : Step) (p : Operates old new other step) → UnderwayIn phase (past_and past (record { notes = []; objects = p.operated.events })) new
+    operates_away step p =
+        let led = operated_led past old new other step lawful (u.lock.led, u.led) p in
+        let q = p.operated in
+        record {
+          setup = ap (λ (o : Objects). o.setup) q.becomes ∙ u.setup;
+          since = begins_on earlier.objects past.objects q.events u.since;
+          led = led.1.1;
+          lock = subst (λ world. IsUnderway C N before.lock earlier.notes seat (Looks phase) (lock_of phase) (past.notes ++ []) world) (sym p.same) (stays_underway C N before.lock earlier.notes seat (Looks phase) (lock_of phase) past.notes old.lock u.lock);
+          objects = objects_rest phase past (record { notes = []; objects = q.events }) old new (ap (λ (o : Objects). walk_in o.walks seat) q.becomes ∙ put_there old.objects.walks other (object_after (object_got p.walk q.found)) seat there) (ap (λ (o : Objects). wait_in o.waits seat) q.becomes)
+              (others_own past.objects q.events other ne led.0) u.objects;
+        }
 
-  begun_setup : (objects : Objects) (other : ℕ) (place : Option ObjectWalk) → (objects_begun objects other place).setup ≡ objects.setup
-  begun_setup objects other None = refl
-  begun_setup objects other (Some walk) = refl
+    -- another seat begins to wait on the lock, or its look there is over
+    module _ (told : Step) (walk : ObjectWalk) (then : Objects) (wait : Option AnyWait) (q : HasOperated old.lock.env other walk old.objects then told) (becomes : new.objects ≡ stood_at then other None wait) where
+      over_setup : new.objects.setup ≡ old.objects.setup
+      over_setup = ap (λ (o : Objects). o.setup) becomes ∙ ap (λ (o : Objects). o.setup) q.becomes
 
-  starts_away : (asked : Asked C) (past : Past) (old new : Whole C N) (other : ℕ) (call : Call C) → other ≢ seat → IsLawfulWhole old → IsLawfulWhole new → WholeStarts old new other call → UnderwayIn asked past old → UnderwayIn asked (past_and past nothing_done) new
-  starts_away asked past old new other call ne lawful now_lawful p u = record {
-    setup = ap (λ (o : Objects). o.setup) p.becomes ∙ begun_setup old.objects other (object_start call) ∙ u.setup;
-    since = begins_on earlier.objects past.objects [] u.since;
-    led = subst (λ es. HaveLedTo es new) (sym (append-nil past.objects)) (starts_led past.objects old new other call lawful now_lawful p u.led);
-    lock = begin_away C N before.lock earlier.notes seat asked old.objects.setup past.notes old.lock new.lock other call ne p.starts u.lock;
-    objects = objects_rest asked past nothing_done old new (ap (λ (o : Objects). walk_in o.walks seat) p.becomes ∙ begun_away old.objects other (object_start call) ne) (no_own past.objects) u.objects;
-  }
+      over_walks : walk_in new.objects.walks seat ≡ walk_in old.objects.walks seat
+      over_walks =
+          ap (λ (o : Objects). walk_in o.walks seat) becomes ∙ put_there then.walks other None seat there ∙ ap (λ (o : Objects). walk_in o.walks seat) q.becomes ∙ put_there old.objects.walks other (object_after (object_got walk q.found)) seat there
+
+      over_waits : wait_in new.objects.waits seat ≡ wait_in old.objects.waits seat
+      over_waits = ap (λ (o : Objects). wait_in o.waits seat) becomes ∙ wait_there then.waits other wait seat there ∙ ap (λ (o : Objects). wait_in o.waits seat) q.becomes
+
+    begins_to_wait_away : (step : Step) (p : BeginsToWait old new other step) → UnderwayIn phase (past_and past (record { notes = []; objects = p.operated.events })) new
+    begins_to_wait_away step p =
+        let wait : Option AnyWait = Some (record { round = p.round; shown = None }) in
+        let led = begins_to_wait_led past old new other step lawful (u.lock.led, u.led) p in
+        let untouched : Untouched C N before.lock earlier.notes seat old.lock new.lock = subst (λ (w : Now C N). Untouched C N before.lock earlier.notes seat old.lock w) (sym p.begins) (record { views = set_there old.lock.state.views other seat _ there; asking = refl; own_same = refl; means = refl }) in
+        let quiet = no_more_notes C N before.lock earlier.notes seat past.notes in
+        record {
+          setup = over_setup Idle (InRound p.round p.place) p.then wait p.operated p.becomes ∙ u.setup;
+          since = begins_on earlier.objects past.objects p.operated.events u.since;
+          led = led.1.1;
+          lock = record {
+            since = begins_on earlier.notes past.notes [] u.lock.since;
+            led = led.1.0;
+            underway = rests C N before.lock earlier.notes seat (lock_of phase) past.notes [] old.lock new.lock untouched quiet u.lock.underway;
+            looks = rests_look C N before.lock earlier.notes seat (Looks phase) (lock_of phase) past.notes [] old.lock new.lock untouched quiet u.lock.underway u.lock.looks;
+          };
+          objects = objects_rest phase past (record { notes = []; objects = p.operated.events }) old new (over_walks Idle (InRound p.round p.place) p.then wait p.operated p.becomes) (over_waits Idle (InRound p.round p.place) p.then wait p.operated p.becomes) (others_own past.objects p.operated.events other ne led.0) u.objects;
+        }
+
+    ends_look_away : (step : Step) (p : EndsLook old new other step) → UnderwayIn phase (past_and past (record { notes = []; objects = p.operated.events })) new
+    ends_look_away step p =
+        let wait : Option AnyWait = Some (record { round = p.wait.round; shown = shown_by p.told }) in
+        let led = ends_look_led past old new other step lawful (u.lock.led, u.led) p in
+        record {
+          setup = over_setup p.told p.walk p.then wait p.operated p.becomes ∙ u.setup;
+          since = begins_on earlier.objects past.objects p.operated.events u.since;
+          led = led.1.1;
+          lock = moves_away C N before.lock earlier.notes seat (Looks phase) (lock_of phase) past.notes old.lock new.lock other step ne lawful.lock (inl p.acts) u.lock;
+          objects = objects_rest phase past (record { notes = []; objects = p.operated.events }) old new (over_walks p.told p.walk p.then wait p.operated p.becomes) (over_waits p.told p.walk p.then wait p.operated p.becomes) (others_own past.objects p.operated.events other ne led.0) u.objects;
+        }
+
+    -- another seat's wait makes a step on the lock
+    waited_away : (wait : AnyWait) (walk : Option (Walk C)) →
+        ((waited_after old.objects other wait walk).setup ≡ old.objects.setup) × (walk_in (waited_after old.objects other wait walk).walks seat ≡ walk_in old.objects.walks seat) × (wait_in (waited_after old.objects other wait walk).waits seat ≡ wait_in old.objects.waits seat)
+    waited_away wait None = (refl, put_there old.objects.walks other None seat there, wait_there old.objects.waits other None seat there)
+    waited_away wait (Some walk) = (refl, put_there old.objects.walks other (round_due wait walk) seat there, wait_there old.objects.waits other (Some wait) seat there)
+
+    wait_steps_away : (step : Step) (p : WaitSteps old new other step) → UnderwayIn phase (past_and past (record { notes = []; objects = [] })) new
+    wait_steps_away step p =
+        let led = wait_steps_led past old new other step lawful (u.lock.led, u.led) p in
+        let same = waited_away p.wait (walk_after (got_of N p.acts.goes.makes.walk p.acts.goes.found)) in
+        record {
+          setup = ap (λ (o : Objects). o.setup) p.becomes ∙ same.0 ∙ u.setup;
+          since = begins_on earlier.objects past.objects [] u.since;
+          led = led.1;
+          lock = moves_away C N before.lock earlier.notes seat (Looks phase) (lock_of phase) past.notes old.lock new.lock other p.told ne lawful.lock (inl p.acts) u.lock;
+          objects = objects_rest phase past (record { notes = []; objects = [] }) old new (ap (λ (o : Objects). walk_in o.walks seat) p.becomes ∙ same.1) (ap (λ (o : Objects). wait_in o.waits seat) p.becomes ∙ same.2) (no_own past.objects) u.objects;
+        }
+
+    moves_there : (step : Step) (p : WholeMoves old new other step) → UnderwayIn phase (past_and past (record { notes = notes_done p; objects = objects_done p })) new
+    moves_there step (inl p) = lock_away step p
+    moves_there step (inr (inl p)) = operates_away step p
+    moves_there step (inr (inr (inl p))) = begins_to_wait_away step p
+    moves_there step (inr (inr (inr (inl p)))) = ends_look_away step p
+    moves_there step (inr (inr (inr (inr p)))) = wait_steps_away step p
+
+    -- another seat begins a call
+    begun_away : (place : Option ObjectWalk) → (walk_in (objects_begun old.objects other place).walks seat ≡ walk_in old.objects.walks seat) × (wait_in (objects_begun old.objects other place).waits seat ≡ wait_in old.objects.waits seat)
+    begun_away None = (refl, refl)
+    begun_away (Some walk) = (put_there old.objects.walks other (Some walk) seat there, refl)
+
+    starts_away : (call : Call C) → IsLawfulWhole new → WholeStarts old new other call → UnderwayIn phase (past_and past nothing_done) new
+    starts_away call now_lawful p =
+        let away = begun_away (object_start call) in
+        record {
+          setup = ap (λ (o : Objects). o.setup) p.becomes ∙ begun_setup old.objects other (object_start call) ∙ u.setup;
+          since = begins_on earlier.objects past.objects [] u.since;
+          led = subst (λ es. HaveLedTo es new) (sym (append-nil past.objects)) (starts_led past.objects old new other call lawful now_lawful p u.led);
+          lock = begin_away C N before.lock earlier.notes seat (Looks phase) (lock_of phase) old.objects.setup past.notes old.lock new.lock other call ne p.starts u.lock;
+          objects = objects_rest phase past nothing_done old new (ap (λ (o : Objects). walk_in o.walks seat) p.becomes ∙ away.0) (ap (λ (o : Objects). wait_in o.waits seat) p.becomes ∙ away.1) (no_own past.objects) u.objects;
+        }
 
   -- ---- the seat's own step
+
+  -- the call is under way, in either phase
+  abbrev UnderwayAs : Asked C → Past → Whole C N → Type 0
+  UnderwayAs asked past world = (phase : Phase) × (asked_in phase ≡ asked) × UnderwayIn phase past world
 
   -- after a step the call is under way, or has its answer
   abbrev OutcomeIn : Asked C → Step → Past → Whole C N → Type 0
   OutcomeIn asked (Finished reply) past world = AnswersTo before earlier seat asked reply world past
-  OutcomeIn asked step past world = UnderwayIn asked past world
+  OutcomeIn asked step past world = UnderwayAs asked past world
 
   abbrev LedToOutcome : Asked C → Step → Past → Whole C N → Type 0
   LedToOutcome asked step past world = HasLedTo past world × OutcomeIn asked step past world
@@ -185,41 +356,42 @@ module _ (C : Type 0) (N : ℕ) (before : Whole C N) (earlier : Past) (seat : �
     abbrev now : Past
     now = past_and past (record { notes = p_events; objects = [] })
 
-    lock_settles : (asked : Asked C) → IsOfLock C N before.lock earlier.notes seat asked → (step : Step) → UnderwayIn asked past old → HasLedTo now new → new.objects ≡ old.objects → Outcome C N before.lock earlier.notes seat asked step now.notes new.lock → OutcomeIn asked step now new
+    lock_settles : (asked : Asked C) → IsOfLock C N before.lock earlier.notes seat asked → (step : Step) → UnderwayIn (inl asked) past old → HasLedTo now new → new.objects ≡ old.objects → Outcome C N before.lock earlier.notes seat asked step now.notes new.lock → OutcomeIn asked step now new
     lock_settles asked of step u led same outcome = by asked of step u outcome where
-      rest : (asked : Asked C) → UnderwayIn asked past old → OnObjects asked now new
-      rest asked u = objects_rest asked past (record { notes = p_events; objects = [] }) old new (ap (λ (o : Objects). walk_in o.walks seat) same) (no_own past.objects) u.objects
+      rest : (asked : Asked C) → UnderwayIn (inl asked) past old → OnObjects (inl asked) now new
+      rest asked u = objects_rest (inl asked) past (record { notes = p_events; objects = [] }) old new (ap (λ (o : Objects). walk_in o.walks seat) same) (ap (λ (o : Objects). wait_in o.waits seat) same) (no_own past.objects) u.objects
 
-      on : (asked : Asked C) → UnderwayIn asked past old → Underway C N before.lock earlier.notes seat asked now.notes new.lock → UnderwayIn asked now new
+      on : (asked : Asked C) → UnderwayIn (inl asked) past old → Underway C N before.lock earlier.notes seat asked now.notes new.lock → UnderwayIn (inl asked) now new
       on asked u under = record {
         setup = ap (λ (o : Objects). o.setup) same ∙ u.setup;
         since = begins_on earlier.objects past.objects [] u.since;
         led = led.1;
-        lock = record { since = begins_on earlier.notes past.notes p_events u.lock.since; led = led.0; underway = under };
+        lock = record { since = begins_on earlier.notes past.notes p_events u.lock.since; led = led.0; underway = under; looks = looks_any C N before.lock earlier.notes seat asked now.notes new.lock under };
         objects = rest asked u;
       }
 
-      by : (asked : Asked C) → IsOfLock C N before.lock earlier.notes seat asked → (step : Step) → UnderwayIn asked past old → Outcome C N before.lock earlier.notes seat asked step now.notes new.lock → OutcomeIn asked step now new
+      by : (asked : Asked C) → IsOfLock C N before.lock earlier.notes seat asked → (step : Step) → UnderwayIn (inl asked) past old → Outcome C N before.lock earlier.notes seat asked step now.notes new.lock → OutcomeIn asked step now new
       by (OfLock request) of (Finished reply) u outcome = (outcome, (rest (OfLock request) u).untouched)
       by (OfNotes request) of (Finished reply) u outcome = (outcome, (rest (OfNotes request) u).untouched)
       by (OfObjects asked) of (Finished reply) u outcome = absurd of
-      by asked of Went u outcome = on asked u outcome
-      by asked of Idle u outcome = on asked u outcome
-      by asked of Nothing u outcome = on asked u outcome
+      by asked of Went u outcome = (inl asked, refl, on asked u outcome)
+      by asked of Idle u outcome = (inl asked, refl, on asked u outcome)
+      by asked of Nothing u outcome = (inl asked, refl, on asked u outcome)
 
   -- of a call on counters and once cells
-  module _ (asked : ObjectWalk) (past : Past) (old new : Whole C N) (lawful : IsLawfulWhole old) (u : UnderwayIn (OfObjects asked) past old) where
-    objects_settle : (walk : ObjectWalk) (next : ObjectNext) (done more : List ObjectEvent) → walk_in old.objects.walks seat ≡ Some walk → new.lock ≡ old.lock → new.objects.setup ≡ old.objects.setup → new.objects.walks ≡ slice_set old.objects.walks seat (object_after next) →
+  module _ (asked : ObjectWalk) (past : Past) (old new : Whole C N) (lawful : IsLawfulWhole old) (u : UnderwayIn (inl (OfObjects asked)) past old) where
+    objects_settle : (walk : ObjectWalk) (next : ObjectNext) (done more : List ObjectEvent) → walk_in old.objects.walks seat ≡ Some walk → new.lock ≡ old.lock → new.objects.setup ≡ old.objects.setup → new.objects.waits ≡ old.objects.waits → new.objects.walks ≡ slice_set old.objects.walks seat (object_after next) →
         HasLedTo (past_and past (record { notes = []; objects = more })) new → objects_own (past.objects ++ more) seat ≡ objects_own earlier.objects seat ++ done → ObjectGoes before.objects.setup earlier (past_and past (record { notes = []; objects = more })) seat asked done next →
         OutcomeIn (OfObjects asked) (object_step_of next) (past_and past (record { notes = []; objects = more })) new
-    objects_settle walk next done more stood same setup walks led added goes = by next walks goes where
+    objects_settle walk next done more stood same setup waits walks led added goes = by next walks goes where
       now : Past
       now = past_and past (record { notes = []; objects = more })
 
-      inner : IsUnderway C N before.lock earlier.notes seat (OfObjects asked) (past.notes ++ []) new.lock
-      inner = subst (λ world. IsUnderway C N before.lock earlier.notes seat (OfObjects asked) (past.notes ++ []) world) (sym same) (stays_underway C N before.lock earlier.notes seat (OfObjects asked) past.notes old.lock u.lock)
+      inner : IsUnderway C N before.lock earlier.notes seat (Looks (inl (OfObjects asked))) (OfObjects asked) (past.notes ++ []) new.lock
+      inner = subst (λ world. IsUnderway C N before.lock earlier.notes seat (Looks (inl (OfObjects asked))) (OfObjects asked) (past.notes ++ []) world) (sym same) (stays_underway C N before.lock earlier.notes seat (Looks (inl (OfObjects asked))) (OfObjects asked) past.notes old.lock u.lock)
 
-      on : (place : ObjectWalk) → new.objects.walks ≡ slice_set old.objects.walks seat (Some place) → (object_asked place ≡ asked) × ObjectSoFar before.objects.setup earlier (past_and past (record { notes = []; objects = more })) seat done place → UnderwayIn (OfObjects asked) (past_and past (record { notes = []; objects = more })) new
+      on : (place : ObjectWalk) → new.objects.walks ≡ slice_set old.objects.walks seat (Some place) → (object_asked place ≡ asked) × ObjectSoFar before.objects.setup earlier (past_and past (record { notes = []; objects = more })) seat done place →
+          UnderwayIn (inl (OfObjects asked)) (past_and past (record { notes = []; objects = more })) new
       on place at goes = record {
         setup = setup ∙ u.setup;
         since = begins_on earlier.objects past.objects more u.since;
@@ -228,6 +400,7 @@ module _ (C : Type 0) (N : ℕ) (before : Whole C N) (earlier : Past) (seat : �
         objects = record {
           walk = place;
           walks = ap (λ ws. walk_in ws seat) at ∙ put_here old.objects.walks seat (Some place) (stands_within old.objects.walks seat walk stood);
+          waits_not = ap (λ ws. wait_in ws seat) waits ∙ u.objects.waits_not;
           is_asked = goes.0;
           events = done;
           added = added;
@@ -236,18 +409,18 @@ module _ (C : Type 0) (N : ℕ) (before : Whole C N) (earlier : Past) (seat : �
       }
 
       by : (next : ObjectNext) → new.objects.walks ≡ slice_set old.objects.walks seat (object_after next) → ObjectGoes before.objects.setup earlier (past_and past (record { notes = []; objects = more })) seat asked done next → OutcomeIn (OfObjects asked) (object_step_of next) (past_and past (record { notes = []; objects = more })) new
-      by (Go place) at goes = on place at goes
-      by (Repeat place) at goes = on place at goes
-      by (Over reply) at goes = let rest = inner.underway in record {
+      by (Go place) at goes = (inl (OfObjects asked), refl, on place at goes)
+      by (Repeat place) at goes = (inl (OfObjects asked), refl, on place at goes)
+      by (Over reply) at goes = let rest = inner.underway in inl (record {
         events = done;
         added = added;
         means = goes;
         still = rest.still;
         same = ap held_in rest.at ∙ rest.same;
         silent = rest.silent;
-      }
+      })
 
-  operates_here : (asked : ObjectWalk) (past : Past) (old new : Whole C N) (step : Step) → IsLawfulWhole old → (p : Operates old new seat step) → (u : UnderwayIn (OfObjects asked) past old) → LedToOutcome (OfObjects asked) step (past_and past (record { notes = []; objects = p.operated.events })) new
+  operates_here : (asked : ObjectWalk) (past : Past) (old new : Whole C N) (step : Step) → IsLawfulWhole old → (p : Operates old new seat step) → (u : UnderwayIn (inl (OfObjects asked)) past old) → LedToOutcome (OfObjects asked) step (past_and past (record { notes = []; objects = p.operated.events })) new
   operates_here asked past old new step lawful p u =
       let q = p.operated in
       let o = u.objects in
@@ -263,144 +436,478 @@ module _ (C : Type 0) (N : ℕ) (before : Whole C N) (earlier : Past) (seat : �
       let own_all_of : objects_own (past.objects ++ q.events) seat ≡ objects_own earlier.objects seat ++ (o.events ++ q.events) = own-append past.objects q.events seat ∙ (λ i. o.added i ++ own_all q.events seat led.0 i) ∙ append_assoc (objects_own earlier.objects seat) o.events q.events in (
         led.1,
         subst (λ s. OutcomeIn (OfObjects asked) s (past_and past (record { notes = []; objects = q.events })) new) (sym q.answers)
-            (objects_settle asked past old new lawful u p.walk (object_got p.walk q.found) (o.events ++ q.events) q.events p.walks p.same (ap (λ (x : Objects). x.setup) q.becomes) (ap (λ (x : Objects). x.walks) q.becomes) led.1 own_all_of goes_asked),
+            (objects_settle asked past old new lawful u p.walk (object_got p.walk q.found) (o.events ++ q.events) q.events p.walks p.same (ap (λ (x : Objects). x.setup) q.becomes) (ap (λ (x : Objects). x.waits) q.becomes) (ap (λ (x : Objects). x.walks) q.becomes) led.1 own_all_of goes_asked),
       )
 
+  -- ---- a round of a call that waits on the lock, or goes on to
+
+  -- what a round's step shows is so
+  module _ (phase : Phase) (past : Past) (old : Whole C N) (u : UnderwayIn phase past old) (events : List ObjectEvent) (added : objects_own past.objects seat ≡ objects_own earlier.objects seat ++ events) (round : Round) (place : RoundPlace) (stands : walk_in old.objects.walks seat ≡ Some (InRound round place)) where
+    round_shows : (then : Objects) (told : Step) (q : HasOperated old.lock.env seat (InRound round place) old.objects then told) → ObjectSoFar before.objects.setup earlier past seat events (InRound round place) →
+        RoundGoes before.objects.setup earlier seat past q.events u.lock.since u.lock.led.lawful.meets.legal round (round_got round place q.found) × (q.events ≡ [])
+    round_shows then told q so_far =
+        let state = env_state old.lock.env old.lock.asking in
+        let law = subst (λ s. IsLawful s old.objects.words past.objects) u.setup u.led.lawful in
+        let fits = subst (λ s. WalkFits s (objects_after s past.objects) old.lock.env.notes seat (InRound round place)) u.setup (u.led.each seat (InRound round place) stands) in (
+          round_by before.objects.setup earlier seat past old.objects.words law state u.lock.led u.lock.since u.since events added q.events round place q.found q.words fits so_far q.effect,
+          round_makes_none before.objects.setup earlier seat past old.objects.words law state u.lock.led u.lock.since u.since events added q.events place q.found q.words q.effect,
+        )
+
+  -- Where a round has found nothing the call goes on to wait.
+  begins_to_wait_here : (asked : ObjectWalk) (past : Past) (old new : Whole C N) (step : Step) → IsLawfulWhole old → (p : BeginsToWait old new seat step) → UnderwayIn (inl (OfObjects asked)) past old → LedToOutcome (OfObjects asked) step (past_and past (record { notes = []; objects = p.operated.events })) new
+  begins_to_wait_here asked past old new step lawful p u =
+      let q = p.operated in
+      let o = u.objects in
+      let led = begins_to_wait_led past old new seat step lawful (u.lock.led, u.led) p in
+      let stands : Some o.walk ≡ Some (InRound p.round p.place) = sym o.walks ∙ p.walks in
+      let walk_is : o.walk ≡ InRound p.round p.place = cc in
+      let so_far : ObjectSoFar before.objects.setup earlier past seat o.events (InRound p.round p.place) = subst (λ w. ObjectSoFar before.objects.setup earlier past seat o.events w) walk_is o.so_far in
+      let shows = round_shows (inl (OfObjects asked)) past old u o.events o.added p.round p.place p.walks p.then Idle q so_far in
+      let asked_is : InRound p.round FirstClock ≡ asked = ap object_asked (sym walk_is) ∙ o.is_asked in
+      let untouched : objects_own (past.objects ++ q.events) seat ≡ objects_own earlier.objects seat = ap (λ es. objects_own (past.objects ++ es) seat) shows.1 ∙ no_own past.objects ∙ o.added ∙ ap (λ es. objects_own earlier.objects seat ++ es) so_far.0 ∙ append-nil (objects_own earlier.objects seat) in (
+        led.1,
+        subst (λ s. OutcomeIn (OfObjects asked) s (past_and past (record { notes = []; objects = q.events })) new) (sym p.answer)
+            (inr (record { round = p.round; cvs = p.cvs; shown = None }), ap OfObjects asked_is, by (round_got p.round p.place q.found) q.answers shows.0 so_far.1 untouched led.1),
+      ) where
+        now : Past
+        now = past_and past (record { notes = []; objects = p.operated.events })
+
+        w : Waiting
+        w = record { round = p.round; cvs = p.cvs; shown = None }
+
+        low : seat < 64
+        low = low_over old new seat lawful (InRound p.round p.place) p.walks p.then Idle p.operated (Some (record { round = p.round; shown = None })) p.becomes
+
+        on_lock : HasLedTo now new → IsUnderway C N before.lock earlier.notes seat (AsShown None) (OfLock (wait_for p.cvs)) (past.notes ++ []) new.lock
+        on_lock led =
+            let e = u.lock.underway in
+            let views : Some e.view ≡ Some p.view = sym e.at ∙ p.at in
+            let view_is : e.view ≡ p.view = cc in
+            let same : p.view.held ≡ held_at before.lock seat = ap (λ (v : SeatView C N). v.held) (sym view_is) ∙ e.same in
+            let waits = waits_for_any {C = C} (mode_waited (mode_of p.view.held)) p.cvs in
+            let asks : asked_of (wait_first N waits) ≡ wait_for p.cvs = ap (λ held. TheRequest.Await (waits_for_any {C = C} (mode_waited (mode_of held)) p.cvs)) same in
+            let goes = goes_to_lock C N before.lock earlier.notes seat (wait_for p.cvs) past.notes old.lock new.lock p.view (wait_first N waits) asks (wait_is_first N waits) p.at p.unasked p.begins e in
+            record { since = begins_on earlier.notes past.notes [] u.lock.since; led = led.0; underway = goes.0; looks = subst (AsShown None) (sym goes.1) tt }
+
+        by : (next : RoundNext) → Idle ≡ object_step_of (by_round p.round next) → RoundGoes before.objects.setup earlier seat past p.operated.events u.lock.since u.lock.led.lawful.meets.legal p.round next → WereThere before.objects.setup earlier p.round.items → objects_own (past.objects ++ p.operated.events) seat ≡ objects_own earlier.objects seat → HasLedTo now new → UnderwayIn (inr w) now new
+        by (RoundGo place) answers goes there untouched led = absurd (cc)
+        by (RoundOver (Some at)) answers goes there untouched led = absurd (cc)
+        by (RoundOver None) answers goes there untouched led =
+            let wait : Option AnyWait = Some (record { round = p.round; shown = None }) in
+            let over = becomes_over old new seat lawful (InRound p.round p.place) p.walks p.then Idle p.operated wait p.becomes in
+            let many = many_over old new seat lawful (InRound p.round p.place) p.walks p.then Idle p.operated wait p.becomes in
+            let others = others_over old new seat lawful (InRound p.round p.place) p.walks p.then Idle p.operated wait p.becomes in
+            record {
+              setup = setup_same old new seat lawful low p.operated.words _ None wait many others over ∙ u.setup;
+              since = begins_on earlier.objects past.objects p.operated.events u.since;
+              led = led.1;
+              lock = on_lock led;
+              objects = record {
+                waits = waits_here old new seat lawful low p.operated.words _ None wait many others over;
+                some = some_among (items_of p.round.items) p.named;
+                among = p.among;
+                were_there = there;
+                unready = goes.0;
+                early = goes.1;
+                shown = tt;
+                round = subst (RoundOn p.round now) (sym (stands_here old new seat lawful low p.operated.words _ None wait many others over)) tt;
+                untouched = untouched;
+              };
+            }
+
+  -- ---- a step of a call that waits on the lock
+
+  module _ (w : Waiting) (past : Past) (old new : Whole C N) (lawful : IsLawfulWhole old) (u : UnderwayIn (inr w) past old) where
+    abbrev waiting : AnyWait
+    waiting = record { round = w.round; shown = w.shown }
+
+    none_added : objects_own past.objects seat ≡ objects_own earlier.objects seat ++ []
+    none_added = u.objects.untouched ∙ sym (append-nil (objects_own earlier.objects seat))
+
+    none_done : (more : List ObjectEvent) → more ≡ [] → objects_own (past.objects ++ more) seat ≡ objects_own earlier.objects seat
+    none_done more is = ap (λ es. objects_own (past.objects ++ es) seat) is ∙ no_own past.objects ∙ u.objects.untouched
+
+    -- a round goes on
+    module _ (by : Round) (is : by ≡ w.round) (step : Step) (events : List ObjectEvent) (none : events ≡ []) (same : new.lock ≡ old.lock) (setup : new.objects.setup ≡ old.objects.setup) (waits : new.objects.waits ≡ old.objects.waits) (at : ObjectWalk) (stands : walk_in old.objects.walks seat ≡ Some at)
+        (not : is_for_lock (Some waiting) at step ≡ false) (led : HasLedTo (past_and past (record { notes = []; objects = events })) new) where
+      abbrev round_now : Past
+      round_now = past_and past (record { notes = []; objects = events })
+
+      round_leads : (next : RoundNext) → step ≡ object_step_of (by_round by next) → new.objects.walks ≡ slice_set old.objects.walks seat (object_after (by_round by next)) → RoundGoes before.objects.setup earlier seat past events u.lock.since u.lock.led.lawful.meets.legal by next →
+          OutcomeIn (OfObjects (InRound w.round FirstClock)) step round_now new
+      round_leads (RoundOver None) answers walks goes = let no : true ≡ false = ap (is_for_lock (Some waiting) at) (sym answers) ∙ not in absurd (cc)
+      round_leads (RoundOver (Some place)) answers walks goes = let no : true ≡ false = ap (is_for_lock (Some waiting) at) (sym answers) ∙ not in absurd (cc)
+      round_leads (RoundGo place) answers walks goes =
+          let more : Past = record { notes = []; objects = events } in
+          let here = ap (λ ws. walk_in ws seat) walks ∙ put_here old.objects.walks seat (Some (InRound by place)) (stands_within old.objects.walks seat at stands) in
+          subst (λ s. OutcomeIn (OfObjects (InRound w.round FirstClock)) s round_now new) (sym answers) (
+            inr w,
+            refl,
+            record {
+              setup = setup ∙ u.setup;
+              since = begins_on earlier.objects past.objects events u.since;
+              led = led.1;
+              lock = subst (λ world. IsUnderway C N before.lock earlier.notes seat (AsShown w.shown) (OfLock (wait_for w.cvs)) (past.notes ++ []) world) (sym same) (stays_underway C N before.lock earlier.notes seat (AsShown w.shown) (OfLock (wait_for w.cvs)) past.notes old.lock u.lock);
+              objects = record {
+                waits = ap (λ ws. wait_in ws seat) waits ∙ u.objects.waits;
+                some = u.objects.some;
+                among = u.objects.among;
+                were_there = u.objects.were_there;
+                unready = unready_on before.objects.setup earlier seat past more w.round.items w.round.items.count u.objects.unready;
+                early = early_on before.objects.setup earlier seat past more w.round.deadline u.objects.early;
+                shown = shown_rests w.round past more w.shown u.objects.shown;
+                round = subst (RoundOn w.round round_now) (sym here) (is, subst (λ (r : Round). RoundSoFar before.objects.setup earlier round_now r place) is goes);
+                untouched = none_done events none;
+              };
+            },
+          )
+
+    -- what a round's step shows is so, by which the wait looks
+    looks_by : (by : Round) (place : RoundPlace) → RoundOn w.round past (Some (InRound by place)) → ObjectSoFar before.objects.setup earlier past seat [] (InRound by place)
+    looks_by by place on = (refl, subst (λ (r : Round). WereThere before.objects.setup earlier r.items) (sym on.0) u.objects.were_there, subst (λ (r : Round). RoundSoFar before.objects.setup earlier past r place) (sym on.0) on.1)
+
+    round_goes_on : (step : Step) (p : Operates old new seat step) → LedToOutcome (OfObjects (InRound w.round FirstClock)) step (past_and past (record { notes = []; objects = p.operated.events })) new
+    round_goes_on step p =
+        let led = operated_led past old new seat step lawful (u.lock.led, u.led) p in
+        let not : is_for_lock (Some waiting) p.walk step ≡ false = ap (λ x. is_for_lock x p.walk step) (sym u.objects.waits) ∙ p.not_for_lock in
+        (led.1, by p.walk (subst (RoundOn w.round past) p.walks u.objects.round) p.walks p.operated not led.1) where
+          by : (walk : ObjectWalk) → RoundOn w.round past (Some walk) → walk_in old.objects.walks seat ≡ Some walk → (q : HasOperated old.lock.env seat walk old.objects new.objects step) → is_for_lock (Some waiting) walk step ≡ false → HasLedTo (past_and past (record { notes = []; objects = q.events })) new →
+              OutcomeIn (OfObjects (InRound w.round FirstClock)) step (past_and past (record { notes = []; objects = q.events })) new
+          by (InRound round place) on stands q not led =
+              let shows = round_shows (inr w) past old u [] none_added round place stands new.objects step q (looks_by round place on) in
+              round_leads round on.0 step q.events shows.1 p.same (ap (λ (o : Objects). o.setup) q.becomes) (ap (λ (o : Objects). o.waits) q.becomes) (InRound round place) stands not led (round_got round place q.found) q.answers (ap (λ (o : Objects). o.walks) q.becomes) shows.0
+          by walk on stands q not led = absurd on
+
+    -- ---- its seat goes on with the wait
+
+    same_wait : (wait : AnyWait) → wait_in old.objects.waits seat ≡ Some wait → wait ≡ waiting
+    same_wait wait waits = let same : Some wait ≡ Some waiting = sym waits ∙ u.objects.waits in cc
+
+    -- what its last round has shown now
+    abbrev shown_now : Option ℕ → Waiting
+    shown_now shown = record { round = w.round; cvs = w.cvs; shown = shown }
+
+    module _ (more : List ObjectEvent) (setup : new.objects.setup ≡ old.objects.setup) (led : HasLedTo (past_and past (record { notes = []; objects = more })) new) where
+      abbrev now_there : Past
+      now_there = past_and past (record { notes = []; objects = more })
+
+      wait_goes_on : (shown : Option ℕ) (looked : Option (Option Cause)) → AsShown shown looked → Awaiting (shown_now shown) now_there new → (step : Step) → IsUnfinished step → (o : Outcome C N before.lock earlier.notes seat (OfLock (wait_for w.cvs)) step (past.notes ++ []) new.lock) → HasLooked C N before.lock earlier.notes seat (wait_for w.cvs) step (past.notes ++ []) new.lock o looked →
+          OutcomeIn (OfObjects (InRound w.round FirstClock)) step now_there new
+      wait_goes_on shown looked so objects step unfinished o looks = by step unfinished o looks where
+        on : (under : LockUnderway C N before.lock earlier.notes seat (wait_for w.cvs) (past.notes ++ []) new.lock) → under.course.looked ≡ looked → UnderwayIn (inr (shown_now shown)) now_there new
+        on under looks = record {
+          setup = setup ∙ u.setup;
+          since = begins_on earlier.objects past.objects more u.since;
+          led = led.1;
+          lock = record { since = begins_on earlier.notes past.notes [] u.lock.since; led = led.0; underway = under; looks = subst (AsShown shown) (sym looks) so };
+          objects = objects;
+        }
+
+        by : (step : Step) → IsUnfinished step → (o : Outcome C N before.lock earlier.notes seat (OfLock (wait_for w.cvs)) step (past.notes ++ []) new.lock) → HasLooked C N before.lock earlier.notes seat (wait_for w.cvs) step (past.notes ++ []) new.lock o looked → OutcomeIn (OfObjects (InRound w.round FirstClock)) step now_there new
+        by Went unfinished o looks = (inr (shown_now shown), refl, on o looks)
+        by Idle unfinished o looks = (inr (shown_now shown), refl, on o looks)
+        by Nothing unfinished o looks = (inr (shown_now shown), refl, on o looks)
+        by (Finished reply) unfinished o looks = absurd unfinished
+
+    -- its look is over
+    ends_look_here : (step : Step) (p : EndsLook old new seat step) → LedToOutcome (OfObjects (InRound w.round FirstClock)) step (past_and past (record { notes = []; objects = p.operated.events })) new
+    ends_look_here step p =
+        let led = ends_look_led past old new seat step lawful (u.lock.led, u.led) p in
+        let o = acts_on C N before.lock earlier.notes seat (wait_for w.cvs) refl past.notes old.lock new.lock step lawful.lock u.lock.since u.lock.underway p.acts in
+        let at = leads old new seat lawful step p in
+        let unfinished : IsUnfinished step = subst IsUnfinished (sym (p.acts.goes.answers ∙ ap (λ (f : Found). step_of (got_of N p.acts.goes.makes.walk f)) p.looked)) at.unfinished in
+        let looked : looked_after p.acts.goes.found u.lock.underway.course.looked ≡ Some (cause_of (shown_by p.told)) = ap (λ (f : Found). looked_after f u.lock.underway.course.looked) p.looked in
+        let shows = by p.walk (subst (RoundOn w.round past) p.walks u.objects.round) p.walks p.then p.told p.operated in
+        let wait : Option AnyWait = Some (record { round = p.wait.round; shown = shown_by p.told }) in
+        let over = becomes_over old new seat lawful p.walk p.walks p.then p.told p.operated wait p.becomes in
+        let many = many_over old new seat lawful p.walk p.walks p.then p.told p.operated wait p.becomes in
+        let others = others_over old new seat lawful p.walk p.walks p.then p.told p.operated wait p.becomes in
+        let low = low_over old new seat lawful p.walk p.walks p.then p.told p.operated wait p.becomes in
+        let more : Past = record { notes = []; objects = p.operated.events } in (
+          led.1,
+          wait_goes_on p.operated.events (setup_same old new seat lawful low p.operated.words _ None wait many others over) led.1 (shown_by p.told) (looked_after p.acts.goes.found u.lock.underway.course.looked) (subst (AsShown (shown_by p.told)) (sym looked) refl)
+              (record {
+                waits = waits_here old new seat lawful low p.operated.words _ None wait many others over ∙ ap (λ (x : AnyWait). Some (record { round = x.round; shown = shown_by p.told })) (same_wait p.wait p.waits);
+                some = u.objects.some;
+                among = u.objects.among;
+                were_there = u.objects.were_there;
+                unready = unready_on before.objects.setup earlier seat past more w.round.items w.round.items.count u.objects.unready;
+                early = early_on before.objects.setup earlier seat past more w.round.deadline u.objects.early;
+                shown = shows.0;
+                round = subst (RoundOn w.round (past_and past more)) (sym (stands_here old new seat lawful low p.operated.words _ None wait many others over)) tt;
+                untouched = none_done p.operated.events shows.1;
+              })
+              step unfinished o.0 o.1,
+        ) where
+          shown : (by : Round) → by ≡ w.round → (told : Step) (events : List ObjectEvent) (next : RoundNext) → told ≡ object_step_of (by_round by next) → RoundGoes before.objects.setup earlier seat past events u.lock.since u.lock.led.lawful.meets.legal by next → ShownOn w.round (past_and past (record { notes = []; objects = events })) (shown_by told)
+          shown by is told events (RoundGo place) answers goes = subst (λ s. ShownOn w.round (past_and past (record { notes = []; objects = events })) (shown_by s)) (sym answers) tt
+          shown by is told events (RoundOver None) answers goes = subst (λ s. ShownOn w.round (past_and past (record { notes = []; objects = events })) (shown_by s)) (sym answers) tt
+          shown by is told events (RoundOver (Some place)) answers goes =
+              subst (λ s. ShownOn w.round (past_and past (record { notes = []; objects = events })) (shown_by s)) (sym answers) (subst (λ (r : Round). AnyAnswers before.objects.setup earlier (past_and past (record { notes = []; objects = events })) r.items r.deadline place) is goes)
+
+          by : (walk : ObjectWalk) → RoundOn w.round past (Some walk) → walk_in old.objects.walks seat ≡ Some walk → (then : Objects) (told : Step) (q : HasOperated old.lock.env seat walk old.objects then told) → ShownOn w.round (past_and past (record { notes = []; objects = q.events })) (shown_by told) × (q.events ≡ [])
+          by (InRound round place) on stands then told q =
+              let shows = round_shows (inr w) past old u [] none_added round place stands then told q (looks_by round place on) in
+              (shown round on.0 told q.events (round_got round place q.found) q.answers shows.0, shows.1)
+          by walk on stands then told q = absurd on
+
+    -- ---- it makes a step of its own on the lock
+
+    -- what a round has shown to the lock that ends the wait
+    ended_by : (shown : Option ℕ) (looked : Option (Option Cause)) (cause : Cause) → AsShown shown looked → looked ≡ Some (Some cause) → (past : Past) → ShownOn w.round past shown → AnyAnswers before.objects.setup earlier past w.round.items w.round.deadline (unwrap_or shown 0)
+    ended_by (Some place) looked cause so is past on = on
+    ended_by None looked cause so is past on = let no : Some cause ≡ None = subst (AsShown None) is so in absurd (cc)
+
+    module _ (wait : AnyWait) (waits : wait_in old.objects.waits seat ≡ Some wait) (elsewhere : walk_in old.objects.walks seat ≡ None) where
+      abbrev here_now : Past
+      here_now = past_and past (record { notes = []; objects = [] })
+
+      low_here : seat < 64
+      low_here = let s = there_as old new seat lawful wait waits in low_if old new seat lawful s.view s.at
+
+      quiet : (told : Step) (acts : Acts old.lock new.lock seat told) → looked_after acts.goes.found u.lock.underway.course.looked ≡ u.lock.underway.course.looked
+      quiet told acts =
+          let s = there_as old new seat lawful wait waits in
+          let none : looks_at (want_of s.walk) ≡ None = subst (λ x. LooksWhere wait.round x (want_of s.walk)) elsewhere s.looks in
+          acts_show_not C N before.lock earlier.notes seat old.lock new.lock told acts u.lock.underway.course.looked (ap (λ x. looks_at (want_of x)) (same_walk old new seat lawful wait waits told acts) ∙ none)
+
+      -- where it goes on
+      goes_on_there : (told : Step) (acts : Acts old.lock new.lock seat told) → new.objects ≡ waited_after old.objects seat wait (walk_after (got_of N acts.goes.makes.walk acts.goes.found)) → HasLedTo here_now new → IsUnfinished told → OutcomeIn (OfObjects (InRound w.round FirstClock)) told here_now new
+      goes_on_there told acts becomes led unfinished =
+          let after = goes_after (got_of N acts.goes.makes.walk acts.goes.found) (subst IsUnfinished acts.goes.answers unfinished) in
+          let at = round_due wait after.0 in
+          let stood : new.objects ≡ waited_after old.objects seat wait (Some after.0) = becomes ∙ ap (waited_after old.objects seat wait) after.1 in
+          let o = acts_on C N before.lock earlier.notes seat (wait_for w.cvs) refl past.notes old.lock new.lock told lawful.lock u.lock.since u.lock.underway acts in
+          wait_goes_on [] (ap (λ (x : Objects). x.setup) stood) led w.shown (looked_after acts.goes.found u.lock.underway.course.looked) (subst (AsShown w.shown) (sym (quiet told acts)) u.lock.looks)
+          (record {
+            waits = waits_here old new seat lawful low_here old.objects.words old.objects.walks at (Some wait) lawful.places (λ other ne. refl) stood ∙ ap Some (same_wait wait waits);
+            some = u.objects.some;
+            among = u.objects.among;
+            were_there = u.objects.were_there;
+            unready = unready_on before.objects.setup earlier seat past (record { notes = []; objects = [] }) w.round.items w.round.items.count u.objects.unready;
+            early = early_on before.objects.setup earlier seat past (record { notes = []; objects = [] }) w.round.deadline u.objects.early;
+            shown = shown_rests w.round past (record { notes = []; objects = [] }) w.shown u.objects.shown;
+            round = subst (RoundOn w.round here_now) (sym (stands_here old new seat lawful low_here old.objects.words old.objects.walks at (Some wait) lawful.places (λ other ne. refl) stood)) (due (is_some (looks_at (want_of after.0))));
+            untouched = none_done [] refl;
+          })
+          told unfinished o.0 o.1 where
+            due : (b : Bool) → RoundOn w.round here_now (cond b (Some (InRound wait.round FirstClock)) None)
+            due true = (ap (λ (x : AnyWait). x.round) (same_wait wait waits), tt)
+            due false = tt
+
+      -- what it answers
+      module _ (reply : Reply) (a : AnswersOfLock before.lock earlier.notes seat (wait_for w.cvs) reply new.lock (past.notes ++ [])) (looks : AsShown w.shown a.course.looked) where
+        placed : (by : Option ℕ) → MayEnd w.cvs at_will a.course.looked by → PlaceBy before.objects.setup earlier here_now w.round by (place_told wait by)
+        placed (Some k) may = subst (λ (x : AnyWait). PlaceBy before.objects.setup earlier here_now w.round (Some k) (place_in k (items_of x.round.items))) (sym (same_wait wait waits)) (first_place w.round.items k (sym (u.objects.among k) ∙ may))
+        placed None may =
+            subst (λ (x : AnyWait). AnyAnswers before.objects.setup earlier here_now w.round.items w.round.deadline (unwrap_or x.shown 0)) (sym (same_wait wait waits))
+            (ended_by w.shown a.course.looked may.0 looks may.2 here_now (shown_rests w.round past (record { notes = []; objects = [] }) w.shown u.objects.shown))
+
+        may_end : (by : Option ℕ) (held : Option (Held C N)) → InHand held (λ back. AnyMeans new.lock.truths seat (row_after new.lock.history) (mode_waited (mode_of (held_at before.lock seat))) (OnVariables (Any w.cvs)) at_will a.course by back) → MayEnd w.cvs at_will a.course.looked by
+        may_end by None means = absurd means
+        may_end by (Some back) means = means.may
+
+        no_answer : (answer : Answer) (held : Option (Held C N)) → InHand held (λ back. WaitMeans new.lock.truths seat (row_after new.lock.history) (mode_waited (mode_of (held_at before.lock seat))) (OnVariables (Any w.cvs)) at_will a.course answer back) → ⊥
+        no_answer answer None means = means
+        no_answer answer (Some back) means = means
+
+        answered : (answer : WalkReply) → reply ≡ reply_of_lock answer → Means new.lock.truths seat (row_after new.lock.history) (wait_for w.cvs) a.course answer (held_at new.lock seat) → AnswersTo before earlier seat (OfObjects (InRound w.round FirstClock)) (reply_told wait reply) new here_now
+        answered (TheWalk.WokenBy by) tells means = inr (record {
+          round = w.round;
+          is = refl;
+          unready = unready_on before.objects.setup earlier seat past (record { notes = []; objects = [] }) w.round.items w.round.items.count u.objects.unready;
+          early = early_on before.objects.setup earlier seat past (record { notes = []; objects = [] }) w.round.deadline u.objects.early;
+          some = u.objects.some;
+          cvs = w.cvs;
+          among = u.objects.among;
+          by = by;
+          waited = subst (λ r. AnswersOfLock before.lock earlier.notes seat (wait_for w.cvs) r new.lock (past.notes ++ [])) tells a;
+          place = place_told wait by;
+          placed = placed by (may_end by (held_at new.lock seat) means);
+          tells = ap (reply_told wait) tells;
+          untouched = none_done [] refl;
+        })
+        answered (TheWalk.Answered answer) tells means = absurd (no_answer answer (held_at new.lock seat) means)
+        answered TheWalk.Succeeded tells means = absurd means
+        answered TheWalk.Busy tells means = absurd means
+        answered TheWalk.Noisy tells means = absurd means
+        answered (TheWalk.Number number) tells means = absurd means
+        answered (TheWalk.Is so) tells means = absurd means
+
+      steps_there : (told : Step) (acts : Acts old.lock new.lock seat told) → new.objects ≡ waited_after old.objects seat wait (walk_after (got_of N acts.goes.makes.walk acts.goes.found)) → HasLedTo here_now new → OutcomeIn (OfObjects (InRound w.round FirstClock)) (step_told wait told) here_now new
+      steps_there Went acts becomes led = goes_on_there Went acts becomes led tt
+      steps_there Idle acts becomes led = goes_on_there Idle acts becomes led tt
+      steps_there Nothing acts becomes led = goes_on_there Nothing acts becomes led tt
+      steps_there (Finished reply) acts becomes led =
+          let o = acts_on C N before.lock earlier.notes seat (wait_for w.cvs) refl past.notes old.lock new.lock (Finished reply) lawful.lock u.lock.since u.lock.underway acts in
+          answered reply o.0 (subst (AsShown w.shown) (sym (o.1 ∙ quiet (Finished reply) acts)) u.lock.looks) o.0.answer o.0.tells o.0.means
+
+    wait_steps_here : (step : Step) (p : WaitSteps old new seat step) → LedToOutcome (OfObjects (InRound w.round FirstClock)) step (past_and past (record { notes = []; objects = [] })) new
+    wait_steps_here step p =
+        let led = wait_steps_led past old new seat step lawful (u.lock.led, u.led) p in
+        (led, subst (λ s. OutcomeIn (OfObjects (InRound w.round FirstClock)) s (past_and past (record { notes = []; objects = [] })) new) (sym p.answer) (steps_there p.wait p.waits p.elsewhere p.told p.acts p.becomes led))
+
+  -- ---- any step of its own
+
   -- who is in a call on the lock, the clock or the notes is in none on counters and once cells, and the other way about
-  lock_here : (asked : Asked C) (past : Past) (old new : Whole C N) (step : Step) → IsLawfulWhole old → (p : LockSteps old new seat step) → UnderwayIn asked past old → LedToOutcome asked step (past_and past (record { notes = env_done p.moves; objects = [] })) new
-  lock_here (OfObjects asked) past old new step lawful p u = let clash : None ≡ Some u.objects.walk = sym p.elsewhere ∙ u.objects.walks in absurd (cc)
-  lock_here (OfLock request) past old new step lawful p u =
+  lock_here : (phase : Phase) (past : Past) (old new : Whole C N) (step : Step) → IsLawfulWhole old → (p : LockSteps old new seat step) → UnderwayIn phase past old → LedToOutcome (asked_in phase) step (past_and past (record { notes = env_done p.moves; objects = [] })) new
+  lock_here (inr w) past old new step lawful p u = let clash : None ≡ Some (waiting w past old new lawful u) = sym p.waits_not ∙ u.objects.waits in absurd (cc)
+  lock_here (inl (OfObjects asked)) past old new step lawful p u = let clash : None ≡ Some u.objects.walk = sym p.elsewhere ∙ u.objects.walks in absurd (cc)
+  lock_here (inl (OfLock request)) past old new step lawful p u =
       let on = moves_on C N before.lock earlier.notes seat (OfLock request) tt past.notes old.lock new.lock step lawful.lock u.lock.led u.lock.since u.lock.underway p.moves in
       let led = lock_led past old new seat step lawful (u.lock.led, u.led) p in
       (led.1, lock_settles past old new (env_done p.moves) (OfLock request) tt step u led.1 p.same on.1)
-  lock_here (OfNotes request) past old new step lawful p u =
+  lock_here (inl (OfNotes request)) past old new step lawful p u =
       let on = moves_on C N before.lock earlier.notes seat (OfNotes request) tt past.notes old.lock new.lock step lawful.lock u.lock.led u.lock.since u.lock.underway p.moves in
       let led = lock_led past old new seat step lawful (u.lock.led, u.led) p in
       (led.1, lock_settles past old new (env_done p.moves) (OfNotes request) tt step u led.1 p.same on.1)
 
-  operate_here : (asked : Asked C) (past : Past) (old new : Whole C N) (step : Step) → IsLawfulWhole old → (p : Operates old new seat step) → UnderwayIn asked past old → LedToOutcome asked step (past_and past (record { notes = []; objects = p.operated.events })) new
-  operate_here (OfObjects asked) past old new step lawful p u = operates_here asked past old new step lawful p u
-  operate_here (OfLock request) past old new step lawful p u = absurd (not_idle C N before.lock earlier.notes seat (OfLock request) tt past.notes old.lock p.idle.view u.lock.underway p.idle.at p.idle.idle p.idle.unasked)
-  operate_here (OfNotes request) past old new step lawful p u = absurd (not_idle C N before.lock earlier.notes seat (OfNotes request) tt past.notes old.lock p.idle.view u.lock.underway p.idle.at p.idle.idle p.idle.unasked)
+  operate_here : (phase : Phase) (past : Past) (old new : Whole C N) (step : Step) → IsLawfulWhole old → (p : Operates old new seat step) → UnderwayIn phase past old → LedToOutcome (asked_in phase) step (past_and past (record { notes = []; objects = p.operated.events })) new
+  operate_here (inr w) past old new step lawful p u = round_goes_on w past old new lawful u step p
+  operate_here (inl (OfObjects asked)) past old new step lawful p u = operates_here asked past old new step lawful p u
+  operate_here (inl (OfLock request)) past old new step lawful p u = let clash : None ≡ Some p.walk = sym u.objects.nowhere ∙ p.walks in absurd (cc)
+  operate_here (inl (OfNotes request)) past old new step lawful p u = let clash : None ≡ Some p.walk = sym u.objects.nowhere ∙ p.walks in absurd (cc)
 
-  moves_here : (asked : Asked C) (past : Past) (old new : Whole C N) (step : Step) → IsLawfulWhole old → (p : WholeMoves old new seat step) → UnderwayIn asked past old → LedToOutcome asked step (past_and past (record { notes = notes_done p; objects = objects_done p })) new
-  moves_here asked past old new step lawful (inl p) u = lock_here asked past old new step lawful p u
-  moves_here asked past old new step lawful (inr p) u = operate_here asked past old new step lawful p u
+  -- who waits on the lock for a set of variables is in a call that has gone on to
+  waits_in : (phase : Phase) (past : Past) (world : Whole C N) → UnderwayIn phase past world → (wait : AnyWait) → wait_in world.objects.waits seat ≡ Some wait → (w : Waiting) × (phase ≡ inr w)
+  waits_in (inr w) past world u wait waits = (w, refl)
+  waits_in (inl (OfLock request)) past world u wait waits = let clash : None ≡ Some wait = sym u.objects.waits_not ∙ waits in absurd (cc)
+  waits_in (inl (OfNotes request)) past world u wait waits = let clash : None ≡ Some wait = sym u.objects.waits_not ∙ waits in absurd (cc)
+  waits_in (inl (OfObjects asked)) past world u wait waits = let clash : None ≡ Some wait = sym u.objects.waits_not ∙ waits in absurd (cc)
 
-  moves_there : (asked : Asked C) (past : Past) (old new : Whole C N) (other : ℕ) (step : Step) → other ≢ seat → IsLawfulWhole old → (p : WholeMoves old new other step) → UnderwayIn asked past old → UnderwayIn asked (past_and past (record { notes = notes_done p; objects = objects_done p })) new
-  moves_there asked past old new other step ne lawful (inl p) u = lock_away asked past old new other step ne lawful p u
-  moves_there asked past old new other step ne lawful (inr p) u = operates_away asked past old new other step ne lawful p u
+  begin_wait_here : (phase : Phase) (past : Past) (old new : Whole C N) (step : Step) → IsLawfulWhole old → (p : BeginsToWait old new seat step) → UnderwayIn phase past old → LedToOutcome (asked_in phase) step (past_and past (record { notes = []; objects = p.operated.events })) new
+  begin_wait_here (inr w) past old new step lawful p u = let clash : None ≡ Some (waiting w past old new lawful u) = sym p.waits_not ∙ u.objects.waits in absurd (cc)
+  begin_wait_here (inl (OfObjects asked)) past old new step lawful p u = begins_to_wait_here asked past old new step lawful p u
+  begin_wait_here (inl (OfLock request)) past old new step lawful p u = let clash : None ≡ Some (InRound p.round p.place) = sym u.objects.nowhere ∙ p.walks in absurd (cc)
+  begin_wait_here (inl (OfNotes request)) past old new step lawful p u = let clash : None ≡ Some (InRound p.round p.place) = sym u.objects.nowhere ∙ p.walks in absurd (cc)
+
+  moves_here : (phase : Phase) (past : Past) (old new : Whole C N) (step : Step) → IsLawfulWhole old → (p : WholeMoves old new seat step) → UnderwayIn phase past old → LedToOutcome (asked_in phase) step (past_and past (record { notes = notes_done p; objects = objects_done p })) new
+  moves_here phase past old new step lawful (inl p) u = lock_here phase past old new step lawful p u
+  moves_here phase past old new step lawful (inr (inl p)) u = operate_here phase past old new step lawful p u
+  moves_here phase past old new step lawful (inr (inr (inl p))) u = begin_wait_here phase past old new step lawful p u
+  moves_here phase past old new step lawful (inr (inr (inr (inl p)))) u =
+      let is = waits_in phase past old u p.wait p.waits in
+      subst (λ f. LedToOutcome (asked_in f) step (past_and past (record { notes = []; objects = p.operated.events })) new) (sym is.1) (ends_look_here is.0 past old new lawful (subst (λ f. UnderwayIn f past old) is.1 u) step p)
+  moves_here phase past old new step lawful (inr (inr (inr (inr p)))) u =
+      let is = waits_in phase past old u p.wait p.waits in
+      subst (λ f. LedToOutcome (asked_in f) step (past_and past (record { notes = []; objects = [] })) new) (sym is.1) (wait_steps_here is.0 past old new lawful (subst (λ f. UnderwayIn f past old) is.1 u) step p)
 
   -- a seat whose call is under way isn't idle
-  busy_in : (asked : Asked C) (past : Past) (world : Whole C N) → UnderwayIn asked past world → IsIdle world.lock seat → walk_in world.objects.walks seat ≡ None → ⊥
-  busy_in (OfLock request) past world u idle none = not_idle C N before.lock earlier.notes seat (OfLock request) tt past.notes world.lock idle.view u.lock.underway idle.at idle.idle idle.unasked
-  busy_in (OfNotes request) past world u idle none = not_idle C N before.lock earlier.notes seat (OfNotes request) tt past.notes world.lock idle.view u.lock.underway idle.at idle.idle idle.unasked
-  busy_in (OfObjects asked) past world u idle none = let clash : None ≡ Some u.objects.walk = sym none ∙ u.objects.walks in absurd (cc)
+  busy_in : (phase : Phase) (past : Past) (world : Whole C N) → UnderwayIn phase past world → IsIdle world.lock seat → walk_in world.objects.walks seat ≡ None → ⊥
+  busy_in (inr w) past world u idle none = not_idle C N before.lock earlier.notes seat (OfLock (wait_for w.cvs)) tt past.notes world.lock idle.view u.lock.underway idle.at idle.idle idle.unasked
+  busy_in (inl (OfLock request)) past world u idle none = not_idle C N before.lock earlier.notes seat (OfLock request) tt past.notes world.lock idle.view u.lock.underway idle.at idle.idle idle.unasked
+  busy_in (inl (OfNotes request)) past world u idle none = not_idle C N before.lock earlier.notes seat (OfNotes request) tt past.notes world.lock idle.view u.lock.underway idle.at idle.idle idle.unasked
+  busy_in (inl (OfObjects asked)) past world u idle none = let clash : None ≡ Some u.objects.walk = sym none ∙ u.objects.walks in absurd (cc)
 
   -- ---- from the beginning to the answer
 
   -- where a call stands on counters and once cells as it begins
-  objects_begin : (begun : Whole C N) (mode : Option Mode) (call : Call C) → (earlier_is : before.lock.env.notes ≡ (env_after earlier.notes).notes) → CallFits before.objects.setup before.lock.env.notes call mode → walk_in begun.objects.walks seat ≡ object_start call → OnObjects (asks_of mode call) earlier begun
-  objects_begin begun mode Lock notes fits stands = record { nowhere = stands; untouched = refl }
-  objects_begin begun mode RLock notes fits stands = record { nowhere = stands; untouched = refl }
-  objects_begin begun mode TryLock notes fits stands = record { nowhere = stands; untouched = refl }
-  objects_begin begun mode TryRLock notes fits stands = record { nowhere = stands; untouched = refl }
-  objects_begin begun mode Unlock notes fits stands = record { nowhere = stands; untouched = refl }
-  objects_begin begun mode RUnlock notes fits stands = record { nowhere = stands; untouched = refl }
-  objects_begin begun mode UnlockQuiet notes fits stands = record { nowhere = stands; untouched = refl }
-  objects_begin begun mode (Get i) notes fits stands = record { nowhere = stands; untouched = refl }
-  objects_begin begun mode (Set i value) notes fits stands = record { nowhere = stands; untouched = refl }
-  objects_begin begun mode (Wait c limits) notes fits stands = record { nowhere = stands; untouched = refl }
-  objects_begin begun mode (CvWait k limits) notes fits stands = record { nowhere = stands; untouched = refl }
-  objects_begin begun mode (Signal k) notes fits stands = record { nowhere = stands; untouched = refl }
-  objects_begin begun mode (Broadcast k) notes fits stands = record { nowhere = stands; untouched = refl }
-  objects_begin begun mode (NewNote parent deadline) notes fits stands = record { nowhere = stands; untouched = refl }
-  objects_begin begun mode (Notify note) notes fits stands = record { nowhere = stands; untouched = refl }
-  objects_begin begun mode (Advance moment) notes fits stands = record { nowhere = stands; untouched = refl }
-  objects_begin begun mode (IsNotified note) notes fits stands = record { nowhere = stands; untouched = refl }
-  objects_begin begun mode (Expiry note) notes fits stands = record { nowhere = stands; untouched = refl }
-  objects_begin begun mode (NoteWait note deadline) notes fits stands = record { nowhere = stands; untouched = refl }
-  objects_begin begun mode (Add counter delta) notes fits stands = record { walk = _; walks = stands; is_asked = refl; events = []; added = sym (append-nil (objects_own earlier.objects seat)); so_far = refl }
-  objects_begin begun mode (Value counter) notes fits stands = record { walk = _; walks = stands; is_asked = refl; events = []; added = sym (append-nil (objects_own earlier.objects seat)); so_far = refl }
-  objects_begin begun mode (CounterWait counter deadline) notes fits stands = record { walk = _; walks = stands; is_asked = refl; events = []; added = sym (append-nil (objects_own earlier.objects seat)); so_far = refl }
-  objects_begin begun mode (Once once) notes fits stands = record { walk = _; walks = stands; is_asked = refl; events = []; added = sym (append-nil (objects_own earlier.objects seat)); so_far = refl }
-  objects_begin begun mode (Done once) notes fits stands = record { walk = _; walks = stands; is_asked = refl; events = []; added = sym (append-nil (objects_own earlier.objects seat)); so_far = refl }
-  objects_begin begun mode (WaitAny items deadline) notes fits stands = record {
+  objects_begin : (begun : Whole C N) (mode : Option Mode) (call : Call C) → before.lock.env.notes ≡ (env_after earlier.notes).notes → CallFits before.objects.setup before.lock.env.notes call mode → walk_in begun.objects.walks seat ≡ object_start call → wait_in begun.objects.waits seat ≡ None → OnObjects (inl (asks_of mode call)) earlier begun
+  objects_begin begun mode Lock notes fits stands waits = record { nowhere = stands; waits_not = waits; untouched = refl }
+  objects_begin begun mode RLock notes fits stands waits = record { nowhere = stands; waits_not = waits; untouched = refl }
+  objects_begin begun mode TryLock notes fits stands waits = record { nowhere = stands; waits_not = waits; untouched = refl }
+  objects_begin begun mode TryRLock notes fits stands waits = record { nowhere = stands; waits_not = waits; untouched = refl }
+  objects_begin begun mode Unlock notes fits stands waits = record { nowhere = stands; waits_not = waits; untouched = refl }
+  objects_begin begun mode RUnlock notes fits stands waits = record { nowhere = stands; waits_not = waits; untouched = refl }
+  objects_begin begun mode UnlockQuiet notes fits stands waits = record { nowhere = stands; waits_not = waits; untouched = refl }
+  objects_begin begun mode (Get i) notes fits stands waits = record { nowhere = stands; waits_not = waits; untouched = refl }
+  objects_begin begun mode (Set i value) notes fits stands waits = record { nowhere = stands; waits_not = waits; untouched = refl }
+  objects_begin begun mode (Wait c limits) notes fits stands waits = record { nowhere = stands; waits_not = waits; untouched = refl }
+  objects_begin begun mode (CvWait k limits) notes fits stands waits = record { nowhere = stands; waits_not = waits; untouched = refl }
+  objects_begin begun mode (Signal k) notes fits stands waits = record { nowhere = stands; waits_not = waits; untouched = refl }
+  objects_begin begun mode (Broadcast k) notes fits stands waits = record { nowhere = stands; waits_not = waits; untouched = refl }
+  objects_begin begun mode (NewNote parent deadline) notes fits stands waits = record { nowhere = stands; waits_not = waits; untouched = refl }
+  objects_begin begun mode (Notify note) notes fits stands waits = record { nowhere = stands; waits_not = waits; untouched = refl }
+  objects_begin begun mode (Advance moment) notes fits stands waits = record { nowhere = stands; waits_not = waits; untouched = refl }
+  objects_begin begun mode (IsNotified note) notes fits stands waits = record { nowhere = stands; waits_not = waits; untouched = refl }
+  objects_begin begun mode (Expiry note) notes fits stands waits = record { nowhere = stands; waits_not = waits; untouched = refl }
+  objects_begin begun mode (NoteWait note deadline) notes fits stands waits = record { nowhere = stands; waits_not = waits; untouched = refl }
+  objects_begin begun mode (Add counter delta) notes fits stands waits = record { walk = _; walks = stands; waits_not = waits; is_asked = refl; events = []; added = sym (append-nil (objects_own earlier.objects seat)); so_far = refl }
+  objects_begin begun mode (Value counter) notes fits stands waits = record { walk = _; walks = stands; waits_not = waits; is_asked = refl; events = []; added = sym (append-nil (objects_own earlier.objects seat)); so_far = refl }
+  objects_begin begun mode (CounterWait counter deadline) notes fits stands waits = record { walk = _; walks = stands; waits_not = waits; is_asked = refl; events = []; added = sym (append-nil (objects_own earlier.objects seat)); so_far = refl }
+  objects_begin begun mode (Once once) notes fits stands waits = record { walk = _; walks = stands; waits_not = waits; is_asked = refl; events = []; added = sym (append-nil (objects_own earlier.objects seat)); so_far = refl }
+  objects_begin begun mode (Done once) notes fits stands waits = record { walk = _; walks = stands; waits_not = waits; is_asked = refl; events = []; added = sym (append-nil (objects_own earlier.objects seat)); so_far = refl }
+  objects_begin begun mode (WaitAny items deadline) notes fits stands waits = record {
     walk = _;
     walks = stands;
+    waits_not = waits;
     is_asked = refl;
     events = [];
     added = sym (append-nil (objects_own earlier.objects seat));
-    so_far = (refl, subst (λ now. AreThere before.objects.setup now items) notes fits, tt);
+    so_far = (refl, subst (λ now. AreThere before.objects.setup now items) notes fits.0, tt);
   }
 
-  begins_in : (begun : Whole C N) (call : Call C) → IsLawfulWhole before → IsLawfulWhole begun → HasLedTo earlier before → WholeStarts before begun seat call → UnderwayIn (asks_of (mode_of (held_at before.lock seat)) call) earlier begun
+  begins_in : (begun : Whole C N) (call : Call C) → IsLawfulWhole before → IsLawfulWhole begun → HasLedTo earlier before → WholeStarts before begun seat call → UnderwayIn (inl (asks_of (mode_of (held_at before.lock seat)) call)) earlier begun
   begins_in begun call lawful now_lawful led p =
       let is : held_at before.lock seat ≡ p.starts.view.held = ap held_in p.starts.at in
+      let waits = ap (λ (o : Objects). wait_in o.waits seat) p.becomes ∙ begun_waits before.objects seat (object_start call) ∙ begun_waits_not before lawful begun.lock seat call p.starts now_lawful.lock p.elsewhere in
       record {
         setup = ap (λ (o : Objects). o.setup) p.becomes ∙ begun_setup before.objects seat (object_start call);
         since = begins_itself earlier.objects;
         led = starts_led earlier.objects before begun seat call lawful now_lawful p led.1;
         lock = begins_underway C N before.lock earlier.notes seat before.objects.setup begun.lock call led.0 p.starts;
-        objects = subst (λ held. OnObjects (asks_of (mode_of held) call) earlier begun) (sym is) (objects_begin begun (mode_of p.starts.view.held) call led.0.lawful.meets.notes p.starts.fits p.stands);
+        objects = subst (λ held. OnObjects (inl (asks_of (mode_of held) call)) earlier begun) (sym is) (objects_begin begun (mode_of p.starts.view.held) call led.0.lawful.meets.notes p.starts.fits p.stands waits);
       }
 
   -- what isn't finished is under way
-  unfinished : (asked : Asked C) (step : Step) (past : Past) (world : Whole C N) → IsUnfinished step → OutcomeIn asked step past world → UnderwayIn asked past world
+  unfinished : (asked : Asked C) (step : Step) (past : Past) (world : Whole C N) → IsUnfinished step → OutcomeIn asked step past world → UnderwayAs asked past world
   unfinished asked Went past world goes p = p
   unfinished asked Idle past world goes p = p
   unfinished asked Nothing past world goes p = p
   unfinished asked (Finished reply) past world goes p = absurd goes
 
   -- a step of the seat itself
-  step_here : (asked : Asked C) (past : Past) (old new : Whole C N) (step : Step) → IsLawfulWhole old → (p : WholeStep old new seat step) → UnderwayIn asked past old → LedToOutcome asked step (past_and past (done_in old new seat step p)) new
-  step_here asked past old new Nothing lawful p u = absurd (busy_in asked past old u p.1.0 p.1.1)
-  step_here asked past old new Went lawful p u = moves_here asked past old new Went lawful p u
-  step_here asked past old new Idle lawful p u = moves_here asked past old new Idle lawful p u
-  step_here asked past old new (Finished reply) lawful p u = moves_here asked past old new (Finished reply) lawful p u
+  step_in : (phase : Phase) (past : Past) (old new : Whole C N) (step : Step) → IsLawfulWhole old → (p : WholeStep old new seat step) → UnderwayIn phase past old → LedToOutcome (asked_in phase) step (past_and past (done_in old new seat step p)) new
+  step_in phase past old new Nothing lawful p u = absurd (busy_in phase past old u p.1.0 p.1.1)
+  step_in phase past old new Went lawful p u = moves_here phase past old new Went lawful p u
+  step_in phase past old new Idle lawful p u = moves_here phase past old new Idle lawful p u
+  step_in phase past old new (Finished reply) lawful p u = moves_here phase past old new (Finished reply) lawful p u
+
+  step_here : (asked : Asked C) (past : Past) (old new : Whole C N) (step : Step) → IsLawfulWhole old → (p : WholeStep old new seat step) → UnderwayAs asked past old → LedToOutcome asked step (past_and past (done_in old new seat step p)) new
+  step_here asked past old new step lawful p u = subst (λ a. LedToOutcome a step (past_and past (done_in old new seat step p)) new) u.1 (step_in u.0 past old new step lawful p u.2)
 
   -- nothing at all
-  rests_in : (asked : Asked C) (past : Past) (world : Whole C N) → UnderwayIn asked past world → UnderwayIn asked (past_and past nothing_done) world
-  rests_in asked past world u = record {
+  rests_in : (phase : Phase) (past : Past) (world : Whole C N) → UnderwayIn phase past world → UnderwayIn phase (past_and past nothing_done) world
+  rests_in phase past world u = record {
     setup = u.setup;
     since = begins_on earlier.objects past.objects [] u.since;
     led = subst (λ es. HaveLedTo es world) (sym (append-nil past.objects)) u.led;
-    lock = stays_underway C N before.lock earlier.notes seat asked past.notes world.lock u.lock;
-    objects = objects_rest asked past nothing_done world world refl (no_own past.objects) u.objects;
+    lock = stays_underway C N before.lock earlier.notes seat (Looks phase) (lock_of phase) past.notes world.lock u.lock;
+    objects = objects_rest phase past nothing_done world world refl refl (no_own past.objects) u.objects;
   }
 
   -- and one of another
-  step_there : (asked : Asked C) (past : Past) (old new : Whole C N) (other : ℕ) (step : Step) → other ≢ seat → IsLawfulWhole old → (p : WholeStep old new other step) → UnderwayIn asked past old → UnderwayIn asked (past_and past (done_in old new other step p)) new
-  step_there asked past old new other Nothing ne lawful p u = rests_in asked past new (subst (UnderwayIn asked past) (sym p.0) u)
-  step_there asked past old new other Went ne lawful p u = moves_there asked past old new other Went ne lawful p u
-  step_there asked past old new other Idle ne lawful p u = moves_there asked past old new other Idle ne lawful p u
-  step_there asked past old new other (Finished reply) ne lawful p u = moves_there asked past old new other (Finished reply) ne lawful p u
+  step_there : (phase : Phase) (past : Past) (old new : Whole C N) (other : ℕ) (step : Step) → other ≢ seat → IsLawfulWhole old → (p : WholeStep old new other step) → UnderwayIn phase past old → UnderwayIn phase (past_and past (done_in old new other step p)) new
+  step_there phase past old new other Nothing ne lawful p u = rests_in phase past new (subst (UnderwayIn phase past) (sym p.0) u)
+  step_there phase past old new other Went ne lawful p u = moves_there phase past old new other ne lawful u Went p
+  step_there phase past old new other Idle ne lawful p u = moves_there phase past old new other ne lawful u Idle p
+  step_there phase past old new other (Finished reply) ne lawful p u = moves_there phase past old new other ne lawful u (Finished reply) p
 
-  step_by_itself : (asked : Asked C) (past : Past) (old new : Whole C N) (who : ℕ) (step : Step) → who ≡ seat → IsLawfulWhole old → (p : WholeStep old new who step) → IsUnfinished step → UnderwayIn asked past old → UnderwayIn asked (past_and past (done_in old new who step p)) new
+  step_by_itself : (asked : Asked C) (past : Past) (old new : Whole C N) (who : ℕ) (step : Step) → who ≡ seat → IsLawfulWhole old → (p : WholeStep old new who step) → IsUnfinished step → UnderwayAs asked past old → UnderwayAs asked (past_and past (done_in old new who step p)) new
   step_by_itself asked past old new who step same lawful p goes u =
-      subst (λ n. (q : WholeStep old new n step) → UnderwayIn asked (past_and past (done_in old new n step q)) new) (sym same) (λ q. unfinished asked step (past_and past (done_in old new seat step q)) new goes (step_here asked past old new step lawful q u).1) p
+      subst (λ n. (q : WholeStep old new n step) → UnderwayAs asked (past_and past (done_in old new n step q)) new) (sym same) (λ q. unfinished asked step (past_and past (done_in old new seat step q)) new goes (step_here asked past old new step lawful q u).1) p
 
-  happens_on : (asked : Asked C) (past : Past) (old new : Whole C N) → IsLawfulWhole old → (h : Happens seat old new) → UnderwayIn asked past old → UnderwayIn asked (past_and past (done_by seat h.who old new h.what)) new
+  happens_on : (asked : Asked C) (past : Past) (old new : Whole C N) → IsLawfulWhole old → (h : Happens seat old new) → UnderwayAs asked past old → UnderwayAs asked (past_and past (done_by seat h.who old new h.what)) new
   happens_on asked past old new lawful h u = by_whom h.who h.what (cases_eq h.who seat) where
-    by_whom : (who : ℕ) (what : ((call : Call C) × WholeBegins old new who call Started) ⊎ ((step : Step) × WholeStep old new who step × (who ≡ seat → IsUnfinished step))) → (who ≡ seat) ⊎ (who ≢ seat) → UnderwayIn asked (past_and past (done_by seat who old new what)) new
+    by_whom : (who : ℕ) (what : ((call : Call C) × WholeBegins old new who call Started) ⊎ ((step : Step) × WholeStep old new who step × (who ≡ seat → IsUnfinished step))) → (who ≡ seat) ⊎ (who ≢ seat) → UnderwayAs asked (past_and past (done_by seat who old new what)) new
     by_whom who (inl begun) (inl e) =
         let s = begun.1.starts in
         let idle : IsIdle old.lock who = record { view = s.view; at = s.at; idle = s.idle; unasked = s.unasked } in
-        absurd (busy_in asked past old u (subst (IsIdle old.lock) e idle) (subst (λ n. walk_in old.objects.walks n ≡ None) e begun.1.elsewhere))
-    by_whom who (inl begun) (inr ne) = starts_away asked past old new who begun.0 ne lawful h.lawful begun.1 u
+        absurd (busy_in u.0 past old u.2 (subst (IsIdle old.lock) e idle) (subst (λ n. walk_in old.objects.walks n ≡ None) e begun.1.elsewhere))
+    by_whom who (inl begun) (inr ne) = (u.0, u.1, starts_away u.0 past old new who ne lawful u.2 begun.0 h.lawful begun.1)
     by_whom who (inr stepped) (inl e) = step_by_itself asked past old new who stepped.0 e lawful stepped.1 (stepped.2 e) u
-    by_whom who (inr stepped) (inr ne) = step_there asked past old new who stepped.0 ne lawful stepped.1 u
+    by_whom who (inr stepped) (inr ne) = (u.0, u.1, step_there u.0 past old new who stepped.0 ne lawful stepped.1 u.2)
 
   past_assoc : (past one two : Past) → past_and (past_and past one) two ≡ past_and past (past_and one two)
   past_assoc past one two = λ i. record { notes = append_assoc past.notes one.notes two.notes i; objects = append_assoc past.objects one.objects two.objects i }
 
   -- a lawful world in which the call is under way
-  meanwhile_on : (asked : Asked C) (n : ℕ) (past : Past) (old new : Whole C N) → IsLawfulWhole old → (meanwhile : Meanwhile seat n old new) → UnderwayIn asked past old → IsLawfulWhole new × UnderwayIn asked (past_and past (happened seat n old new meanwhile)) new
-  meanwhile_on asked zero past old new lawful p u = (subst IsLawfulWhole (sym p) lawful, rests_in asked past new (subst (UnderwayIn asked past) (sym p) u))
+  meanwhile_on : (asked : Asked C) (n : ℕ) (past : Past) (old new : Whole C N) → IsLawfulWhole old → (meanwhile : Meanwhile seat n old new) → UnderwayAs asked past old → IsLawfulWhole new × UnderwayAs asked (past_and past (happened seat n old new meanwhile)) new
+  meanwhile_on asked zero past old new lawful p u = (subst IsLawfulWhole (sym p) lawful, (u.0, u.1, rests_in u.0 past new (subst (UnderwayIn u.0 past) (sym p) u.2)))
   meanwhile_on asked (suc n) past old new lawful p u =
       let done = done_by seat p.1.who old p.0 p.1.what in
       let on = meanwhile_on asked n (past_and past done) p.0 new p.1.lawful p.2 (happens_on asked past old p.0 lawful p.1 u) in
-      (on.0, subst (λ es. UnderwayIn asked es new) (past_assoc past done (happened seat n p.0 new p.2)) on.1)
+      (on.0, subst (λ es. UnderwayAs asked es new) (past_assoc past done (happened seat n p.0 new p.2)) on.1)
 
 -- Whatever others do between the beginning of a call and the step that finishes it, its answer means what it says.
 pub calls_mean : {C : Type 0} {N : ℕ} (n seat : ℕ) (before begun last after : Whole C N) (earlier : Past) (call : Call C) (reply : Reply) → IsLawfulWhole before → HasLedTo earlier before → WholeBegins before begun seat call Started → IsLawfulWhole begun →
@@ -408,7 +915,7 @@ pub calls_mean : {C : Type 0} {N : ℕ} (n seat : ℕ) (before begun last after 
     HasLedTo later after × AnswersCall before earlier seat call reply after later
 calls_mean {C} {N} n seat before begun last after earlier call reply lawful led starts now_lawful meanwhile finish =
     let asked = asks_of (mode_of (held_at before.lock seat)) call in
-    let on = meanwhile_on C N before earlier seat asked n earlier begun last now_lawful meanwhile (begins_in C N before earlier seat begun call lawful now_lawful led starts) in
+    let on = meanwhile_on C N before earlier seat asked n earlier begun last now_lawful meanwhile (inl asked, refl, begins_in C N before earlier seat begun call lawful now_lawful led starts) in
     let past = past_and earlier (happened seat n begun last meanwhile) in
     let end = step_here C N before earlier seat asked past last after (Finished reply) on.0 finish on.1 in
     subst (λ es. HasLedTo es after × AnswersCall before earlier seat call reply after es) (past_assoc C N before earlier seat earlier (happened seat n begun last meanwhile) (done_in last after seat (Finished reply) finish)) end

@@ -1,6 +1,6 @@
 -- The law of a whole world: how it begins, and that calls that begin and steps keep it.
 use Rattle.std.specs.List.{list_all}
-use Rattle.std.proofs.Common.{◌≡◌, ◌≢◌, ℕ, ◌<◌, ◌≤◌, Bool, true, List, [], ◌∷◌, ◌++◌, Option, None, Some, is_some, length, replicate, slice_get, slice_set, slice_index, refl, ap, sym, ◌∙◌, subst, arith, inl, inr, Result, Ok, Err}
+use Rattle.std.proofs.Common.{◌≡◌, ◌≢◌, ℕ, ℤ, cond, eqb, nat_lt, ◌<◌, ◌≤◌, Bool, true, false, not, List, [], ◌∷◌, ◌++◌, Option, None, Some, IsSome, is_some, length, replicate, slice_get, slice_set, slice_index, refl, ap, sym, ◌∙◌, subst, arith, inl, inr, Result, Ok, Err}
 use Rattle.std.specs.Prelude.{IfOk, IfErr}
 use Rattle.std.proofs.lemmas.Bool.{cases_eq}
 use Rattle.std.proofs.lemmas.List.{length-replicate, length-set}
@@ -12,22 +12,23 @@ use Rattle.ns_model.proofs.Environments.{made_below}
 use Rattle.ns_counters.specs.declared.act.ObjectAct.{ObjectAct}
 use Rattle.ns_counters.specs.declared.object.ObjectEvent.{ObjectEvent}
 use Rattle.ns_counters.specs.declared.object.Setup.{Setup}
-use Rattle.ns_counters.specs.Counters.{most}
+use Rattle.ns_counters.specs.Counters.{judged, most}
 use Rattle.ns_counters.specs.Objects.{ObjectStanding, objects_after}
 use Rattle.ns_counters.proofs.NewObjects.{new_lawful}
+use Rattle.ns_word.specs.declared.view.Held.{Held}
 use Rattle.ns_word.specs.declared.view.SeatView.{SeatView}
 use Rattle.ns_env.specs.declared.walk.EnvNext.{EnvNext}
 use Rattle.ns_env.specs.declared.walk.EnvNext.TheVariants as TheEnv
 use Rattle.ns_env.specs.Steps.{EnvPlain}
 use Rattle.ns_env.specs.Lawful.{Meets}
 use Rattle.ns_env.specs.Walks.{env_got_of, env_want_of}
-use Rattle.ns_env.proofs.Asks.{if_made_stays, set_there}
+use Rattle.ns_env.proofs.Asks.{if_made_stays, set_here, set_there}
 use Rattle.ns_world.specs.declared.call.Call.{Call}
 use Rattle.ns_world.specs.declared.call.Call.TheVariants.{Lock, RLock, TryLock, TryRLock, Unlock, RUnlock, UnlockQuiet, Get, Set, Wait, CvWait, Signal, Broadcast, NewNote, Notify, Advance, IsNotified, Expiry, NoteWait, Add, Value, CounterWait, Once, Done, WaitAny}
 use Rattle.ns_world.specs.declared.call.Start.{Start}
 use Rattle.ns_world.specs.declared.call.Start.TheVariants.{OnLock, Ask, OnObjects}
 use Rattle.ns_world.specs.declared.items.Item.{Item}
-use Rattle.ns_world.specs.declared.items.Item.TheVariants.{OnNote, OnCounter}
+use Rattle.ns_world.specs.declared.items.Item.TheVariants.{OnNote, OnCounter, OnVariable}
 use Rattle.ns_world.specs.declared.items.Items.{Items}
 use Rattle.ns_world.specs.declared.object_walk.ObjectNext.{ObjectNext}
 use Rattle.ns_world.specs.declared.object_walk.ObjectNext.TheVariants.{Go, Repeat, Over}
@@ -45,16 +46,40 @@ use Rattle.ns_world.specs.declared.step.Begun.TheVariants.{Started, Misuse, Busy
 use Rattle.ns_world.specs.declared.step.Step.{Step}
 use Rattle.ns_world.specs.declared.step.Step.TheVariants.{Went, Idle, Finished, Nothing}
 use Rattle.ns_world.specs.Begins.{BeginAnswers, Starts, begun_at}
-use Rattle.ns_world.specs.Calls.{CallFits, start_of, object_start, mode_of}
+use Rattle.ns_world.specs.Calls.{CallFits, start_of, object_start, mode_of, mode_waited}
 use Rattle.ns_world.specs.Items.{items_of}
-use Rattle.ns_world.specs.Objects.{AreLedTo, AreThere, HasOperated, RoundFits, StepFits, WalkFits, WantFits, is_there, object_step_of, objects_begun, walk_in}
-use Rattle.ns_world.specs.ObjectWalks.{object_after, object_got, object_want, IsInBounds}
-use Rattle.ns_world.specs.Whole.{Whole, whole, IsLawfulWhole, Operates, WholeBegins, WholeFault, WholeIsBusy, WholeStarts, WholeStep, fresh_whole}
+use Rattle.ns_world.specs.Objects.{AreLedTo, AreThere, HasOperated, RoundFits, StepFits, WalkFits, WantFits, is_there, object_step_of, objects_begun, put_at, stood_at, wait_in, walk_in}
+use Rattle.ns_counters.specs.declared.counter.CounterFault.{CounterFault}
+use Rattle.ns_counters.specs.declared.counter.CounterState.{CounterState}
+use Rattle.ns_counters.specs.declared.word.Stage.{Stage}
+use Rattle.ns_counters.specs.declared.word.Stage.TheVariants as TheStage
+use Rattle.ns_counters.specs.Words.{counter_of, counter_word, stage_of}
+use Rattle.ns_env.specs.declared.act.EnvFound.TheVariants.{Clock}
+use Rattle.ns_word.specs.declared.act.Act.{Act}
+use Rattle.ns_world.specs.declared.reply.Reply.TheVariants.{Number}
+use Rattle.ns_world.specs.declared.round.ObjectFound.{ObjectFound}
+use Rattle.ns_world.specs.declared.round.ObjectFound.TheVariants.{Word, Env}
+use Rattle.ns_world.specs.declared.round.RoundNext.{RoundNext}
+use Rattle.ns_world.specs.declared.round.RoundNext.TheVariants.{RoundGo, RoundOver}
+use Rattle.ns_world.specs.ObjectMeanings.{object_asked}
+use Rattle.ns_world.specs.Rounds.{round_got}
+use Rattle.ns_world.specs.ObjectWalks.{by_answer, by_begun, by_deadline, by_judging, by_round, by_stage, object_after, object_got, object_want, IsInBounds}
+use Rattle.ns_word.specs.declared.act.Found.{Found}
+use Rattle.ns_word.specs.declared.walk.Walk.{Walk}
+use Rattle.ns_word.specs.Walks.{got_of, walk_after, want_of}
+use Rattle.ns_word.proofs.Asked.{asked_stays, quiet_asks, test_asks}
+use Rattle.ns_word.specs.declared.cell_walk.Judging.TheVariants.{ToRelease}
+use Rattle.ns_word.specs.declared.wait.Subject.TheVariants.{OnCondition}
+use Rattle.ns_word.specs.declared.wait.Visit.TheVariants.{OnEntry}
+use Rattle.ns_world.specs.Among.{asks_for_any, is_for_lock}
+use Rattle.ns_world.specs.declared.objects.AnyWait.{AnyWait}
+use Rattle.ns_world.specs.Whole.{Whole, whole, is_alone, IsLawfulWhole, LooksWhere, MayWait, Operates, StandsAlone, StandsBy, WholeBegins, WholeFault, WholeIsBusy, WholeStarts, WholeStep, fresh_whole}
 use Rattle.ns_world.specs.World.{Now, Goes, LookGoes, Moves, StepOf, StepFault, IsIdle, IsLawfulWorld}
-use Rattle.ns_world.proofs.Fresh.{lawful_new, length_views}
+use Rattle.ns_world.proofs.Fresh.{lawful_new, length_views, no_walk}
+use Rattle.ns_world.proofs.Listed.{some_among}
 use Rattle.ns_world.proofs.ObjectLaw.{first_of_all, rest_of_all, in_list, operates_keeps, want_below}
 use Rattle.ns_world.proofs.Turns.{moves_stay, begun_stays, Pairs, pairs}
-use Rattle.ns_world.proofs.Walks.{put_here, put_there, none_stand, stands_within}
+use Rattle.ns_world.proofs.Walks.{put_here, put_there, none_stand, none_wait, stands_within}
 
 -- ---- a new world
 
@@ -63,7 +88,12 @@ whole_new C N truths seats counters onces few short cells values = record {
   lock = lawful_new C N truths seats few;
   seats = sym (length_views C N 0 seats);
   places = length-replicate {A = Option ObjectWalk} 64 None;
-  apart = λ seat walk at. absurd (none seat walk at);
+  wait_places = length-replicate {A = Option AnyWait} 64 None;
+  stands = λ seat. subst (StandsBy (fresh_whole {C = C} {N = N} truths seats counters onces) seat) (sym (none_wait 64 seat)) (record {
+    alone = λ view at. subst (λ w. is_alone w ≡ true) (sym (no_walk C N 0 seats seat view at)) refl;
+    apart = λ walk at. absurd (none seat walk at);
+    may = λ view at. subst (λ w. MayWait w view.held) (sym (none_stand 64 seat)) tt;
+  });
   events = [];
   objects_lawful = record {
     lawful = new_lawful seats counters onces few short cells values;
@@ -87,6 +117,7 @@ module _ (setup : Setup) (notes later : ℕ → NoteStanding) (more : (n : ℕ) 
     each : (item : Item) → is_there setup notes item ≡ true → is_there setup later item ≡ true
     each (OnNote note) is = more note is
     each (OnCounter counter) is = is
+    each (OnVariable k) is = is
 
   round_more : (round : Round) (place : RoundPlace) → RoundFits notes round place → RoundFits later round place
   round_more round FirstClock fits = tt
@@ -113,9 +144,25 @@ led_more history objects notes later more led = record {
   each = λ seat walk at. walk_more objects.setup notes later more (objects_after objects.setup history) seat walk (led.each seat walk at);
 }
 
-abbrev Fit : Setup → ObjectStanding → (ℕ → NoteStanding) → ℕ → Option ObjectWalk → Type 0
+abbrev pub Fit : Setup → ObjectStanding → (ℕ → NoteStanding) → ℕ → Option ObjectWalk → Type 0
 Fit setup now notes seat None = Unit {0}
 Fit setup now notes seat (Some walk) = WalkFits setup now notes seat walk
+
+-- what has led to the objects has led to them where a seat is put at a place that fits, and into any wait or none
+pub led_stood : (history : List ObjectEvent) (objects : Objects) (notes : ℕ → NoteStanding) (seat : ℕ) (walk : Option ObjectWalk) (wait : Option AnyWait) → seat < length objects.walks → seat < objects.setup.seats → Fit objects.setup (objects_after objects.setup history) notes seat walk → AreLedTo history objects notes → AreLedTo history (stood_at objects seat walk wait) notes
+led_stood history objects notes seat walk wait inside low fits led = record {
+  lawful = led.lawful;
+  within = λ other w at. elim (cases_eq other seat) [
+    | inl e ↦ subst (λ n. n < objects.setup.seats) (sym e) low
+    | inr ne ↦ led.within other w (sym (put_there objects.walks seat walk other ne) ∙ at)
+  ];
+  each = λ other w at. elim (cases_eq other seat) [
+    | inl e ↦
+        let is : walk ≡ Some w = sym (put_here objects.walks seat walk inside) ∙ ap (walk_in (slice_set objects.walks seat walk)) (sym e) ∙ at in
+        subst (λ n. WalkFits objects.setup (objects_after objects.setup history) notes n w) (sym e) (subst (Fit objects.setup (objects_after objects.setup history) notes seat) is fits)
+    | inr ne ↦ led.each other w (sym (put_there objects.walks seat walk other ne) ∙ at)
+  ];
+}
 
 first_fits : {C : Type 0} (setup : Setup) (now : ObjectStanding) (notes : ℕ → NoteStanding) (mode : Option Mode) (seat : ℕ) (call : Call C) → CallFits setup notes call mode → Fit setup now notes seat (object_start call)
 first_fits setup now notes mode seat (Add counter delta) fits = fits
@@ -123,7 +170,7 @@ first_fits setup now notes mode seat (Value counter) fits = fits
 first_fits setup now notes mode seat (CounterWait counter deadline) fits = fits
 first_fits setup now notes mode seat (Once once) fits = fits
 first_fits setup now notes mode seat (Done once) fits = fits
-first_fits setup now notes mode seat (WaitAny items deadline) fits = (fits, tt)
+first_fits setup now notes mode seat (WaitAny items deadline) fits = (fits.0, tt)
 first_fits setup now notes mode seat Lock fits = tt
 first_fits setup now notes mode seat RLock fits = tt
 first_fits setup now notes mode seat TryLock fits = tt
@@ -144,6 +191,145 @@ first_fits setup now notes mode seat (IsNotified note) fits = tt
 first_fits setup now notes mode seat (Expiry note) fits = tt
 first_fits setup now notes mode seat (NoteWait note deadline) fits = tt
 
+-- ---- who waits for no set of variables goes on so
+
+after_alone : {C : Type 0} (N : ℕ) (walk : Walk C) (found : Found) → is_alone (Some walk) ≡ true → is_alone (walk_after (got_of N walk found)) ≡ true
+after_alone {C} N walk found alone = by (walk_after (got_of N walk found)) refl where
+  by : (next : Option (Walk C)) → walk_after (got_of N walk found) ≡ next → is_alone next ≡ true
+  by None is = refl
+  by (Some next) is = ap (λ r. not (asks_for_any r)) (asked_stays C N walk found next is) ∙ alone
+
+-- a call begins at no wait for a set of variables
+abbrev StartAlone : {C : Type 0} → Start C → Type 0
+StartAlone (OnLock walk) = is_alone (Some walk) ≡ true
+StartAlone (Ask walk) = Unit {0}
+StartAlone (OnObjects walk) = Unit {0}
+
+start_alone : {C : Type 0} (N : ℕ) (mode : Option Mode) (call : Call C) → StartAlone (start_of N mode call)
+start_alone {C} N mode UnlockQuiet = ap (λ r. not (asks_for_any r)) (quiet_asks C N ToRelease 0)
+start_alone {C} N mode (Wait c limits) = ap (λ r. not (asks_for_any r)) (test_asks C N (record { mode = mode_waited mode; on = OnCondition c; limits = limits }) OnEntry 0)
+start_alone N mode Lock = refl
+start_alone N mode RLock = refl
+start_alone N mode TryLock = refl
+start_alone N mode TryRLock = refl
+start_alone N mode Unlock = refl
+start_alone N mode RUnlock = refl
+start_alone N mode (Get i) = refl
+start_alone N mode (Set i v) = refl
+start_alone N mode (CvWait k limits) = refl
+start_alone N mode (Signal k) = refl
+start_alone N mode (Broadcast k) = refl
+start_alone N mode (NewNote parent deadline) = tt
+start_alone N mode (Notify note) = tt
+start_alone N mode (Advance moment) = tt
+start_alone N mode (IsNotified note) = tt
+start_alone N mode (Expiry note) = tt
+start_alone N mode (NoteWait note deadline) = tt
+start_alone N mode (Add counter delta) = tt
+start_alone N mode (Value counter) = tt
+start_alone N mode (CounterWait counter deadline) = tt
+start_alone N mode (Once once) = tt
+start_alone N mode (Done once) = tt
+start_alone N mode (WaitAny items deadline) = tt
+
+some_held : {C : Type 0} {N : ℕ} (held : Option (Held C N)) → IsSome (mode_of held) → IsSome held
+some_held None some = some
+some_held (Some section) some = refl
+
+-- a call that may go on to wait for condition variables begins with a section in hand
+start_may : {C : Type 0} {N : ℕ} (setup : Setup) (notes : ℕ → NoteStanding) (call : Call C) (held : Option (Held C N)) → CallFits setup notes call (mode_of held) → MayWait (object_start call) held
+start_may setup notes (WaitAny items deadline) held fits = λ named. let one = some_among (items_of items) named in some_held held (fits.1 one.0 one.1)
+start_may setup notes Lock held fits = tt
+start_may setup notes RLock held fits = tt
+start_may setup notes TryLock held fits = tt
+start_may setup notes TryRLock held fits = tt
+start_may setup notes Unlock held fits = tt
+start_may setup notes RUnlock held fits = tt
+start_may setup notes UnlockQuiet held fits = tt
+start_may setup notes (Get i) held fits = tt
+start_may setup notes (Set i v) held fits = tt
+start_may setup notes (Wait c limits) held fits = tt
+start_may setup notes (CvWait k limits) held fits = tt
+start_may setup notes (Signal k) held fits = tt
+start_may setup notes (Broadcast k) held fits = tt
+start_may setup notes (NewNote parent deadline) held fits = tt
+start_may setup notes (Notify note) held fits = tt
+start_may setup notes (Advance moment) held fits = tt
+start_may setup notes (IsNotified note) held fits = tt
+start_may setup notes (Expiry note) held fits = tt
+start_may setup notes (NoteWait note deadline) held fits = tt
+start_may setup notes (Add counter delta) held fits = tt
+start_may setup notes (Value counter) held fits = tt
+start_may setup notes (CounterWait counter deadline) held fits = tt
+start_may setup notes (Once once) held fits = tt
+start_may setup notes (Done once) held fits = tt
+
+-- ---- a step of a call on counters and once cells leaves what the call was asked
+
+abbrev StaysAsked : ObjectWalk → ObjectNext → Type 0
+StaysAsked asked (Go walk) = object_asked walk ≡ asked
+StaysAsked asked (Repeat walk) = object_asked walk ≡ asked
+StaysAsked asked (Over reply) = Unit {0}
+
+judged_stays : (counter : ℕ) (delta : ℤ) (seen : CounterState) (answer : Result ℕ CounterFault) → StaysAsked (AddLoad counter delta) (by_answer counter delta seen answer)
+judged_stays counter delta seen (Ok value) = refl
+judged_stays counter delta seen (Err fault) = tt
+
+waited_stays : (counter : ℕ) (deadline : Option ℕ) (value : ℕ) (b : Bool) → StaysAsked (WaitMark counter deadline) (cond b (Over (Number 0)) (by_deadline counter deadline value))
+waited_stays counter deadline value true = tt
+waited_stays counter None value false = refl
+waited_stays counter (Some moment) value false = refl
+
+stage_stays : (once : ℕ) (stage : Stage) → StaysAsked (OnceLoad once) (by_stage once stage)
+stage_stays once TheStage.Unused = refl
+stage_stays once TheStage.Running = refl
+stage_stays once TheStage.Done = tt
+
+begun_stage_stays : (once : ℕ) (stage : Stage) → StaysAsked (OnceLoad once) (by_begun once stage)
+begun_stage_stays once TheStage.Unused = refl
+begun_stage_stays once TheStage.Running = refl
+begun_stage_stays once TheStage.Done = tt
+
+round_stays : (round : Round) (next : RoundNext) → StaysAsked (InRound round FirstClock) (by_round round next)
+round_stays round (RoundGo place) = refl
+round_stays round (RoundOver None) = refl
+round_stays round (RoundOver (Some at)) = tt
+
+two_stay : (asked : ObjectWalk) (b : Bool) (x y : ObjectNext) → StaysAsked asked x → StaysAsked asked y → StaysAsked asked (cond b x y)
+two_stay asked true x y p q = p
+two_stay asked false x y p q = q
+
+stays_asked : (walk : ObjectWalk) (found : ObjectFound) → StaysAsked (object_asked walk) (object_got walk found)
+stays_asked (AddLoad counter delta) (Word word) = judged_stays counter delta (counter_of word) (judged (counter_of word) delta)
+stays_asked (AddExchange counter delta seen value) (Word word) = two_stay (AddLoad counter delta) (eqb word (counter_word seen)) (Over (Number value)) (by_judging counter delta word) tt (judged_stays counter delta (counter_of word) (judged (counter_of word) delta))
+stays_asked (ValueLoad counter) (Word word) = tt
+stays_asked (WaitMark counter deadline) (Word word) = waited_stays counter deadline (counter_of word).value (eqb (counter_of word).value 0)
+stays_asked (WaitLoad counter deadline) (Word word) = waited_stays counter deadline (counter_of word).value (eqb (counter_of word).value 0)
+stays_asked (WaitClock counter moment value) (Env (Clock clock)) = two_stay (WaitMark counter (Some moment)) (nat_lt clock moment) (Repeat (WaitLoad counter (Some moment))) (Over (Number value)) refl tt
+stays_asked (OnceLoad once) (Word word) = stage_stays once (stage_of word)
+stays_asked (OnceBegin once) (Word word) = begun_stage_stays once (stage_of word)
+stays_asked (OnceEnd once) (Word word) = tt
+stays_asked (DoneLoad once) (Word word) = tt
+stays_asked (InRound round place) found = round_stays round (round_got round place found)
+stays_asked walk found = refl
+
+-- whether a round may wait, or looks for a wait on the lock, is told by what was asked
+may_asked : {C : Type 0} {N : ℕ} (walk : ObjectWalk) (held : Option (Held C N)) → MayWait (Some walk) held → MayWait (Some (object_asked walk)) held
+may_asked (InRound round place) held p = p
+may_asked walk held p = tt
+
+asked_may : {C : Type 0} {N : ℕ} (walk : ObjectWalk) (held : Option (Held C N)) → MayWait (Some (object_asked walk)) held → MayWait (Some walk) held
+asked_may (InRound round place) held p = p
+asked_may walk held p = tt
+
+looks_asked : {C : Type 0} (round : Round) (walk : ObjectWalk) (act : Act C) → LooksWhere round (Some walk) act → LooksWhere round (Some (object_asked walk)) act
+looks_asked round (InRound by place) act p = p
+looks_asked round walk act p = absurd p
+
+asked_looks : {C : Type 0} (round : Round) (walk : ObjectWalk) (act : Act C) → LooksWhere round (Some (object_asked walk)) act → LooksWhere round (Some walk) act
+asked_looks round (InRound by place) act p = p
+asked_looks round walk act p = absurd p
+
 module _ {C : Type 0} {N : ℕ} where
   look_makes : (old new : Now C N) (seat : ℕ) (step : Step) (next : EnvNext) → LookGoes next old new seat step → (n : ℕ) → (old.env.notes n).made ≡ true → (new.env.notes n).made ≡ true
   look_makes old new seat step (TheEnv.Go walk) p n made = subst (λ (world : Now C N). (world.env.notes n).made ≡ true) (sym p.0) made
@@ -158,14 +344,14 @@ module _ {C : Type 0} {N : ℕ} where
 
   -- ---- who is idle stays idle while others move
 
-  record Rests (old new : Now C N) (other : ℕ) : Type 0 where
-    views : slice_get new.state.views other ≡ slice_get old.state.views other
-    asking : slice_get new.asking other ≡ slice_get old.asking other
+  pub record Rests (old new : Now C N) (other : ℕ) : Type 0 where
+    pub views : slice_get new.state.views other ≡ slice_get old.state.views other
+    pub asking : slice_get new.asking other ≡ slice_get old.asking other
 
   idle_on : (old new : Now C N) (other : ℕ) → Rests old new other → IsIdle old other → IsIdle new other
   idle_on old new other same idle = record { view = idle.view; at = same.views ∙ idle.at; idle = idle.idle; unasked = same.asking ∙ idle.unasked }
 
-  goes_rests : (old new : Now C N) (seat : ℕ) (step : Step) (other : ℕ) → other ≢ seat → Goes old new seat step → Rests old new other
+  pub goes_rests : (old new : Now C N) (seat : ℕ) (step : Step) (other : ℕ) → other ≢ seat → Goes old new seat step → Rests old new other
   goes_rests old new seat step other ne p = record {
     views = ap (λ vs. slice_get vs other) p.others ∙ set_there old.state.views seat other _ ne;
     asking = ap (λ xs. slice_get xs other) p.asking ∙ set_there old.asking seat other _ ne;
@@ -188,10 +374,73 @@ module _ {C : Type 0} {N : ℕ} where
   }
   moves_rests old new seat step other ne (inr (inr p)) = look_rests old new seat step (env_got_of p.place p.found) other ne p.goes
 
-  begun_rests : (old : Now C N) (seat : ℕ) (view : SeatView C N) (start : Start C) (other : ℕ) → other ≢ seat → Rests old (begun_at old seat view start) other
+  pub begun_rests : (old : Now C N) (seat : ℕ) (view : SeatView C N) (start : Start C) (other : ℕ) → other ≢ seat → Rests old (begun_at old seat view start) other
   begun_rests old seat view (OnLock walk) other ne = record { views = set_there old.state.views seat other _ ne; asking = refl }
   begun_rests old seat view (Ask walk) other ne = record { views = refl; asking = set_there old.asking seat other _ ne }
   begun_rests old seat view (OnObjects walk) other ne = record { views = refl; asking = refl }
+
+  -- a seat stands as it stood in a world that differs in nothing of its own, and in which more notes may be made
+  pub stands_on : (old new : Whole C N) (other : ℕ) → Rests old.lock new.lock other → walk_in new.objects.walks other ≡ walk_in old.objects.walks other → new.objects.setup ≡ old.objects.setup → ((n : ℕ) → (old.lock.env.notes n).made ≡ true → (new.lock.env.notes n).made ≡ true) → (wait : Option AnyWait) → StandsBy old other wait → StandsBy new other wait
+  stands_on old new other rests walks setup more None s = record {
+    alone = λ view at. s.alone view (sym rests.views ∙ at);
+    apart = λ walk at. idle_on old.lock new.lock other rests (s.apart walk (sym walks ∙ at));
+    may = λ view at. subst (λ w. MayWait w view.held) (sym walks) (s.may view (sym rests.views ∙ at));
+  }
+  stands_on old new other rests walks setup more (Some wait) s = record {
+    view = s.view;
+    at = rests.views ∙ s.at;
+    walk = s.walk;
+    walks = s.walks;
+    mode = s.mode;
+    cvs = s.cvs;
+    asked = s.asked;
+    among = s.among;
+    unasked = rests.asking ∙ s.unasked;
+    there = subst (λ x. AreThere x new.lock.env.notes wait.round.items) (sym setup) (there_more old.objects.setup old.lock.env.notes new.lock.env.notes more wait.round.items s.there);
+    looks = subst (λ w. LooksWhere wait.round w (want_of s.walk)) (sym walks) s.looks;
+  }
+
+  -- ---- who waits for no set of variables goes on so
+
+  abbrev pub IsAlone : Now C N → ℕ → Type 0
+  IsAlone world seat = (view : SeatView C N) → slice_get world.state.views seat ≡ Some view → is_alone view.walk ≡ true
+
+  goes_alone : (old new : Now C N) (seat : ℕ) (step : Step) → Goes old new seat step → IsAlone old seat → IsAlone new seat
+  goes_alone old new seat step p alone view at =
+      let next : SeatView C N = record { seat = p.view.seat; walk = walk_after (got_of N p.makes.walk p.found); held = p.makes.held; owed = p.makes.owed } in
+      let here : slice_get new.state.views seat ≡ Some next = ap (λ vs. slice_get vs seat) p.others ∙ set_here old.state.views seat next (slice_get_within old.state.views seat p.view p.at) in
+      let same : Some next ≡ Some view = sym here ∙ at in
+      let is : next ≡ view = cc in
+      subst (λ (v : SeatView C N). is_alone v.walk ≡ true) is (after_alone N p.makes.walk p.found (subst (λ w. is_alone w ≡ true) p.makes.walks (alone p.view p.at)))
+
+  same_alone : (old new : Now C N) (seat : ℕ) → slice_get new.state.views seat ≡ slice_get old.state.views seat → IsAlone old seat → IsAlone new seat
+  same_alone old new seat same alone view at = alone view (sym same ∙ at)
+
+  look_alone : (old new : Now C N) (seat : ℕ) (step : Step) (next : EnvNext) → LookGoes next old new seat step → IsAlone old seat → IsAlone new seat
+  look_alone old new seat step (TheEnv.Go walk) p alone = same_alone old new seat (ap (λ (world : Now C N). slice_get world.state.views seat) p.0) alone
+  look_alone old new seat step (TheEnv.LookOver cause) p alone = goes_alone old new seat step p.0 alone
+  look_alone old new seat step (TheEnv.Repeat walk) p alone = absurd p
+  look_alone old new seat step (TheEnv.Over reply) p alone = absurd p
+
+  moves_alone : (old new : Now C N) (seat : ℕ) (step : Step) → Moves old new seat step → IsAlone old seat → IsAlone new seat
+  moves_alone old new seat step (inl p) alone = goes_alone old new seat step p.goes alone
+  moves_alone old new seat step (inr (inl p)) alone = same_alone old new seat (ap (λ (world : Now C N). slice_get world.state.views seat) p.others) alone
+  moves_alone old new seat step (inr (inr p)) alone = look_alone old new seat step (env_got_of p.place p.found) p.goes alone
+
+  -- a seat that is in no call on counters and once cells stands alone where it is alone
+  pub stands_nowhere : (world : Whole C N) (seat : ℕ) → walk_in world.objects.walks seat ≡ None → IsAlone world.lock seat → StandsAlone world seat
+  stands_nowhere world seat none alone = record {
+    alone = alone;
+    apart = λ walk at. let clash : None ≡ Some walk = sym none ∙ at in absurd (cc);
+    may = λ view at. subst (λ w. MayWait w view.held) (sym none) tt;
+  }
+
+  -- how each seat stands, by how this one does
+  pub each_stands : (world : Whole C N) (seat : ℕ) (wait : Option AnyWait) → wait_in world.objects.waits seat ≡ wait → StandsBy world seat wait → ((other : ℕ) → other ≢ seat → StandsBy world other (wait_in world.objects.waits other)) → (other : ℕ) → StandsBy world other (wait_in world.objects.waits other)
+  each_stands world seat wait is here there other = elim (cases_eq other seat) [
+    | inl e ↦ subst (λ n. StandsBy world n (wait_in world.objects.waits n)) (sym e) (subst (StandsBy world seat) (sym is) here)
+    | inr ne ↦ there other ne
+  ]
 
   -- ---- a call begins
 
@@ -200,6 +449,12 @@ module _ {C : Type 0} {N : ℕ} where
   begun_notes old seat view (OnLock walk) = refl
   begun_notes old seat view (Ask walk) = refl
   begun_notes old seat view (OnObjects walk) = refl
+
+  -- nor does one on counters and once cells change its seat's view
+  begun_view : (old : Now C N) (seat : ℕ) (view : SeatView C N) (start : Start C) (place : ObjectWalk) → Pairs start (Some place) → slice_get (begun_at old seat view start).state.views seat ≡ slice_get old.state.views seat
+  begun_view old seat view (OnLock walk) place pair = absurd pair
+  begun_view old seat view (Ask walk) place pair = absurd pair
+  begun_view old seat view (OnObjects walk) place pair = refl
 
   -- a seat that begins a call on counters and once cells is in no other
   begun_idle : (old : Now C N) (seat : ℕ) (view : SeatView C N) (start : Start C) (place : ObjectWalk) → Pairs start (Some place) → slice_get old.state.views seat ≡ Some view → view.walk ≡ None → slice_get old.asking seat ≡ Some None → IsIdle (begun_at old seat view start) seat
@@ -222,6 +477,33 @@ module _ {C : Type 0} {N : ℕ} where
 
     notes_same : new.env ≡ old.lock.env
     notes_same = ap (λ (world : Now C N). world.env) starts.begins ∙ begun_notes old.lock seat starts.view (start_of N mode call)
+
+    notes_on : (n : ℕ) → (old.lock.env.notes n).made ≡ true → (new.env.notes n).made ≡ true
+    notes_on n made = subst (λ (env : EnvPlain). (env.notes n).made ≡ true) (sym notes_same) made
+
+    -- the seat waits nowhere
+    pub begun_waits_not : wait_in old.objects.waits seat ≡ None
+    begun_waits_not = by (wait_in old.objects.waits seat) refl (lawful.stands seat) where
+      by : (wait : Option AnyWait) → wait_in old.objects.waits seat ≡ wait → StandsBy old seat wait → wait_in old.objects.waits seat ≡ None
+      by None is s = is
+      by (Some wait) is s =
+          let same : Some s.view ≡ Some starts.view = sym s.at ∙ starts.at in
+          let view_is : s.view ≡ starts.view = cc in
+          let clash : Some s.walk ≡ None = sym s.walks ∙ ap (λ (v : SeatView C N). v.walk) view_is ∙ starts.idle in absurd (cc)
+
+    stood : StandsAlone old seat
+    stood = subst (StandsBy old seat) begun_waits_not (lawful.stands seat)
+
+    begun_alone : IsAlone new seat
+    begun_alone = subst (λ (w : Now C N). IsAlone w seat) (sym starts.begins) (by (start_of N mode call) (start_alone N mode call)) where
+      by : (start : Start C) → StartAlone start → IsAlone (begun_at old.lock seat starts.view start) seat
+      by (OnLock walk) alone view at =
+          let next : SeatView C N = record starts.view { walk = Some walk } in
+          let same : Some next ≡ Some view = sym (set_here old.lock.state.views seat next (slice_get_within old.lock.state.views seat starts.view starts.at)) ∙ at in
+          let is : next ≡ view = cc in
+          subst (λ (v : SeatView C N). is_alone v.walk ≡ true) is alone
+      by (Ask walk) alone view at = stood.alone view at
+      by (OnObjects walk) alone view at = stood.alone view at
 
     rests : (other : ℕ) → other ≢ seat → Rests old.lock new other
     rests other ne = subst (λ (world : Now C N). Rests old.lock world other) (sym starts.begins) (begun_rests old.lock seat starts.view (start_of N mode call) other ne)
@@ -250,16 +532,24 @@ module _ {C : Type 0} {N : ℕ} where
           ];
         }
 
+    begun_pair : (place : ObjectWalk) → object_start call ≡ Some place → Pairs (start_of N mode call) (Some place)
+    begun_pair place is = subst (Pairs (start_of N mode call)) is (pairs N mode call)
+
+    begun_may : (place : ObjectWalk) → object_start call ≡ Some place → (view : SeatView C N) → slice_get new.state.views seat ≡ Some view → MayWait (object_start call) view.held
+    begun_may place is view at =
+        let same : Some starts.view ≡ Some view = sym starts.at ∙ sym (begun_view old.lock seat starts.view (start_of N mode call) place (begun_pair place is)) ∙ ap (λ (world : Now C N). slice_get world.state.views seat) (sym starts.begins) ∙ at in
+        let view_is : starts.view ≡ view = cc in
+        subst (λ (v : SeatView C N). MayWait (object_start call) v.held) view_is (start_may old.objects.setup old.lock.env.notes call starts.view.held starts.fits)
+
     begun_by : (place : Option ObjectWalk) → object_start call ≡ place → IsLawfulWhole (whole new (objects_begun old.objects seat place)) × (walk_in (objects_begun old.objects seat place).walks seat ≡ place)
     begun_by None is = (
       record {
         lock = now_lawful;
         seats = lawful.seats ∙ sym seats_same;
         places = lawful.places;
-        apart = λ other walk at. elim (cases_eq other seat) [
-          | inl e ↦ let none = sym elsewhere ∙ ap (walk_in old.objects.walks) (sym e) ∙ at in absurd (cc)
-          | inr ne ↦ idle_on old.lock new other (rests other ne) (lawful.apart other walk at)
-        ];
+        wait_places = lawful.wait_places;
+        stands = each_stands (whole new old.objects) seat None begun_waits_not (stands_nowhere (whole new old.objects) seat elsewhere begun_alone)
+            (λ other ne. stands_on old (whole new old.objects) other (rests other ne) refl refl notes_on (wait_in old.objects.waits other) (lawful.stands other));
         events = lawful.events;
         objects_lawful = begun_led lawful.events lawful.objects_lawful None is;
       },
@@ -271,10 +561,13 @@ module _ {C : Type 0} {N : ℕ} where
             lock = now_lawful;
             seats = lawful.seats ∙ sym seats_same;
             places = length-set old.objects.walks seat (Some place) ∙ lawful.places;
-            apart = λ other walk at. elim (cases_eq other seat) [
-              | inl e ↦ subst (IsIdle new) (sym e) (subst (λ (world : Now C N). IsIdle world seat) (sym starts.begins) (begun_idle old.lock seat starts.view (start_of N mode call) place (subst (Pairs (start_of N mode call)) is (pairs N mode call)) starts.at starts.idle starts.unasked))
-              | inr ne ↦ idle_on old.lock new other (rests other ne) (lawful.apart other walk (sym (put_there old.objects.walks seat (Some place) other ne) ∙ at))
-            ];
+            wait_places = lawful.wait_places;
+            stands = each_stands (whole new (put_at old.objects seat (Some place))) seat None begun_waits_not (record {
+              alone = begun_alone;
+              apart = λ walk at. subst (λ (world : Now C N). IsIdle world seat) (sym starts.begins) (begun_idle old.lock seat starts.view (start_of N mode call) place (begun_pair place is) starts.at starts.idle starts.unasked);
+              may = λ view at. subst (λ w. MayWait w view.held) (is ∙ sym (put_here old.objects.walks seat (Some place) inside)) (begun_may place is view at);
+            })
+                (λ other ne. stands_on old (whole new (put_at old.objects seat (Some place))) other (rests other ne) (put_there old.objects.walks seat (Some place) other ne) refl notes_on (wait_in old.objects.waits other) (lawful.stands other));
             events = lawful.events;
             objects_lawful = begun_led lawful.events lawful.objects_lawful (Some place) is;
           },
@@ -291,15 +584,16 @@ module _ {C : Type 0} {N : ℕ} where
   -- ---- a step
 
   -- by the lock
-  pub whole_moved : (old : Whole C N) (new : Now C N) (seat : ℕ) (step : Step) → IsLawfulWhole old → Moves old.lock new seat step → IsLawfulWorld new → walk_in old.objects.walks seat ≡ None → IsLawfulWhole (whole new old.objects)
-  whole_moved old new seat step lawful moves now_lawful elsewhere = record {
+  pub whole_moved : (old : Whole C N) (new : Now C N) (seat : ℕ) (step : Step) → IsLawfulWhole old → Moves old.lock new seat step → IsLawfulWorld new → walk_in old.objects.walks seat ≡ None → wait_in old.objects.waits seat ≡ None → IsLawfulWhole (whole new old.objects)
+  whole_moved old new seat step lawful moves now_lawful elsewhere waits_not = record {
     lock = now_lawful;
     seats = lawful.seats ∙ sym (moves_stay old.lock new seat step moves);
     places = lawful.places;
-    apart = λ other walk at. elim (cases_eq other seat) [
-      | inl e ↦ let none = sym elsewhere ∙ ap (walk_in old.objects.walks) (sym e) ∙ at in absurd (cc)
-      | inr ne ↦ idle_on old.lock new other (moves_rests old.lock new seat step other ne moves) (lawful.apart other walk at)
-    ];
+    wait_places = lawful.wait_places;
+    stands =
+        let was : StandsAlone old seat = subst (StandsBy old seat) waits_not (lawful.stands seat) in
+        each_stands (whole new old.objects) seat None waits_not (stands_nowhere (whole new old.objects) seat elsewhere (moves_alone old.lock new seat step moves was.alone))
+        (λ other ne. stands_on old (whole new old.objects) other (moves_rests old.lock new seat step other ne moves) refl refl (moves_make old.lock new seat step moves) (wait_in old.objects.waits other) (lawful.stands other));
     events = lawful.events;
     objects_lawful = led_more lawful.events old.objects old.lock.env.notes new.env.notes (moves_make old.lock new seat step moves) lawful.objects_lawful;
   }
@@ -359,20 +653,61 @@ module _ {C : Type 0} {N : ℕ} where
     stands_low = let all = lawful.places in let low = stands_within old.objects.walks seat walk walks in omega (arith, all, low)
 
     -- what it is, and that it keeps the law
-    pub operates : (new : Objects) (step : Step) → HasOperated old.lock.env seat walk old.objects new step → Operates old (whole old.lock new) seat step
-    operates new step p = record { idle = lawful.apart seat walk walks; walk = walk; walks = walks; operated = p; same = refl }
+    pub operates : (new : Objects) (step : Step) → is_for_lock (wait_in old.objects.waits seat) walk step ≡ false → HasOperated old.lock.env seat walk old.objects new step → Operates old (whole old.lock new) seat step
+    operates new step not_for_lock p = record { walk = walk; walks = walks; idle = λ waits. (subst (StandsBy old seat) waits (lawful.stands seat)).apart walk walks; operated = p; not_for_lock = not_for_lock; same = refl }
 
-    pub whole_operated : (new : Objects) (step : Step) → HasOperated old.lock.env seat walk old.objects new step → IsLawfulWhole (whole old.lock new)
-    whole_operated new step p =
+    -- the seat stands where its step leads
+    module _ (words : List ℕ) (found : ObjectFound) where
+      abbrev next : ObjectNext
+      next = object_got walk found
+
+      abbrev operated : Objects
+      operated = record old.objects { words = words; walks = slice_set old.objects.walks seat (object_after next) }
+
+      here : walk_in operated.walks seat ≡ object_after next
+      here = put_here old.objects.walks seat (object_after next) (stands_within old.objects.walks seat walk walks)
+
+      may_next : (held : Option (Held C N)) → MayWait (Some walk) held → (n : ObjectNext) → StaysAsked (object_asked walk) n → MayWait (object_after n) held
+      may_next held may (Go w) same = asked_may w held (subst (λ a. MayWait (Some a) held) (sym same) (may_asked walk held may))
+      may_next held may (Repeat w) same = asked_may w held (subst (λ a. MayWait (Some a) held) (sym same) (may_asked walk held may))
+      may_next held may (Over reply) same = tt
+
+      looks_next : (wait : AnyWait) (act : Act C) → LooksWhere wait.round (Some walk) act → (n : ObjectNext) → StaysAsked (object_asked walk) n → is_for_lock (Some wait) walk (object_step_of n) ≡ false → LooksWhere wait.round (object_after n) act
+      looks_next wait act looks (Go w) same not = asked_looks wait.round w act (subst (λ a. LooksWhere wait.round (Some a) act) (sym same) (looks_asked wait.round walk act looks))
+      looks_next wait act looks (Repeat w) same not = absurd (cc)
+      looks_next wait act looks (Over reply) same not = absurd (cc)
+
+      operated_stands : (wait : Option AnyWait) → is_for_lock wait walk (object_step_of next) ≡ false → StandsBy old seat wait → StandsBy (whole old.lock operated) seat wait
+      operated_stands None not s = record {
+        alone = s.alone;
+        apart = λ w at. s.apart walk walks;
+        may = λ view at. subst (λ w. MayWait w view.held) (sym here) (may_next view.held (subst (λ w. MayWait w view.held) walks (s.may view at)) next (stays_asked walk found));
+      }
+      operated_stands (Some wait) not s = record {
+        view = s.view;
+        at = s.at;
+        walk = s.walk;
+        walks = s.walks;
+        mode = s.mode;
+        cvs = s.cvs;
+        asked = s.asked;
+        among = s.among;
+        unasked = s.unasked;
+        there = s.there;
+        looks = subst (λ w. LooksWhere wait.round w (want_of s.walk)) (sym here) (looks_next wait (want_of s.walk) (subst (λ w. LooksWhere wait.round w (want_of s.walk)) walks s.looks) next (stays_asked walk found) not);
+      }
+
+    pub whole_operated : (new : Objects) (step : Step) → is_for_lock (wait_in old.objects.waits seat) walk step ≡ false → HasOperated old.lock.env seat walk old.objects new step → IsLawfulWhole (whole old.lock new)
+    whole_operated new step not_for_lock p =
         let kept = (operates_keeps old.objects old.lock.env lawful.lock.events notes_meet lawful.events lawful.objects_lawful seat walk walks p.found p.words p.events p.effect).0 in
         subst (λ (o : Objects). IsLawfulWhole (whole old.lock o)) (sym p.becomes) (record {
           lock = lawful.lock;
           seats = lawful.seats;
           places = length-set old.objects.walks seat _ ∙ lawful.places;
-          apart = λ other w at. elim (cases_eq other seat) [
-            | inl e ↦ subst (IsIdle old.lock) (sym e) (lawful.apart seat walk walks)
-            | inr ne ↦ lawful.apart other w (sym (put_there old.objects.walks seat (object_after (object_got walk p.found)) other ne) ∙ at)
-          ];
+          wait_places = lawful.wait_places;
+          stands = each_stands (whole old.lock (operated p.words p.found)) seat (wait_in old.objects.waits seat) refl
+              (operated_stands p.words p.found (wait_in old.objects.waits seat) (ap (is_for_lock (wait_in old.objects.waits seat) walk) (sym p.answers) ∙ not_for_lock) (lawful.stands seat))
+              (λ other ne. stands_on old (whole old.lock (operated p.words p.found)) other (record { views = refl; asking = refl }) (put_there old.objects.walks seat (object_after (object_got walk p.found)) other ne) refl (λ n made. made) (wait_in old.objects.waits other) (lawful.stands other));
           events = lawful.events ++ p.events;
           objects_lawful = kept;
         })
@@ -384,32 +719,32 @@ module _ {C : Type 0} {N : ℕ} where
     nothing (Go walk) e = absurd (cc)
     nothing (Repeat walk) e = absurd (cc)
     nothing (Over reply) e = absurd (cc)
-  operated_step old new seat Went p = inr p
-  operated_step old new seat Idle p = inr p
-  operated_step old new seat (Finished reply) p = inr p
+  operated_step old new seat Went p = inr (inl p)
+  operated_step old new seat Idle p = inr (inl p)
+  operated_step old new seat (Finished reply) p = inr (inl p)
 
   -- a step by the lock, of a seat that is in no call on counters and once cells
-  pub lock_step : (old : Whole C N) (new : Now C N) (seat : ℕ) (step : Step) → walk_in old.objects.walks seat ≡ None → StepOf old.lock new seat step → WholeStep old (whole new old.objects) seat step
-  lock_step old new seat Nothing elsewhere p = (ap (λ (world : Now C N). whole world old.objects) p.0, (p.1, elsewhere))
-  lock_step old new seat Went elsewhere p = inl (record { moves = p; same = refl; elsewhere = elsewhere })
-  lock_step old new seat Idle elsewhere p = inl (record { moves = p; same = refl; elsewhere = elsewhere })
-  lock_step old new seat (Finished reply) elsewhere p = inl (record { moves = p; same = refl; elsewhere = elsewhere })
+  pub lock_step : (old : Whole C N) (new : Now C N) (seat : ℕ) (step : Step) → walk_in old.objects.walks seat ≡ None → wait_in old.objects.waits seat ≡ None → StepOf old.lock new seat step → WholeStep old (whole new old.objects) seat step
+  lock_step old new seat Nothing elsewhere waits_not p = (ap (λ (world : Now C N). whole world old.objects) p.0, (p.1, elsewhere))
+  lock_step old new seat Went elsewhere waits_not p = inl (record { moves = p; same = refl; elsewhere = elsewhere; waits_not = waits_not })
+  lock_step old new seat Idle elsewhere waits_not p = inl (record { moves = p; same = refl; elsewhere = elsewhere; waits_not = waits_not })
+  lock_step old new seat (Finished reply) elsewhere waits_not p = inl (record { moves = p; same = refl; elsewhere = elsewhere; waits_not = waits_not })
 
   -- and it keeps the law
-  pub lock_step_keeps : (old : Whole C N) (new : Now C N) (seat : ℕ) (step : Step) → IsLawfulWhole old → walk_in old.objects.walks seat ≡ None → IsLawfulWorld new → StepOf old.lock new seat step → IsLawfulWhole (whole new old.objects)
-  lock_step_keeps old new seat Nothing lawful elsewhere now_lawful p = subst (λ (world : Now C N). IsLawfulWhole (whole world old.objects)) (sym p.0) lawful
-  lock_step_keeps old new seat Went lawful elsewhere now_lawful p = whole_moved old new seat Went lawful p now_lawful elsewhere
-  lock_step_keeps old new seat Idle lawful elsewhere now_lawful p = whole_moved old new seat Idle lawful p now_lawful elsewhere
-  lock_step_keeps old new seat (Finished reply) lawful elsewhere now_lawful p = whole_moved old new seat (Finished reply) lawful p now_lawful elsewhere
+  pub lock_step_keeps : (old : Whole C N) (new : Now C N) (seat : ℕ) (step : Step) → IsLawfulWhole old → walk_in old.objects.walks seat ≡ None → wait_in old.objects.waits seat ≡ None → IsLawfulWorld new → StepOf old.lock new seat step → IsLawfulWhole (whole new old.objects)
+  lock_step_keeps old new seat Nothing lawful elsewhere waits_not now_lawful p = subst (λ (world : Now C N). IsLawfulWhole (whole world old.objects)) (sym p.0) lawful
+  lock_step_keeps old new seat Went lawful elsewhere waits_not now_lawful p = whole_moved old new seat Went lawful p now_lawful elsewhere waits_not
+  lock_step_keeps old new seat Idle lawful elsewhere waits_not now_lawful p = whole_moved old new seat Idle lawful p now_lawful elsewhere waits_not
+  lock_step_keeps old new seat (Finished reply) lawful elsewhere waits_not now_lawful p = whole_moved old new seat (Finished reply) lawful p now_lawful elsewhere waits_not
 
   -- a refused step leaves the world as it was
   pub same_keeps : (old : Whole C N) (new : Now C N) → IsLawfulWhole old → new ≡ old.lock → IsLawfulWhole (whole new old.objects)
   same_keeps old new lawful same = subst (λ (world : Now C N). IsLawfulWhole (whole world old.objects)) (sym same) lawful
 
   -- so a step keeps the law, whether it was refused or not
-  pub lock_result_keeps : (old : Whole C N) (new : Now C N) (seat : ℕ) (result : Result Step Fault) → IsLawfulWhole old → walk_in old.objects.walks seat ≡ None → IsLawfulWorld new → IfOk result (λ step. StepOf old.lock new seat step) → IfErr result (λ fault. (new ≡ old.lock) × StepFault old.lock seat fault) → IsLawfulWhole (whole new old.objects)
-  lock_result_keeps old new seat (Ok step) lawful elsewhere now_lawful ok err = lock_step_keeps old new seat step lawful elsewhere now_lawful ok
-  lock_result_keeps old new seat (Err fault) lawful elsewhere now_lawful ok err = same_keeps old new lawful err.0
+  pub lock_result_keeps : (old : Whole C N) (new : Now C N) (seat : ℕ) (result : Result Step Fault) → IsLawfulWhole old → walk_in old.objects.walks seat ≡ None → wait_in old.objects.waits seat ≡ None → IsLawfulWorld new → IfOk result (λ step. StepOf old.lock new seat step) → IfErr result (λ fault. (new ≡ old.lock) × StepFault old.lock seat fault) → IsLawfulWhole (whole new old.objects)
+  lock_result_keeps old new seat (Ok step) lawful elsewhere waits_not now_lawful ok err = lock_step_keeps old new seat step lawful elsewhere waits_not now_lawful ok
+  lock_result_keeps old new seat (Err fault) lawful elsewhere waits_not now_lawful ok err = same_keeps old new lawful err.0
 
   pub lock_fault : (old : Whole C N) (new : Now C N) (seat : ℕ) (fault : Fault) → (new ≡ old.lock) × StepFault old.lock seat fault → (whole new old.objects ≡ old) × WholeFault old seat fault
   lock_fault old new seat OutOfMemory p = (ap (λ (world : Now C N). whole world old.objects) p.0, p.1)

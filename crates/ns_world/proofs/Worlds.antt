@@ -1,5 +1,5 @@
 -- A seat's step and a call's beginning keep a world lawful.
-use Rattle.std.proofs.Common.{◌≡◌, ℕ, suc, inl, inr, ◌<◌, ◌≤◌, List, [], ◌++◌, Option, Some, None, length, map, get_or, take, drop, slice_set, slice_get, refl, ap, sym, ◌∙◌, subst, zero-add, arith}
+use Rattle.std.proofs.Common.{false, ◌≡◌, ℕ, suc, inl, inr, ◌<◌, ◌≤◌, List, [], ◌++◌, Option, Some, None, length, map, get_or, take, drop, slice_set, slice_get, refl, ap, sym, ◌∙◌, subst, zero-add, arith}
 use Rattle.std.proofs.lemmas.Option.{slice_get-get_or}
 use Rattle.std.proofs.lemmas.Bool.{cases_eq}
 use Rattle.std.proofs.lemmas.List.{append-nil, set-get_or, length-set, length-map}
@@ -44,7 +44,7 @@ use Rattle.ns_world.specs.declared.seat.Seat.{Seat}
 use Rattle.ns_world.specs.declared.step.Step.{Step}
 use Rattle.ns_world.specs.declared.step.Step.TheVariants.{Went, Idle, Finished, Nothing}
 use Rattle.ns_world.specs.Performs.{Performs, view_of, seat_part, step_of, tests_after}
-use Rattle.ns_world.specs.Looks.{AsksFor, LookFits, look_of, looks_at, note_in}
+use Rattle.ns_world.specs.Looks.{AsksFor, LookFits, is_among, look_of, looks_at, note_in}
 use Rattle.ns_world.specs.Looked.{EnvMoves, LookStep, MovesFrom, SeatLooks, Sees}
 use Rattle.ns_world.specs.World.{Now, now_with, Goes, Acts, Asks, Looks, LookGoes, Moves, StepOf, IsLawfulWorld, StandRight, NotesMade}
 use Rattle.ns_world.proofs.Looking.{FirstIf, LookLeads, first_if, look_leads, look_stays, noted, right_here, shown_effect}
@@ -56,7 +56,7 @@ use Rattle.ns_world.proofs.Places.{StartFits, fits_more}
 pub same_element : {X : Type 0} (xs : List X) (i : ℕ) (x y : X) → i < length xs → x ≡ get_or xs i x → y ≡ get_or xs i y → x ≡ y
 same_element xs i x y within p q = cc (slice_get-get_or xs i x within, slice_get-get_or xs i y within)
 
-some_step : {C : Type 0} (next : Next C) → Nothing ≡ step_of next → ⊥
+pub some_step : {C : Type 0} (next : Next C) → Nothing ≡ step_of next → ⊥
 some_step (On walk) e = absurd (cc)
 some_step (TheNext.Idle walk) e = absurd (cc)
 some_step (Done reply) e = absurd (cc)
@@ -177,7 +177,7 @@ module _ {C : Type 0} {N : ℕ} (truths : Truths C) (some : 0 < N) (quiet : Quie
   asks_for asking e = lawful.right i (view_of (get_or seats i d)) asking (got-map view_of seats i d within) (asks_at ∙ ap Some e)
 
   -- one that stands nowhere there wants no look
-  pub inside_here : (walk : Walk C) → (get_or seats i d).walk ≡ Some walk → (get_or seats i d).asking ≡ None → looks_at (want_of walk) ≡ None
+  pub inside_here : (walk : Walk C) → (get_or seats i d).walk ≡ Some walk → (get_or seats i d).asking ≡ None → is_among walk ≡ false → looks_at (want_of walk) ≡ None
   inside_here walk e f = subst (λ w. AsksFor w None) e (asks_for None f)
 
   in_asks : i < length (map (λ s. s.asking) seats)
@@ -237,6 +237,11 @@ module _ {C : Type 0} {N : ℕ} (truths : Truths C) (some : 0 < N) (quiet : Quie
     unfolding goes_here
     acts_here unasked = record { goes = goes_here; unasked = asks_at ∙ ap Some unasked; is_no_look = inside_here walk walks unasked }
 
+    -- which finds what was found
+    pub acts_found : (unasked : (get_or seats i d).asking ≡ None) → (acts_here unasked).goes.found ≡ p.found
+    unfolding acts_here goes_here
+    acts_found unasked = refl
+
     abbrev new : Now C N
     new = now_with truths word' row' queues' flags' env (slice_set seats i next) history'
 
@@ -286,7 +291,7 @@ module _ {C : Type 0} {N : ℕ} (truths : Truths C) (some : 0 < N) (quiet : Quie
         lawful = subst (λ n. IsLawful truths n history new.state) (sym same) kept;
         as_many = ap length (asks_stay next asks) ∙ lawful.as_many ∙ sym same;
         right = subst (λ (vs : List (SeatView C N)). StandRight vs new.asking) (sym (map-set view_of seats i next)) (subst (λ (ws : List (Option EnvWalk)). StandRight (slice_set (map view_of seats) i (view_of next)) ws) (set_same (map (λ s. s.asking) seats) i None (asks_at ∙ ap Some unasked) ∙ sym (asks_stay next asks))
-            (right_set (map view_of seats) (map (λ s. s.asking) seats) i (view_of next) None in_views in_asks lawful.right (subst (λ w. AsksFor w None) (sym (ap (λ v. v.walk) is)) inside)));
+            (right_set (map view_of seats) (map (λ s. s.asking) seats) i (view_of next) None in_views in_asks lawful.right (subst (λ w. AsksFor w None) (sym (ap (λ v. v.walk) is)) (λ not. inside))));
         noted = subst (λ (vs : List (SeatView C N)). NotesMade vs (plain_of env).notes) (sym (map-set view_of seats i next))
             (noted_set (map view_of seats) (plain_of env).notes i (view_of next) in_views lawful.noted (subst (λ w. IfMade (plain_of env).notes (note_in w)) (sym (ap (λ v. v.walk) is)) note));
         events = lawful.events;

@@ -1,5 +1,5 @@
 -- Where a call begins, and the section that it needs.
-use Rattle.std.specs.Prelude.{◌≡◌, ℕ, nat_lt, ◌<◌, ◌≤◌, ◌^◌, Bool, true, Option, Some, None, IsSome, IfSome}
+use Rattle.std.specs.Prelude.{◌≡◌, ℕ, nat_lt, ◌<◌, ◌≤◌, ◌^◌, Bool, true, not, ◌&&◌, ◌||◌, Option, Some, None, IsSome, IfSome, is_some}
 use Rattle.std.specs.List.{list_all}
 use Rattle.ns_counters.specs.declared.object.Setup.{Setup}
 use Rattle.ns_model.specs.declared.event.Mode.{Mode}
@@ -26,7 +26,7 @@ use Rattle.ns_env.specs.Asks.{IfMade}
 use Rattle.ns_world.specs.declared.object_walk.ObjectWalk.{ObjectWalk}
 use Rattle.ns_world.specs.declared.object_walk.ObjectWalk.TheVariants.{AddLoad, ValueLoad, WaitMark, OnceLoad, DoneLoad, InRound}
 use Rattle.ns_world.specs.declared.round.RoundPlace.TheVariants.{FirstClock}
-use Rattle.ns_world.specs.Items.{items_of}
+use Rattle.ns_world.specs.Items.{have_variable, is_among, items_of}
 use Rattle.ns_world.specs.Objects.{AreThere, is_there}
 use Rattle.ns_world.specs.declared.call.Start.{Start}
 use Rattle.ns_world.specs.declared.call.Start.TheVariants.{OnLock, Ask, OnObjects}
@@ -76,15 +76,15 @@ object_start (Done once) = Some (DoneLoad once)
 object_start (WaitAny items deadline) = Some (InRound (record { items = items; deadline = deadline }) FirstClock)
 object_start call = None
 
--- whether there are the objects that a call on counters and once cells names
-abbrev pub finds : {C : Type 0} → Setup → (ℕ → NoteStanding) → Call C → Bool
-finds setup notes (Add counter delta) = nat_lt counter setup.counters
-finds setup notes (Value counter) = nat_lt counter setup.counters
-finds setup notes (CounterWait counter deadline) = nat_lt counter setup.counters
-finds setup notes (Once once) = nat_lt once setup.cells
-finds setup notes (Done once) = nat_lt once setup.cells
-finds setup notes (WaitAny items deadline) = list_all (is_there setup notes) (items_of items)
-finds setup notes call = true
+-- whether there are the objects that a call on counters and once cells names, and a section in hand where it names condition variables
+abbrev pub finds : {C : Type 0} → Setup → (ℕ → NoteStanding) → Option Mode → Call C → Bool
+finds setup notes mode (Add counter delta) = nat_lt counter setup.counters
+finds setup notes mode (Value counter) = nat_lt counter setup.counters
+finds setup notes mode (CounterWait counter deadline) = nat_lt counter setup.counters
+finds setup notes mode (Once once) = nat_lt once setup.cells
+finds setup notes mode (Done once) = nat_lt once setup.cells
+finds setup notes mode (WaitAny items deadline) = list_all (is_there setup notes) (items_of items) && (is_some mode || not (have_variable items))
+finds setup notes mode call = true
 
 -- A call on the lock, whose need is met by a section of this mode, or by none. One that wakes needs nothing.
 abbrev pub SectionFits : {C : Type 0} → Call C → Option Mode → Type 0
@@ -101,7 +101,7 @@ SectionFits (Signal k) mode = Unit {0}
 SectionFits (Broadcast k) mode = Unit {0}
 SectionFits call mode = ⊥
 
--- The call's need is met: on the lock by the section in hand, on the clock and the notes by notes that are made, whatever is in hand, of a wait by both, and on counters and once cells by those that there are.
+-- The call's need is met: on the lock by the section in hand, on the clock and the notes by notes that are made, whatever is in hand, of a wait by both, and on counters and once cells by those that there are, and by a section in hand where condition variables are among them.
 abbrev pub CallFits : {C : Type 0} → Setup → (ℕ → NoteStanding) → Call C → Option Mode → Type 0
 CallFits setup notes (NewNote parent deadline) mode = IfMade notes parent
 CallFits setup notes (Notify note) mode = (notes note).made ≡ true
@@ -116,7 +116,7 @@ CallFits setup notes (Value counter) mode = counter < setup.counters
 CallFits setup notes (CounterWait counter deadline) mode = counter < setup.counters
 CallFits setup notes (Once once) mode = once < setup.cells
 CallFits setup notes (Done once) mode = once < setup.cells
-CallFits setup notes (WaitAny items deadline) mode = AreThere setup notes items
+CallFits setup notes (WaitAny items deadline) mode = AreThere setup notes items × ((k : ℕ) → is_among k (items_of items) ≡ true → IsSome mode)
 CallFits setup notes call mode = SectionFits call mode
 
 -- the mode of the section in hand, if there is one

@@ -1,3 +1,4 @@
+pub mod Among
 pub mod Asks
 pub mod Begins
 pub mod Calls

@@ -1,11 +1,14 @@
 -- The looks of a wait: where a seat stands on the clock and the notes while its wait looks.
-use Rattle.std.specs.Prelude.{◌≡◌, ℕ, Bool, false, Option, None, Some, IsSome}
+use Rattle.std.specs.Prelude.{◌≡◌, ℕ, Bool, true, false, if◌then◌else◌, Option, None, Some, IsSome}
 use Rattle.ns_env.specs.declared.limits.Limits.{Limits}
+use Rattle.ns_model.specs.declared.cvs.Variables.TheVariants.{Any}
 use Rattle.ns_word.specs.declared.wait.Aim.{Aim}
 use Rattle.ns_word.specs.declared.wait.Aim.TheVariants.{ForLock, ForWait}
 use Rattle.ns_env.specs.declared.walk.Chain.TheVariants.{ForLook}
 use Rattle.ns_env.specs.declared.walk.EnvWalk.{EnvWalk}
 use Rattle.ns_env.specs.declared.walk.EnvWalk.TheVariants.{ClockLoad, NoteLoad}
+use Rattle.ns_word.specs.declared.wait.Subject.{Subject}
+use Rattle.ns_word.specs.declared.wait.Subject.TheVariants.{OnVariables}
 use Rattle.ns_word.specs.declared.walk.Walk.{Walk}
 use Rattle.ns_word.specs.declared.walk.Walk.TheVariants.{InAcquire, InWait}
 use Rattle.ns_word.specs.declared.act.Act.{Act}
@@ -27,10 +30,20 @@ abbrev pub look_place : {C : Type 0} → Act C → Option EnvWalk
 look_place (Look limits again) = Some (ClockLoad (ForLook limits))
 look_place act = None
 
+-- what is waited for is any of a set of variables
+abbrev pub is_for_any : {C : Type 0} → Subject C → Bool
+is_for_any (OnVariables (Any cvs)) = true
+is_for_any on = false
+
+-- The walk waits for any of a set of variables. Such a wait looks at the objects among which they are, and not at the clock and the notes by itself.
+abbrev pub is_among : {C : Type 0} → Walk C → Bool
+is_among (InWait wait place) = is_for_any wait.on
+is_among walk = false
+
 -- where a seat stands on the clock and the notes that has come to this place in its call on the lock
 abbrev pub look_of : {C : Type 0} → Option (Walk C) → Option EnvWalk
 look_of None = None
-look_of (Some walk) = look_place (want_of walk)
+look_of (Some walk) = if is_among walk then None else look_place (want_of walk)
 
 -- a place in a look by these limits
 abbrev pub LookFits : Limits → EnvWalk → Type 0
@@ -38,10 +51,10 @@ LookFits limits (ClockLoad (ForLook by)) = by ≡ limits
 LookFits limits (NoteLoad (ForLook by) clock note) = (by ≡ limits) × IsSome limits.note
 LookFits limits walk = ⊥
 
--- A seat stands in a call of its own on the clock and the notes where it is in none on the lock; else it stands there just where its wait looks.
+-- A seat stands in a call of its own on the clock and the notes where it is in none on the lock; else it stands there only where its wait looks, and always then, if that isn't one for any of a set of variables.
 abbrev pub AsksFor : {C : Type 0} → Option (Walk C) → Option EnvWalk → Type 0
 AsksFor None asking = Unit {0}
-AsksFor (Some walk) None = looks_at (want_of walk) ≡ None
+AsksFor (Some walk) None = is_among walk ≡ false → looks_at (want_of walk) ≡ None
 AsksFor (Some walk) (Some place) = (limits : Limits) × (looks_at (want_of walk) ≡ Some limits) × LookFits limits place
 
 -- the note that may end the wait that a seat is in

@@ -1,5 +1,5 @@
 -- What the answer of a call in a world means, whatever others do while it is in progress.
-use Rattle.std.specs.Prelude.{◌≡◌, ℕ, zero, suc, ◌⊎◌, List, ◌++◌, Option, None, Some, slice_get}
+use Rattle.std.specs.Prelude.{◌≡◌, ℕ, zero, suc, ◌<◌, ◌⊎◌, true, List, ◌++◌, Option, None, Some, slice_get}
 use Rattle.std.proofs.Common.{inl, inr, []}
 use Rattle.ns_counters.specs.declared.object.ObjectEvent.{ObjectEvent}
 use Rattle.ns_counters.specs.declared.object.Setup.{Setup}
@@ -18,7 +18,9 @@ use Rattle.ns_word.specs.declared.request.Request.{Request}
 use Rattle.ns_word.specs.declared.request.Request.TheVariants as TheRequest
 use Rattle.ns_word.specs.declared.view.Held.{Held}
 use Rattle.ns_word.specs.declared.view.SeatView.{SeatView}
-use Rattle.ns_model.specs.declared.cvs.Variables.TheVariants.{Only}
+use Rattle.ns_model.specs.declared.cvs.Cvs.{Cvs}
+use Rattle.ns_model.specs.declared.cvs.Variables.TheVariants.{Any, Only}
+use Rattle.ns_word.specs.declared.wait.Subject.{Subject}
 use Rattle.ns_word.specs.declared.wait.Subject.TheVariants.{OnCondition, OnVariables}
 use Rattle.ns_word.specs.declared.walk.Reply.{Reply as WalkReply}
 use Rattle.ns_word.specs.declared.word.Releasing.TheVariants.{Writer, QuietWriter, Reader}
@@ -36,8 +38,13 @@ use Rattle.ns_world.specs.Calls.{mode_of, mode_waited}
 use Rattle.ns_world.specs.declared.object_walk.ObjectWalk.{ObjectWalk}
 use Rattle.ns_world.specs.declared.object_walk.ObjectWalk.TheVariants.{AddLoad, ValueLoad, WaitMark, OnceLoad, DoneLoad, InRound}
 use Rattle.ns_world.specs.declared.reply.Reply.{Reply}
+use Rattle.ns_world.specs.declared.reply.Reply.TheVariants.{Number, WokenBy}
+use Rattle.ns_world.specs.declared.round.Round.{Round}
 use Rattle.ns_world.specs.declared.round.RoundPlace.TheVariants.{FirstClock}
-use Rattle.ns_world.specs.ObjectMeanings.{Past, past_and, ObjectMeans}
+use Rattle.ns_world.specs.Among.{waits_for_any}
+use Rattle.ns_world.specs.declared.items.Item.TheVariants.{OnVariable}
+use Rattle.ns_world.specs.Items.{AreAmong, is_among, item_at, items_of}
+use Rattle.ns_world.specs.ObjectMeanings.{AnyAnswers, Past, past_and, ObjectMeans, WasEarly, WereUnready}
 use Rattle.ns_world.specs.Replies.{told, env_told}
 use Rattle.ns_world.specs.Whole.{Whole, HaveLedTo, IsLawfulWhole, WholeBegins, WholeStep, notes_by, objects_by}
 use Rattle.ns_world.specs.World.{Now, LedTo}
@@ -72,10 +79,15 @@ asks_of mode (Once once) = OfObjects (OnceLoad once)
 asks_of mode (Done once) = OfObjects (DoneLoad once)
 asks_of mode (WaitAny items deadline) = OfObjects (InRound (record { items = items; deadline = deadline }) FirstClock)
 
--- what may end the wait early that was asked, if it is one
-abbrev pub limits_of : {C : Type 0} → Request C → Limits
-limits_of (TheRequest.Await wait) = wait.limits
-limits_of request = record { deadline = None; note = None }
+-- what may end a wait for this early, by a look of its own at the clock and the notes
+abbrev pub limits_for : {C : Type 0} → Subject C → Limits → Option Limits
+limits_for (OnVariables (Any cvs)) limits = None
+limits_for on limits = Some limits
+
+-- the same of what was asked; there is nothing of the kind where a wait is for any of a set of variables, which looks at objects, or where it is no wait
+abbrev pub limits_of : {C : Type 0} → Request C → Option Limits
+limits_of (TheRequest.Await wait) = limits_for wait.on wait.limits
+limits_of request = None
 
 -- ---- what is answered
 
@@ -88,10 +100,11 @@ held_in (Some view) = view.held
 abbrev pub held_at : {C : Type 0} {N : ℕ} → Now C N → ℕ → Option (Held C N)
 held_at world seat = held_in (slice_get world.state.views seat)
 
--- what the last look of a call has shown was so at some point between these
-abbrev pub WasShown : List EnvEvent → List EnvEvent → Limits → Option (Option Cause) → Type 0
+-- what the last look of a call has shown, by these limits, was so at some point between these
+abbrev pub WasShown : List EnvEvent → List EnvEvent → Option Limits → Option (Option Cause) → Type 0
 WasShown earlier now limits None = Unit {0}
-WasShown earlier now limits (Some shown) = AtSomePoint earlier now (Shows limits shown)
+WasShown earlier now None (Some shown) = Unit {0}
+WasShown earlier now (Some limits) (Some shown) = AtSomePoint earlier now (Shows limits shown)
 
 -- A call on the lock has this answer: it means what it says, where the call began with the section that the seat had in hand before; what the call has committed is just what the seat has added to the history; and what its looks have shown of the clock and the notes was so meanwhile, to which the seat has done nothing itself.
 pub record AnswersOfLock {C : Type 0} {N : ℕ} (before : Now C N) (earlier : List EnvEvent) (seat : ℕ) (request : Request C) (reply : Reply) (after : Now C N) (later : List EnvEvent) : Type 0 where
@@ -124,11 +137,34 @@ pub record AnswersOfObjects {C : Type 0} {N : ℕ} (before : Now C N) (earlier :
   pub same : held_at after seat ≡ held_at before seat
   pub silent : own after.history seat ≡ own before.history seat
 
--- The call that asks this has the answer. One of the lock, the clock and the notes has done nothing to the counters and once cells.
+-- The place that is answered, where the section was left: where a variable has woken the call, one at which this variable stands, and before which it stands nowhere; else what a wait for the notes and counters alone answers.
+abbrev pub PlaceBy : Setup → Past → Past → Round → Option ℕ → ℕ → Type 0
+PlaceBy setup earlier now round (Some k) place = (item_at round.items place ≡ Some (OnVariable k)) × ((i : ℕ) → i < place → item_at round.items i ≡ Some (OnVariable k) → ⊥)
+PlaceBy setup earlier now round None place = AnyAnswers setup earlier now round.items round.deadline place
+
+-- A wait for condition variables among notes and counters has this answer, and has left its section: there is one among its items. None of the notes and counters was ready at some point since the call began, each at its own, and the deadline had not come at another; the section was left to wait for just the variables, and another has come back, as a wait on the lock for these means it; and the call has done nothing to the counters and once cells.
+pub record AnswersOfWaiting {C : Type 0} {N : ℕ} (before : Now C N) (earlier : Past) (setup : Setup) (seat : ℕ) (asked : ObjectWalk) (reply : Reply) (after : Now C N) (later : Past) : Type 0 where
+  pub round : Round
+  pub is : asked ≡ InRound round FirstClock
+  pub unready : WereUnready setup earlier later round.items round.items.count
+  pub early : WasEarly round.deadline earlier later
+  pub some : (k : ℕ) × (is_among k (items_of round.items) ≡ true)
+  pub cvs : Cvs
+  pub among : AreAmong cvs (items_of round.items)
+  pub by : Option ℕ
+  pub waited : AnswersOfLock before earlier.notes seat (TheRequest.Await (waits_for_any (mode_waited (mode_of (held_at before seat))) cvs)) (WokenBy by) after later.notes
+  pub place : ℕ
+  pub placed : PlaceBy setup earlier later round by place
+  pub tells : reply ≡ Number place
+  pub untouched : objects_own later.objects seat ≡ objects_own earlier.objects seat
+
+-- The call that asks this has the answer. One of the lock, the clock and the notes has done nothing to the counters and once cells; and one on these has left the section in hand as it was, or it was a wait for condition variables among notes and counters.
 abbrev pub AnswersTo : {C : Type 0} {N : ℕ} → Whole C N → Past → ℕ → Asked C → Reply → Whole C N → Past → Type 0
 AnswersTo before earlier seat (OfLock request) reply after later = AnswersOfLock before.lock earlier.notes seat request reply after.lock later.notes × (objects_own later.objects seat ≡ objects_own earlier.objects seat)
 AnswersTo before earlier seat (OfNotes request) reply after later = AnswersOfNotes before.lock earlier.notes seat request reply after.lock later.notes × (objects_own later.objects seat ≡ objects_own earlier.objects seat)
-AnswersTo before earlier seat (OfObjects asked) reply after later = AnswersOfObjects before.lock earlier before.objects.setup seat asked reply after.lock later
+AnswersTo before earlier seat (OfObjects asked) reply after later =
+    AnswersOfObjects before.lock earlier before.objects.setup seat asked reply after.lock later
+    ⊎ AnswersOfWaiting before.lock earlier before.objects.setup seat asked reply after.lock later
 
 -- A call that the seat began in the world `before`, to which this had led, has this answer in the world `after`.
 abbrev pub AnswersCall : {C : Type 0} {N : ℕ} → Whole C N → Past → ℕ → Call C → Reply → Whole C N → Past → Type 0

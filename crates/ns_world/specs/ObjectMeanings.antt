@@ -2,7 +2,7 @@
 use Rattle.std.specs.Prelude.{◌≡◌, ◌≢◌, ◌⊎◌, ℕ, ◌<◌, ◌≤◌, Bool, true, false, List, [], ◌∷◌, ◌++◌, Option, Some, IsSomeAnd, Ok, Err}
 use Rattle.ns_model.specs.declared.environment.EnvEvent.{EnvEvent}
 use Rattle.ns_model.specs.Beginnings.{IsBetween}
-use Rattle.ns_model.specs.Environments.{env_after, is_notified, clock_of}
+use Rattle.ns_model.specs.Environments.{env_after, is_due, is_notified, clock_of}
 use Rattle.ns_model.specs.Lines.{IsLeftAt}
 use Rattle.ns_counters.specs.declared.counter.CounterEvent.TheVariants as TheCounter
 use Rattle.ns_counters.specs.declared.object.ObjectEvent.{ObjectEvent}
@@ -59,14 +59,20 @@ object_asked (InRound round place) = InRound round FirstClock
 abbrev pub AtSomeMoment : Setup → List ObjectEvent → List ObjectEvent → (ObjectStanding → Type 0) → Type 0
 AtSomeMoment setup earlier now P = (point : List ObjectEvent) × IsBetween earlier point now × P (objects_after setup point)
 
--- At some point between these an object was ready, or wasn't: a note that is notified, and a counter whose value is 0.
+-- At some point between these an object was ready, or wasn't: a note that is notified, and a counter whose value is 0. A condition variable never is.
 abbrev pub WasReady : Setup → Bool → Past → Past → Item → Type 0
 WasReady setup so earlier now (TheItem.OnNote note) = AtSomePoint earlier.notes now.notes (λ point. is_notified point note ≡ so)
 WasReady setup so earlier now (TheItem.OnCounter counter) = AtSomeMoment setup earlier.objects now.objects (λ standing. is_ready (standing.counters counter) ≡ so)
+WasReady setup true earlier now (TheItem.OnVariable k) = ⊥
+WasReady setup false earlier now (TheItem.OnVariable k) = Unit {0}
 
 -- at some point between these the clock had come to the deadline
 abbrev pub WasDue : Option ℕ → Past → Past → Type 0
 WasDue deadline earlier now = IsSomeAnd deadline (λ d. AtSomePoint earlier.notes now.notes (λ point. d ≤ clock_of point))
+
+-- at some point between these the clock hadn't come to the deadline
+abbrev pub WasEarly : Option ℕ → Past → Past → Type 0
+WasEarly deadline earlier now = AtSomePoint earlier.notes now.notes (λ point. is_due (clock_of point) deadline ≡ false)
 
 -- each object before this place of the list was unready at some point between these
 abbrev pub WereUnready : Setup → Past → Past → Items → ℕ → Type 0

@@ -17,12 +17,13 @@ use Rattle.ns_counters.specs.Words.{counter_word}
 use Rattle.ns_env.specs.Steps.{EnvPlain}
 use Rattle.ns_env.specs.Asks.{EnvEffect, EnvActFits}
 use Rattle.ns_world.specs.declared.items.Item.{Item}
-use Rattle.ns_world.specs.declared.items.Item.TheVariants.{OnNote, OnCounter}
+use Rattle.ns_world.specs.declared.items.Item.TheVariants.{OnNote, OnCounter, OnVariable}
 use Rattle.ns_world.specs.declared.items.Items.{Items}
 use Rattle.ns_world.specs.declared.object_walk.ObjectNext.{ObjectNext}
 use Rattle.ns_world.specs.declared.object_walk.ObjectNext.TheVariants.{Go, Repeat, Over}
 use Rattle.ns_world.specs.declared.object_walk.ObjectWalk.{ObjectWalk}
 use Rattle.ns_world.specs.declared.object_walk.ObjectWalk.TheVariants.{AddLoad, AddExchange, ValueLoad, WaitMark, WaitLoad, WaitClock, OnceLoad, OnceBegin, OnceEnd, DoneLoad, InRound}
+use Rattle.ns_world.specs.declared.objects.AnyWait.{AnyWait}
 use Rattle.ns_world.specs.declared.objects.Objects.{Objects}
 use Rattle.ns_world.specs.declared.round.ObjectFound.{ObjectFound}
 use Rattle.ns_world.specs.declared.round.ObjectFound.TheVariants.{Word, Env}
@@ -47,15 +48,23 @@ word_left act found = found
 
 -- a counter for each of the values, and so many once cells, for so many seats, none of which is in a call on them
 abbrev pub fresh_objects : ℕ → List ℕ → ℕ → Objects
-fresh_objects seats counters cells = record { setup = setup_of seats counters cells; words = first_words (padded counters); walks = replicate 64 None }
+fresh_objects seats counters cells = record { setup = setup_of seats counters cells; words = first_words (padded counters); walks = replicate 64 None; waits = replicate 64 None }
 
 -- the seat's place in its call on them, if one is in progress
 abbrev pub walk_in : List (Option ObjectWalk) → ℕ → Option ObjectWalk
 walk_in walks seat = unwrap_or (slice_get walks seat) None
 
+-- the seat's wait on the lock for variables among objects, if it is in one
+abbrev pub wait_in : List (Option AnyWait) → ℕ → Option AnyWait
+wait_in waits seat = unwrap_or (slice_get waits seat) None
+
 -- the same objects, with the seat at this place
 abbrev pub put_at : Objects → ℕ → Option ObjectWalk → Objects
-put_at objects seat walk = record { setup = objects.setup; words = objects.words; walks = slice_set objects.walks seat walk }
+put_at objects seat walk = record objects { walks = slice_set objects.walks seat walk }
+
+-- the same objects, with the seat at this place, and in this wait
+abbrev pub stood_at : Objects → ℕ → Option ObjectWalk → Option AnyWait → Objects
+stood_at objects seat walk wait = record objects { walks = slice_set objects.walks seat walk; waits = slice_set objects.waits seat wait }
 
 -- what a step was, by where it leads
 abbrev pub object_step_of : ObjectNext → Step
@@ -85,7 +94,7 @@ pub record HasOperated (env : EnvPlain) (seat : ℕ) (walk : ObjectWalk) (old ne
   pub words : List ℕ
   pub events : List ObjectEvent
   pub effect : ObjectEffect seat (object_place (Some walk)) (object_want walk) old.words env found words events
-  pub becomes : new ≡ record { setup = old.setup; words = words; walks = slice_set old.walks seat (object_after (object_got walk found)) }
+  pub becomes : new ≡ record old { words = words; walks = slice_set old.walks seat (object_after (object_got walk found)) }
   pub answers : step ≡ object_step_of (object_got walk found)
 
 -- the objects as a call begins: one on them stands at its first place
@@ -95,10 +104,11 @@ objects_begun objects seat (Some walk) = put_at objects seat (Some walk)
 
 -- ---- what holds between any two steps
 
--- whether there is such an object: a note that is made, or one of the counters
+-- whether there is such an object: a note that is made, one of the counters, or one of four variables
 abbrev pub is_there : Setup → (ℕ → NoteStanding) → Item → Bool
 is_there setup notes (OnNote note) = (notes note).made
 is_there setup notes (OnCounter counter) = nat_lt counter setup.counters
+is_there setup notes (OnVariable k) = nat_lt k 4
 
 -- there is each of these objects, of which there are at most 16
 abbrev pub AreThere : Setup → (ℕ → NoteStanding) → Items → Type 0

@@ -1,5 +1,5 @@
 -- One round of a wait for any of several objects.
-use Rattle.std.specs.Prelude.{ℕ, suc, ◌<◌, ◌==◌, true, if◌then◌else◌, Option, None, Some}
+use Rattle.std.specs.Prelude.{ℕ, suc, ◌<◌, ◌==◌, true, if◌then◌else◌, List, [], ◌∷◌, drop, None, Some}
 use Rattle.ns_model.specs.Environments.{is_due}
 use Rattle.ns_counters.specs.declared.act.ObjectAct.TheVariants.{LookCounter}
 use Rattle.ns_counters.specs.Words.{counter_of}
@@ -13,7 +13,7 @@ use Rattle.ns_env.specs.declared.walk.EnvNext.TheVariants.{Go, Over}
 use Rattle.ns_env.specs.declared.reply.EnvReply.TheVariants.{Is}
 use Rattle.ns_env.specs.Walks.{env_got_of}
 use Rattle.ns_world.specs.declared.items.Item.{Item}
-use Rattle.ns_world.specs.declared.items.Item.TheVariants.{OnNote, OnCounter}
+use Rattle.ns_world.specs.declared.items.Item.TheVariants.{OnNote, OnCounter, OnVariable}
 use Rattle.ns_world.specs.declared.round.Round.{Round}
 use Rattle.ns_world.specs.declared.round.RoundPlace.{RoundPlace}
 use Rattle.ns_world.specs.declared.round.RoundPlace.TheVariants.{FirstClock, AtNote, AtCounter}
@@ -23,7 +23,7 @@ use Rattle.ns_world.specs.declared.round.ObjectWant.{ObjectWant}
 use Rattle.ns_world.specs.declared.round.ObjectWant.TheVariants.{OnWord, OnEnv}
 use Rattle.ns_world.specs.declared.round.ObjectFound.{ObjectFound}
 use Rattle.ns_world.specs.declared.round.ObjectFound.TheVariants.{Word, Env}
-use Rattle.ns_world.specs.Items.{item_at}
+use Rattle.ns_world.specs.Items.{items_of}
 
 -- the step that a round wants at each of its places
 abbrev pub round_want : RoundPlace → ObjectWant
@@ -31,15 +31,16 @@ round_want FirstClock = OnEnv LoadClock
 round_want (AtNote at clock asked note) = OnEnv (LoadNote note)
 round_want (AtCounter at clock counter) = OnWord (LookCounter counter)
 
--- where it goes to look at this object; behind the last it shows the number of objects, if the clock had come to the deadline
-abbrev pub to_item : Round → ℕ → ℕ → Option Item → RoundNext
-to_item round clock at (Some (OnNote note)) = RoundGo (AtNote at clock note note)
-to_item round clock at (Some (OnCounter counter)) = RoundGo (AtCounter at clock counter)
-to_item round clock at None = if is_due clock round.deadline then RoundOver (Some round.items.count) else RoundOver None
+-- where it goes to look at the first of these objects, which begin at this place; it passes over condition variables, and behind the last object it shows how many there are, if the clock had come to the deadline
+abbrev pub from_items : Round → ℕ → ℕ → List Item → RoundNext
+from_items round clock at [] = if is_due clock round.deadline then RoundOver (Some round.items.count) else RoundOver None
+from_items round clock at (OnNote note ∷ items) = RoundGo (AtNote at clock note note)
+from_items round clock at (OnCounter counter ∷ items) = RoundGo (AtCounter at clock counter)
+from_items round clock at (OnVariable k ∷ items) = from_items round clock (suc at) items
 
--- where it goes to look at the object at this place
+-- where it goes to look at the object at this place, or behind it
 abbrev pub from_place : Round → ℕ → ℕ → RoundNext
-from_place round clock at = to_item round clock at (item_at round.items at)
+from_place round clock at = from_items round clock at (drop at (items_of round.items))
 
 -- the chain of notes that is loaded for the object at this place
 abbrev pub chain_from : ℕ → ℕ → ℕ → EnvWalk

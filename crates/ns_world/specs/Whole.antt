@@ -1,29 +1,47 @@
 -- A world as a contract sees it: the lock with its row, the clock and the notes, and beside them counters and once cells; and a seat's step in it.
-use Rattle.std.specs.Prelude.{◌≡◌, ℕ, ◌⊎◌, Bool, ◌||◌, ◌≤◌, List, [], Some, None, is_some, length}
+use Rattle.std.specs.Prelude.{◌≡◌, ℕ, ◌⊎◌, Bool, true, false, not, ◌||◌, ◌≤◌, List, [], Option, Some, None, IsSome, is_some, length, slice_get}
 use Rattle.std.proofs.Common.{inl, inr}
 use Rattle.ns_counters.specs.declared.object.ObjectEvent.{ObjectEvent}
 use Rattle.ns_counters.specs.Objects.{object_who}
 use Rattle.ns_model.specs.Tallies.{Every}
 use Rattle.ns_model.specs.Truths.{Truths}
 use Rattle.ns_model.specs.declared.environment.EnvEvent.{EnvEvent}
+use Rattle.ns_model.specs.declared.cvs.Cvs.{Cvs}
 use Rattle.ns_model.specs.declared.event.Event.{Event}
+use Rattle.ns_model.specs.declared.event.Mode.{Mode}
 use Rattle.ns_queue.specs.Queues.{Lists}
+use Rattle.ns_word.specs.declared.act.Act.{Act}
+use Rattle.ns_word.specs.declared.act.Found.TheVariants.{Looked}
+use Rattle.ns_word.specs.declared.request.Request.TheVariants as TheRequest
+use Rattle.ns_word.specs.declared.view.Held.{Held}
+use Rattle.ns_word.specs.declared.view.SeatView.{SeatView}
+use Rattle.ns_word.specs.declared.walk.Walk.{Walk}
 use Rattle.ns_word.specs.declared.word.Word.{Word}
+use Rattle.ns_word.specs.Asked.{asked_of}
+use Rattle.ns_word.specs.Walks.{got_of, walk_after, wait_first, want_of}
 use Rattle.ns_world.specs.declared.call.Call.{Call}
+use Rattle.ns_world.specs.declared.call.Start.TheVariants.{OnLock}
 use Rattle.ns_world.specs.declared.environment.Environment.{Environment}
 use Rattle.ns_world.specs.declared.fault.Fault.{Fault}
 use Rattle.ns_world.specs.declared.fault.Fault.TheVariants.{OutOfMemory, NoSuchSeat, TooManySeats, StepLimit}
 use Rattle.ns_world.specs.declared.object_walk.ObjectWalk.{ObjectWalk}
+use Rattle.ns_world.specs.declared.object_walk.ObjectWalk.TheVariants.{InRound}
+use Rattle.ns_world.specs.declared.objects.AnyWait.{AnyWait}
 use Rattle.ns_world.specs.declared.objects.Objects.{Objects}
+use Rattle.ns_world.specs.declared.round.Round.{Round}
+use Rattle.ns_world.specs.declared.round.RoundPlace.{RoundPlace}
 use Rattle.ns_world.specs.declared.seat.Seat.{Seat}
 use Rattle.ns_world.specs.declared.step.Begun.{Begun}
 use Rattle.ns_world.specs.declared.step.Begun.TheVariants.{Started, Misuse, Busy}
 use Rattle.ns_world.specs.declared.step.Step.{Step}
 use Rattle.ns_world.specs.declared.step.Step.TheVariants.{Went, Idle, Finished, Nothing}
-use Rattle.ns_world.specs.Begins.{Starts, Misuses}
-use Rattle.ns_world.specs.Calls.{object_start}
-use Rattle.ns_world.specs.Objects.{AreLedTo, HasOperated, fresh_objects, objects_begun, walk_in}
-use Rattle.ns_world.specs.World.{Now, Kept, kept, now_of, fresh, IsLawfulWorld, IsIdle, IsBusy, Moves, CommitsNext, env_done, is_busy}
+use Rattle.ns_world.specs.Among.{asks_for_any, cause_of, is_for_lock, shown_by, step_told, waited_after, waits_for_any}
+use Rattle.ns_world.specs.Begins.{Starts, Misuses, begun_at}
+use Rattle.ns_world.specs.Calls.{mode_of, mode_waited, object_start}
+use Rattle.ns_world.specs.Items.{AreAmong, have_variable, items_of}
+use Rattle.ns_world.specs.Looks.{looks_at}
+use Rattle.ns_world.specs.Objects.{AreLedTo, AreThere, HasOperated, fresh_objects, objects_begun, stood_at, wait_in, walk_in}
+use Rattle.ns_world.specs.World.{Now, Kept, kept, now_of, fresh, Acts, IsLawfulWorld, IsIdle, IsBusy, Moves, CommitsNext, env_done, is_busy}
 
 -- a world: the lock with the clock and the notes, and the counters and once cells
 pub record Whole (C : Type 0) (N : ℕ) : Type 0 where
@@ -53,9 +71,46 @@ whole_with truths word row queues flags env seats history objects = whole_of tru
 
 -- ---- what holds of every world
 
--- No more than one call of a seat is in progress: who is in one on counters and once cells is in no other.
-abbrev pub AreApart : {C : Type 0} {N : ℕ} → Whole C N → Type 0
-AreApart world = (seat : ℕ) (walk : ObjectWalk) → walk_in world.objects.walks seat ≡ Some walk → IsIdle world.lock seat
+-- A wait on the lock looks at objects just where the machine wants it to, by a round of those that it is for.
+abbrev pub LooksWhere : {C : Type 0} → Round → Option ObjectWalk → Act C → Type 0
+LooksWhere round None act = looks_at act ≡ None
+LooksWhere round (Some (InRound by place)) act = (by ≡ round) × IsSome (looks_at act)
+LooksWhere round (Some walk) act = ⊥
+
+-- A seat that waits on the lock for variables among objects is there in a call that waits for just these; each of the objects is there; and the call looks at them where it is to.
+pub record WaitsOnLock {C : Type 0} {N : ℕ} (world : Whole C N) (seat : ℕ) (wait : AnyWait) : Type 0 where
+  pub view : SeatView C N
+  pub at : slice_get world.lock.state.views seat ≡ Some view
+  pub walk : Walk C
+  pub walks : view.walk ≡ Some walk
+  pub mode : Mode
+  pub cvs : Cvs
+  pub asked : asked_of walk ≡ TheRequest.Await (waits_for_any mode cvs)
+  pub among : AreAmong cvs (items_of wait.round.items)
+  pub unasked : slice_get world.lock.asking seat ≡ Some None
+  pub there : AreThere world.objects.setup world.lock.env.notes wait.round.items
+  pub looks : LooksWhere wait.round (walk_in world.objects.walks seat) (want_of walk)
+
+-- the call of a seat, if it is in one on the lock, waits for no set of variables
+abbrev pub is_alone : {C : Type 0} → Option (Walk C) → Bool
+is_alone None = true
+is_alone (Some walk) = not (asks_for_any (asked_of walk))
+
+-- a round whose call may go on to wait for condition variables goes with a section in hand
+abbrev pub MayWait : {C : Type 0} {N : ℕ} → Option ObjectWalk → Option (Held C N) → Type 0
+MayWait (Some (InRound round place)) held = have_variable round.items ≡ true → IsSome held
+MayWait walk held = Unit {0}
+
+-- Any other seat waits for no set of variables. Where it is in a call on counters and once cells it is in no other, and it has a section in hand if that may go on to wait on the lock.
+pub record StandsAlone {C : Type 0} {N : ℕ} (world : Whole C N) (seat : ℕ) : Type 0 where
+  pub alone : (view : SeatView C N) → slice_get world.lock.state.views seat ≡ Some view → is_alone view.walk ≡ true
+  pub apart : (walk : ObjectWalk) → walk_in world.objects.walks seat ≡ Some walk → IsIdle world.lock seat
+  pub may : (view : SeatView C N) → slice_get world.lock.state.views seat ≡ Some view → MayWait (walk_in world.objects.walks seat) view.held
+
+-- Each seat stands so, by whether it waits on the lock for variables among objects.
+abbrev pub StandsBy : {C : Type 0} {N : ℕ} → Whole C N → ℕ → Option AnyWait → Type 0
+StandsBy world seat None = StandsAlone world seat
+StandsBy world seat (Some wait) = WaitsOnLock world seat wait
 
 -- these events are all that has happened to the counters and once cells of the world
 abbrev pub HaveLedTo : {C : Type 0} {N : ℕ} → List ObjectEvent → Whole C N → Type 0
@@ -66,7 +121,8 @@ pub record IsLawfulWhole {C : Type 0} {N : ℕ} (world : Whole C N) : Type 0 whe
   pub lock : IsLawfulWorld world.lock
   pub seats : world.objects.setup.seats ≡ length world.lock.state.views
   pub places : length world.objects.walks ≡ 64
-  pub apart : AreApart world
+  pub wait_places : length world.objects.waits ≡ 64
+  pub stands : (seat : ℕ) → StandsBy world seat (wait_in world.objects.waits seat)
   pub events : List ObjectEvent
   pub objects_lawful : HaveLedTo events world
 
@@ -104,18 +160,67 @@ pub record LockSteps {C : Type 0} {N : ℕ} (old new : Whole C N) (seat : ℕ) (
   pub moves : Moves old.lock new.lock seat step
   pub same : new.objects ≡ old.objects
   pub elsewhere : walk_in old.objects.walks seat ≡ None
+  pub waits_not : wait_in old.objects.waits seat ≡ None
 
--- The seat makes one step of a call on counters and once cells, and it was this: it is in no other call, it replies where its walk is over, and nothing else changes.
+-- The seat makes one step of a call on counters and once cells, and it was this: what it has told is not for the lock, it replies where its walk is over, and nothing else changes. Unless the call waits on the lock, the seat is in no other.
 pub record Operates {C : Type 0} {N : ℕ} (old new : Whole C N) (seat : ℕ) (step : Step) : Type 0 where
-  pub idle : IsIdle old.lock seat
   pub walk : ObjectWalk
   pub walks : walk_in old.objects.walks seat ≡ Some walk
+  pub idle : wait_in old.objects.waits seat ≡ None → IsIdle old.lock seat
   pub operated : HasOperated old.lock.env seat walk old.objects new.objects step
+  pub not_for_lock : is_for_lock (wait_in old.objects.waits seat) walk step ≡ false
   pub same : new.lock ≡ old.lock
+
+-- The seat makes the last step of a round, whose call is in no wait on the lock. The round has found nothing, and condition variables are among its objects: the call goes on as a wait on the lock for just these, from the section in hand.
+pub record BeginsToWait {C : Type 0} {N : ℕ} (old new : Whole C N) (seat : ℕ) (step : Step) : Type 0 where
+  pub round : Round
+  pub place : RoundPlace
+  pub walks : walk_in old.objects.walks seat ≡ Some (InRound round place)
+  pub waits_not : wait_in old.objects.waits seat ≡ None
+  pub named : have_variable round.items ≡ true
+  pub then : Objects
+  pub operated : HasOperated old.lock.env seat (InRound round place) old.objects then Idle
+  pub view : SeatView C N
+  pub at : slice_get old.lock.state.views seat ≡ Some view
+  pub idle : view.walk ≡ None
+  pub unasked : slice_get old.lock.asking seat ≡ Some None
+  pub cvs : Cvs
+  pub among : AreAmong cvs (items_of round.items)
+  pub begins : new.lock ≡ begun_at old.lock seat view (OnLock (wait_first N (waits_for_any (mode_waited (mode_of view.held)) cvs)))
+  pub becomes : new.objects ≡ stood_at then seat None (Some (record { round = round; shown = None }))
+  pub answer : step ≡ Went
+
+-- The seat makes the last step of a round, by which its wait on the lock looks: the wait goes on with what the round has shown.
+pub record EndsLook {C : Type 0} {N : ℕ} (old new : Whole C N) (seat : ℕ) (step : Step) : Type 0 where
+  pub wait : AnyWait
+  pub waits : wait_in old.objects.waits seat ≡ Some wait
+  pub walk : ObjectWalk
+  pub walks : walk_in old.objects.walks seat ≡ Some walk
+  pub told : Step
+  pub for_lock : is_for_lock (Some wait) walk told ≡ true
+  pub then : Objects
+  pub operated : HasOperated old.lock.env seat walk old.objects then told
+  pub acts : Acts old.lock new.lock seat step
+  pub looked : acts.goes.found ≡ Looked (cause_of (shown_by told))
+  pub becomes : new.objects ≡ stood_at then seat None (Some (record { round = wait.round; shown = shown_by told }))
+
+-- The seat makes one step on the lock, in a wait for variables among objects, and it was this for its call: it answers a place where the wait is over, and looks at the objects where the wait is to look.
+pub record WaitSteps {C : Type 0} {N : ℕ} (old new : Whole C N) (seat : ℕ) (step : Step) : Type 0 where
+  pub wait : AnyWait
+  pub waits : wait_in old.objects.waits seat ≡ Some wait
+  pub elsewhere : walk_in old.objects.walks seat ≡ None
+  pub told : Step
+  pub acts : Acts old.lock new.lock seat told
+  pub becomes : new.objects ≡ waited_after old.objects seat wait (walk_after (got_of N acts.goes.makes.walk acts.goes.found))
+  pub answer : step ≡ step_told wait told
+
+-- the seat makes one step of a call that waits for variables among objects, which is of that wait
+abbrev pub Awaits : {C : Type 0} {N : ℕ} → Whole C N → Whole C N → ℕ → Step → Type 0
+Awaits old new seat step = BeginsToWait old new seat step ⊎ (EndsLook old new seat step ⊎ WaitSteps old new seat step)
 
 -- the seat makes one step of its call
 abbrev pub WholeMoves : {C : Type 0} {N : ℕ} → Whole C N → Whole C N → ℕ → Step → Type 0
-WholeMoves old new seat step = LockSteps old new seat step ⊎ Operates old new seat step
+WholeMoves old new seat step = LockSteps old new seat step ⊎ (Operates old new seat step ⊎ Awaits old new seat step)
 
 -- what the answer says of a seat's step
 abbrev pub WholeStep : {C : Type 0} {N : ℕ} → Whole C N → Whole C N → ℕ → Step → Type 0
@@ -132,7 +237,10 @@ notes_done (inr p) = []
 -- the events that it is on the counters and once cells
 abbrev pub objects_done : {C : Type 0} {N : ℕ} {old new : Whole C N} {seat : ℕ} {step : Step} → WholeMoves old new seat step → List ObjectEvent
 objects_done (inl p) = []
-objects_done (inr p) = p.operated.events
+objects_done (inr (inl p)) = p.operated.events
+objects_done (inr (inr (inl p))) = p.operated.events
+objects_done (inr (inr (inr (inl p)))) = p.operated.events
+objects_done (inr (inr (inr (inr p)))) = []
 
 -- both, of a step that may be none
 abbrev pub notes_by : {C : Type 0} {N : ℕ} (old new : Whole C N) (seat : ℕ) (step : Step) → WholeStep old new seat step → List EnvEvent

@@ -33,7 +33,7 @@ use Rattle.ns_world.specs.declared.fault.Fault.{Fault}
 use Rattle.ns_world.specs.declared.fault.Fault.TheVariants.{OutOfMemory, NoSuchSeat, TooManySeats, StepLimit}
 use Rattle.ns_world.specs.Asks.{plain_of, env_state, env_step_of}
 use Rattle.ns_world.specs.Commits.{Commits}
-use Rattle.ns_world.specs.Looks.{AsksFor, look_of, looks_at, note_in}
+use Rattle.ns_world.specs.Looks.{AsksFor, is_among, look_of, looks_at, note_in}
 use Rattle.ns_world.specs.Performs.{view_of, flag_at, step_of, tests_after}
 
 -- what the conditions mean, the lock and its seats, how many conditions the scan of each seat's call tested, all that has happened, the clock and the notes, and each seat's place in a call on them
@@ -169,11 +169,11 @@ pub record Goes {C : Type 0} {N : ℕ} (old new : Now C N) (seat : ℕ) (step : 
   pub env : new.env ≡ old.env
   pub asking : new.asking ≡ slice_set old.asking seat (look_of (walk_after (got_of N makes.walk found)))
 
--- The seat makes one step of a call on the lock, and it was this: its walk wants no look, and the seat stands nowhere on the clock and the notes.
+-- The seat makes one step of a call on the lock, and it was this: its walk wants no look, or waits for any of a set of variables, and the seat stands nowhere on the clock and the notes.
 pub record Acts {C : Type 0} {N : ℕ} (old new : Now C N) (seat : ℕ) (step : Step) : Type 0 where
   pub goes : Goes old new seat step
   pub unasked : slice_get old.asking seat ≡ Some None
-  pub is_no_look : looks_at (want_of goes.makes.walk) ≡ None
+  pub is_no_look : is_among goes.makes.walk ≡ false → looks_at (want_of goes.makes.walk) ≡ None
 
 -- The seat makes one step on the clock and the notes, and it was this: it replies where its walk is over, and nothing else changes.
 pub record Asks {C : Type 0} {N : ℕ} (old new : Now C N) (seat : ℕ) (step : Step) : Type 0 where
@@ -203,6 +203,10 @@ pub record Looks {C : Type 0} {N : ℕ} (old new : Now C N) (seat : ℕ) (step :
   pub found : EnvFound
   pub effect : EnvEffect seat (env_want_of place) old.env found old.env []
   pub goes : LookGoes (env_got_of place found) old new seat step
+
+-- The seat's walk wants no look, where the seat stands nowhere on the clock and the notes: a wait for any of a set of variables doesn't look just now.
+abbrev pub LooksNot : {C : Type 0} {N : ℕ} → Now C N → ℕ → Type 0
+LooksNot {C} {N} world seat = (view : SeatView C N) (walk : Walk C) → slice_get world.state.views seat ≡ Some view → view.walk ≡ Some walk → slice_get world.asking seat ≡ Some None → looks_at (want_of walk) ≡ None
 
 -- the seat makes one step of its call: on the lock, in a call on the clock and the notes, or in a look
 abbrev pub Moves : {C : Type 0} {N : ℕ} → Now C N → Now C N → ℕ → Step → Type 0

@@ -100,9 +100,14 @@ pub enum Call<C> {
     Once(u8),
     /// Asks whether a function of a once cell has run. Needs that there is one of this number. Answers `Is`.
     Done(u8),
-    /// Waits until one of several notes and counters is ready, at most until the deadline, in ticks, if one
-    /// is given. Needs notes that are made, and counters that there are. Answers as its `Number` the place
-    /// of the first that is ready, counted from 0, or how many there are, where the deadline had come.
+    /// Waits until one of several notes and counters is ready, or a signal or a broadcast of one of several
+    /// condition variables wakes it, at most until the deadline, in ticks, if one is given. Needs notes that
+    /// are made, counters that there are, variables below 4, and a section in hand where a variable is among
+    /// them. Answers as its `Number` the place of the first note or counter that is ready, counted from 0,
+    /// or of the first item that is the variable which has woken it, or how many items there are, where the
+    /// deadline had come. With a variable among them, and where none of the others is ready and the
+    /// deadline hasn't come as the call begins, the section is left, and another one in the same mode is in
+    /// hand on return.
     WaitAny(Items, Option<u64>),
 }
 
@@ -156,13 +161,14 @@ fn ask<C: Copy>(met: bool, walk: EnvWalk) -> Option<Start<C>>
     if met { Some(Start::Ask(walk)) } else { None }
 }
 
-/// Whether there is an object: a note that is made, or a counter.
+/// Whether there is an object: a note that is made, a counter, or a condition variable.
 fn is_there(item: Item, notes: &[NoteState; 64], setup: &Setup) -> bool
     ensures { result ≡ is_there_in setup.now (note_at notes.now) item }
 {
     match item {
         Item::OnNote(note) => is_made(notes, note),
         Item::OnCounter(counter) => counter < setup.counters,
+        Item::OnVariable(k) => k < 4,
     }
 }
 
@@ -225,7 +231,7 @@ impl<C: Copy> Call<C> {
         ensures { MatchOption result (CallFits setup.now (note_at notes.now) self mode → ⊥) (λ start. (start ≡ start_of N mode self) × CallFits setup.now (note_at notes.now) self mode) }
     {
         match self.on_objects() {
-            Some(walk) => operate(self.finds::<N>(notes, setup), walk),
+            Some(walk) => operate(self.finds::<N>(mode, notes, setup), walk),
             None => self.start_others::<N>(mode, notes),
         }
     }
@@ -249,10 +255,15 @@ impl<C: Copy> Call<C> {
     }
 
     /// Whether there are the counters, the once cells and the notes that a call on counters and once
-    /// cells names.
-    fn finds<const N: usize>(&self, notes: &[NoteState; 64], setup: &Setup) -> bool
+    /// cells names, and a section in hand where it names condition variables.
+    fn finds<const N: usize>(
+        &self,
+        mode: Option<Mode>,
+        notes: &[NoteState; 64],
+        setup: &Setup,
+    ) -> bool
         requires { CallInRange N self.now }
-        ensures { result ≡ finds setup.now (note_at notes.now) self.now }
+        ensures { result ≡ finds setup.now (note_at notes.now) mode self.now }
     {
         match self {
             Call::Add(counter, _) => *counter < setup.counters,
@@ -260,7 +271,9 @@ impl<C: Copy> Call<C> {
             Call::CounterWait(counter, _) => *counter < setup.counters,
             Call::Once(once) => *once < setup.cells,
             Call::Done(once) => *once < setup.cells,
-            Call::WaitAny(items, _) => are_there(items, notes, setup),
+            Call::WaitAny(items, _) => {
+                are_there(items, notes, setup) && (mode.is_some() || !items.has_variable())
+            }
             _ => true,
         }
     }

@@ -1,7 +1,11 @@
 //! What a wait for any of several objects is for.
 
-ghost use Rattle.std.specs.Prelude.{◌≡◌, ◌<◌, ◌++◌, [], ◌∷◌};
-ghost use Rattle.ns_world.specs.Items.{item_at, items_of, no_items, with_item};
+ghost use Rattle.std.specs.Prelude.{◌≡◌, ◌<◌, ◌≤◌, ◌++◌, [], ◌∷◌};
+ghost use Rattle.std.specs.List.{list_any};
+ghost use Rattle.ns_model.specs.Tallies.{Every};
+ghost use Rattle.ns_world.specs.Items.{AreAmong, IsLow, have_variable, is_variable, item_at, items_of, no_items, place_in, with_item};
+
+use ns_model::cvs::Cvs;
 
 /// One of the objects that a wait for any of several is for.
 #[derive(Clone, Copy, Debug, PartialEq, Eq)]
@@ -10,6 +14,49 @@ pub enum Item {
     OnNote(u8),
     /// A counter, by its number, which is ready where its value is 0.
     OnCounter(u8),
+    /// A condition variable, by its number, a wake of which ends the wait.
+    OnVariable(u8),
+}
+
+/// Whether a condition variable is among the items.
+fn has_variable(items: &[Item]) -> bool
+    ensures { result ≡ list_any is_variable items.now }
+{
+    for item in items {
+        if let Item::OnVariable(_) = *item {
+            return true;
+        }
+    }
+    false
+}
+
+/// The condition variables among the items.
+fn variables_in(items: &[Item]) -> Cvs
+    requires { Every IsLow items.now }
+    ensures among { AreAmong result items.now }
+    ensures byte { result.0 < 256 }
+{
+    let mut cvs = Cvs::none();
+    for item in items {
+        if let Item::OnVariable(k) = *item {
+            cvs = cvs.with(k);
+        }
+    }
+    cvs
+}
+
+/// The place of the first item that is this condition variable, or how many items there are where none is.
+fn place_of(items: &[Item], k: u8) -> usize
+    ensures { result ≡ place_in k items.now }
+{
+    for (i, item) in items.iter().enumerate() {
+        if let Item::OnVariable(j) = *item {
+            if j == k {
+                return i;
+            }
+        }
+    }
+    items.len()
 }
 
 /// Up to 16 objects, in order.
@@ -52,5 +99,32 @@ impl Items {
         } else {
             None
         }
+    }
+
+    /// Whether a condition variable is among the objects. Needs that there are at most 16.
+    pub(crate) fn has_variable(&self) -> bool
+        requires { self.now.count ≤ 16 }
+        ensures { result ≡ have_variable self.now }
+    {
+        has_variable(&self.all[..self.count as usize])
+    }
+
+    /// The condition variables among the objects. Needs at most 16 objects, and variables below 4.
+    pub(crate) fn variables(&self) -> Cvs
+        requires few { self.now.count ≤ 16 }
+        requires low { Every IsLow (items_of self.now) }
+        ensures among { AreAmong result (items_of self.now) }
+        ensures byte { result.0 < 256 }
+    {
+        variables_in(&self.all[..self.count as usize])
+    }
+
+    /// The place of the first object that is this condition variable, or how many there are where none is. Needs
+    /// that there are at most 16.
+    pub(crate) fn place_of(&self, k: u8) -> u64
+        requires { self.now.count ≤ 16 }
+        ensures { result ≡ place_in k (items_of self.now) }
+    {
+        place_of(&self.all[..self.count as usize], k) as u64
     }
 }

@@ -18,6 +18,7 @@
 //! ```
 #![tactic(auto)]
 
+mod among;
 mod asks;
 pub mod call;
 mod environment;

@@ -60,7 +60,7 @@ fn came_back<C: Seated<N>, const N: usize>(act: Act<C>) -> bool
 }
 
 /// The wait goes on with what its look has shown.
-fn see<C: Seated<N>, const N: usize>(
+pub(crate) fn see<C: Seated<N>, const N: usize>(
     seat: &mut Seat<C, N>,
     walk: Walk<C>,
     cause: Option<Cause>,

@@ -13,6 +13,9 @@
 //! | `OnceEnd` | say that the function has run | `Ran` |
 //! | `DoneLoad` | load the cell | whether a function has run |
 //! | `InRound` | what the round wants | what the round shows; if that is nothing idle, a new round |
+//!
+//! Where condition variables are among the objects of a round, what its last step tells is for the lock, but for
+//! what the first round of a call has shown (`among.rt`).
 
 ghost use Rattle.std.specs.Prelude.{◌≡◌};
 ghost use Rattle.ns_world.specs.ObjectWalks.{by_begun, by_judging, by_round, by_stage, object_got, object_want, waited_next, IsInBounds};

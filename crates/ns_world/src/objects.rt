@@ -2,18 +2,30 @@
 
 ghost use Rattle.std.specs.Prelude.{◌≡◌, ◌<◌, ◌≤◌, length, slice_index, slice_set};
 ghost use Rattle.ns_counters.specs.Steps.{word_at};
-ghost use Rattle.ns_world.specs.Objects.{fresh_objects, object_step_of, put_at, walk_in, word_left};
+ghost use Rattle.ns_world.specs.Objects.{fresh_objects, object_step_of, put_at, stood_at, wait_in, walk_in, word_left};
 ghost use Rattle.ns_world.specs.ObjectWalks.{object_after};
 
 use crate::items::{Item, Items};
 use crate::object_walk::{ObjectNext, ObjectWalk};
 use crate::reply::Reply;
+use crate::round::Round;
 use crate::step::Step;
 use ns_counters::act::ObjectAct;
 use ns_counters::counter::CounterState;
 use ns_counters::made::MOST;
 use ns_counters::object::Setup;
 use ns_counters::word::{WAITED, encode_counter};
+
+/// A wait for condition variables among notes and counters whose first round has found nothing: on the lock it
+/// waits for the variables, and whenever it looks, it looks at the others by a round.
+#[derive(Clone, Copy)]
+pub struct AnyWait {
+    /// What it is for.
+    pub(crate) round: Round,
+    /// What its last round has shown: the place of an object that was ready, or how many objects there are,
+    /// where the deadline had come; or nothing.
+    pub(crate) shown: Option<u64>,
+}
 
 /// The words of up to 16 counters and up to 16 once cells, and each seat's place in its call on them, if one
 /// is in progress.
@@ -25,6 +37,9 @@ pub(crate) struct Objects {
     pub(crate) words: [u64; 32],
     /// Each seat's place.
     pub(crate) walks: [Option<ObjectWalk>; 64],
+    /// Each seat's wait on the lock for condition variables among notes and counters, if it is in one. The
+    /// seat has a place beside it while it looks.
+    pub(crate) waits: [Option<AnyWait>; 64],
 }
 
 /// The word that a step is on.
@@ -92,6 +107,7 @@ impl Objects {
             setup,
             words,
             walks: [None; 64],
+            waits: [None; 64],
         }
     }
 
@@ -103,6 +119,25 @@ impl Objects {
             None => None,
             Some(walk) => *walk,
         }
+    }
+
+    /// The seat's wait for condition variables among notes and counters, if it is in one.
+    pub(crate) fn wait(&self, seat: u8) -> Option<AnyWait>
+        ensures { result ≡ wait_in self.now.waits seat }
+    {
+        match self.waits.get(seat as usize) {
+            None => None,
+            Some(wait) => *wait,
+        }
+    }
+
+    /// Puts the seat at a place, and into a wait.
+    pub(crate) fn stand(&mut self, seat: u8, walk: Option<ObjectWalk>, wait: Option<AnyWait>)
+        requires { seat < 64 }
+        ensures { self.new ≡ stood_at self.old seat walk wait }
+    {
+        self.walks[seat as usize] = walk;
+        self.waits[seat as usize] = wait;
     }
 
     /// Puts the seat at a place.

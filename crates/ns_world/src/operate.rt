@@ -28,7 +28,7 @@ pub(crate) fn begin_on(objects: &mut Objects, seat: u8, first: Option<ObjectWalk
 fn perform(env: &Environment, objects: &mut Objects, want: ObjectWant) -> ObjectFound
     requires { WantFits env.now.next want }
     ensures effect { (seat : ℕ) (place : Place) → (events : List ObjectEvent) × ObjectEffect seat place want objects.old.words (plain_of env.now) result objects.new.words events }
-    ensures kept { objects.new ≡ record { setup = objects.old.setup; words = objects.new.words; walks = objects.old.walks } }
+    ensures kept { objects.new ≡ record objects.old { words = objects.new.words } }
 {
     match want {
         ObjectWant::OnWord(act) => ObjectFound::Word(objects.make(act)),

@@ -7,7 +7,7 @@ ghost use Rattle.ns_word.specs.Places.{ActFits, HasMode, OwesOne};
 ghost use Rattle.ns_word.specs.Steps.{Effect};
 ghost use Rattle.ns_word.specs.Walks.{want_of, walk_after};
 ghost use Rattle.ns_world.specs.Commits.{Commits};
-ghost use Rattle.ns_world.specs.Looks.{look_of, look_place, looks_at};
+ghost use Rattle.ns_world.specs.Looks.{is_among, look_of, look_place, looks_at};
 ghost use Rattle.ns_world.specs.Performs.{part, seat_part, step_of, tests_after, IsSeat, Makes, Performs};
 
 use crate::exchanges::{
@@ -19,11 +19,13 @@ use crate::seat::Seat;
 use crate::step::Step;
 use arrayvec::ArrayVec;
 use ns_env::walk::{Chain, EnvWalk};
+use ns_model::cvs::Variables;
 use ns_model::event::Event;
 use ns_queue::queues::Queues;
 use ns_word::act::{Act, Found};
 use ns_word::owed::Owed;
 use ns_word::view::Held;
+use ns_word::wait::Subject;
 use ns_word::walk::{Next, Walk};
 use ns_word::word::Word;
 use std::alloc::AllocError;
@@ -154,11 +156,29 @@ fn look_place<C: Seated<N>, const N: usize>(act: Act<C>) -> Option<EnvWalk>
     }
 }
 
-/// Puts the seat at this place of its walk, and at the beginning of a look where its wait looks.
+/// Whether the walk waits for any of a set of variables.
+fn is_among<C: Seated<N>, const N: usize>(walk: &Walk<C>) -> bool
+    ensures { result ≡ is_among walk.now }
+{
+    match walk {
+        Walk::InWait(wait, _) => match wait.on {
+            Subject::OnVariables(Variables::Any(_)) => true,
+            _ => false,
+        },
+        _ => false,
+    }
+}
+
+/// Puts the seat at this place of its walk, and at the beginning of a look where its wait looks at the clock
+/// and the notes.
 fn go_to<C: Seated<N>, const N: usize>(seat: &mut Seat<C, N>, walk: Walk<C>)
     ensures { seat.new ≡ record seat.old { walk = Some walk; asking = look_of (Some walk) } }
 {
-    seat.asking = look_place(walk.want());
+    seat.asking = if is_among(&walk) {
+        None
+    } else {
+        look_place(walk.want())
+    };
     seat.walk = Some(walk);
 }
 

@@ -17,7 +17,7 @@ pub enum Reply {
     /// Not released, since the section isn't quiet.
     Noisy,
     /// A cell's value, the number of a note that was made, the value of a counter, or which of several
-    /// objects was ready.
+    /// objects was ready, or has woken the call.
     Number(u64),
     /// No note was made, since 64 numbers are taken.
     NotesFull,
@@ -27,7 +27,8 @@ pub enum Reply {
     Expiry(Option<u64>),
     /// How a wait came back.
     Answered(Answer),
-    /// A wait for any condition variables of a set came back: the one that woke it, or none.
+    /// A wait on the lock for any condition variables of a set came back: the one that woke it, or none. No call
+    /// answers so, since a wait for variables among notes and counters answers a place.
     WokenBy(Option<u8>),
     /// The call's need was not met as it began. It made no step.
     Misuse,

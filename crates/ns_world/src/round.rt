@@ -1,5 +1,5 @@
-//! One round of a wait for any of several objects: the clock, and then each object in order up to
-//! the first that is ready.
+//! One round of a wait for any of several objects: the clock, and then each note and counter in order up to
+//! the first that is ready. A round passes over condition variables.
 //!
 //! | place | wants | where an answer leads |
 //! |---|---|---|
@@ -84,19 +84,26 @@ impl Round {
         }
     }
 
-    /// Where the round goes to look at the object at this place, or at the end.
+    /// Where the round goes to look at the first note or counter from this place on, or at the end.
     fn from_place(&self, clock: u64, at: u8) -> RoundNext
         ensures { result ≡ from_place self.now clock at }
     {
-        match self.items.get(at) {
-            Some(Item::OnNote(note)) => {
-                RoundNext::RoundGo(RoundPlace::AtNote(at, clock, note, note))
+        for place in at..self.items.count {
+            match self.items.get(place) {
+                Some(Item::OnNote(note)) => {
+                    return RoundNext::RoundGo(RoundPlace::AtNote(place, clock, note, note));
+                }
+                Some(Item::OnCounter(counter)) => {
+                    return RoundNext::RoundGo(RoundPlace::AtCounter(place, clock, counter));
+                }
+                Some(Item::OnVariable(_)) => {}
+                None => {}
             }
-            Some(Item::OnCounter(counter)) => {
-                RoundNext::RoundGo(RoundPlace::AtCounter(at, clock, counter))
-            }
-            None if is_due(self.deadline, clock) => RoundNext::RoundOver(Some(self.items.count)),
-            None => RoundNext::RoundOver(None),
+        }
+        if is_due(self.deadline, clock) {
+            RoundNext::RoundOver(Some(self.items.count))
+        } else {
+            RoundNext::RoundOver(None)
         }
     }
 

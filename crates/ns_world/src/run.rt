@@ -35,9 +35,9 @@ pub fn next_call<C: Copy>(lists: &[Vec<Call<C>>], seat: u8, over: u16) -> Option
 
 /// A turn of the seat: starts its next call, where one is given and the seat is idle, and makes one step.
 ///
-/// Needs a call whose cell is below `N`, whose condition variable is below 4, whose notes are below 64, and
-/// whose moments are below 2^54. Refuses a number that is no seat's (`NoSuchSeat`), and want of memory
-/// (`OutOfMemory`); then nothing has changed.
+/// Needs a call whose cell is below `N`, whose condition variable is below 4, whose notes are below 64, whose
+/// moments are below 2^54, and whose objects are at most 16. Refuses a number that is no seat's
+/// (`NoSuchSeat`), and want of memory (`OutOfMemory`); then nothing has changed.
 pub fn turn<C: Seated<N>, const N: usize>(
     world: &mut World<C, N>,
     next: Option<Call<C>>,
@@ -189,11 +189,11 @@ impl<C: Seated<N>, const N: usize> World<C, N> {
     /// progress.
     ///
     /// Needs a world with no call in progress, lists of at most 256 calls, and calls whose cells
-    /// are below `N`, whose condition variables are below 4, whose notes are below 64, and whose moments
-    /// are below 2^54. Refuses an item
-    /// whose thread is no seat (`NoSuchSeat`), the turn after `limit` turns (`StepLimit`), and want
-    /// of memory (`OutOfMemory`), for the event of the next turn or for the line of the call that the
-    /// last turn finished; the world is then as the last turn left it.
+    /// are below `N`, whose condition variables are below 4, whose notes are below 64, whose moments are
+    /// below 2^54, and whose objects are at most 16. Refuses an item whose thread is no seat
+    /// (`NoSuchSeat`), the turn after `limit` turns (`StepLimit`), and want of memory (`OutOfMemory`), for the
+    /// event of the next turn or for the line of the call that the last turn finished; the world is then as
+    /// the last turn left it.
     pub fn run(
         &mut self,
         alloc: Global,

@@ -4,7 +4,7 @@ ghost use Rattle.std.specs.Prelude.{◌≡◌, IfOk, IfErr};
 ghost use Rattle.ns_word.specs.Codec.{word_of};
 ghost use Rattle.ns_world.specs.Begins.{BeginAnswers, BeginFault, placed};
 ghost use Rattle.ns_world.specs.Calls.{CallInRange, mode_of};
-ghost use Rattle.ns_world.specs.World.{now_with, IsLawfulWorld, StepOf, StepFault};
+ghost use Rattle.ns_world.specs.World.{now_with, IsLawfulWorld, LooksNot, StepOf, StepFault};
 
 use crate::call::{Call, Start};
 use crate::environment::Environment;
@@ -47,7 +47,7 @@ pub enum Begun {
 }
 
 /// The mode of the section in hand.
-fn mode_of<C: Seated<N>, const N: usize>(held: &Option<Held<C, N>>) -> Option<Mode>
+pub(crate) fn mode_of<C: Seated<N>, const N: usize>(held: &Option<Held<C, N>>) -> Option<Mode>
     ensures { result ≡ mode_of held.now }
 {
     match held {
@@ -57,7 +57,7 @@ fn mode_of<C: Seated<N>, const N: usize>(held: &Option<Held<C, N>>) -> Option<Mo
 }
 
 /// Puts the seat at the beginning of a call, which has tested no condition yet.
-fn place<C: Seated<N>, const N: usize>(seat: &mut Seat<C, N>, start: Start<C>)
+pub(crate) fn place<C: Seated<N>, const N: usize>(seat: &mut Seat<C, N>, start: Start<C>)
     ensures { seat.new ≡ placed seat.old start }
 {
     seat.tests = 0;
@@ -104,7 +104,8 @@ pub(crate) fn begin_at<C: Seated<N>, const N: usize>(
     }
 }
 
-/// Makes one step of the seat's call, if one is in progress.
+/// Makes one step of the seat's call, if one is in progress. A wait for any of a set of variables looks at the
+/// objects among which they are, and then has no step here.
 pub(crate) fn step_at<C: Seated<N>, const N: usize>(
     word: &mut u64,
     row: &mut [u64; N],
@@ -115,7 +116,8 @@ pub(crate) fn step_at<C: Seated<N>, const N: usize>(
     history: &mut Vec<Event<C, N>>,
     number: u8,
 ) -> Result<Step, Fault>
-    requires { IsLawfulWorld (now_with C.means (word_of word.old) row.old queues.old flags.old env.old seats.old.items history.old.items) }
+    requires lawful { IsLawfulWorld (now_with C.means (word_of word.old) row.old queues.old flags.old env.old seats.old.items history.old.items) }
+    requires inside { LooksNot (now_with C.means (word_of word.old) row.old queues.old flags.old env.old seats.old.items history.old.items) number }
     ensures lawful { IsLawfulWorld (now_with C.means (word_of word.new) row.new queues.new flags.new env.new seats.new.items history.new.items) }
     ensures ok { IfOk result (λ step. StepOf (now_with C.means (word_of word.old) row.old queues.old flags.old env.old seats.old.items history.old.items) (now_with C.means (word_of word.new) row.new queues.new flags.new env.new seats.new.items history.new.items) number step) }
     ensures err { IfErr result (λ fault. (now_with C.means (word_of word.new) row.new queues.new flags.new env.new seats.new.items history.new.items ≡ now_with C.means (word_of word.old) row.old queues.old flags.old env.old seats.old.items history.old.items) × StepFault (now_with C.means (word_of word.old) row.old queues.old flags.old env.old seats.old.items history.old.items) number fault) }

@@ -1,19 +1,22 @@
 //! The world: the lock with its row, a clock and notes, and beside it counters and once cells, one
 //! step at a time.
 
-ghost use Rattle.std.specs.Prelude.{◌≡◌, ◌≤◌, ◌<◌, ℕ, length, map, slice_index, MatchResult, IfOk, IfErr};
+ghost use Rattle.std.specs.Prelude.{◌≡◌, ◌≤◌, ◌<◌, ℕ, Some, None, length, map, slice_index, MatchResult, IfOk, IfErr};
 ghost use Rattle.ns_model.specs.Histories.{IsLegal, IsBySeats};
 ghost use Rattle.ns_model.specs.Seats.{is_in};
 ghost use Rattle.ns_queue.specs.Waiters.{shown_of};
 ghost use Rattle.ns_world.specs.Begins.{BeginFault};
 ghost use Rattle.ns_world.specs.Calls.{CallInRange};
+ghost use Rattle.ns_world.specs.Objects.{walk_in};
 ghost use Rattle.ns_world.specs.Shows.{lists_shown, wakes_owed};
 ghost use Rattle.ns_world.specs.Whole.{fresh_whole, whole_of, whole_busy, IsLawfulWhole, WholeBegins, WholeStep, WholeFault};
 ghost use Rattle.ns_world.specs.World.{now_of, RefusesWorld};
 
+use crate::among::{is_for_lock, tell_lock, told_by_lock};
 use crate::call::Call;
 use crate::environment::Environment;
 use crate::fault::Fault;
+use crate::object_walk::ObjectWalk;
 use crate::objects::Objects;
 use crate::operate::{begin_on, operate, with_busy};
 use crate::room::Seated;
@@ -139,10 +142,43 @@ impl<C: Seated<N>, const N: usize> World<C, N> {
         ensures ok { IfOk result (λ step. WholeStep (whole_of C.means self.old) (whole_of C.means self.new) seat step) }
         ensures err { IfErr result (λ fault. (whole_of C.means self.new ≡ whole_of C.means self.old) × WholeFault (whole_of C.means self.old) seat fault) }
     {
-        if let Some(walk) = self.objects.walk(seat) {
-            return Ok(operate(&self.env, &mut self.objects, seat, walk));
+        match self.objects.walk(seat) {
+            Some(walk) => Ok(self.step_objects(seat, walk)),
+            None => self.step_lock(seat),
         }
-        step_at(
+    }
+
+    /// Makes the step that the seat's place on counters and once cells wants; and where a round is over that is
+    /// for the lock, tells that what it has shown.
+    fn step_objects(&mut self, seat: u8, walk: ObjectWalk) -> Step
+        requires { walk_in self.old.objects.walks seat ≡ Some walk }
+        ensures lawful { IsLawfulWhole (whole_of C.means self.new) }
+        ensures ok { WholeStep (whole_of C.means self.old) (whole_of C.means self.new) seat result }
+    {
+        let told = operate(&self.env, &mut self.objects, seat, walk);
+        let wait = self.objects.wait(seat);
+        if !is_for_lock(&wait, &walk, told) {
+            return told;
+        }
+        tell_lock(
+            &mut self.seats[seat as usize],
+            &mut self.objects,
+            seat,
+            wait,
+            walk,
+            told,
+        )
+    }
+
+    /// Makes one step of the seat's call on the lock, or on the clock and the notes; and tells a wait for
+    /// condition variables among notes and counters what it was.
+    fn step_lock(&mut self, seat: u8) -> Result<Step, Fault>
+        requires { walk_in self.old.objects.walks seat ≡ None }
+        ensures lawful { IsLawfulWhole (whole_of C.means self.new) }
+        ensures ok { IfOk result (λ step. WholeStep (whole_of C.means self.old) (whole_of C.means self.new) seat step) }
+        ensures err { IfErr result (λ fault. (whole_of C.means self.new ≡ whole_of C.means self.old) × WholeFault (whole_of C.means self.old) seat fault) }
+    {
+        let told = step_at(
             &mut self.word,
             &mut self.row,
             &mut self.queues,
@@ -151,7 +187,14 @@ impl<C: Seated<N>, const N: usize> World<C, N> {
             &mut self.seats,
             &mut self.history,
             seat,
-        )
+        )?;
+        match self.objects.wait(seat) {
+            None => Ok(told),
+            Some(wait) => {
+                let here = &self.seats[seat as usize];
+                Ok(told_by_lock(here, &mut self.objects, seat, wait, told))
+            }
+        }
     }
 
     /// All that has happened to the row and the variables, which is a legal history by seats of this

@@ -1,0 +1,99 @@
+-- The looks of a wait for any of a set of variables: it looks as it rests, and nowhere else; and while it does, its seat stands nowhere on the clock and the notes.
+use Rattle.std.proofs.Common.{◌≡◌, ℕ, Bool, true, cond, Option, None, Some, refl, ap, sym, subst}
+use Rattle.ns_env.specs.declared.limits.Limits.{Limits}
+use Rattle.ns_env.specs.declared.limits.Cause.{Cause}
+use Rattle.ns_model.specs.declared.cvs.Cvs.{Cvs}
+use Rattle.ns_model.specs.declared.event.Mode.{Mode}
+use Rattle.ns_model.specs.Truths.{Truths}
+use Rattle.ns_word.specs.declared.wait.Wait.{Wait}
+use Rattle.ns_word.specs.declared.wait.WaitPlace.TheVariants.{TestCells, TestLast, InQueuing, PayInWait, AwaitWakeInWait, LookOut, InLeaving}
+use Rattle.ns_word.specs.declared.wait.QueuePlace.TheVariants.{LookIn, Load, Take, ArmToWait, LoadToScan, QueueToWait}
+use Rattle.ns_word.specs.declared.wait.LeavePlace.TheVariants.{LeaveLoad}
+use Rattle.ns_word.specs.declared.act.Act.{Act}
+use Rattle.ns_word.specs.declared.act.Act.TheVariants.{Look}
+use Rattle.ns_word.specs.declared.act.Found.TheVariants.{Looked}
+use Rattle.ns_word.specs.declared.request.Request.TheVariants.{Await}
+use Rattle.ns_word.specs.declared.view.Held.{Held}
+use Rattle.ns_word.specs.declared.walk.Walk.{Walk}
+use Rattle.ns_word.specs.declared.walk.Walk.TheVariants.{InTry, InAcquire, InRelease, InCells, InWait, InSignal, InShow}
+use Rattle.ns_word.specs.Asked.{asked_of}
+use Rattle.ns_word.specs.Places.{IsForCondition, PlaceFits}
+use Rattle.ns_word.specs.Walks.{want_trying, want_acquiring, want_releasing, want_in_cells, want_leaving, want_signaling, want_showing, judge_of, want_of, got_of, walk_after}
+use Rattle.ns_word.proofs.Answers.{look_of_act, try_looks_not, acquire_looks_not, release_looks_not, cells_look_not, leaver_looks_not, judge_looks_not, signal_looks_not, show_looks_not}
+use Rattle.ns_world.specs.Among.{asks_for_any, waits_for_any}
+use Rattle.ns_world.specs.Looks.{look_of, look_place, looks_at}
+use Rattle.ns_world.specs.Meanings.{IsUnfinished}
+use Rattle.ns_world.specs.Performs.{step_of}
+
+module _ {C : Type 0} where
+  -- ---- where a wait looks
+
+  no_look : (act : Act C) (limits : Limits) → look_of_act act ≡ None → looks_at act ≡ Some limits → ⊥
+  no_look (Look by again) limits e f = absurd (cc)
+  no_look act limits e f = absurd (cc)
+
+  -- what holds of a wait that looks before it queues, and of one that looks as it rests, holds of each walk that looks
+  where_looks : (P : Walk C → Type 0) → ((wait : Wait C) (again : Bool) → P (InWait wait (InQueuing again LookIn))) → ((wait : Wait C) → P (InWait wait LookOut)) → (walk : Walk C) (limits : Limits) → looks_at (want_of walk) ≡ Some limits → P walk
+  where_looks P queues rests (InWait wait (InQueuing again LookIn)) limits e = queues wait again
+  where_looks P queues rests (InWait wait LookOut) limits e = rests wait
+  where_looks P queues rests (InWait wait (TestCells visit i)) limits e = absurd (cc)
+  where_looks P queues rests (InWait wait (TestLast visit i)) limits e = absurd (no_look (judge_of wait.on i) limits (judge_looks_not wait.on i) e)
+  where_looks P queues rests (InWait wait (InQueuing again Load)) limits e = absurd (cc)
+  where_looks P queues rests (InWait wait (InQueuing again (Take last))) limits e = absurd (cc)
+  where_looks P queues rests (InWait wait (InQueuing again (ArmToWait last))) limits e = absurd (cc)
+  where_looks P queues rests (InWait wait (InQueuing again (LoadToScan last i))) limits e = absurd (cc)
+  where_looks P queues rests (InWait wait (InQueuing again (QueueToWait last))) limits e = absurd (cc)
+  where_looks P queues rests (InWait wait PayInWait) limits e = absurd (cc)
+  where_looks P queues rests (InWait wait AwaitWakeInWait) limits e = absurd (cc)
+  where_looks P queues rests (InWait wait (InLeaving cause place)) limits e = absurd (no_look (want_leaving wait place) limits (leaver_looks_not wait place) e)
+  where_looks P queues rests (InTry mode place) limits e = absurd (no_look (want_trying mode place) limits (try_looks_not C mode place) e)
+  where_looks P queues rests (InAcquire aim place) limits e = absurd (no_look (want_acquiring aim place) limits (acquire_looks_not aim place) e)
+  where_looks P queues rests (InRelease releasing place) limits e = absurd (no_look (want_releasing releasing place) limits (release_looks_not C releasing place) e)
+  where_looks P queues rests (InCells place) limits e = absurd (no_look (want_in_cells place) limits (cells_look_not C place) e)
+  where_looks P queues rests (InSignal waking k place) limits e = absurd (no_look (want_signaling waking k place) limits (signal_looks_not C waking k place) e)
+  where_looks P queues rests (InShow place) limits e = absurd (no_look (want_showing place) limits (show_looks_not C place) e)
+
+  -- the walk is a wait that looks as it rests
+  pub record LooksOut (walk : Walk C) : Type 0 where
+    pub wait : Wait C
+    pub is : walk ≡ InWait wait LookOut
+
+  -- a wait for any of a set of variables looks there alone
+  pub looks_out : {N : ℕ} (truths : Truths C) (held : Option (Held C N)) (mode : Mode) (cvs : Cvs) (walk : Walk C) (limits : Limits) → looks_at (want_of walk) ≡ Some limits → asked_of walk ≡ Await (waits_for_any mode cvs) → PlaceFits truths (Some walk) held → LooksOut walk
+  looks_out {N} truths held mode cvs walk limits looks = where_looks (λ w. asked_of w ≡ Await (waits_for_any mode cvs) → PlaceFits truths (Some w) held → LooksOut w) queues rests walk limits looks where
+    queues : (wait : Wait C) (again : Bool) → asked_of (InWait wait (InQueuing again LookIn)) ≡ Await (waits_for_any mode cvs) → PlaceFits truths (Some (InWait wait (InQueuing again LookIn))) held → LooksOut (InWait wait (InQueuing again LookIn))
+    queues wait again asked fits = let for : Await wait ≡ Await (waits_for_any mode cvs) = asked in let is : wait ≡ waits_for_any mode cvs = cc in absurd (subst (λ (w : Wait C). IsForCondition w.on) is fits.0.1)
+
+    rests : (wait : Wait C) → asked_of (InWait wait LookOut) ≡ Await (waits_for_any mode cvs) → PlaceFits truths (Some (InWait wait LookOut)) held → LooksOut (InWait wait LookOut)
+    rests wait asked fits = record { wait = wait; is = refl }
+
+  -- ---- where a look leads
+
+  -- a look leads the walk on, to a place that doesn't look
+  pub record LeadsOn (N : ℕ) (walk : Walk C) (cause : Option Cause) : Type 0 where
+    pub after : Walk C
+    pub is : walk_after (got_of N walk (Looked cause)) ≡ Some after
+    pub looks_not : looks_at (want_of after) ≡ None
+    pub unfinished : IsUnfinished (step_of (got_of N walk (Looked cause)))
+
+  pub leads_on : (N : ℕ) (walk : Walk C) (cause : Option Cause) → LooksOut walk → LeadsOn N walk cause
+  leads_on N walk cause out = subst (λ w. LeadsOn N w cause) (sym out.is) (by cause) where
+    by : (cause : Option Cause) → LeadsOn N (InWait out.wait LookOut) cause
+    by None = record { after = InWait out.wait AwaitWakeInWait; is = refl; looks_not = refl; unfinished = tt }
+    by (Some cause) = record { after = InWait out.wait (InLeaving cause LeaveLoad); is = refl; looks_not = refl; unfinished = tt }
+
+  -- ---- where its seat stands on the clock and the notes
+
+  no_place : (act : Act C) → look_of_act act ≡ None → look_place act ≡ None
+  no_place (Look by again) e = absurd (cc)
+  no_place act e = refl
+
+  -- nowhere
+  pub unlooked : (walk : Walk C) → asks_for_any (asked_of walk) ≡ true → look_of (Some walk) ≡ None
+  unlooked (InWait wait place) e = ap (λ b. cond b None (look_place (want_of (InWait wait place)))) e
+  unlooked (InTry mode place) e = no_place (want_trying mode place) (try_looks_not C mode place)
+  unlooked (InAcquire aim place) e = no_place (want_acquiring aim place) (acquire_looks_not aim place)
+  unlooked (InRelease releasing place) e = no_place (want_releasing releasing place) (release_looks_not C releasing place)
+  unlooked (InCells place) e = no_place (want_in_cells place) (cells_look_not C place)
+  unlooked (InSignal waking k place) e = no_place (want_signaling waking k place) (signal_looks_not C waking k place)
+  unlooked (InShow place) e = no_place (want_showing place) (show_looks_not C place)

@@ -1,0 +1,290 @@
+-- A wait for condition variables among notes and counters keeps the law of a whole world, by each of its steps that concern the lock: it begins to wait there, a round tells it what it has shown, or it makes a step of its own.
+use Rattle.std.proofs.Common.{◌≡◌, ◌≢◌, ℕ, suc, ◌<◌, List, ◌++◌, Bool, true, false, cond, Option, None, Some, IsSome, is_some, length, take, drop, slice_get, slice_set, refl, ap, sym, ◌∙◌, subst, arith, inl}
+use Rattle.std.proofs.lemmas.List.{append-nil, length-set}
+use Rattle.std.proofs.lemmas.Option.{slice_get_within}
+use Rattle.ns_counters.specs.declared.object.ObjectEvent.{ObjectEvent}
+use Rattle.ns_counters.specs.declared.object.Setup.{Setup}
+use Rattle.ns_env.specs.Steps.{EnvPlain}
+use Rattle.ns_env.specs.declared.limits.Limits.{Limits}
+use Rattle.ns_env.proofs.Asks.{set_here}
+use Rattle.ns_word.specs.declared.act.Act.{Act}
+use Rattle.ns_word.specs.declared.act.Found.{Found}
+use Rattle.ns_word.specs.declared.request.Request.TheVariants.{Await}
+use Rattle.ns_word.specs.declared.view.SeatView.{SeatView}
+use Rattle.ns_word.specs.declared.walk.Walk.{Walk}
+use Rattle.ns_word.specs.Asked.{asked_of}
+use Rattle.ns_word.specs.Places.{PlaceFits}
+use Rattle.ns_word.specs.Walks.{got_of, walk_after, wait_first, want_of}
+use Rattle.ns_word.proofs.Acts.{view_fits}
+use Rattle.ns_word.proofs.Asked.{asked_stays}
+use Rattle.ns_word.proofs.Numbers.{split_at}
+use Rattle.ns_world.specs.declared.call.Start.TheVariants.{OnLock}
+use Rattle.ns_world.specs.declared.object_walk.ObjectWalk.{ObjectWalk}
+use Rattle.ns_world.specs.declared.object_walk.ObjectWalk.TheVariants.{InRound}
+use Rattle.ns_world.specs.declared.objects.AnyWait.{AnyWait}
+use Rattle.ns_world.specs.declared.objects.Objects.{Objects}
+use Rattle.ns_world.specs.declared.round.Round.{Round}
+use Rattle.ns_world.specs.declared.round.RoundPlace.TheVariants.{FirstClock}
+use Rattle.ns_world.specs.declared.step.Step.{Step}
+use Rattle.ns_world.specs.declared.step.Step.TheVariants.{Idle}
+use Rattle.ns_world.specs.Among.{asks_for_any, cause_of, round_due, shown_by, waited_after, waits_for_any}
+use Rattle.ns_world.specs.Calls.{mode_of, mode_waited}
+use Rattle.ns_world.specs.Items.{AreAmong, items_of}
+use Rattle.ns_world.specs.Looks.{look_of, looks_at}
+use Rattle.ns_world.specs.Meanings.{HasLedTo}
+use Rattle.ns_world.specs.ObjectMeanings.{Past}
+use Rattle.ns_world.specs.Objects.{AreThere, HasOperated, stood_at, wait_in, walk_in}
+use Rattle.ns_world.specs.ObjectWalks.{object_after, object_got}
+use Rattle.ns_world.specs.Whole.{Whole, BeginsToWait, EndsLook, HaveLedTo, IsLawfulWhole, LooksWhere, StandsBy, WaitSteps, WaitsOnLock, is_alone}
+use Rattle.ns_world.specs.World.{Now, Acts, IsLawfulWorld}
+use Rattle.ns_world.proofs.AnyLooks.{LeadsOn, LooksOut, leads_on, looks_out, unlooked}
+use Rattle.ns_world.proofs.Turns.{moves_stay}
+use Rattle.ns_world.proofs.Walks.{put_here, put_there, stands_within, wait_here, wait_there}
+use Rattle.ns_world.proofs.Wholes.{IsAlone, Rests, begun_rests, each_stands, goes_rests, stands_nowhere, stands_on}
+use Rattle.ns_world.proofs.WholeLed.{begins_to_wait_led, ends_look_led, wait_steps_led}
+
+-- which it is
+which : {A : Type 0} (o : Option A) → IsSome o → (x : A) × (o ≡ Some x)
+which (Some x) some = (x, refl)
+which None some = absurd (cc)
+
+none_if_not : {A : Type 0} (o : Option A) → is_some o ≡ false → o ≡ None
+none_if_not (Some x) e = absurd (cc)
+none_if_not None e = refl
+
+-- a round by which a wait looks is where the wait is to look
+pub looks_some : {C : Type 0} (round : Round) (walk : ObjectWalk) (act : Act C) → LooksWhere round (Some walk) act → IsSome (looks_at act)
+looks_some round (InRound by place) act looks = looks.1
+looks_some round walk act looks = absurd looks
+
+module _ {C : Type 0} {N : ℕ} (old new : Whole C N) (seat : ℕ) (lawful : IsLawfulWhole old) where
+  -- what has led to the world
+  abbrev past : Past
+  past = record { notes = lawful.lock.events; objects = lawful.events }
+
+  led : HasLedTo past old
+  led = (lawful.lock.env_lawful, lawful.objects_lawful)
+
+  pub low_if : (view : SeatView C N) → slice_get old.lock.state.views seat ≡ Some view → seat < 64
+  low_if view at = let few = lawful.lock.few in let below = slice_get_within old.lock.state.views seat view at in omega (arith, few, below)
+
+  -- ---- where a seat is put at a place on the objects, and into a wait on the lock, or into none
+
+  module _ (low : seat < 64) (words : List ℕ) (walks : List (Option ObjectWalk)) (walk : Option ObjectWalk) (wait : Option AnyWait) (many : length walks ≡ 64) (others : (other : ℕ) → other ≢ seat → walk_in walks other ≡ walk_in old.objects.walks other)
+      (becomes : new.objects ≡ record old.objects { words = words; walks = slice_set walks seat walk; waits = slice_set old.objects.waits seat wait }) where
+    pub setup_same : new.objects.setup ≡ old.objects.setup
+    setup_same = ap (λ (o : Objects). o.setup) becomes
+
+    pub stands_here : walk_in new.objects.walks seat ≡ walk
+    stands_here = ap (λ (o : Objects). walk_in o.walks seat) becomes ∙ put_here walks seat walk (omega (arith, low, many))
+
+    pub waits_here : wait_in new.objects.waits seat ≡ wait
+    waits_here = let all = lawful.wait_places in ap (λ (o : Objects). wait_in o.waits seat) becomes ∙ wait_here old.objects.waits seat wait (omega (arith, low, all))
+
+    stands_there : (other : ℕ) → other ≢ seat → walk_in new.objects.walks other ≡ walk_in old.objects.walks other
+    stands_there other ne = ap (λ (o : Objects). walk_in o.walks other) becomes ∙ put_there walks seat walk other ne ∙ others other ne
+
+    waits_there : (other : ℕ) → other ≢ seat → wait_in new.objects.waits other ≡ wait_in old.objects.waits other
+    waits_there other ne = ap (λ (o : Objects). wait_in o.waits other) becomes ∙ wait_there old.objects.waits seat wait other ne
+
+    -- The law holds where the seat stands as it may, and nothing of the others has changed.
+    stood_lawful : IsLawfulWorld new.lock → length new.lock.state.views ≡ length old.lock.state.views → new.lock.env ≡ old.lock.env → ((other : ℕ) → other ≢ seat → Rests old.lock new.lock other) → (events : List ObjectEvent) → HaveLedTo events new → StandsBy new seat wait → IsLawfulWhole new
+    stood_lawful now_lawful same env rests events led_to here = record {
+      lock = now_lawful;
+      seats = ap (λ (o : Objects). o.setup.seats) becomes ∙ lawful.seats ∙ sym same;
+      places = ap (λ (o : Objects). length o.walks) becomes ∙ length-set walks seat walk ∙ many;
+      wait_places = ap (λ (o : Objects). length o.waits) becomes ∙ length-set old.objects.waits seat wait ∙ lawful.wait_places;
+      stands = each_stands new seat wait waits_here here (λ other ne. subst (StandsBy new other) (sym (waits_there other ne))
+          (stands_on old new other (rests other ne) (stands_there other ne) setup_same (λ n made. subst (λ (e : EnvPlain). (e.notes n).made ≡ true) (sym env) made) (wait_in old.objects.waits other) (lawful.stands other)));
+      events = events;
+      objects_lawful = led_to;
+    }
+
+    there_still : (round : Round) → new.lock.env ≡ old.lock.env → AreThere old.objects.setup old.lock.env.notes round.items → AreThere new.objects.setup new.lock.env.notes round.items
+    there_still round env there = subst (λ (s : Setup). AreThere s new.lock.env.notes round.items) (sym setup_same) (subst (λ (e : EnvPlain). AreThere old.objects.setup e.notes round.items) (sym env) there)
+
+  -- where a round is over, the seat is put nowhere
+  module _ (walk : ObjectWalk) (stands : walk_in old.objects.walks seat ≡ Some walk) (then : Objects) (told : Step) (q : HasOperated old.lock.env seat walk old.objects then told) (wait : Option AnyWait) (becomes : new.objects ≡ stood_at then seat None wait) where
+    abbrev pub walks_over : List (Option ObjectWalk)
+    walks_over = slice_set old.objects.walks seat (object_after (object_got walk q.found))
+
+    pub many_over : length walks_over ≡ 64
+    many_over = length-set old.objects.walks seat _ ∙ lawful.places
+
+    pub others_over : (other : ℕ) → other ≢ seat → walk_in walks_over other ≡ walk_in old.objects.walks other
+    others_over other ne = put_there old.objects.walks seat (object_after (object_got walk q.found)) other ne
+
+    pub becomes_over : new.objects ≡ record old.objects { words = q.words; walks = slice_set walks_over seat None; waits = slice_set old.objects.waits seat wait }
+    becomes_over = becomes ∙ ap (λ (o : Objects). stood_at o seat None wait) q.becomes
+
+    pub low_over : seat < 64
+    low_over = let all = lawful.places in let low = stands_within old.objects.walks seat walk stands in omega (arith, all, low)
+
+  -- ---- a call begins to wait on the lock
+
+  module _ (step : Step) (p : BeginsToWait old new seat step) where
+    abbrev begun : SeatView C N
+    begun = record p.view { walk = Some (wait_first N (waits_for_any (mode_waited (mode_of p.view.held)) p.cvs)) }
+
+    abbrev wait_begun : AnyWait
+    wait_begun = record { round = p.round; shown = None }
+
+    begun_at_seat : slice_get new.lock.state.views seat ≡ Some begun
+    begun_at_seat = ap (λ (w : Now C N). slice_get w.state.views seat) p.begins ∙ set_here old.lock.state.views seat begun (slice_get_within old.lock.state.views seat p.view p.at)
+
+    begun_env : new.lock.env ≡ old.lock.env
+    begun_env = ap (λ (w : Now C N). w.env) p.begins
+
+    waits_now : WaitsOnLock new seat wait_begun
+    waits_now =
+        let over = becomes_over (InRound p.round p.place) p.walks p.then Idle p.operated (Some wait_begun) p.becomes in
+        let many = many_over (InRound p.round p.place) p.walks p.then Idle p.operated (Some wait_begun) p.becomes in
+        let others = others_over (InRound p.round p.place) p.walks p.then Idle p.operated (Some wait_begun) p.becomes in
+        let low = low_over (InRound p.round p.place) p.walks p.then Idle p.operated (Some wait_begun) p.becomes in
+        let nowhere = stands_here low p.operated.words _ None (Some wait_begun) many others over in
+        record {
+          view = begun;
+          at = begun_at_seat;
+          walk = wait_first N (waits_for_any (mode_waited (mode_of p.view.held)) p.cvs);
+          walks = refl;
+          mode = mode_waited (mode_of p.view.held);
+          cvs = p.cvs;
+          asked = refl;
+          among = p.among;
+          unasked = ap (λ (w : Now C N). slice_get w.asking seat) p.begins ∙ p.unasked;
+          there = there_still low p.operated.words _ None (Some wait_begun) many others over p.round begun_env (lawful.objects_lawful.each seat (InRound p.round p.place) p.walks).0;
+          looks = subst (λ w. LooksWhere p.round w (want_of (wait_first {C = C} N (waits_for_any (mode_waited (mode_of p.view.held)) p.cvs)))) (sym nowhere) refl;
+        }
+
+    pub begins_to_wait_keeps : IsLawfulWorld new.lock → IsLawfulWhole new
+    begins_to_wait_keeps now_lawful =
+        let over = becomes_over (InRound p.round p.place) p.walks p.then Idle p.operated (Some wait_begun) p.becomes in
+        let many = many_over (InRound p.round p.place) p.walks p.then Idle p.operated (Some wait_begun) p.becomes in
+        let others = others_over (InRound p.round p.place) p.walks p.then Idle p.operated (Some wait_begun) p.becomes in
+        let low = low_over (InRound p.round p.place) p.walks p.then Idle p.operated (Some wait_begun) p.becomes in
+        stood_lawful low p.operated.words _ None (Some wait_begun) many others over now_lawful (ap (λ (w : Now C N). length w.state.views) p.begins ∙ length-set old.lock.state.views seat begun) begun_env
+        (λ other ne. subst (λ (w : Now C N). Rests old.lock w other) (sym p.begins) (begun_rests old.lock seat p.view (OnLock (wait_first N (waits_for_any (mode_waited (mode_of p.view.held)) p.cvs))) other ne))
+        (lawful.events ++ p.operated.events) (begins_to_wait_led past old new seat step lawful led p).1.1 waits_now
+
+  -- ---- a step of a wait that is there
+
+  -- what the law says of the seat's place on the lock
+  place_fits : (view : SeatView C N) → slice_get old.lock.state.views seat ≡ Some view → PlaceFits old.lock.truths view.walk view.held
+  place_fits view at = (view_fits old.lock.truths (length old.lock.state.views) lawful.lock.few old.lock.history old.lock.state (take seat old.lock.state.views) view (drop (suc seat) old.lock.state.views) (split_at old.lock.state.views seat view at) lawful.lock.lawful).place
+
+  module _ (wait : AnyWait) (waits : wait_in old.objects.waits seat ≡ Some wait) where
+    pub there_as : WaitsOnLock old seat wait
+    there_as = subst (StandsBy old seat) waits (lawful.stands seat)
+
+    -- a round by which it looks
+    module _ (by : ObjectWalk) (stands : walk_in old.objects.walks seat ≡ Some by) where
+      looks_so : IsSome (looks_at (want_of there_as.walk))
+      looks_so = looks_some wait.round by (want_of there_as.walk) (subst (λ w. LooksWhere wait.round w (want_of there_as.walk)) stands there_as.looks)
+
+      pub limits_so : (limits : Limits) × (looks_at (want_of there_as.walk) ≡ Some limits)
+      limits_so = which (looks_at (want_of there_as.walk)) looks_so
+
+      pub out : LooksOut there_as.walk
+      out = looks_out old.lock.truths there_as.view.held there_as.mode there_as.cvs there_as.walk limits_so.0 limits_so.1 there_as.asked (subst (λ w. PlaceFits old.lock.truths w there_as.view.held) there_as.walks (place_fits there_as.view there_as.at))
+
+    -- a step on the lock
+    module _ (told : Step) (acts : Acts old.lock new.lock seat told) where
+      abbrev pub after : Option (Walk C)
+      after = walk_after (got_of N acts.goes.makes.walk acts.goes.found)
+
+      abbrev pub next : SeatView C N
+      next = record { seat = acts.goes.view.seat; walk = after; held = acts.goes.makes.held; owed = acts.goes.makes.owed }
+
+      pub same_walk : acts.goes.makes.walk ≡ there_as.walk
+      same_walk =
+          let views : Some acts.goes.view ≡ Some there_as.view = sym acts.goes.at ∙ there_as.at in
+          let view_is : acts.goes.view ≡ there_as.view = cc in
+          let walks : Some acts.goes.makes.walk ≡ Some there_as.walk = sym acts.goes.makes.walks ∙ ap (λ (v : SeatView C N). v.walk) view_is ∙ there_as.walks in cc
+
+      pub next_at : slice_get new.lock.state.views seat ≡ Some next
+      next_at = ap (λ vs. slice_get vs seat) acts.goes.others ∙ set_here old.lock.state.views seat next (slice_get_within old.lock.state.views seat acts.goes.view acts.goes.at)
+
+      asked_still : (walk : Walk C) → after ≡ Some walk → asked_of walk ≡ Await (waits_for_any there_as.mode there_as.cvs)
+      asked_still walk is = asked_stays C N acts.goes.makes.walk acts.goes.found walk is ∙ ap asked_of same_walk ∙ there_as.asked
+
+      unasked_still : (walk : Walk C) → after ≡ Some walk → slice_get new.lock.asking seat ≡ Some None
+      unasked_still walk is =
+          let nowhere : look_of after ≡ None = ap look_of is ∙ unlooked walk (ap asks_for_any (asked_still walk is)) in
+          ap (λ xs. slice_get xs seat) acts.goes.asking ∙ set_here old.lock.asking seat (look_of after) (slice_get_within old.lock.asking seat None there_as.unasked) ∙ ap Some nowhere
+
+      -- the wait stands there, where its walk is to look just where a round is
+      waits_at : (walk : Walk C) → after ≡ Some walk → (at : Option ObjectWalk) (wait' : AnyWait) → wait'.round ≡ wait.round → walk_in new.objects.walks seat ≡ at → LooksWhere wait.round at (want_of walk) → new.objects.setup ≡ old.objects.setup → WaitsOnLock new seat wait'
+      waits_at walk is at wait' same stands looks setup = record {
+        view = next;
+        at = next_at;
+        walk = walk;
+        walks = is;
+        mode = there_as.mode;
+        cvs = there_as.cvs;
+        asked = asked_still walk is;
+        among = subst (λ (r : Round). AreAmong there_as.cvs (items_of r.items)) (sym same) there_as.among;
+        unasked = unasked_still walk is;
+        there = subst (λ (r : Round). AreThere new.objects.setup new.lock.env.notes r.items) (sym same) (subst (λ (s : Setup). AreThere s new.lock.env.notes wait.round.items) (sym setup) (subst (λ (e : EnvPlain). AreThere old.objects.setup e.notes wait.round.items) (sym acts.goes.env) there_as.there));
+        looks = subst (λ (r : Round). LooksWhere r (walk_in new.objects.walks seat) (want_of walk)) (sym same) (subst (λ w. LooksWhere wait.round w (want_of walk)) (sym stands) looks);
+      }
+
+      views_same : length new.lock.state.views ≡ length old.lock.state.views
+      views_same = moves_stay old.lock new.lock seat told (inl acts)
+
+      rests_so : (other : ℕ) → other ≢ seat → Rests old.lock new.lock other
+      rests_so other ne = goes_rests old.lock new.lock seat told other ne acts.goes
+
+  -- ---- its look is over
+
+  module _ (step : Step) (p : EndsLook old new seat step) where
+    abbrev wait_shown : AnyWait
+    wait_shown = record { round = p.wait.round; shown = shown_by p.told }
+
+    pub leads : LeadsOn N p.acts.goes.makes.walk (cause_of (shown_by p.told))
+    leads = leads_on N p.acts.goes.makes.walk (cause_of (shown_by p.told)) (subst LooksOut (sym (same_walk p.wait p.waits step p.acts)) (out p.wait p.waits p.walk p.walks))
+
+    leads_there : walk_after (got_of N p.acts.goes.makes.walk p.acts.goes.found) ≡ Some leads.after
+    leads_there = ap (λ (f : Found). walk_after (got_of N p.acts.goes.makes.walk f)) p.looked ∙ leads.is
+
+    pub ends_look_keeps : IsLawfulWorld new.lock → IsLawfulWhole new
+    ends_look_keeps now_lawful =
+        let over = becomes_over p.walk p.walks p.then p.told p.operated (Some wait_shown) p.becomes in
+        let many = many_over p.walk p.walks p.then p.told p.operated (Some wait_shown) p.becomes in
+        let others = others_over p.walk p.walks p.then p.told p.operated (Some wait_shown) p.becomes in
+        let low = low_over p.walk p.walks p.then p.told p.operated (Some wait_shown) p.becomes in
+        let setup = setup_same low p.operated.words _ None (Some wait_shown) many others over in
+        let nowhere = stands_here low p.operated.words _ None (Some wait_shown) many others over in
+        stood_lawful low p.operated.words _ None (Some wait_shown) many others over now_lawful (views_same p.wait p.waits step p.acts) p.acts.goes.env (rests_so p.wait p.waits step p.acts)
+        (lawful.events ++ p.operated.events) (ends_look_led past old new seat step lawful led p).1.1
+        (waits_at p.wait p.waits step p.acts leads.after leads_there None wait_shown refl nowhere leads.looks_not setup)
+
+  -- ---- it makes a step of its own
+
+  module _ (step : Step) (p : WaitSteps old new seat step) where
+    pub wait_steps_keeps : IsLawfulWorld new.lock → IsLawfulWhole new
+    wait_steps_keeps now_lawful = by (after p.wait p.waits p.told p.acts) refl where
+      low : seat < 64
+      low = low_if (there_as p.wait p.waits).view (there_as p.wait p.waits).at
+
+      due : (walk : Walk C) (b : Bool) → is_some (looks_at (want_of walk)) ≡ b → LooksWhere p.wait.round (cond b (Some (InRound p.wait.round FirstClock)) None) (want_of walk)
+      due walk true is = (refl, is)
+      due walk false is = none_if_not (looks_at (want_of walk)) is
+
+      becomes_as : (walk : Option (Walk C)) → after p.wait p.waits p.told p.acts ≡ walk → new.objects ≡ waited_after old.objects seat p.wait walk
+      becomes_as walk is = p.becomes ∙ ap (waited_after old.objects seat p.wait) is
+
+      still : HaveLedTo lawful.events new
+      still = subst (λ es. HaveLedTo es new) (append-nil lawful.events) (wait_steps_led past old new seat step lawful led p).1
+
+      by : (walk : Option (Walk C)) → after p.wait p.waits p.told p.acts ≡ walk → IsLawfulWhole new
+      by None is =
+          let nowhere = stands_here low old.objects.words old.objects.walks None None lawful.places (λ other ne. refl) (becomes_as None is) in
+          let alone : IsAlone new.lock seat = λ view at. let same : Some (next p.wait p.waits p.told p.acts) ≡ Some view = sym (next_at p.wait p.waits p.told p.acts) ∙ at in let is_view : next p.wait p.waits p.told p.acts ≡ view = cc in subst (λ (v : SeatView C N). is_alone v.walk ≡ true) is_view (ap is_alone is) in
+          stood_lawful low old.objects.words old.objects.walks None None lawful.places (λ other ne. refl) (becomes_as None is) now_lawful (views_same p.wait p.waits p.told p.acts) p.acts.goes.env (rests_so p.wait p.waits p.told p.acts) lawful.events still
+          (stands_nowhere new seat nowhere alone)
+      by (Some walk) is =
+          let at = round_due p.wait walk in
+          let here = stands_here low old.objects.words old.objects.walks at (Some p.wait) lawful.places (λ other ne. refl) (becomes_as (Some walk) is) in
+          let setup = setup_same low old.objects.words old.objects.walks at (Some p.wait) lawful.places (λ other ne. refl) (becomes_as (Some walk) is) in
+          stood_lawful low old.objects.words old.objects.walks at (Some p.wait) lawful.places (λ other ne. refl) (becomes_as (Some walk) is) now_lawful (views_same p.wait p.waits p.told p.acts) p.acts.goes.env (rests_so p.wait p.waits p.told p.acts) lawful.events still
+          (waits_at p.wait p.waits p.told p.acts walk is at p.wait refl here (due walk (is_some (looks_at (want_of walk))) refl) setup)

@@ -1,0 +1,135 @@
+-- What stands at a place of a list of objects, and behind it.
+use Rattle.std.proofs.Common.{◌≡◌, ℕ, zero, suc, ◌<◌, nat_lt, ◌||◌, Bool, true, false, cond, List, [], ◌∷◌, take, drop, Option, Some, None, slice_get, refl, sym, ◌∙◌, ap, subst, arith, inl, inr, eq-eqb}
+use Rattle.std.proofs.lemmas.Bool.{eqb-true, ltb-true, ltb-false, or_cases}
+use Rattle.std.specs.List.{list_any}
+use Rattle.ns_model.specs.Tallies.{Every}
+use Rattle.ns_world.specs.declared.items.Item.{Item}
+use Rattle.ns_world.specs.declared.items.Items.{Items}
+use Rattle.ns_world.specs.declared.items.Item.TheVariants.{OnNote, OnCounter, OnVariable}
+use Rattle.ns_world.specs.Items.{IsLow, is_among, is_this, is_variable, item_at, items_of, place_in}
+
+nothing : {A : Type 0} (at : ℕ) (xs : List A) → xs ≡ [] → drop at xs ≡ []
+nothing zero xs e = e
+nothing (suc at) [] e = refl
+nothing (suc at) (x ∷ xs) e = absurd (cc)
+
+-- what is left from a place on of the first of a list
+left_of : {A : Type 0} (n at : ℕ) (xs : List A) (x : A) (more : List A) → drop at (take n xs) ≡ x ∷ more → (at < n) × (slice_get xs at ≡ Some x) × (drop (suc at) (take n xs) ≡ more)
+left_of zero at xs x more is = let none : [] ≡ x ∷ more = sym (nothing at (take zero xs) refl) ∙ is in absurd (cc)
+left_of (suc n) at [] x more is = let none : [] ≡ x ∷ more = sym (nothing at (take (suc n) []) refl) ∙ is in absurd (cc)
+left_of (suc n) zero (y ∷ xs) x more is = let same : y ≡ x = cc in (omega arith, ap Some same, cc)
+left_of (suc n) (suc at) (y ∷ xs) x more is = let on = left_of n at xs x more is in let low = on.0 in (omega (arith, low), on.1, on.2)
+
+-- and the other way about
+left_from : {A : Type 0} (n at : ℕ) (xs : List A) (x : A) → at < n → slice_get xs at ≡ Some x → drop at (take n xs) ≡ x ∷ drop (suc at) (take n xs)
+left_from zero at xs x low is = absurd (omega (arith, low))
+left_from (suc n) at [] x low is = absurd (cc)
+left_from (suc n) zero (y ∷ xs) x low is = let same : y ≡ x = cc in ap (λ z. z ∷ take n xs) same
+left_from (suc n) (suc at) (y ∷ xs) x low is = left_from n at xs x (omega (arith, low)) is
+
+-- where nothing stands, nothing is left
+none_from : {A : Type 0} (n at : ℕ) (xs : List A) → (at < n → slice_get xs at ≡ None) → drop at (take n xs) ≡ []
+none_from zero at xs none = nothing at (take zero xs) refl
+none_from (suc n) at [] none = nothing at (take (suc n) []) refl
+none_from (suc n) zero (y ∷ xs) none = let no = none (omega arith) in absurd (cc)
+none_from (suc n) (suc at) (y ∷ xs) none = none_from n at xs (λ low. none (omega (arith, low)))
+
+pub lower : (b : Bool) (at n : ℕ) → nat_lt at n ≡ b → at < n → b ≡ true
+lower true at n is low = refl
+lower false at n is low = let not = ltb-false at n is in absurd (omega (arith, not, low))
+
+-- the object from which on such are left
+pub listed : (items : Items) (at : ℕ) (item : Item) (more : List Item) → drop at (items_of items) ≡ item ∷ more → (item_at items at ≡ Some item) × (drop (suc at) (items_of items) ≡ more)
+listed items at item more is =
+    let here = left_of items.count at items.all item more is in
+    (ap (λ b. cond b (slice_get items.all at) None) (lower (nat_lt at items.count) at items.count refl here.0) ∙ here.1, here.2)
+
+found_by : {A : Type 0} (b : Bool) (at n : ℕ) (got : Option A) (x : A) → nat_lt at n ≡ b → cond b got None ≡ Some x → (at < n) × (got ≡ Some x)
+found_by true at n got x low is = (ltb-true at n low, is)
+found_by false at n got x low is = absurd (cc)
+
+-- what is left from an object on
+pub left_at : (items : Items) (at : ℕ) (item : Item) → item_at items at ≡ Some item → drop at (items_of items) ≡ item ∷ drop (suc at) (items_of items)
+left_at items at item is =
+    let here = found_by (nat_lt at items.count) at items.count (slice_get items.all at) item refl is in
+    left_from items.count at items.all item here.0 here.1
+
+-- nothing is left where there is no object
+pub none_left : (items : Items) (at : ℕ) → item_at items at ≡ None → drop at (items_of items) ≡ []
+none_left items at is = none_from items.count at items.all (λ low. ap (λ b. cond b (slice_get items.all at) None) (sym (lower (nat_lt at items.count) at items.count refl low)) ∙ is)
+
+-- nor behind it
+pub none_behind_it : (items : Items) (at : ℕ) → drop at (items_of items) ≡ [] → drop (suc at) (items_of items) ≡ []
+none_behind_it items at none = on (items_of items) at none where
+  on : {A : Type 0} (xs : List A) (at : ℕ) → drop at xs ≡ [] → drop (suc at) xs ≡ []
+  on [] at e = refl
+  on (x ∷ xs) zero e = absurd (cc)
+  on (x ∷ xs) (suc at) e = on xs at e
+
+-- and the other way about
+pub nothing_at : (items : Items) (at : ℕ) → drop at (items_of items) ≡ [] → item_at items at ≡ None
+nothing_at items at none = by (item_at items at) refl where
+  by : (item : Option Item) → item_at items at ≡ item → item ≡ None
+  by None is = refl
+  by (Some item) is = let some : [] ≡ item ∷ drop (suc at) (items_of items) = sym none ∙ left_at items at item is in absurd (cc)
+
+-- ---- the variables among objects
+
+low_if_is : (item : Item) (k : ℕ) → IsLow item → is_this k item ≡ true → k < 4
+low_if_is (OnNote note) k low is = absurd (cc)
+low_if_is (OnCounter counter) k low is = absurd (cc)
+low_if_is (OnVariable j) k low is = let same : j ≡ k = eqb-true j k is in subst (λ n. n < 4) same low
+
+-- a variable among objects is one of four
+pub low_if_among : (items : List Item) (k : ℕ) → Every IsLow items → is_among k items ≡ true → k < 4
+low_if_among [] k low is = absurd (cc)
+low_if_among (item ∷ items) k low is = elim (or_cases (is_this k item) (is_among k items) is) [
+  | inl here ↦ low_if_is item k low.0 here
+  | inr there ↦ low_if_among items k low.1 there
+]
+
+-- where a variable is among objects, it is this or that one
+pub some_among : (items : List Item) → list_any is_variable items ≡ true → (k : ℕ) × (is_among k items ≡ true)
+some_among [] some = absurd (cc)
+some_among (OnVariable k ∷ items) some = (k, rw (eq-eqb k k refl) refl)
+some_among (OnNote note ∷ items) some = some_among items some
+some_among (OnCounter counter ∷ items) some = some_among items some
+
+-- ---- the place of a variable
+
+this_is : (k : ℕ) (item : Item) → is_this k item ≡ true → item ≡ OnVariable k
+this_is k (OnNote note) is = absurd (cc)
+this_is k (OnCounter counter) is = absurd (cc)
+this_is k (OnVariable j) is = ap OnVariable (eqb-true j k is)
+
+-- there it stands
+place_drops : (k : ℕ) (items : List Item) → is_among k items ≡ true → (more : List Item) × (drop (place_in k items) items ≡ OnVariable k ∷ more)
+place_drops k [] is = absurd (cc)
+place_drops k (item ∷ items) is = by (is_this k item) refl (λ some. place_drops k items some) is where
+  by : (b : Bool) → is_this k item ≡ b → (is_among k items ≡ true → (more : List Item) × (drop (place_in k items) items ≡ OnVariable k ∷ more)) → (b || is_among k items) ≡ true → (more : List Item) × (drop (cond b 0 (suc (place_in k items))) (item ∷ items) ≡ OnVariable k ∷ more)
+  by true this rest some = (items, ap (λ x. x ∷ items) (this_is k item this))
+  by false this rest some = rest some
+
+-- and nowhere before
+before_place : (k : ℕ) (items : List Item) (i : ℕ) (more : List Item) → i < place_in k items → drop i items ≡ OnVariable k ∷ more → ⊥
+before_place k [] i more low is = absurd (omega (arith, low))
+before_place k (item ∷ items) i more low is = by (is_this k item) refl (λ j below there. before_place k items j more below there) i low is where
+  by : (b : Bool) → is_this k item ≡ b → ((j : ℕ) → j < place_in k items → drop j items ≡ OnVariable k ∷ more → ⊥) → (i : ℕ) → i < cond b 0 (suc (place_in k items)) → drop i (item ∷ items) ≡ OnVariable k ∷ more → ⊥
+  by true this rest i low is = absurd (omega (arith, low))
+  by false this rest zero low is =
+      let here : item ≡ OnVariable k = cc in
+      let no : false ≡ true = sym this ∙ ap (is_this k) here ∙ eq-eqb k k refl in absurd (cc)
+  by false this rest (suc i) low is = rest i (omega (arith, low)) is
+
+-- the place of a variable among objects is the first at which it stands
+pub first_place : (items : Items) (k : ℕ) → is_among k (items_of items) ≡ true → (item_at items (place_in k (items_of items)) ≡ Some (OnVariable k)) × ((i : ℕ) → i < place_in k (items_of items) → item_at items i ≡ Some (OnVariable k) → ⊥)
+first_place items k is =
+    let there = place_drops k (items_of items) is in
+    ((listed items (place_in k (items_of items)) (OnVariable k) there.0 there.1).0, λ i low at. before_place k (items_of items) i (drop (suc i) (items_of items)) low (left_at items i (OnVariable k) at))
+
+-- where none of them is a variable, no variable is among them
+pub none_among : (items : List Item) (k : ℕ) → list_any is_variable items ≡ false → is_among k items ≡ true → ⊥
+none_among [] k none is = absurd (cc)
+none_among (OnNote note ∷ items) k none is = none_among items k none is
+none_among (OnCounter counter ∷ items) k none is = none_among items k none is
+none_among (OnVariable j ∷ items) k none is = absurd (cc)

@@ -1,0 +1,334 @@
+-- A step on the objects that tells the lock what its round has shown, and a step on the lock of a wait for variables among them: what each is in the world, which is lawful after it.
+use Rattle.std.specs.List.{list_all}
+use Rattle.std.proofs.Common.{◌≡◌, ℕ, ◌<◌, ◌≤◌, not, Bool, true, false, List, [], ◌∷◌, Option, None, Some, IsSome, length, map, get_or, slice_get, slice_set, refl, ap, sym, ◌∙◌, subst, arith, inl, inr}
+use Rattle.std.proofs.lemmas.Bool.{ltb-true}
+use Rattle.std.proofs.lemmas.List.{append-nil, length-map}
+use Rattle.ns_counters.specs.declared.object.Setup.{Setup}
+use Rattle.ns_model.specs.Environments.{NoteStanding}
+use Rattle.ns_model.specs.Tallies.{Every}
+use Rattle.ns_model.specs.Truths.{Truths, QuietKeeps}
+use Rattle.ns_model.specs.declared.cvs.Cvs.{Cvs}
+use Rattle.ns_model.specs.declared.cvs.Variables.TheVariants.{Any}
+use Rattle.ns_model.specs.declared.event.Event.{Event}
+use Rattle.ns_model.specs.declared.event.Mode.{Mode}
+use Rattle.ns_queue.specs.Queues.{Lists}
+use Rattle.ns_word.specs.declared.act.Found.TheVariants.{Looked}
+use Rattle.ns_word.specs.declared.request.Request.TheVariants.{Await}
+use Rattle.ns_word.specs.declared.view.Held.{Held}
+use Rattle.ns_word.specs.declared.view.SeatView.{SeatView}
+use Rattle.ns_word.specs.declared.wait.Wait.{Wait}
+use Rattle.ns_word.specs.declared.walk.Walk.{Walk}
+use Rattle.ns_word.specs.declared.walk.Walk.TheVariants.{InWait}
+use Rattle.ns_word.specs.declared.word.Word.{Word}
+use Rattle.ns_word.specs.Asked.{asked_of}
+use Rattle.ns_word.specs.Places.{AreVariables, IsSettled, MayWait}
+use Rattle.ns_word.specs.Steps.{Effect, MayShow}
+use Rattle.ns_word.specs.Walks.{got_of, wait_first, want_of}
+use Rattle.ns_world.specs.declared.call.Start.TheVariants.{OnLock}
+use Rattle.ns_world.specs.declared.environment.Environment.{Environment}
+use Rattle.ns_world.specs.declared.items.Item.{Item}
+use Rattle.ns_world.specs.declared.items.Item.TheVariants.{OnNote, OnCounter, OnVariable}
+use Rattle.ns_world.specs.declared.object_walk.ObjectWalk.{ObjectWalk}
+use Rattle.ns_world.specs.declared.object_walk.ObjectWalk.TheVariants.{InRound}
+use Rattle.ns_world.specs.declared.objects.AnyWait.{AnyWait}
+use Rattle.ns_world.specs.declared.objects.Objects.{Objects}
+use Rattle.ns_world.specs.declared.seat.Seat.{Seat}
+use Rattle.ns_world.specs.declared.step.Step.{Step}
+use Rattle.ns_world.specs.declared.step.Step.TheVariants.{Went, Idle, Finished, Nothing}
+use Rattle.ns_word.specs.declared.walk.Next.{Next}
+use Rattle.ns_word.specs.declared.walk.Next.TheVariants.{On, Done}
+use Rattle.ns_word.specs.declared.walk.Next.TheVariants as TheNext
+use Rattle.ns_world.specs.Among.{asks_for_any, CanTell, HasTold, IsFew, at_will, cause_of, is_for_lock, shown_by, step_told, waited_after, waits_for_any}
+use Rattle.ns_world.specs.Asks.{plain_of}
+use Rattle.ns_world.specs.Calls.{mode_of, mode_waited}
+use Rattle.ns_world.specs.Items.{IsLow, items_of}
+use Rattle.ns_world.specs.Looks.{AsksFor, is_among, looks_at}
+use Rattle.ns_world.specs.Looked.{Sees}
+use Rattle.ns_world.specs.Objects.{HasOperated, WalkFits, is_there, wait_in, walk_in}
+use Rattle.ns_counters.specs.Objects.{ObjectStanding, objects_after}
+use Rattle.ns_env.specs.Steps.{EnvPlain}
+use Rattle.ns_world.specs.Performs.{Performs, seat_part, step_of, view_of}
+use Rattle.ns_world.specs.Whole.{Whole, BeginsToWait, EndsLook, IsLawfulWhole, LooksWhere, is_alone, MayWait as MayWaitOnLock, StandsAlone, StandsBy, WaitSteps, WaitsOnLock, WholeMoves, WholeStep, whole, whole_with}
+use Rattle.ns_world.specs.World.{Now, Acts, IsLawfulWorld, LooksNot, Moves, StepOf, now_with}
+use Rattle.ns_world.proofs.AnyLooks.{LooksOut}
+use Rattle.ns_world.proofs.Awaits.{begins_to_wait_keeps, ends_look_keeps, next, next_at, out, there_as, wait_steps_keeps}
+use Rattle.ns_world.proofs.Turns.{moves_stay}
+use Rattle.std.proofs.lemmas.Option.{slice_get_within}
+use Rattle.ns_world.proofs.Looking.{shown_effect}
+use Rattle.ns_world.proofs.Mapped.{got-map}
+use Rattle.ns_world.proofs.ObjectLaw.{first_of_all, rest_of_all}
+use Rattle.ns_world.proofs.Placed.{begun_here}
+use Rattle.ns_world.proofs.Places.{StartFits}
+use Rattle.ns_world.proofs.Worlds.{acts_found, acts_here, lawful_after, lawful_placed, settled_here, some_step, unasked_cleared}
+
+-- of several objects there are at most 16
+few_if : (setup : Setup) (now : ObjectStanding) (notes : ℕ → NoteStanding) (seat : ℕ) (walk : ObjectWalk) → WalkFits setup now notes seat walk → IsFew walk
+few_if setup now notes seat (InRound round place) fits = fits.0.0
+few_if setup now notes seat walk fits = tt
+
+pub few_here : {C : Type 0} {N : ℕ} (old : Whole C N) → IsLawfulWhole old → (seat : ℕ) (walk : ObjectWalk) → walk_in old.objects.walks seat ≡ Some walk → IsFew walk
+few_here old lawful seat walk stands = few_if old.objects.setup (objects_after old.objects.setup lawful.events) old.lock.env.notes seat walk (lawful.objects_lawful.each seat walk stands)
+
+-- a step on the objects changes no wait, so that what it tells is for the lock if it was
+pub as_it_was : (env : EnvPlain) (seat : ℕ) (walk : ObjectWalk) (objects then : Objects) (told : Step) (wait : Option AnyWait) (b : Bool) → HasOperated env seat walk objects then told → wait ≡ wait_in then.waits seat → is_for_lock wait walk told ≡ b → is_for_lock (wait_in objects.waits seat) walk told ≡ b
+as_it_was env seat walk objects then told wait b q is for_lock = ap (λ w. is_for_lock w walk told) (sym (is ∙ ap (λ (o : Objects). wait_in o.waits seat) q.becomes)) ∙ for_lock
+
+-- a step that was made is one of those that a step can be
+pub made_step : {C : Type 0} {N : ℕ} (old new : Whole C N) (seat : ℕ) (step : Step) → (Nothing ≡ step → ⊥) → WholeMoves old new seat step → WholeStep old new seat step
+made_step old new seat Nothing some p = absurd (some refl)
+made_step old new seat Went some p = p
+made_step old new seat Idle some p = p
+made_step old new seat (Finished reply) some p = p
+
+-- ---- what a seat may tell
+
+low_if_there : (setup : Setup) (notes : ℕ → NoteStanding) (item : Item) → is_there setup notes item ≡ true → IsLow item
+low_if_there setup notes (OnNote note) is = tt
+low_if_there setup notes (OnCounter counter) is = tt
+low_if_there setup notes (OnVariable k) is = ltb-true k 4 is
+
+all_low : (setup : Setup) (notes : ℕ → NoteStanding) (items : List Item) → list_all (is_there setup notes) items ≡ true → Every IsLow items
+all_low setup notes [] all = tt
+all_low setup notes (item ∷ items) all = (low_if_there setup notes item (first_of_all (is_there setup notes item) (list_all (is_there setup notes) items) all), all_low setup notes items (rest_of_all (is_there setup notes item) (list_all (is_there setup notes) items) all))
+
+-- a look of a wait for any of a set of variables goes by what is for its caller to say
+looks_will : {C : Type 0} (mode : Mode) (cvs : Cvs) (walk : Walk C) → asked_of walk ≡ Await (waits_for_any mode cvs) → LooksOut walk → looks_at (want_of walk) ≡ Some at_will
+looks_will mode cvs walk asked out =
+    let for : Await out.wait ≡ Await (waits_for_any mode cvs) = ap asked_of (sym out.is) ∙ asked in
+    let is : out.wait ≡ waits_for_any mode cvs = cc in
+    ap (λ w. looks_at (want_of w)) out.is ∙ ap (λ (w : Wait _). Some w.limits) is
+
+may_show : (shown : Option ℕ) → MayShow at_will (cause_of shown)
+may_show None = tt
+may_show (Some place) = refl
+
+-- a wait for variables begins where there is a section in hand
+section_fits : {C : Type 0} {N : ℕ} (truths : Truths C) (notes : ℕ → NoteStanding) (cvs : Cvs) (held : Option (Held C N)) → IsSome held → AreVariables (Any cvs) → IsSettled truths held → StartFits truths notes (OnLock (wait_first N (waits_for_any (mode_waited (mode_of held)) cvs))) held
+section_fits truths notes cvs None some there settled = absurd (cc)
+section_fits truths notes cvs (Some section) some there settled =
+    let may : MayWait truths (waits_for_any section.mode cvs) false section = record { mode = refl; unmet = there; settled = λ e. settled; back = λ e. absurd (cc) } in
+    ((refl, tt), ((may, tt), tt), tt, refl)
+
+-- who has a view is a seat
+pub of_views : {C : Type 0} {N : ℕ} (seats : List (Seat C N)) (i : ℕ) → i < length (map view_of seats) → i < length seats
+of_views seats i low = omega (arith, low, length-map seats view_of)
+
+-- a seat in a call on the objects is one of those that there are
+pub seat_within : {C : Type 0} {N : ℕ} (truths : Truths C) (word : Word) (row : List ℕ) (queues : Lists C) (flags : List ℕ) (env : Environment) (seats : List (Seat C N)) (history : List (Event C N)) (objects : Objects) → IsLawfulWhole (whole_with truths word row queues flags env seats history objects) → (i : ℕ) (walk : ObjectWalk) → walk_in objects.walks i ≡ Some walk → i < length seats
+seat_within truths word row queues flags env seats history objects lawful i walk stands = let low = lawful.objects_lawful.within i walk stands in let is = lawful.seats in omega (arith, low, is, length-map seats view_of)
+
+module _ {C : Type 0} {N : ℕ} (truths : Truths C) (some : 0 < N) (quiet : QuietKeeps N truths) (word : Word) (row : List ℕ) (queues : Lists C) (flags : List ℕ) (env : Environment) (seats : List (Seat C N)) (history : List (Event C N)) (objects : Objects) (lawful : IsLawfulWhole (whole_with truths word row queues flags env seats history objects)) (i : ℕ) (d : Seat C N) (within : i < length seats) where
+  abbrev old : Whole C N
+  old = whole_with truths word row queues flags env seats history objects
+
+  abbrev seat : Seat C N
+  seat = get_or seats i d
+
+  view_at : slice_get (map view_of seats) i ≡ Some (view_of (get_or seats i d))
+  view_at = got-map view_of seats i d within
+
+  ask_at : slice_get (map (λ s. s.asking) seats) i ≡ Some (get_or seats i d).asking
+  ask_at = got-map (λ s. s.asking) seats i d within
+
+  -- the law says of the seat where it waits
+  abbrev waits_as : (wait : AnyWait) → wait_in objects.waits i ≡ Some wait → WaitsOnLock old i wait
+  waits_as wait waits = there_as old old i lawful wait waits
+
+  alone_as : wait_in objects.waits i ≡ None → StandsAlone old i
+  alone_as waits = subst (StandsBy old i) waits (lawful.stands i)
+
+  walk_as : (wait : AnyWait) (waits : wait_in objects.waits i ≡ Some wait) → (get_or seats i d).walk ≡ Some (waits_as wait waits).walk
+  walk_as wait waits =
+      let s = waits_as wait waits in
+      let same : Some (view_of (get_or seats i d)) ≡ Some s.view = sym view_at ∙ s.at in
+      let is : view_of (get_or seats i d) ≡ s.view = cc in
+      ap (λ (v : SeatView C N). v.walk) is ∙ s.walks
+
+  unasked_as : (wait : AnyWait) (waits : wait_in objects.waits i ≡ Some wait) → (get_or seats i d).asking ≡ None
+  unasked_as wait waits = let same : Some (get_or seats i d).asking ≡ Some None = sym ask_at ∙ (waits_as wait waits).unasked in cc
+
+  -- of one that doesn't, where it is in a call on the objects
+  module _ (waits : wait_in objects.waits i ≡ None) (walk : ObjectWalk) (stands : walk_in objects.walks i ≡ Some walk) where
+    over_as : (get_or seats i d).walk ≡ None
+    over_as =
+        let idle = (alone_as waits).apart walk stands in
+        let same : Some (view_of (get_or seats i d)) ≡ Some idle.view = sym view_at ∙ idle.at in
+        let is : view_of (get_or seats i d) ≡ idle.view = cc in
+        ap (λ (v : SeatView C N). v.walk) is ∙ idle.idle
+
+    unasked_over : (get_or seats i d).asking ≡ None
+    unasked_over = let same : Some (get_or seats i d).asking ≡ Some None = sym ask_at ∙ ((alone_as waits).apart walk stands).unasked in cc
+
+  -- What is for the lock may be told to it.
+  pub can_tell : (walk : ObjectWalk) (told : Step) (wait : Option AnyWait) → wait_in objects.waits i ≡ wait → walk_in objects.walks i ≡ Some walk → is_for_lock wait walk told ≡ true → N ≤ 16 → CanTell (get_or seats i d) wait walk
+  can_tell walk told (Some wait) waits stands for_lock few = subst (λ w. IsSome w) (sym (walk_as wait waits)) refl
+  can_tell (InRound round place) Idle None waits stands for_lock few =
+      let s = alone_as waits in
+      let fits = lawful.objects_lawful.each i (InRound round place) stands in
+      let holds = subst (λ w. MayWaitOnLock w (get_or seats i d).held) stands (s.may (view_of (get_or seats i d)) view_at) in
+      (few, holds for_lock, fits.0.0, all_low objects.setup (plain_of env).notes (items_of round.items) fits.0.1, for_lock)
+  can_tell walk told None waits stands for_lock few = absurd (cc)
+
+  -- ---- its look is over
+
+  module _ (wait : AnyWait) (waits : wait_in objects.waits i ≡ Some wait) (walk : ObjectWalk) (stands : walk_in objects.walks i ≡ Some walk) (shown : Option ℕ) (place : Walk C) (at : (get_or seats i d).walk ≡ Some place) (next : Seat C N) (step : Step) (sees : Sees (get_or seats i d) place (cause_of shown) next step) where
+    same_place : (waits_as wait waits).walk ≡ place
+    same_place = let same : Some (waits_as wait waits).walk ≡ Some place = sym (walk_as wait waits) ∙ at in cc
+
+    looks_at_will : looks_at (want_of place) ≡ Some at_will
+    looks_at_will =
+        let s = waits_as wait waits in
+        subst (λ w. looks_at (want_of w) ≡ Some at_will) same_place (looks_will s.mode s.cvs s.walk s.asked (out old old i lawful wait waits walk stands))
+
+    -- it is a step of the wait
+    sees_performs : Performs truths (seat_part word row queues flags (get_or seats i d)) (get_or seats i d) history place (seat_part word row queues flags next) next history step
+    sees_performs = record {
+      found = Looked (cause_of shown);
+      commits = [];
+      effect = subst (λ (x : Seat C N). Effect truths (get_or seats i d).number (want_of place) (seat_part word row queues flags (get_or seats i d)) (Looked (cause_of shown)) (seat_part word row queues flags x) []) (sym sees.goes)
+          (shown_effect truths (get_or seats i d).number (want_of place) at_will (cause_of shown) (seat_part word row queues flags (get_or seats i d)) looks_at_will (may_show shown));
+      number = ap (λ (x : Seat C N). x.number) sees.goes;
+      goes = ap (λ (x : Seat C N). x.walk) sees.goes;
+      asking = ap (λ (x : Seat C N). x.asking) sees.goes;
+      tests = ap (λ (x : Seat C N). x.tests) sees.goes;
+      grows = sym (append-nil history);
+      answers = sees.answers;
+    }
+
+    sees_acts : (acts : Acts old.lock (now_with truths word row queues flags env (slice_set seats i next) history) i step) × (acts.goes.found ≡ Looked (cause_of shown))
+    unfolding sees_performs
+    sees_acts = (
+      acts_here truths some quiet word row queues flags env seats history lawful.lock i d within place at word row queues flags next history step sees_performs (unasked_as wait waits),
+      acts_found truths some quiet word row queues flags env seats history lawful.lock i d within place at word row queues flags next history step sees_performs (unasked_as wait waits),
+    )
+
+    sees_lawful : IsLawfulWorld (now_with truths word row queues flags env (slice_set seats i next) history)
+    sees_lawful = lawful_after truths some quiet word row queues flags env seats history lawful.lock i d within place at word row queues flags next history step sees_performs lawful.lock.events (unasked_cleared truths some quiet word row queues flags env seats history lawful.lock i d within (unasked_as wait waits))
+
+  -- ---- the lock was told
+
+  module _ (walk : ObjectWalk) (stands : walk_in objects.walks i ≡ Some walk) (then : Objects) (told : Step) (q : HasOperated (plain_of env) i walk objects then told) (next : Seat C N) (objects' : Objects) (step : Step) where
+    abbrev new : Whole C N
+    new = whole_with truths word row queues flags env (slice_set seats i next) history objects'
+
+    -- what it is in the world, which is lawful after it
+    pub told_here : (wait : Option AnyWait) → wait_in then.waits i ≡ wait → is_for_lock wait walk told ≡ true → HasTold (get_or seats i d) then i wait walk told next objects' step → WholeStep old new i step × IsLawfulWhole new
+    told_here wait waits for_lock p = by wait (sym (ap (λ (o : Objects). wait_in o.waits i) q.becomes) ∙ waits) walk stands told q for_lock p where
+      by : (wait : Option AnyWait) → wait_in objects.waits i ≡ wait → (walk : ObjectWalk) → walk_in objects.walks i ≡ Some walk → (told : Step) → HasOperated (plain_of env) i walk objects then told → is_for_lock wait walk told ≡ true → HasTold (get_or seats i d) then i wait walk told next objects' step → WholeStep old new i step × IsLawfulWhole new
+      by (Some wait) waits walk stands told q for_lock p =
+          let acts = sees_acts wait waits walk stands (shown_by told) p.0 p.1 next step p.2 in
+          let ends : EndsLook old new i step = record { wait = wait; waits = waits; walk = walk; walks = stands; told = told; for_lock = for_lock; then = then; operated = q; acts = acts.0; looked = acts.1; becomes = p.3 } in (
+            made_step old new i step (λ e. some_step (got_of N p.0 (Looked (cause_of (shown_by told)))) (e ∙ p.2.answers)) (inr (inr (inr (inl ends)))),
+            ends_look_keeps old new i lawful step ends (sees_lawful wait waits walk stands (shown_by told) p.0 p.1 next step p.2),
+          )
+      by None waits (InRound round place) stands Idle q for_lock p =
+          let over = over_as waits (InRound round place) stands in
+          let unasked = unasked_over waits (InRound round place) stands in
+          let holds = subst (λ w. MayWaitOnLock w (get_or seats i d).held) stands ((alone_as waits).may (view_of (get_or seats i d)) view_at) in
+          let start = OnLock (wait_first N (waits_for_any (mode_waited (mode_of (get_or seats i d).held)) p.0)) in
+          let fits = section_fits truths (plain_of env).notes p.0 (get_or seats i d).held (holds for_lock) p.2 (settled_here truths some quiet word row queues flags env seats history lawful.lock i d within over) in
+          let now_lawful = subst (λ (s : Seat C N). IsLawfulWorld (now_with truths word row queues flags env (slice_set seats i s) history)) (sym p.3) (lawful_placed truths some quiet word row queues flags env seats history lawful.lock i d within start over unasked fits) in
+          let begins : BeginsToWait old new i step = record {
+            round = round;
+            place = place;
+            walks = stands;
+            waits_not = waits;
+            named = for_lock;
+            then = then;
+            operated = q;
+            view = view_of (get_or seats i d);
+            at = view_at;
+            idle = over;
+            unasked = ask_at ∙ ap Some unasked;
+            cvs = p.0;
+            among = p.1;
+            begins = ap (λ (s : Seat C N). now_with truths word row queues flags env (slice_set seats i s) history) p.3 ∙ begun_here truths word row queues flags env seats history i d within start;
+            becomes = p.4;
+            answer = p.5;
+          } in (
+            made_step old new i step (λ e. let clash : Nothing ≡ Went = e ∙ p.5 in absurd (cc)) (inr (inr (inl begins))),
+            begins_to_wait_keeps old new i lawful step begins now_lawful,
+          )
+      by None waits walk stands told q for_lock p = absurd (cc)
+
+-- ---- a step on the lock
+
+among_asks : {C : Type 0} (walk : Walk C) → asks_for_any (asked_of walk) ≡ false → is_among walk ≡ false
+among_asks (InWait wait place) e = e
+among_asks walk e = refl
+
+if_not : (b : Bool) → not b ≡ true → b ≡ false
+if_not false e = refl
+if_not true e = absurd (cc)
+
+-- A seat that is at no place on the objects doesn't look there.
+pub looks_not : {C : Type 0} {N : ℕ} (old : Whole C N) (seat : ℕ) → IsLawfulWhole old → walk_in old.objects.walks seat ≡ None → LooksNot old.lock seat
+looks_not {C} {N} old seat lawful nowhere view walk at walks unasked = by (wait_in old.objects.waits seat) refl (lawful.stands seat) where
+  by : (wait : Option AnyWait) → wait_in old.objects.waits seat ≡ wait → StandsBy old seat wait → looks_at (want_of walk) ≡ None
+  by None is s =
+      let alone : is_alone (Some walk) ≡ true = ap is_alone (sym walks) ∙ s.alone view at in
+      let right : AsksFor (Some walk) None = subst (λ w. AsksFor w None) walks (lawful.lock.right seat view None at unasked) in
+      right (among_asks walk (if_not (asks_for_any (asked_of walk)) alone))
+  by (Some wait) is s =
+      let views : Some s.view ≡ Some view = sym s.at ∙ at in
+      let view_is : s.view ≡ view = cc in
+      let same : Some s.walk ≡ Some walk = sym s.walks ∙ ap (λ (v : SeatView C N). v.walk) view_is ∙ walks in
+      let walk_is : s.walk ≡ walk = cc in
+      subst (λ w. looks_at (want_of w) ≡ None) walk_is (subst (λ w. LooksWhere wait.round w (want_of s.walk)) nowhere s.looks)
+
+some_told : {C : Type 0} (wait : AnyWait) (next : Next C) → Nothing ≡ step_told wait (step_of next) → ⊥
+some_told wait (On walk) e = absurd (cc)
+some_told wait (TheNext.Idle walk) e = absurd (cc)
+some_told wait (Done reply) e = absurd (cc)
+
+module _ {C : Type 0} {N : ℕ} (old : Whole C N) (new : Now C N) (seat : ℕ) (lawful : IsLawfulWhole old) (nowhere : walk_in old.objects.walks seat ≡ None) (wait : AnyWait) (waits : wait_in old.objects.waits seat ≡ Some wait) where
+  abbrev stood : WaitsOnLock old seat wait
+  stood = there_as old old seat lawful wait waits
+
+  -- one that waits for variables among objects is a step of that wait
+  moves_act : (told : Step) → Moves old.lock new seat told → Acts old.lock new seat told
+  moves_act told (inl acts) = acts
+  moves_act told (inr (inl asks)) =
+      let views : Some asks.view ≡ Some stood.view = sym asks.at ∙ stood.at in
+      let view_is : asks.view ≡ stood.view = cc in
+      let clash : None ≡ Some stood.walk = sym asks.idle ∙ ap (λ (v : SeatView C N). v.walk) view_is ∙ stood.walks in absurd (cc)
+  moves_act told (inr (inr looks)) = let clash : Some None ≡ Some (Some looks.place) = sym stood.unasked ∙ looks.stands in absurd (cc)
+
+  step_acts : (told : Step) → StepOf old.lock new seat told → Acts old.lock new seat told
+  step_acts Went p = moves_act Went p
+  step_acts Idle p = moves_act Idle p
+  step_acts (Finished reply) p = moves_act (Finished reply) p
+  step_acts Nothing p =
+      let views : Some p.1.view ≡ Some stood.view = sym p.1.at ∙ stood.at in
+      let view_is : p.1.view ≡ stood.view = cc in
+      let clash : None ≡ Some stood.walk = sym p.1.idle ∙ ap (λ (v : SeatView C N). v.walk) view_is ∙ stood.walks in absurd (cc)
+
+  pub seat_there : (told : Step) → StepOf old.lock new seat told → seat < length new.state.views
+  seat_there told p = let low = slice_get_within old.lock.state.views seat stood.view stood.at in let same = moves_stay old.lock new seat told (inl (step_acts told p)) in omega (arith, low, same)
+
+  pub seat_low : seat < 64
+  seat_low = let few = lawful.lock.few in let low = slice_get_within old.lock.state.views seat stood.view stood.at in omega (arith, few, low)
+
+  pub few_there : wait.round.items.count ≤ 16
+  few_there = stood.there.0
+
+  -- what it is in the world, which is lawful after it
+  pub waits_on : (told : Step) → StepOf old.lock new seat told → IsLawfulWorld new → (view : SeatView C N) → slice_get new.state.views seat ≡ Some view → (objects' : Objects) → objects' ≡ waited_after old.objects seat wait view.walk → (step : Step) → step ≡ step_told wait told →
+      WholeStep old (whole new objects') seat step × IsLawfulWhole (whole new objects')
+  waits_on told p now_lawful view at objects' becomes step answer =
+      let acts = step_acts told p in
+      let then : Whole C N = whole new objects' in
+      let views : Some (next old then seat lawful wait waits told acts) ≡ Some view = sym (next_at old then seat lawful wait waits told acts) ∙ at in
+      let view_is : next old then seat lawful wait waits told acts ≡ view = cc in
+      let steps : WaitSteps old then seat step = record {
+        wait = wait;
+        waits = waits;
+        elsewhere = nowhere;
+        told = told;
+        acts = acts;
+        becomes = becomes ∙ ap (λ (v : SeatView C N). waited_after old.objects seat wait v.walk) (sym view_is);
+        answer = answer;
+      } in (
+        made_step old then seat step (λ e. some_told wait (got_of N acts.goes.makes.walk acts.goes.found) (e ∙ answer ∙ ap (step_told wait) acts.goes.answers)) (inr (inr (inr (inr steps)))),
+        wait_steps_keeps old then seat lawful step steps now_lawful,
+      )

@@ -1,0 +1,132 @@
+-- What has led to a whole world, and a step or a call that begins, lead to the world after it.
+use Rattle.std.proofs.Common.{◌≡◌, ℕ, List, [], ◌++◌, Bool, true, false, cond, ◌<◌, length, Option, None, Some, is_some, arith, refl, sym, subst, inl, inr}
+use Rattle.std.proofs.lemmas.List.{append-nil, length-set}
+use Rattle.std.proofs.lemmas.Option.{slice_get_within}
+use Rattle.ns_env.specs.Steps.{EnvPlain}
+use Rattle.ns_word.specs.declared.walk.Walk.{Walk}
+use Rattle.ns_word.specs.Walks.{got_of, walk_after, want_of}
+use Rattle.ns_world.specs.declared.object_walk.ObjectWalk.TheVariants.{InRound}
+use Rattle.ns_world.specs.declared.objects.AnyWait.{AnyWait}
+use Rattle.ns_world.specs.declared.round.RoundPlace.TheVariants.{FirstClock}
+use Rattle.ns_world.specs.Among.{round_due, shown_by, waited_after}
+use Rattle.ns_world.specs.Looks.{looks_at}
+use Rattle.ns_counters.specs.declared.object.ObjectEvent.{ObjectEvent}
+use Rattle.ns_counters.specs.Objects.{objects_after}
+use Rattle.ns_world.specs.declared.call.Call.{Call}
+use Rattle.ns_world.specs.declared.object_walk.ObjectWalk.{ObjectWalk}
+use Rattle.ns_world.specs.declared.objects.Objects.{Objects}
+use Rattle.ns_world.specs.declared.step.Step.{Step}
+use Rattle.ns_world.specs.declared.step.Step.TheVariants.{Went, Idle, Finished, Nothing}
+use Rattle.ns_world.specs.Calls.{object_start}
+use Rattle.ns_world.specs.Meanings.{HasLedTo, done_in, nothing_done}
+use Rattle.ns_world.specs.ObjectMeanings.{Past, past_and}
+use Rattle.ns_world.specs.Objects.{AreLedTo, AreThere, HasOperated, stood_at, walk_in}
+use Rattle.ns_world.specs.Whole.{Whole, AreObjectsBy, BeginsToWait, EndsLook, HaveLedTo, IsLawfulWhole, LockSteps, Operates, StandsBy, WaitSteps, WaitsOnLock, WholeMoves, WholeStarts, WholeStep, notes_done, objects_done}
+use Rattle.ns_world.specs.World.{Now, AreEnvBy, LedTo, env_done}
+use Rattle.ns_world.proofs.EnvGrows.{moves_led}
+use Rattle.ns_world.proofs.ObjectLaw.{operates_keeps}
+use Rattle.ns_world.proofs.Walks.{stands_within}
+use Rattle.ns_world.proofs.Wholes.{Fit, begun_led, led_more, led_stood, moves_make}
+
+pub no_more : {C : Type 0} {N : ℕ} (past : Past) (world : Whole C N) → HasLedTo past world → HasLedTo (past_and past nothing_done) world
+no_more past world led = (subst (λ es. LedTo es world.lock) (sym (append-nil past.notes)) led.0, subst (λ es. HaveLedTo es world) (sym (append-nil past.objects)) led.1)
+
+module _ {C : Type 0} {N : ℕ} (past : Past) (old new : Whole C N) (seat : ℕ) (step : Step) (lawful : IsLawfulWhole old) (led : HasLedTo past old) where
+  -- by a step of the lock
+  pub lock_led : (p : LockSteps old new seat step) → AreEnvBy seat (env_done p.moves) × HasLedTo (past_and past (record { notes = env_done p.moves; objects = [] })) new
+  lock_led p =
+      let notes = moves_led past.notes old.lock new.lock seat step lawful.lock led.0 p.moves in
+      let objects = led_more past.objects old.objects old.lock.env.notes new.lock.env.notes (moves_make old.lock new.lock seat step p.moves) led.1 in
+      (notes.0, (notes.1, subst (λ es. AreLedTo es new.objects new.lock.env.notes) (sym (append-nil past.objects)) (subst (λ (o : Objects). AreLedTo past.objects o new.lock.env.notes) (sym p.same) objects)))
+
+  -- by one of a call on counters and once cells
+  pub operated_led : (p : Operates old new seat step) → AreObjectsBy seat p.operated.events × HasLedTo (past_and past (record { notes = []; objects = p.operated.events })) new
+  operated_led p =
+      let q = p.operated in
+      let kept = operates_keeps old.objects old.lock.env past.notes led.0.lawful.meets past.objects led.1 seat p.walk p.walks q.found q.words q.events q.effect in
+      let objects = subst (λ (o : Objects). AreLedTo (past.objects ++ q.events) o old.lock.env.notes) (sym q.becomes) kept.0 in
+      (kept.1, (subst (λ es. LedTo es new.lock) (sym (append-nil past.notes)) (subst (LedTo past.notes) (sym p.same) led.0), subst (λ (lock : Now C N). AreLedTo (past.objects ++ q.events) new.objects lock.env.notes) (sym p.same) objects))
+
+  -- where a round of a wait among objects is over
+  module _ (walk : ObjectWalk) (walks : walk_in old.objects.walks seat ≡ Some walk) (then : Objects) (told : Step) (q : HasOperated old.lock.env seat walk old.objects then told) where
+    over_led : (wait : Option AnyWait) → AreObjectsBy seat q.events × AreLedTo (past.objects ++ q.events) (stood_at then seat None wait) old.lock.env.notes
+    over_led wait =
+        let kept = operates_keeps old.objects old.lock.env past.notes led.0.lawful.meets past.objects led.1 seat walk walks q.found q.words q.events q.effect in
+        let inside : seat < length then.walks = subst (λ (o : Objects). seat < length o.walks) (sym q.becomes) (subst (λ n. seat < n) (sym (length-set old.objects.walks seat _)) (stands_within old.objects.walks seat walk walks)) in
+        let low : seat < then.setup.seats = subst (λ (o : Objects). seat < o.setup.seats) (sym q.becomes) (led.1.within seat walk walks) in
+        (kept.1, led_stood (past.objects ++ q.events) then old.lock.env.notes seat None wait inside low tt (subst (λ (o : Objects). AreLedTo (past.objects ++ q.events) o old.lock.env.notes) (sym q.becomes) kept.0))
+
+  pub begins_to_wait_led : (p : BeginsToWait old new seat step) → AreObjectsBy seat p.operated.events × HasLedTo (past_and past (record { notes = []; objects = p.operated.events })) new
+  begins_to_wait_led p =
+      let on = over_led (InRound p.round p.place) p.walks p.then Idle p.operated (Some (record { round = p.round; shown = None })) in
+      let objects = subst (λ (o : Objects). AreLedTo (past.objects ++ p.operated.events) o old.lock.env.notes) (sym p.becomes) on.1 in (
+        on.0,
+        (
+          subst (λ es. LedTo es new.lock) (sym (append-nil past.notes)) (subst (LedTo past.notes) (sym p.begins) led.0),
+          subst (λ (lock : Now C N). AreLedTo (past.objects ++ p.operated.events) new.objects lock.env.notes) (sym p.begins) objects,
+        ),
+      )
+
+  pub ends_look_led : (p : EndsLook old new seat step) → AreObjectsBy seat p.operated.events × HasLedTo (past_and past (record { notes = []; objects = p.operated.events })) new
+  ends_look_led p =
+      let on = over_led p.walk p.walks p.then p.told p.operated (Some (record { round = p.wait.round; shown = shown_by p.told })) in
+      let objects = subst (λ (o : Objects). AreLedTo (past.objects ++ p.operated.events) o old.lock.env.notes) (sym p.becomes) on.1 in (
+        on.0,
+        ((moves_led past.notes old.lock new.lock seat step lawful.lock led.0 (inl p.acts)).1, subst (λ (env : EnvPlain). AreLedTo (past.objects ++ p.operated.events) new.objects env.notes) (sym p.acts.goes.env) objects),
+      )
+
+  pub wait_steps_led : (p : WaitSteps old new seat step) → HasLedTo (past_and past (record { notes = []; objects = [] })) new
+  wait_steps_led p = ((moves_led past.notes old.lock new.lock seat step_there lawful.lock led.0 (inl p.acts)).1, subst (λ es. AreLedTo es new.objects new.lock.env.notes) (sym (append-nil past.objects)) (subst (λ (o : Objects). AreLedTo past.objects o new.lock.env.notes) (sym p.becomes) (waited after))) where
+    step_there : Step
+    step_there = p.told
+
+    after : Option (Walk C)
+    after = walk_after (got_of N p.acts.goes.makes.walk p.acts.goes.found)
+
+    stands : WaitsOnLock old seat p.wait
+    stands = subst (StandsBy old seat) p.waits (lawful.stands seat)
+
+    still : AreLedTo past.objects old.objects new.lock.env.notes
+    still = subst (λ (env : EnvPlain). AreLedTo past.objects old.objects env.notes) (sym p.acts.goes.env) led.1
+
+    there : AreThere old.objects.setup new.lock.env.notes p.wait.round.items
+    there = subst (λ (env : EnvPlain). AreThere old.objects.setup env.notes p.wait.round.items) (sym p.acts.goes.env) stands.there
+
+    low : seat < length old.lock.state.views
+    low = slice_get_within old.lock.state.views seat stands.view stands.at
+
+    at : (walk : Option ObjectWalk) (wait : Option AnyWait) → Fit old.objects.setup (objects_after old.objects.setup past.objects) new.lock.env.notes seat walk → AreLedTo past.objects (stood_at old.objects seat walk wait) new.lock.env.notes
+    at walk wait fits =
+        let few = lawful.lock.few in
+        let all = lawful.places in
+        let same = lawful.seats in
+        let below = low in
+        led_stood past.objects old.objects new.lock.env.notes seat walk wait (omega (arith, few, all, below)) (omega (arith, same, below)) fits still
+
+    due : (b : Bool) → Fit old.objects.setup (objects_after old.objects.setup past.objects) new.lock.env.notes seat (cond b (Some (InRound p.wait.round FirstClock)) None)
+    due true = (there, tt)
+    due false = tt
+
+    waited : (walk : Option (Walk C)) → AreLedTo past.objects (waited_after old.objects seat p.wait walk) new.lock.env.notes
+    waited None = at None None tt
+    waited (Some walk) = at (round_due p.wait walk) (Some p.wait) (due (is_some (looks_at (want_of walk))))
+
+  pub whole_led : (p : WholeMoves old new seat step) → AreEnvBy seat (notes_done p) × AreObjectsBy seat (objects_done p) × HasLedTo (past_and past (record { notes = notes_done p; objects = objects_done p })) new
+  whole_led (inl p) = let on = lock_led p in (on.0, tt, on.1)
+  whole_led (inr (inl p)) = let on = operated_led p in (tt, on.0, on.1)
+  whole_led (inr (inr (inl p))) = let on = begins_to_wait_led p in (tt, on.0, on.1)
+  whole_led (inr (inr (inr (inl p)))) = let on = ends_look_led p in (tt, on.0, on.1)
+  whole_led (inr (inr (inr (inr p)))) = (tt, tt, wait_steps_led p)
+
+-- what has led to a world, and the events of a step, which are its seat's, lead to the world after it
+pub steps_led : {C : Type 0} {N : ℕ} (past : Past) (old new : Whole C N) (seat : ℕ) (step : Step) → IsLawfulWhole old → HasLedTo past old → (p : WholeStep old new seat step) →
+    AreEnvBy seat (done_in old new seat step p).notes × AreObjectsBy seat (done_in old new seat step p).objects × HasLedTo (past_and past (done_in old new seat step p)) new
+steps_led past old new seat Nothing lawful led p = (tt, tt, no_more past new (subst (HasLedTo past) (sym p.0) led))
+steps_led past old new seat Went lawful led p = whole_led past old new seat Went lawful led p
+steps_led past old new seat Idle lawful led p = whole_led past old new seat Idle lawful led p
+steps_led past old new seat (Finished reply) lawful led p = whole_led past old new seat (Finished reply) lawful led p
+
+-- and when a call has begun
+pub starts_led : {C : Type 0} {N : ℕ} (history : List ObjectEvent) (old new : Whole C N) (seat : ℕ) (call : Call C) → IsLawfulWhole old → IsLawfulWhole new → WholeStarts old new seat call → HaveLedTo history old → HaveLedTo history new
+starts_led history old new seat call lawful now_lawful p led =
+    subst (λ (o : Objects). AreLedTo history o new.lock.env.notes) (sym p.becomes) (begun_led old lawful new.lock seat call p.starts now_lawful.lock p.elsewhere history led (object_start call) refl)

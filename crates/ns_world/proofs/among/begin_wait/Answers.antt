@@ -1,0 +1,20 @@
+use Rattle.std.proofs.Common.{sym, ap, ◌∙◌}
+use Rattle.ns_word.proofs.Enters.{are_some}
+use Rattle.ns_word.specs.Walks.{wait_first}
+use Rattle.ns_world.specs.declared.call.Start.TheVariants.{OnLock}
+use Rattle.ns_world.specs.Among.{waits_for_any}
+use Rattle.ns_world.specs.Begins.{placed}
+use Rattle.ns_world.specs.Calls.{mode_of, mode_waited}
+use Rattle.ns_world.specs.Items.{items_of}
+use Rattle.ns_world.proofs.Listed.{low_if_among, some_among}
+use Rattle.ns_world.proofs.among.begin_wait.Goals as goal
+
+pub returns : goal.returns
+returns g c =
+    let items = items_of c.args.items.now in
+    let one = some_among items c.requires.some in (
+      c.variables.result,
+      c.variables.ensures.among,
+      are_some c.variables.result one.0 c.variables.ensures.byte (c.variables.ensures.among one.0 ∙ one.1) (λ j is. low_if_among items j c.requires.low (sym (c.variables.ensures.among j) ∙ is)),
+      c.place.ensures ∙ ap (λ walk. placed c.args.seat.now (OnLock walk)) (c.wait.ensures.first ∙ ap (λ held. wait_first g.row.N (waits_for_any (mode_waited (mode_of held)) c.variables.result)) (sym c.in-Some.is)),
+    )

@@ -1,0 +1,75 @@
+use Rattle.std.proofs.Common.{◌≡◌, ℕ, ◌<◌, nat_lt, Bool, true, false, cond, not, ◌||◌, ◌&&◌, Option, Some, None, IsSome, is_some, refl, ap, sym, ◌∙◌, subst}
+use Rattle.std.specs.Prelude.{MatchOption}
+use Rattle.std.specs.List.{list_all}
+use Rattle.std.proofs.lemmas.Bool.{ltb-true}
+use Rattle.ns_counters.specs.declared.object.Setup.{Setup}
+use Rattle.ns_model.specs.declared.event.Mode.{Mode}
+use Rattle.ns_model.specs.Environments.{NoteStanding}
+use Rattle.ns_world.specs.Asks.{note_at}
+use Rattle.ns_world.specs.Calls.{CallFits, CallInRange, finds, object_start, start_of}
+use Rattle.ns_world.specs.Items.{have_variable, is_among, items_of}
+use Rattle.ns_world.specs.Objects.{is_there}
+use Rattle.ns_world.specs.declared.call.Call.{Call}
+use Rattle.ns_world.specs.declared.call.Call.TheVariants.{Add, Value, CounterWait, Once, Done, WaitAny}
+use Rattle.ns_world.specs.declared.call.Start.{Start}
+use Rattle.ns_world.specs.declared.call.Start.TheVariants.{OnObjects}
+use Rattle.ns_world.specs.declared.items.Items.{Items}
+use Rattle.ns_world.specs.declared.object_walk.ObjectWalk.{ObjectWalk}
+use Rattle.ns_world.proofs.Listed.{lower, none_among, some_among}
+use Rattle.ns_world.proofs.ObjectLaw.{first_of_all, rest_of_all}
+use Rattle.ns_world.proofs.call.Call.start.Goals as goal
+
+-- a section is in hand where a variable is named just where the test says so
+named_from : (mode : Option Mode) (items : Items) → (is_some mode || not (have_variable items)) ≡ true → (k : ℕ) → is_among k (items_of items) ≡ true → IsSome mode
+named_from (Some mode) items test k is = refl
+named_from None items test k is = by (have_variable items) refl test where
+  by : (b : Bool) → have_variable items ≡ b → not b ≡ true → IsSome {T = Mode} None
+  by false none e = absurd (none_among (items_of items) k none is)
+  by true some e = absurd (cc)
+
+named_to : (mode : Option Mode) (items : Items) → ((k : ℕ) → is_among k (items_of items) ≡ true → IsSome mode) → (is_some mode || not (have_variable items)) ≡ true
+named_to (Some mode) items named = refl
+named_to None items named = by (have_variable items) refl where
+  by : (b : Bool) → have_variable items ≡ b → not b ≡ true
+  by false none = refl
+  by true some = let one = some_among (items_of items) some in absurd (cc (named one.0 one.1))
+
+both : (a b : Bool) → a ≡ true → b ≡ true → (a && b) ≡ true
+both a b p q = rw p q
+
+-- what the test says of the call's need, and where the call begins
+record Judges {C : Type 0} (n : ℕ) (setup : Setup) (notes : ℕ → NoteStanding) (mode : Option Mode) (call : Call C) (walk : ObjectWalk) : Type 0 where
+  fits : finds setup notes mode call ≡ true → CallFits setup notes call mode
+  needs : CallFits setup notes call mode → finds setup notes mode call ≡ true
+  begins : OnObjects walk ≡ start_of n mode call
+
+module _ {C : Type 0} (n : ℕ) (setup : Setup) (notes : ℕ → NoteStanding) (mode : Option Mode) where
+  counted : (call : Call C) (walk : ObjectWalk) (at below : ℕ) → finds setup notes mode call ≡ nat_lt at below → ◌≡◌ {A = Type 0} (CallFits setup notes call mode) (at < below) → OnObjects walk ≡ start_of n mode call → Judges n setup notes mode call walk
+  counted call walk at below test fits begins = record {
+    fits = λ e. subst (λ (T : Type 0). T) (sym fits) (ltb-true at below (sym test ∙ e));
+    needs = λ p. test ∙ lower (nat_lt at below) at below refl (subst (λ (T : Type 0). T) fits p);
+    begins = begins;
+  }
+
+  judges : (call : Call C) (walk : ObjectWalk) → CallInRange n call → object_start call ≡ Some walk → Judges n setup notes mode call walk
+  judges (Add counter delta) walk range is = counted (Add counter delta) walk counter setup.counters refl refl (let same : Some _ ≡ Some walk = is in ap OnObjects (cc))
+  judges (Value counter) walk range is = counted (Value counter) walk counter setup.counters refl refl (cc)
+  judges (CounterWait counter deadline) walk range is = counted (CounterWait counter deadline) walk counter setup.counters refl refl (cc)
+  judges (Once once) walk range is = counted (Once once) walk once setup.cells refl refl (cc)
+  judges (Done once) walk range is = counted (Done once) walk once setup.cells refl refl (cc)
+  judges (WaitAny items deadline) walk range is = record {
+    fits = λ e. ((range.0, first_of_all (list_all (is_there setup notes) (items_of items)) (is_some mode || not (have_variable items)) e), named_from mode items (rest_of_all (list_all (is_there setup notes) (items_of items)) (is_some mode || not (have_variable items)) e));
+    needs = λ p. both (list_all (is_there setup notes) (items_of items)) (is_some mode || not (have_variable items)) p.0.1 (named_to mode items p.1);
+    begins = cc;
+  }
+  judges call walk range is = absurd (cc)
+
+started : {C : Type 0} (n : ℕ) (setup : Setup) (notes : ℕ → NoteStanding) (mode : Option Mode) (call : Call C) (walk : ObjectWalk) (met : Bool) (r : Option (Start C)) → met ≡ finds setup notes mode call → r ≡ cond met (Some (OnObjects walk)) None → Judges n setup notes mode call walk →
+    MatchOption r (CallFits setup notes call mode → ⊥) (λ s. (s ≡ start_of n mode call) × CallFits setup notes call mode)
+started n setup notes mode call walk true r test e judge = subst (λ o. MatchOption o (CallFits setup notes call mode → ⊥) (λ s. (s ≡ start_of n mode call) × CallFits setup notes call mode)) (sym e) (judge.begins, judge.fits (sym test))
+started n setup notes mode call walk false r test e judge = subst (λ o. MatchOption o (CallFits setup notes call mode → ⊥) (λ s. (s ≡ start_of n mode call) × CallFits setup notes call mode)) (sym e) (λ p. let no = test ∙ judge.needs p in absurd (cc))
+
+pub returns-in-Some : goal.returns-in-Some
+returns-in-Some g c =
+    started g.row.N c.args.setup.now (note_at c.args.notes.now) c.args.mode c.args.self c.in-Some.walk c.finds.result c.operate.result c.finds.ensures c.operate.ensures
+    (judges g.row.N c.args.setup.now (note_at c.args.notes.now) c.args.mode c.args.self c.in-Some.walk c.requires.range (sym c.on_objects.ensures ∙ c.in-Some.is))

@@ -1,0 +1,31 @@
+use Rattle.std.proofs.Common.{◌≡◌, ◌+◌, ℕ, suc, Some, None, arith, sym, ap, ◌∙◌}
+use Rattle.ns_world.specs.declared.items.Item.TheVariants.{OnNote, OnCounter, OnVariable}
+use Rattle.ns_world.specs.declared.round.Round.{Round}
+use Rattle.ns_world.specs.Items.{item_at}
+use Rattle.ns_world.specs.Rounds.{from_items, from_place}
+use Rattle.ns_world.proofs.Listed.{left_at, none_behind_it, none_left}
+use Rattle.ns_world.proofs.round.Round.from_place.Goals as goal
+use Rattle.ns_world.proofs.round.Round.from_place.Goals.{in-Some-OnVariable, in-None}
+
+pub returns-in-Some-OnNote : goal.returns-in-Some-OnNote
+returns-in-Some-OnNote c = sym (ap (from_items c.args.self.now c.args.clock c.loop-place.place) (left_at c.args.self.now.items c.loop-place.place (OnNote c.in-Some-OnNote.note) (sym c.get.ensures ∙ c.in-Some-OnNote.is ∙ ap Some c.in-Some-OnNote.field-0-is))) ∙ c.loop-place.invariant
+
+pub returns-in-Some-OnCounter : goal.returns-in-Some-OnCounter
+returns-in-Some-OnCounter c = sym (ap (from_items c.args.self.now c.args.clock c.loop-place.place) (left_at c.args.self.now.items c.loop-place.place (OnCounter c.in-Some-OnCounter.counter) (sym c.get.ensures ∙ c.in-Some-OnCounter.is ∙ ap Some c.in-Some-OnCounter.field-0-is))) ∙ c.loop-place.invariant
+
+-- a variable leads on to the next place
+past_variable : (round : Round) (clock at k : ℕ) → item_at round.items at ≡ Some (OnVariable k) → from_place round clock (at + 1) ≡ from_place round clock at
+past_variable round clock at k is = let on : at + 1 ≡ suc at = omega arith in ap (from_place round clock) on ∙ sym (ap (from_items round clock at) (left_at round.items at (OnVariable k) is))
+
+-- and so does no object, behind all
+past_none : (round : Round) (clock at : ℕ) → item_at round.items at ≡ None → from_place round clock (at + 1) ≡ from_place round clock at
+past_none round clock at is =
+    let on : at + 1 ≡ suc at = omega arith in
+    let none = none_left round.items at is in
+    ap (from_place round clock) on ∙ ap (from_items round clock (suc at)) (none_behind_it round.items at none) ∙ sym (ap (from_items round clock at) none)
+
+pub loop-place-preserved : goal.loop-place-preserved
+loop-place-preserved c = elim c.match-get.branch [
+  | in-Some-OnVariable w ↦ past_variable c.args.self.now c.args.clock c.loop-place.place _ (sym c.get.ensures ∙ w.in-Some-OnVariable.is ∙ ap Some w.in-Some-OnVariable.field-0-is) ∙ c.loop-place.invariant
+  | in-None w ↦ past_none c.args.self.now c.args.clock c.loop-place.place (sym c.get.ensures ∙ w.in-None.is) ∙ c.loop-place.invariant
+]

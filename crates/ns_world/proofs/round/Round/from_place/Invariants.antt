@@ -1,0 +1,7 @@
+use Rattle.std.proofs.Common.{◌≡◌}
+use Rattle.ns_world.specs.Rounds.{from_place}
+use Rattle.ns_world.proofs.round.Round.from_place.Given as goal
+
+-- what is left leads where all does
+abbrev pub invariant-loop-place : goal.invariant-loop-place
+invariant-loop-place l = from_place l.self l.clock l.place ≡ from_place l.self l.clock l.at

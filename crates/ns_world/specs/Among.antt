@@ -1,0 +1,108 @@
+-- Waits for condition variables among notes and counters. As such a call begins, a round looks at the notes and counters; where that shows nothing, the call leaves its section and waits on the lock for the variables; and whenever that wait looks, another round does so.
+use Rattle.std.specs.Prelude.{◌≡◌, ℕ, ◌≤◌, Bool, true, false, if◌then◌else◌, Option, Some, None, IsSome, is_some, unwrap_or}
+use Rattle.ns_env.specs.declared.limits.Cause.{Cause}
+use Rattle.ns_env.specs.declared.limits.Cause.TheVariants.{Expired}
+use Rattle.ns_env.specs.declared.limits.Limits.{Limits}
+use Rattle.ns_model.specs.declared.cvs.Cvs.{Cvs}
+use Rattle.ns_model.specs.declared.cvs.Variables.TheVariants.{Any}
+use Rattle.ns_model.specs.declared.event.Mode.{Mode}
+use Rattle.ns_model.specs.Tallies.{Every}
+use Rattle.ns_word.specs.declared.request.Request.{Request}
+use Rattle.ns_word.specs.declared.request.Request.TheVariants as TheRequest
+use Rattle.ns_word.specs.declared.wait.Subject.TheVariants.{OnVariables}
+use Rattle.ns_word.specs.declared.wait.Wait.{Wait}
+use Rattle.ns_word.specs.declared.walk.Walk.{Walk}
+use Rattle.ns_word.specs.Places.{AreVariables}
+use Rattle.ns_word.specs.Walks.{wait_first, want_of}
+use Rattle.ns_world.specs.declared.call.Start.TheVariants.{OnLock}
+use Rattle.ns_world.specs.declared.object_walk.ObjectWalk.{ObjectWalk}
+use Rattle.ns_world.specs.declared.object_walk.ObjectWalk.TheVariants.{InRound}
+use Rattle.ns_world.specs.declared.objects.AnyWait.{AnyWait}
+use Rattle.ns_world.specs.declared.objects.Objects.{Objects}
+use Rattle.ns_world.specs.declared.reply.Reply.{Reply}
+use Rattle.ns_world.specs.declared.reply.Reply.TheVariants.{Number, WokenBy}
+use Rattle.ns_world.specs.declared.round.RoundPlace.TheVariants.{FirstClock}
+use Rattle.ns_world.specs.declared.seat.Seat.{Seat}
+use Rattle.ns_world.specs.declared.step.Step.{Step}
+use Rattle.ns_world.specs.declared.step.Step.TheVariants.{Went, Idle, Finished}
+use Rattle.ns_world.specs.Begins.{placed}
+use Rattle.ns_world.specs.Calls.{mode_of, mode_waited}
+use Rattle.ns_world.specs.Items.{AreAmong, IsLow, have_variable, items_of, place_in}
+use Rattle.ns_world.specs.Looked.{Sees}
+use Rattle.ns_world.specs.Looks.{is_for_any, looks_at}
+use Rattle.ns_world.specs.Objects.{stood_at}
+
+-- What ends such a wait early is for its caller to say: a deadline that has always come lets each of its looks end it.
+abbrev pub at_will : Limits
+at_will = record { deadline = Some 0; note = None }
+
+-- the wait on the lock for any of these variables, from a section in this mode
+abbrev pub waits_for_any : {C : Type 0} → Mode → Cvs → Wait C
+waits_for_any mode cvs = record { mode = mode; on = OnVariables (Any cvs); limits = at_will }
+
+-- what it tells the lock that a round has shown this
+abbrev pub cause_of : Option ℕ → Option Cause
+cause_of None = None
+cause_of (Some place) = Some Expired
+
+-- whether the call is one on the lock that waits for any of a set of variables
+abbrev pub asks_for_any : {C : Type 0} → Request C → Bool
+asks_for_any (TheRequest.Await wait) = is_for_any wait.on
+asks_for_any request = false
+
+-- What a round's last step has told is for the lock: where its call waits there, whatever that is; else where it has found nothing, and condition variables are among the objects.
+abbrev pub is_for_lock : Option AnyWait → ObjectWalk → Step → Bool
+is_for_lock (Some wait) walk Idle = true
+is_for_lock (Some wait) walk (Finished reply) = true
+is_for_lock None (InRound round place) Idle = have_variable round.items
+is_for_lock wait walk told = false
+
+-- of several objects there are at most 16
+abbrev pub IsFew : ObjectWalk → Type 0
+IsFew (InRound round place) = round.items.count ≤ 16
+IsFew walk = Unit {0}
+
+-- what a round has shown, by what its last step has told
+abbrev pub shown_by : Step → Option ℕ
+shown_by (Finished (Number place)) = Some place
+shown_by told = None
+
+-- where a seat is to look at the objects, whose wait on the lock has come to this place
+abbrev pub round_due : {C : Type 0} → AnyWait → Walk C → Option ObjectWalk
+round_due wait walk = if is_some (looks_at (want_of walk)) then Some (InRound wait.round FirstClock) else None
+
+-- what a step on the lock leaves of a wait: nothing, where the call is over; else the seat looks where it is to
+abbrev pub waited_after : {C : Type 0} → Objects → ℕ → AnyWait → Option (Walk C) → Objects
+waited_after objects seat wait None = stood_at objects seat None None
+waited_after objects seat wait (Some walk) = stood_at objects seat (round_due wait walk) (Some wait)
+
+-- the place that is answered: where a variable has woken the wait, that of the first item that is this one; else what its last round has shown
+abbrev pub place_told : AnyWait → Option ℕ → ℕ
+place_told wait (Some k) = place_in k (items_of wait.round.items)
+place_told wait None = unwrap_or wait.shown 0
+
+-- the call answers that place
+abbrev pub reply_told : AnyWait → Reply → Reply
+reply_told wait (WokenBy by) = Number (place_told wait by)
+reply_told wait reply = reply
+
+-- what a step on the lock is for the call
+abbrev pub step_told : AnyWait → Step → Step
+step_told wait (Finished reply) = Finished (reply_told wait reply)
+step_told wait told = told
+
+-- ---- what a round tells the lock
+
+-- A round may tell the lock what it has shown: of a call that waits there, or of one that has a section in hand, and condition variables among its objects.
+abbrev pub CanTell : {C : Type 0} {N : ℕ} → Seat C N → Option AnyWait → ObjectWalk → Type 0
+CanTell seat (Some wait) walk = IsSome seat.walk
+CanTell {C} {N} seat None (InRound round place) = (N ≤ 16) × IsSome seat.held × (round.items.count ≤ 16) × Every IsLow (items_of round.items) × (have_variable round.items ≡ true)
+CanTell seat None walk = ⊥
+
+-- The seat has told what its round has shown, and it stands on the lock: its wait has seen that, or it begins to wait for just the variables among the objects.
+abbrev pub HasTold : {C : Type 0} {N : ℕ} → Seat C N → Objects → ℕ → Option AnyWait → ObjectWalk → Step → Seat C N → Objects → Step → Type 0
+HasTold {C} {N} seat objects number (Some wait) walk told seat' objects' step = (place : Walk C) × (seat.walk ≡ Some place) × Sees seat place (cause_of (shown_by told)) seat' step
+    × (objects' ≡ stood_at objects number None (Some (record { round = wait.round; shown = shown_by told })))
+HasTold {C} {N} seat objects number None (InRound round place) told seat' objects' step = (cvs : Cvs) × AreAmong cvs (items_of round.items) × AreVariables (Any cvs)
+    × (seat' ≡ placed seat (OnLock (wait_first N (waits_for_any (mode_waited (mode_of seat.held)) cvs)))) × (objects' ≡ stood_at objects number None (Some (record { round = round; shown = None }))) × (step ≡ Went)
+HasTold seat objects number None walk told seat' objects' step = ⊥
