@@ -1,5 +1,5 @@
 -- Waits for condition variables among notes and counters: which variables those are, and what the parts of such a wait tell together.
-use Rattle.std.proofs.Common.{◌≡◌, inl, inr, ℕ, ◌+◌, ◌-◌, ◌%◌, ◌^◌, ◌<◌, ◌≤◌, max, true, List, [], ◌∷◌, ◌++◌, append_assoc, Option, None, Some, sym, ◌∙◌, subst, arith}
+use Rattle.std.proofs.Common.{Bool, false, cond, ◌||◌, zero, suc, slice_get, ap, refl, eq-eqb, ◌≡◌, inl, inr, ℕ, ◌+◌, ◌-◌, ◌%◌, ◌^◌, ◌<◌, ◌≤◌, max, true, List, [], ◌∷◌, ◌++◌, append_assoc, Option, None, Some, sym, ◌∙◌, subst, arith}
 use Rattle.std.proofs.lemmas.Bool.{eqb-true, false≢true, or_cases}
 use prog.Memory.{align, size, up}
 use mir.Syntax.{Ty}
@@ -128,9 +128,34 @@ waiting_fits τ few = beside_small (align τ) (size τ) 2 (max 1 (max 1 (max 1 (
 pub some_wait : (cvs : Cvs) (items : List Item) (k : ℕ) → cvs.0 < 256 → AreAmong cvs items → Every IsLow items → is_among k items ≡ true → AreSome cvs
 some_wait cvs items k byte are low one = are_some cvs k byte (are k ∙ one) (λ j is. low_if_among items j low (sym (are j) ∙ is))
 
+this_is : (k : ℕ) (item : Item) → is_variable k item ≡ true → item ≡ Cv k
+this_is k (Note note) is = absurd (false≢true is)
+this_is k (Counter counter) is = absurd (false≢true is)
+this_is k (Cv j) is = ap Cv (eqb-true j k is)
+
+-- at the place of a variable it stands
+stands_at : (k : ℕ) (items : List Item) → is_among k items ≡ true → slice_get items (place_in k items) ≡ Some (Cv k)
+stands_at k [] is = absurd (false≢true is)
+stands_at k (item ∷ items) is = by (is_variable k item) refl (λ some. stands_at k items some) is where
+  by : (b : Bool) → is_variable k item ≡ b → (is_among k items ≡ true → slice_get items (place_in k items) ≡ Some (Cv k)) → (b || is_among k items) ≡ true → slice_get (item ∷ items) (cond b 0 (suc (place_in k items))) ≡ Some (Cv k)
+  by true this rest some = ap Some (this_is k item this)
+  by false this rest some = rest some
+
+-- and nowhere before
+stands_first : (k : ℕ) (items : List Item) (i : ℕ) → i < place_in k items → slice_get items i ≡ Some (Cv k) → ⊥
+stands_first k [] i low is = absurd (omega (arith, low))
+stands_first k (item ∷ items) i low is = by (is_variable k item) refl (λ j below there. stands_first k items j below there) i low is where
+  by : (b : Bool) → is_variable k item ≡ b → ((j : ℕ) → j < place_in k items → slice_get items j ≡ Some (Cv k) → ⊥) → (i : ℕ) → i < cond b 0 (suc (place_in k items)) → slice_get (item ∷ items) i ≡ Some (Cv k) → ⊥
+  by true this rest i low is = absurd (omega (arith, low))
+  by false this rest zero low is =
+      let same : Some item ≡ Some (Cv k) = is in
+      let here : item ≡ Cv k = cc in
+      false≢true (sym this ∙ ap (is_variable k) here ∙ eq-eqb k k refl)
+  by false this rest (suc i) low is = rest i (omega (arith, low)) is
+
 -- the place of the variable that has woken a wait
 pub place_by : (items : List Item) (deadline : Option ℕ) (old new : BothKnown) (cvs : Cvs) (k place : ℕ) → AreAmong cvs items → IsByOneOf cvs (Some k) → place ≡ place_in k items → PlaceBy items deadline old new (Some k) place
-place_by items deadline old new cvs k place are by at = (sym (are k) ∙ by, at)
+place_by items deadline old new cvs k place are by at = subst (λ p. PlaceBy items deadline old new (Some k) p) (sym at) (stands_at k items (sym (are k) ∙ by), stands_first k items)
 
 -- a place that is answered at the end of a part of a call is answered of the whole of it
 pub place_within : (items : List Item) (deadline : Option ℕ) (by : Option ℕ) (first old new : BothKnown) (place : ℕ) → BothGrow first old → BothGrow new new → PlaceBy items deadline old new by place → PlaceBy items deadline first new by place

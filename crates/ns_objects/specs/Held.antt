@@ -1,7 +1,7 @@
 -- What a wait for condition variables among notes and counters answers, which is called with a section in hand.
 use denote.Param.{layout}
 use denote.RattleType.{RattleType}
-use Rattle.std.specs.Prelude.{◌≡◌, ◌⊎◌, ℕ, suc, ◌<◌, ◌^◌, ◌==◌, Bool, true, false, if◌then◌else◌, List, [], ◌∷◌, ◌++◌, Option, None, Some}
+use Rattle.std.specs.Prelude.{◌≡◌, ◌⊎◌, ℕ, suc, ◌<◌, ◌^◌, ◌==◌, Bool, true, false, if◌then◌else◌, List, [], ◌∷◌, ◌++◌, Option, None, Some, slice_get}
 use Rattle.std.specs.List.{list_any}
 use Rattle.ns_model.specs.Cvs.{is_in}
 use Rattle.ns_model.specs.Histories.{row_after}
@@ -45,9 +45,9 @@ place_in k (item ∷ items) = if is_variable k item then 0 else suc (place_in k 
 abbrev pub AreAmong : Cvs → List Item → Type 0
 AreAmong cvs items = (k : ℕ) → is_in cvs k ≡ is_among k items
 
--- The place that is answered: where a variable has woken the wait, that of the first item that is this one; else what a wait for the notes and counters alone answers.
+-- The place that is answered: where a variable has woken the wait, one at which this variable stands, and before which it stands nowhere; else what a wait for the notes and counters alone answers.
 abbrev pub PlaceBy : List Item → Option ℕ → BothKnown → BothKnown → Option ℕ → ℕ → Type 0
-PlaceBy items deadline old new (Some k) place = (is_among k items ≡ true) × (place ≡ place_in k items)
+PlaceBy items deadline old new (Some k) place = (slice_get items place ≡ Some (Cv k)) × ((i : ℕ) → i < place → slice_get items i ≡ Some (Cv k) → ⊥)
 PlaceBy items deadline old new None place = AnyAnswers items deadline old new place
 
 -- The section that was in hand was committed, with the wait for these variables as its exit, and behind it, unless one of them has woken it, that it left them; nothing else. A section in the same mode is in hand, which has just begun, and says which of them has.

@@ -5,13 +5,14 @@ ghost use Rattle.std.specs.Prelude.{◌≡◌, ◌<◌, false, IfSome};
 ghost use Rattle.std.specs.Thread.{IsSync};
 ghost use Rattle.ns_model.specs.Environments.{IsMade};
 ghost use Rattle.ns_model.specs.Truths.{truths};
+ghost use Rattle.ns_objects.specs.Held.{IsSmall};
 
 use crate::held::AnyItem;
 use crate::objects::Objects;
 use crate::seat::ObjSeat;
 use ns_counters::counter::CounterFault;
 use ns_model::condition::Condition;
-use ns_monitor::caller::{Seat, WriteHeld};
+use ns_monitor::caller::{Caller, ReadHeld, Renewed, Seat, WriteHeld};
 use ns_monitor::monitor::Monitor;
 use ns_note::env::Env;
 use ns_note::note::Note;
@@ -235,6 +236,38 @@ fn wait_for_a_signal<R: Wait>(rt: &R, commons: &Commons, kit: Kit, note: Note) -
     Some(place)
 }
 
+/// Waits for variable 0 or the note, where the seat knows that, up to this tick, and comes back with a section
+/// like the one that it had in hand.
+fn wait_for_a_note<H: Renewed<Never, 1>, R: Wait>(
+    rt: &R,
+    commons: &Commons,
+    held: Caller<H, Never, 1>,
+    mut objects: ObjSeat,
+    mut watch: EnvSeat,
+    note: Note,
+    deadline: Option<u64>,
+) -> (Caller<H, Never, 1>, Option<usize>)
+    requires of { (held.monitor ≡ commons.now.monitor) × (objects.objects ≡ commons.now.objects) × (watch.env ≡ commons.now.env) }
+    requires small { IsSmall H.row }
+    ensures { result.0.monitor ≡ commons.now.monitor }
+{
+    if !commons.env.knows(&mut watch, note) {
+        return (held, None);
+    }
+    let items = [AnyItem::Cv(0), AnyItem::Note(note)];
+    let (held, place) = commons.objects.wait_any_held(
+        rt,
+        &mut objects,
+        &commons.monitor,
+        held,
+        &items,
+        deadline,
+        &commons.env,
+        &mut watch,
+    );
+    (held, Some(place))
+}
+
 /// Whether the other has told that its wait is over.
 fn is_told<R: Wait>(
     rt: &R,
@@ -402,6 +435,141 @@ fn a_signal_ends_it(rt: HostRuntime) -> Result<(), Fail> {
     };
     let came = signal_beside(&rt, &commons, first, second, note);
     assert_eq!(rt; came, (Some(1), true));
+    Ok(())
+}
+
+/// One thread waits for a variable or the note, in a section that it has in hand, and the other comes inside
+/// behind that and then notifies the note. The place that the first was answered, and whether the second found
+/// it told.
+fn notify_beside<R: Threads + Wait + Sync>(
+    rt: &R,
+    commons: &Commons,
+    first: Inside,
+    second: Kit,
+    note: Note,
+) -> (Option<usize>, bool)
+    requires of { (first.held.monitor ≡ commons.now.monitor) × (first.objects.objects ≡ commons.now.objects) × (first.watch.env ≡ commons.now.env) }
+    requires theirs { (second.seat.monitor ≡ commons.now.monitor) × (second.watch.env ≡ commons.now.env) }
+{
+    join(
+        rt,
+        move || -> Option<usize>
+            requires { IsSync R.row × (first.held.monitor ≡ commons.now.monitor) × (first.objects.objects ≡ commons.now.objects) × (first.watch.env ≡ commons.now.env) }
+        {
+            let Inside {
+                held,
+                objects,
+                watch,
+            } = first;
+            let (held, place) = wait_for_a_note(rt, commons, held, objects, watch, note, None);
+            tell(rt, &commons.monitor, held);
+            place
+        },
+        move || -> bool
+            requires { IsSync R.row × (second.seat.monitor ≡ commons.now.monitor) × (second.watch.env ≡ commons.now.env) }
+        {
+            let Kit {
+                seat,
+                objects: _,
+                mut watch,
+            } = second;
+            let (_, told) = is_told(rt, &commons.monitor, seat);
+            if commons.env.knows(&mut watch, note) {
+                commons.env.notify(&mut watch, note);
+            }
+            told
+        },
+    )
+}
+
+/// A note ends it, and its place is the answer: that of the variable before it counts. Who comes inside
+/// meanwhile finds that it has left its section, and waits.
+#[test]
+fn a_note_ends_it(rt: HostRuntime) -> Result<(), Fail> {
+    let Some((commons, mut first, second)) = two(rt.alloc(), 1) else {
+        panic!(rt; "no monitor, objects and environment")
+    };
+    let Ok(note) = commons.env.note_new(&mut first.watch, None, None) else {
+        panic!(rt; "no note")
+    };
+    let inside = enter(&rt, &commons, first);
+    let came = notify_beside(&rt, &commons, inside, second, note);
+    assert_eq!(rt; came, (Some(1), false));
+    Ok(())
+}
+
+/// Waits for variable 0 or the note, up to tick 5, in a read section, and ends the one with which it comes
+/// back. The place that it was answered, and what it read there.
+fn read_behind_a_wait<R: Wait>(
+    rt: &R,
+    commons: &Commons,
+    held: ReadHeld<Never, 1>,
+    objects: ObjSeat,
+    watch: EnvSeat,
+    note: Note,
+) -> (Option<usize>, u64)
+    requires { (held.monitor ≡ commons.now.monitor) × (objects.objects ≡ commons.now.objects) × (watch.env ≡ commons.now.env) }
+{
+    let (mut held, place) = wait_for_a_note(rt, commons, held, objects, watch, note, Some(5));
+    let read = commons.monitor.get(&mut held, 0);
+    commons.monitor.runlock(rt, held);
+    (place, read)
+}
+
+/// One thread waits for a variable or the note, in a read section that it has in hand, up to a tick to which
+/// the other moves the clock once it has come inside behind that and has written 1. The place that the first
+/// was answered, and what it read in the section with which it came back.
+fn write_beside<R: Threads + Wait + Sync>(
+    rt: &R,
+    commons: &Commons,
+    held: ReadHeld<Never, 1>,
+    objects: ObjSeat,
+    watch: EnvSeat,
+    second: Kit,
+    note: Note,
+) -> ((Option<usize>, u64), ())
+    requires of { (held.monitor ≡ commons.now.monitor) × (objects.objects ≡ commons.now.objects) × (watch.env ≡ commons.now.env) }
+    requires theirs { (second.seat.monitor ≡ commons.now.monitor) × (second.watch.env ≡ commons.now.env) }
+{
+    join(
+        rt,
+        move || -> (Option<usize>, u64)
+            requires { IsSync R.row × (held.monitor ≡ commons.now.monitor) × (objects.objects ≡ commons.now.objects) × (watch.env ≡ commons.now.env) }
+        { read_behind_a_wait(rt, commons, held, objects, watch, note) },
+        move || -> ()
+            requires { IsSync R.row × (second.seat.monitor ≡ commons.now.monitor) × (second.watch.env ≡ commons.now.env) }
+        {
+            let Kit {
+                seat,
+                objects: _,
+                mut watch,
+            } = second;
+            let mut held = commons.monitor.lock(rt, seat);
+            commons.monitor.set(&mut held, 0, 1);
+            commons.monitor.unlock(rt, held);
+            commons.env.advance(&mut watch, 5);
+        },
+    )
+}
+
+/// From a read section it comes back with another one, at the deadline: there it reads what was written
+/// meanwhile, and ends it as a reader does.
+#[test]
+fn a_read_section_comes_back(rt: HostRuntime) -> Result<(), Fail> {
+    let Some((commons, first, second)) = two(rt.alloc(), 1) else {
+        panic!(rt; "no monitor, objects and environment")
+    };
+    let Kit {
+        seat,
+        objects,
+        mut watch,
+    } = first;
+    let Ok(note) = commons.env.note_new(&mut watch, None, None) else {
+        panic!(rt; "no note")
+    };
+    let held = commons.monitor.rlock(&rt, seat);
+    let (came, ()) = write_beside(&rt, &commons, held, objects, watch, second, note);
+    assert_eq!(rt; came, (Some(2), 1));
     Ok(())
 }
 
