@@ -1,15 +1,17 @@
--- What a signal or a broadcast makes of the lists in hand.
+-- What a signal or a broadcast makes of the lists in hand, and a scan that takes nobody.
 use Rattle.std.specs.Prelude.{ℕ, Bool, false, if◌then◌else◌, List, [], ◌∷◌, Option, None, Some}
 use Rattle.ns_gate.specs.declared.queues.Turned.{Turned}
+use Rattle.ns_model.specs.Truths.{Truths}
 use Rattle.ns_queue.specs.declared.waiter.Waiter.{Waiter}
 use Rattle.ns_queue.specs.declared.waiter.Which.TheVariants.{Cv}
 use Rattle.ns_queue.specs.Queues.{Lists, cvs_without, waiters_of, without}
+use Rattle.ns_queue.specs.Scans.{woken_of}
 use Rattle.ns_queue.specs.Signals.{taken_set}
 use Rattle.ns_word.specs.Owed.{wakes_of}
 use Rattle.ns_word.specs.declared.owed.Owed.{Owed}
 use Rattle.ns_word.specs.Lists.{bits_of, has_some}
 use Rattle.ns_word.specs.declared.act.Waking.{Waking}
-use Rattle.ns_word.specs.Steps.{moved_to, taken_by}
+use Rattle.ns_word.specs.Steps.{meets_at, moved_to, taken_by}
 
 -- those whom it takes out of the list of its variable, where the lists stand so
 abbrev pub taken_from : {C : Type 0} → Waking → ℕ → Lists C → List (Waiter C)
@@ -26,6 +28,10 @@ lists_woken waking k held lists = moved_to held (taken_from waking k lists) (lis
 -- what the hand has made of the queues where nobody waits for the variable: it takes nobody, and they are as they stood
 abbrev pub woken_nobody : {C : Type 0} → ℕ → Lists C → Option Turned
 woken_nobody k lists = if has_some (waiters_of lists (Cv k)) then None else Some (record { some = false; bits = bits_of lists.lock })
+
+-- the same for a scan at this row, where it takes nobody
+abbrev pub scanned_nobody : {C : Type 0} → Truths C → List ℕ → Lists C → Option Turned
+scanned_nobody truths row lists = if has_some (woken_of (meets_at truths row) lists.lock) then None else Some (record { some = false; bits = bits_of lists.lock })
 
 -- to whom a wake is owed then: to those who were taken and not moved
 abbrev pub owed_woken : {C : Type 0} → Waking → ℕ → Bool → Lists C → List Owed

@@ -1,7 +1,7 @@
 //! The steps on the waiter queues, and what is done to the queues in a hand between them.
 
 ghost use Rattle.std.specs.Prelude.{◌≡◌, ◌<◌, ⊤, map, IfErr};
-ghost use Rattle.ns_gate.specs.Prelude.{stands_at, times, woken_of, tests_of, seats_of, IsPackable, row_in, bits_of, IsInRange, changed, meets_at, waited_in, CanStep, Carries, HasUnchangedQueues, Performed, act_returning, found_returned, lists_returned, lists_scanned, some_returned, the, tried, tried_for, word_returning};
+ghost use Rattle.ns_gate.specs.Prelude.{stands_at, times, woken_of, tests_of, seats_of, IsPackable, row_in, bits_of, IsInRange, changed, meets_at, waited_in, CanStep, Carries, HasUnchangedQueues, Performed, act_returning, found_returned, lists_returned, lists_scanned, scanned_nobody, some_returned, the, tried, tried_for, word_returning};
 
 use crate::gate::{Gate, GateSeat};
 use ns_model::condition::Condition;
@@ -151,6 +151,27 @@ impl<C: Condition<N>, const N: usize> Gate<C, N> {
         let queues = seat.slot_mut(&self.table.shared, 0);
         let stood = leave_self(queues, number, home);
         (stood, bits(queues))
+    }
+
+    /// What the hand has made of the queues for a scan at this row that takes nobody: they stay as they
+    /// stood. Where a scan takes somebody, answers nothing.
+    ///
+    /// Needs a seat of this gate, which has the queues in hand as they stood.
+    pub fn scan_nobody_in_hand(&self, seat: &mut GateSeat<C, N>, row: &[u64; N]) -> Option<Turned>
+        requires of { seat.old.table_id ≡ self.now }
+        requires has { HasUnchangedQueues seat.old.me }
+        ensures seat { (seat.new.table_id ≡ seat.old.table_id) × (seat.new.me.0 ≡ seat.old.me.0) }
+        ensures has { HasUnchangedQueues seat.new.me }
+        ensures nobody { result ≡ scanned_nobody C.means row.now (the seat.old.me.0).stood }
+    {
+        let queues = seat.slot_mut(&self.table.shared, 0);
+        if queues.wakes(row) {
+            return None;
+        }
+        Some(Turned {
+            some: false,
+            bits: bits(queues),
+        })
     }
 
     /// Takes out of the lock list in hand those whom a scan at this row wakes. Tells whom it took, and

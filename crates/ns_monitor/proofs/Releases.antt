@@ -1,8 +1,12 @@
 -- A scan of the lock list with the queues in hand, by a release or by a wait: what it takes and leaves.
-use Rattle.std.proofs.Common.{◌≡◌, ℕ, ◌==◌, Bool, true, false, not, ◌&&◌, ◌||◌, cond, List, [], ◌∷◌, length, filter, map, Option, None, Some, is_some, refl, ap, sym, ◌∙◌, ne_eqb, arith}
+use Rattle.std.proofs.Common.{◌≡◌, ℕ, ◌==◌, inl, inr, Bool, true, false, not, ◌&&◌, ◌||◌, cond, subst, List, [], ◌∷◌, length, filter, map, Option, None, Some, is_some, refl, ap, sym, ◌∙◌, ne_eqb, arith}
+use Rattle.std.proofs.lemmas.Bool.{cases_Bool}
 use Rattle.std.specs.List.{list_any}
-use Rattle.ns_gate.specs.Prelude.{SeatOf, the, Carries, lists_returned, Subject, OnCondition, OnVariables, some_returned, Truths, Lists, is_eligible, is_satisfied, left_of, woken_of, has_condition, reads, seats_of, writes, Waiter, row_in, bits_of, has_some, meets_at, waits_at, with_lock, Walk, Bits, Word}
+use Rattle.ns_gate.specs.Prelude.{SeatOf, the, Carries, GateView, HasUnchangedQueues, has_queues, lists_returned, scanned_nobody, Subject, OnCondition, OnVariables, some_returned, Truths, Lists, is_eligible, is_satisfied, left_of, woken_of, has_condition, reads, seats_of, writes, Waiter, row_in, bits_of, has_some, meets_at, waits_at, with_lock, Walk, Bits, Word}
 use Rattle.ns_gate.specs.declared.queues.Returning.{Returning}
+use Rattle.ns_gate.specs.declared.queues.Turned.{Turned}
+use Rattle.ns_gate.proofs.Calls.{works}
+use Rattle.ns_word.specs.declared.word.Releasing.{Releasing}
 use Rattle.ns_word.specs.declared.owed.Owed.{Owed}
 use Rattle.ns_word.specs.Owed.{called_by, called_of}
 use Rattle.ns_word.proofs.Scans.{are_called}
@@ -53,6 +57,23 @@ pub took_some : {C : Type 0} (ws : List (Waiter C)) (items : List ℕ) → items
 took_some [] items is = ap (λ (ns : List ℕ). not (length ns == 0)) is
 took_some (w ∷ ws) items is = ap (λ (ns : List ℕ). not (length ns == 0)) is ∙ ap not (ne_eqb (length (seats_of (w ∷ ws))) 0 (λ e. omega (arith, e)))
 
+-- nobody was taken where this tells of none, and then all stay
+none_of : {A : Type 0} (xs : List A) → has_some xs ≡ false → xs ≡ []
+none_of [] none = refl
+none_of (x ∷ xs) none = absurd (cc)
+
+none_left : {C : Type 0} (meets : C → Bool) (ws : List (Waiter C)) → has_some (woken_of meets ws) ≡ false → left_of meets ws ≡ ws
+none_left meets [] none = refl
+none_left meets (w ∷ ws) none = elim (cases_Bool (is_eligible meets w)) [
+  | inl goes ↦ absurd (let e = rw goes at none in cc)
+  | inr stays ↦ rw stays (ap (λ vs. w ∷ vs) (none_left meets ws (rw stays at none)))
+]
+
+-- what was made of the queues where a scan takes nobody
+turned_none : (b : Bool) (made turned : Turned) → cond b None (Some made) ≡ Some turned → (b ≡ false) × (made ≡ turned)
+turned_none true made turned e = absurd (cc)
+turned_none false made turned e = (refl, cc)
+
 -- ---- in a call
 
 -- what a scan at one row leaves in hand is what one at the other does
@@ -79,3 +100,31 @@ module _ {C : Type 0} {N : ℕ} (truths : Truths C) where
   pub calls_are : (walk : Walk C) (row seats : List ℕ) (vias : List (Option ℕ)) (owed : List Owed) (me now : SeatOf C N) → IsReady truths walk row me → now.0 ≡ me.0 → owed ≡ called_by seats vias
       → seats ≡ seats_of (woken_of (meets_at truths row) (the me.0).stood.lock) → vias ≡ map (λ (w : Waiter C). w.via) (woken_of (meets_at truths row) (the me.0).stood.lock) → owed ≡ called_of (woken_of (meets_at truths (row_in (the now.0).at.held)) (the now.0).stood.lock)
   calls_are walk row seats vias owed me now ready same is told names = are_called (woken_of (meets_at truths row) (the me.0).stood.lock) seats vias owed is told names ∙ (ap called_of ready.scans.woken ∙ (λ i. called_of (woken_of (meets_at truths (row_in (the (sym same i)).at.held)) (the (sym same i)).stood.lock)))
+
+  -- where a scan at this row takes nobody, the queues in hand as they stood are what is put back
+  pub hand_nobody : (releasing : Releasing) (walk : Walk C) (row : List ℕ) (turned : Turned) (me now : SeatOf C N) → IsReady truths walk row me → now.0 ≡ me.0 → HasUnchangedQueues now → scanned_nobody truths row (the me.0).stood ≡ Some turned
+      → HasInHand truths (Released releasing) turned now
+  hand_nobody releasing walk row turned me now ready same has told =
+      let lock = (the me.0).stood.lock in
+      let nobody = turned_none (has_some (woken_of (meets_at truths row) lock)) _ turned told in
+      let left = none_left (meets_at truths row) lock nobody.0 in
+      subst (λ t. HasInHand truths (Released releasing) t now) nobody.1 (hand_scanned (Released releasing) walk row (the me.0).at.seat false (bits_of lock) me now ready refl same
+      (λ last. has ∙ (λ i. (0, (the (same i)).stood) ∷ []) ∙ ap (λ l. (0, with_lock (the me.0).stood l) ∷ []) (sym left))
+      (λ last. sym nobody.0)
+      (λ last. ap bits_of (sym left)))
+
+  -- and no wake is owed
+  pub calls_none : (walk : Walk C) (row : List ℕ) (turned : Turned) (owed : List Owed) (me now : SeatOf C N) → IsReady truths walk row me → now.0 ≡ me.0 → scanned_nobody truths row (the me.0).stood ≡ Some turned
+      → owed ≡ called_of (woken_of (meets_at truths (row_in (the now.0).at.held)) (the now.0).stood.lock) → owed ≡ []
+  calls_none walk row turned owed me now ready same told owes =
+      let lock = (the me.0).stood.lock in
+      let nobody = sym (none_of (woken_of (meets_at truths row) lock) (turned_none (has_some (woken_of (meets_at truths row) lock)) _ turned told).0) in
+      owes ∙ sym (calls_are walk row [] [] [] me now ready same refl (ap seats_of nobody) (ap (map (λ (w : Waiter C). w.via)) nobody))
+
+  -- a row stays ready as the queues are looked at
+  pub ready_still : (walk : Walk C) (row : List ℕ) (me now : SeatOf C N) → has_queues (Some walk) ≡ true → IsReady truths walk row me → now.0 ≡ me.0 → HasUnchangedQueues now → IsReady truths walk row now
+  ready_still walk row me now in_hand ready same has = record {
+    at = works truths walk me now ready.at in_hand same;
+    taken = has;
+    scans = subst (λ (vs : List (GateView C N)). ScansAs truths row (row_in (the vs).at.held) (the vs).stood.lock) (sym same) ready.scans;
+  }

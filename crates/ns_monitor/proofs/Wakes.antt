@@ -5,8 +5,8 @@ use Rattle.ns_gate.proofs.Findings.{does}
 use Rattle.ns_gate.proofs.Stays.{HasKeptItsQueues, stays_by}
 use Rattle.ns_gate.proofs.Wakes.{found_nobody, moves_nobody, owes_the_woken, still_woken, takes_nobody, woken_found}
 use Rattle.ns_word.specs.declared.owed.Owed.{Owed}
-use Rattle.ns_word.specs.Owed.{called_of, wakes_of}
-use Rattle.ns_gate.specs.Prelude.{SeatOf, HasAnswered, HasReached, HasSince, HasUnchangedQueues, IsAtPlace, IsOrderly, SignalLoad, TableId, seats_of, woken_nobody, rest, the, Carries, CanStep, Performed, Truths, Lists, lists_woken, taken_from, bits_of, has_some, change_found, Event, LockState, Part, part_of, has_queues, owed_woken, is_held, ReturnQueues, WakeWaiters, Waking, Signaling, Broadcasting, Saw, Woke, WakeAndReturn, Succeeded, On, Walk, InSignal, Word}
+use Rattle.ns_word.specs.Owed.{wakes_of}
+use Rattle.ns_gate.specs.Prelude.{SeatOf, HasAnswered, HasReached, HasSince, HasUnchangedQueues, IsAtPlace, IsOrderly, SignalLoad, TableId, woken_nobody, rest, the, Carries, CanStep, Performed, Truths, Lists, lists_woken, taken_from, bits_of, has_some, change_found, Event, LockState, Part, part_of, has_queues, owed_woken, is_held, ReturnQueues, WakeWaiters, Waking, Signaling, Broadcasting, Saw, Woke, WakeAndReturn, Succeeded, On, Walk, InSignal, Word}
 use Rattle.ns_gate.specs.declared.queues.Turned.{Turned}
 use Rattle.ns_monitor.proofs.Standing.{saw_keeps}
 use Rattle.ns_monitor.specs.Prelude.{HasReturnedWoken, HasTakenAt, HasWoken, HasWokenInHand, Known, is_held_by_one, known_of, wake_event}

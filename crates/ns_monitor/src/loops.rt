@@ -23,6 +23,7 @@ impl<C: Condition<N>, const N: usize> Monitor<C, N> {
     /// Goes on by the word last seen, as the call does that loads the word at this place: acquires or
     /// releases, where the word lets it, or takes the queues; then this is the word. Goes round while
     /// another has the queues.
+    #[inline(always)]
     pub(crate) fn go_or_take<R: Wait>(
         &self,
         rt: &R,
@@ -110,6 +111,7 @@ impl<C: Condition<N>, const N: usize> Monitor<C, N> {
 
     /// Puts the queues back as they are in hand, for this; tries again with the word found where another
     /// has changed it meanwhile.
+    #[inline(always)]
     pub(crate) fn put_back<R: Wait>(
         &self,
         rt: &R,

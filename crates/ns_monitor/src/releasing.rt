@@ -1,9 +1,9 @@
 //! A release, and the scan of the lock list where somebody may have to be woken.
 
 ghost use Rattle.std.specs.Prelude.{◌≡◌, None};
-ghost use Rattle.ns_gate.specs.Prelude.{IsPackable, bits_of, Succeeded, InRelease, HasAnswered, HasSince, IsAtPlace, HasUnchangedQueues, the};
+ghost use Rattle.ns_gate.specs.Prelude.{IsPackable, bits_of, ScanAndRelease, Succeeded, InRelease, HasAnswered, HasSince, IsAtPlace, HasUnchangedQueues, the};
 ghost use Rattle.ns_word.specs.declared.request.Request.TheVariants as TheRequest;
-ghost use Rattle.ns_monitor.specs.Prelude.{ReleasesBy, scanning_at};
+ghost use Rattle.ns_monitor.specs.Prelude.{IsReady, ReleasesBy, scanning_at};
 
 use crate::going::Going;
 use crate::monitor::Monitor;
@@ -45,6 +45,9 @@ impl<C: Condition<N>, const N: usize> Monitor<C, N> {
 
     /// Scans the lock list in hand at the section's row, puts it back and releases, and pays the wakes
     /// of those whom the scan took.
+    ///
+    /// Where it takes nobody, as at most releases, no list of those whom it took is made: a function pays
+    /// for its lists as it is called, whether it uses them or not.
     fn scan_and_release<R: Wait>(
         &self,
         rt: &R,
@@ -65,7 +68,34 @@ impl<C: Condition<N>, const N: usize> Monitor<C, N> {
         let mut row = [0; N];
         let place = Walk::InRelease(releasing, ReleasePlace::ScanCells(parts, 0));
         self.load_to_scan(seat, parts.cond, place, &mut row);
-        let (scan, bits) = self.gate.scan_in_hand(seat, &row);
+        if let Some(turned) = self.gate.scan_nobody_in_hand(seat, &row) {
+            let returning = Returning::Released(releasing);
+            let place = Walk::InRelease(releasing, ReleasePlace::ScanAndRelease(parts));
+            self.put_back(rt, seat, returning, place, word, turned);
+            return;
+        }
+        self.scan_and_wake(rt, seat, releasing, word, &row);
+    }
+
+    /// The same with a row ready for the scan, where that takes somebody.
+    #[cold]
+    fn scan_and_wake<R: Wait>(
+        &self,
+        rt: &R,
+        seat: &mut GateSeat<C, N>,
+        releasing: Releasing,
+        word: LockWord,
+        row: &[u64; N],
+    )
+        requires of { seat.old.table_id ≡ self.now }
+        requires word { IsPackable word }
+        requires ready { IsReady C.means (InRelease releasing (ScanAndRelease word)) row.now seat.old.me }
+        ensures seat { seat.new.table_id ≡ self.now }
+        ensures since { HasSince None (the seat.old.me.0) (the seat.new.me.0) }
+        ensures released { HasAnswered C.means (TheRequest.Release releasing) Succeeded seat.new.me }
+    {
+        let parts = word.parts();
+        let (scan, bits) = self.gate.scan_in_hand(seat, row);
         let some = !scan.woken.is_empty();
         let returning = Returning::Released(releasing);
         let place = Walk::InRelease(releasing, ReleasePlace::ScanAndRelease(parts));

@@ -8,8 +8,7 @@ use Rattle.std.proofs.lemmas.List.{get_or_past}
 use Rattle.ns_model.specs.Tallies.{one_if}
 use Rattle.ns_queue.specs.declared.waiter.Waiter.{Waiter}
 use Rattle.ns_queue.specs.Waiters.{times_in}
-use Rattle.ns_queue.specs.declared.waiter.Which.TheVariants.{Cv}
-use Rattle.ns_queue.specs.Queues.{Lists, IsOrderly, beside, times, waiters_of}
+use Rattle.ns_queue.specs.Queues.{Lists, IsOrderly, beside, times}
 use Rattle.ns_queue.proofs.Seats.{room_for}
 
 module _ {C : Type 0} where

@@ -1,7 +1,7 @@
 -- Whom a scan takes behind the first, and what it tests for that.
-use Rattle.std.proofs.Common.{◌≡◌, ℕ, zero, suc, ◌+◌, ◌≤◌, ◌<◌, inl, inr, Bool, true, false, cond, not, ◌&&◌, ◌||◌, List, [], ◌∷◌, ◌++◌, length, filter, get_or, drop, take, Option, None, Some, is_some, refl, ap, sym, ◌∙◌, arith, append_assoc, Fits, w32}
+use Rattle.std.proofs.Common.{◌≡◌, ◌≢◌, ℕ, zero, suc, ◌+◌, ◌≤◌, ◌<◌, inl, inr, Bool, true, false, cond, not, ◌&&◌, ◌||◌, List, [], ◌∷◌, ◌++◌, length, filter, get_or, drop, take, Option, None, Some, is_some, refl, ap, sym, ◌∙◌, subst, eqb, nat_lt, arith, append_assoc, Fits, w32}
 use Rattle.std.specs.Prelude.{unwrap_or}
-use Rattle.std.proofs.lemmas.Bool.{cases_Bool}
+use Rattle.std.proofs.lemmas.Bool.{cases_Bool, cases_eq, eq-eqb, lt-ltb, ne_eqb}
 use Rattle.std.proofs.lemmas.List.{append-nil, length-append, length-drop, take-append-drop}
 use Rattle.ns_queue.specs.declared.waiter.Waiter.{Waiter}
 use Rattle.ns_queue.specs.Scans.{is_eligible, is_alike, tests_of, woken_of}
@@ -13,6 +13,7 @@ use Rattle.ns_queue.proofs.Seats.{few}
 use Rattle.ns_queue.proofs.Seeking.{all_sought, few_sought, front_most, goes_along, nobody_taken, tests_found}
 use Rattle.ns_queue.specs.Rings.{behind, from, first_seat, seated, IsRow}
 use Rattle.ns_queue.specs.Runs.{sought_seat}
+use Rattle.ns_queue.proofs.Hops.{seated_none}
 use Rattle.ns_queue.proofs.Places.{cut_at, found, from_none, row_at, stepped}
 
 -- the first of what is left, by its index
@@ -104,14 +105,32 @@ module _ {C : Type 0} (same : C → C → Bool) (meets : C → Bool) where
 
   -- ---- nobody is taken
 
-  pub none_taken : (s tests : ℕ) (ws : List (Waiter C)) → IsRow ws → s ≡ sought_seat meets ws → seated s ws ≡ None → tests ≡ tests_seeking same meets None ws →
-      ([] ≡ seats_of (woken_of meets ws)) × (tests ≡ tests_of same meets ws)
-  none_taken s tests ws row is none counts =
+  none_front : (s : ℕ) (ws : List (Waiter C)) → IsRow ws → s ≡ sought_seat meets ws → seated s ws ≡ None → in_front meets ws ≡ length ws
+  none_front s ws row is none =
       let k = in_front meets ws in
       let nothing : drop k ws ≡ [] = sought_from s ws row is ∙ (from_none s ws none).0 in
       let size = ap length nothing in
-      let all : k ≡ length ws = omega (arith, size, length-drop k ws, front_most same meets ws) in
+      omega (arith, size, length-drop k ws, front_most same meets ws)
+
+  pub none_taken : (s tests : ℕ) (ws : List (Waiter C)) → IsRow ws → s ≡ sought_seat meets ws → seated s ws ≡ None → tests ≡ tests_seeking same meets None ws →
+      ([] ≡ seats_of (woken_of meets ws)) × (tests ≡ tests_of same meets ws)
+  none_taken s tests ws row is none counts =
+      let all = none_front s ws row is none in
       (sym (ap seats_of (nobody_taken same meets ws all)), counts ∙ all_sought same meets ws all ∙ tests_is same meets ws)
+
+  some_sought : (vs ws : List (Waiter C)) → drop (in_front meets ws) ws ≡ vs → first_seat 64 vs ≢ 64 → nat_lt 0 (length (woken_of meets ws)) ≡ true
+  some_sought [] ws e ne = absurd (ne refl)
+  some_sought (w ∷ vs) ws e ne = lt-ltb 0 (length (woken_of meets ws)) (let size = ap length (woken_cut ws w vs e).woken in omega (arith, size))
+
+  -- a search comes to a place that isn't the one behind the list where somebody is taken, and only there
+  pub told_by_seat : (s : ℕ) (ws : List (Waiter C)) → IsRow ws → s ≡ sought_seat meets ws → not (eqb s 64) ≡ nat_lt 0 (length (woken_of meets ws))
+  told_by_seat s ws row is = elim (cases_eq s 64) [
+    | inl end ↦
+        let P : ℕ → Type 0 = λ k. seated k ws ≡ None in
+        let nobody = nobody_taken same meets ws (none_front s ws row is (subst P (sym end) (seated_none 64 ws (row.below 64 (omega arith))))) in
+        ap not (eq-eqb s 64 end) ∙ sym (ap (λ vs. nat_lt 0 (length vs)) nobody)
+    | inr ne ↦ ap not (ne_eqb s 64 ne) ∙ sym (some_sought (drop (in_front meets ws) ws) ws refl (λ e. ne (is ∙ e)))
+  ]
 
   -- those taken so far, the tests so far, and the rest
   pub record Reads (first : Option C) (truth : Option Bool) (at tests : ℕ) (woken : List ℕ) (ws : List (Waiter C)) : Type 0 where

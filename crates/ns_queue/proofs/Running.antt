@@ -10,7 +10,8 @@ use Rattle.ns_queue.proofs.Seats.{few, own_times, times_in-append}
 use Rattle.ns_queue.proofs.Seeking.{Unmet, alike_unmet, at_most_one, front_no, front_yes, seeking_alike, seeking_found, seeking_other, unmet_of}
 use Rattle.ns_queue.specs.Rings.{ahead, behind, from, first_seat, seated, IsRow}
 use Rattle.ns_queue.specs.Runs.{place_of, joins, head_of, RunsOn, sought_seat}
-use Rattle.ns_queue.proofs.Places.{found, from_none, cut_at, own, parted, row_at, row_front}
+use Rattle.ns_queue.proofs.Hops.{stands_not}
+use Rattle.ns_queue.proofs.Places.{found, from_none, cut_at, own, parted, row_at, row_front, row_own, row_parts}
 use Rattle.ns_queue.proofs.Links.{head_yes, head_no, on_at, on_rest}
 
 -- tests stay few
@@ -94,6 +95,26 @@ module _ {C : Type 0} (same : C → C → Bool) where
         behind_is = ap (λ k. behind k ws) last ∙ ap (behind e.v.seat) whole ∙ parted (ahead s ws ++ e.zs) after e.v (row_front (ahead s ws ++ e.zs) after e.v row');
         on = ap (from (first_seat 64 after)) apart ∙ (cut_at ((ahead s ws ++ e.zs) ++ e.v ∷ []) after (row_at ws _ apart row)).0;
       }
+
+  -- who links to itself behind a run's first begins a run
+  begins_there : (heads lasts : List ℕ) (w : Waiter C) (ys : List (Waiter C)) (n : ℕ) → times_in w.seat ys ≡ 0 → RunsOn same heads lasts (Some w) w.seat ys → n ≡ first_seat 64 ys → get_or heads n 0 ≡ n → n ≡ first_seat 64 (after_run (Some w) ys)
+  begins_there heads lasts w [] n out h next own = next
+  begins_there heads lasts w (u ∷ us) n out h next own = elim (cases_Bool (joins same u (Some w))) [
+    | inl goes ↦
+        let linked : get_or heads u.seat 0 ≡ w.seat = h.links.1 ∙ ap place_of (head_yes same u (Some w) goes) in
+        let P : ℕ → Type 0 = λ k. get_or heads k 0 ≡ k in
+        absurd ((stands_not w.seat u us out).0 (sym linked ∙ subst P next own))
+    | inr begins ↦ next ∙ sym (ap (first_seat 64) (after_other (Some w) u us begins))
+  ]
+
+  -- and so stands behind that run
+  pub next_begins : (heads lasts : List ℕ) (s n : ℕ) (ws : List (Waiter C)) (w : Waiter C) → IsRow ws → seated s ws ≡ Some w → RunsOn same heads lasts None 64 (from s ws) → n ≡ first_seat 64 (behind s ws) → get_or heads n 0 ≡ n → n ≡ first_seat 64 (behind (get_or lasts s 0) ws)
+  next_begins heads lasts s n ws w row is h next own =
+      let f = found s ws w is in
+      let P : List (Waiter C) → Type 0 = λ vs. RunsOn same heads lasts None 64 vs in
+      let rest = on_rest same heads lasts None 64 w (behind s ws) (subst P f.from_is h) in
+      let out = row_own w (behind s ws) (row_parts (ahead s ws) (w ∷ behind s ws) (row_at ws _ f.is row)).1 in
+      begins_there heads lasts w (behind s ws) n out rest next own ∙ sym (ap (first_seat 64) (next_run heads lasts s ws w row is h).behind_is)
 
   -- who is left to be looked at, from the first who is taken on
   abbrev from_taken : (C → Bool) → List (Waiter C) → List (Waiter C)

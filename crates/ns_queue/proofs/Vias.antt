@@ -1,5 +1,5 @@
 -- Which variables those name whom a scan takes.
-use Rattle.std.proofs.Common.{◌≡◌, ℕ, ◌≤◌, inl, inr, Bool, List, [], ◌∷◌, map, Some, Option, filter, arith, refl, ap, sym, ◌∙◌}
+use Rattle.std.proofs.Common.{◌≡◌, inl, inr, Bool, List, [], ◌∷◌, map, Some, filter, refl, ◌∙◌}
 use Rattle.std.proofs.lemmas.Bool.{cases_Bool}
 use Rattle.ns_model.specs.Tallies.{Every}
 use Rattle.ns_queue.specs.declared.waiter.Waiter.{Waiter}

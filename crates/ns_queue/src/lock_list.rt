@@ -1,13 +1,13 @@
 //! The lock list: waiters in a row of links, with links from the first of each run to its last.
 
-ghost use Rattle.std.specs.Prelude.{◌≡◌, ◌<◌, ◌≤◌, ◌↔◌, ◌&&◌, ◌∷◌, ◌++◌, not, [], IsTrue, None, length, map};
+ghost use Rattle.std.specs.Prelude.{◌≡◌, ◌<◌, ◌≤◌, ◌↔◌, ◌&&◌, ◌∷◌, ◌++◌, not, [], IsTrue, None, length, map, nat_lt, slice_index};
 ghost use Rattle.std.specs.Bool.{OnFalse};
 ghost use Rattle.std.specs.List.{list_any};
 ghost use Rattle.ns_queue.specs.Stages.{tests_seeking};
 ghost use Rattle.ns_queue.specs.Scans.{left_of, runs_of, tests_of, woken_of};
 ghost use Rattle.ns_queue.specs.Waiters.{has_condition, is_long, seats_of, shown_of, times_in, without_in, writes};
-ghost use Rattle.ns_queue.specs.Rings.{IsRow, without_all};
-ghost use Rattle.ns_queue.specs.Runs.{head_of, last_run, place_of, sought_seat};
+ghost use Rattle.ns_queue.specs.Rings.{IsRow, behind, first_seat, from, without_all};
+ghost use Rattle.ns_queue.specs.Runs.{RunsOn, head_of, last_run, place_of, sought_seat};
 
 use crate::alike::{is_met, joins, tests_for};
 use crate::gather::{gathered, shown_ring, vias_of};
@@ -43,6 +43,29 @@ impl<C: Condition<N>, const N: usize> Model for LockList<C, N> {
     ghost view = { λ r. r.ring };
 
     ghost invariant = { λ r. IsRuns C.means.same r.heads r.lasts r.ring };
+}
+
+/// The place behind the run that begins at this seat: that of the next run's first, or [`END`].
+///
+/// Needs a seat that stands in the row and begins a run there.
+fn beyond<C: Queueable<N>, const N: usize>(
+    ring: &Ring<C, N>,
+    heads: &[u8; 65],
+    lasts: &[u8; 65],
+    seat: u8,
+) -> u8
+    requires row { IsRow ring.now }
+    requires stands { 0 < times_in seat ring.now }
+    requires runs { RunsOn C.means.same heads.now lasts.now None 64 (from seat ring.now) }
+    ensures { result ≡ first_seat 64 (behind (slice_index lasts.now seat) ring.now) }
+{
+    // Who links to itself begins a run, and so is next. A processor guesses that, and then waits for one
+    // link and not for two, one behind the other, where each run has one waiter.
+    let next = ring.next(seat);
+    if heads[next as usize] == next {
+        return next;
+    }
+    ring.next(lasts[seat as usize])
 }
 
 impl<C: Queueable<N>, const N: usize> LockList<C, N> {
@@ -115,6 +138,7 @@ impl<C: Queueable<N>, const N: usize> LockList<C, N> {
     pub(crate) fn seek(&self, row: &[u64; N]) -> Sought
         ensures seat { result.seat ≡ sought_seat (λ c. C.means.holds c row.now) self.now }
         ensures tests { result.tests ≡ tests_seeking C.means.same (λ c. C.means.holds c row.now) None self.now }
+        ensures orderly { IsRow self.now }
     {
         let mut seat = self.ring.front();
         let mut tests = 0;
@@ -124,7 +148,7 @@ impl<C: Queueable<N>, const N: usize> LockList<C, N> {
             if is_met(cond, row) {
                 return Sought { seat, tests };
             }
-            seat = self.ring.next(self.lasts[seat as usize]);
+            seat = beyond(&self.ring, &self.heads, &self.lasts, seat);
         }
         Sought { seat, tests }
     }
@@ -228,6 +252,13 @@ impl<C: Queueable<N>, const N: usize> LockList<C, N> {
                 );
             }
         }
+    }
+
+    /// Whether a scan at this row would take somebody.
+    pub fn wakes(&self, row: &[u64; N]) -> bool
+        ensures { result ≡ nat_lt 0 (length (woken_of (λ c. C.means.holds c row.now) self.now)) }
+    {
+        self.seek(row).seat != END
     }
 
     /// Takes those out whom a release at this row wakes: the first waiter without condition or with one

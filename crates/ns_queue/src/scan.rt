@@ -1,6 +1,6 @@
 //! Whom a release of the lock wakes.
 
-ghost use Rattle.std.specs.Prelude.{◌≡◌, ◌<◌, ◌&&◌, ◌++◌, ◌∷◌, [], None, if◌then◌else◌, true, unwrap_or, ◌≤◌, length, map};
+ghost use Rattle.std.specs.Prelude.{◌≡◌, ◌<◌, ◌&&◌, ◌++◌, ◌∷◌, [], None, if◌then◌else◌, true, unwrap_or, ◌≤◌, length, map, nat_lt};
 ghost use Rattle.std.specs.Option.{option_copied};
 ghost use Rattle.arrayvec.specs.ArrayVec.{array_vec_len};
 ghost use Rattle.ns_queue.specs.Stages.{asked_for, asking, tests_seeking};
@@ -142,6 +142,13 @@ pub(crate) fn choose<C: Queueable<N>, const N: usize>(
 }
 
 impl<C: Queueable<N>, const N: usize> Queues<C, N> {
+    /// Whether a scan at this row would take somebody. It tests as a scan does, up to the first that is taken.
+    pub fn wakes(&self, row: &[u64; N]) -> bool
+        ensures { result ≡ nat_lt 0 (length (woken_of (λ c. C.means.holds c row.now) self.now.lock)) }
+    {
+        self.lock.wakes(row)
+    }
+
     /// Takes those out of the lock list whom a release at this row wakes: the first waiter without
     /// condition or with one that is true of the row, and if that one reads, every later such reader
     /// too. The others stay, in order, and so do the other lists.

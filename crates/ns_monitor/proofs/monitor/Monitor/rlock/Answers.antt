@@ -1,7 +1,7 @@
 use Rattle.std.proofs.Common.{Some, arith, subst, sym}
 use Rattle.ns_gate.proofs.Calls.{since_then}
 use Rattle.ns_gate.proofs.Room.{queues_fit}
-use Rattle.ns_gate.specs.Prelude.{SeatOf, TableId, Read}
+use Rattle.ns_gate.specs.Prelude.{Read}
 use Rattle.ns_monitor.proofs.Callers.{CameSo, came_at_once, locked_so}
 use Rattle.ns_monitor.specs.Prelude.{HasLocked, locking}
 use Rattle.ns_monitor.proofs.monitor.Monitor.rlock.Given.{Over}

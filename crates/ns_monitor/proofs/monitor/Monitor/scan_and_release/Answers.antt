@@ -1,11 +1,8 @@
-use Rattle.std.proofs.Common.{◌∙◌, ap, not, sym, subst, refl, arith, None, rules}
-use Rattle.ns_gate.specs.Prelude.{TableId, IsAtPlace, HasReached, the, woken_of, row_in, has_some, meets_at, pay_releasing, scan_place, ScanAndRelease, InRelease}
-use Rattle.ns_gate.specs.declared.queues.Returning.TheVariants.{Released}
+use Rattle.std.proofs.Common.{◌∙◌, sym, subst, refl, arith, None}
+use Rattle.ns_gate.specs.Prelude.{TableId, IsAtPlace, HasReached, the, row_in, has_some, pay_releasing, scan_place, ScanAndRelease, InRelease}
 use Rattle.ns_gate.proofs.Calls.{since_then, works}
 use Rattle.ns_gate.proofs.Room.{queues_fit}
-use Rattle.ns_word.specs.Owed.{called_by}
-use Rattle.ns_word.proofs.Scans.{as_many}
-use Rattle.ns_monitor.proofs.Releases.{hand_scanned, scans_plain, took_some, calls_are}
+use Rattle.ns_monitor.proofs.Releases.{calls_none, hand_nobody, ready_still, scans_plain}
 use Rattle.ns_monitor.proofs.Standing.{still_since}
 use Rattle.ns_word.specs.declared.request.Request.TheVariants as TheRequest
 use Rattle.ns_monitor.proofs.Tests.{moves_in}
@@ -16,22 +13,47 @@ load_to_scan-requires g c = let t = g.C.Condition.means in let word = c.args.wor
     rw c.parts-parts.ensures (omega arith, (queues_fit g.row.C g.row.N g.met.C.Condition.has_room g.C.Condition, (omega arith, (omega (arith, g.met.C.Condition.has_cells), (c.requires.of, (refl, (subst (λ w. IsAtPlace t w me) (moves_in (λ place. InRelease c.args.releasing place) word.cond (scan_place g.row.N word 0) (ScanAndRelease word)) c.requires.at, (c.requires.taken, λ none. scans_plain t _ (row_in (the me.0).at.held) (the me.0).stood.lock (sym c.requires.tells ∙ none)))))))))
 
 pub put_back-requires : goal.put_back-requires
-put_back-requires g c = let t = g.C.Condition.means in let scan = c.scan_in_hand-scan in let e = scan.ensures in let is = rw c.parts-parts.ensures at c.load_to_scan.ensures.ready in let me1 = c.load_to_scan.new.seat.me in let walk = InRelease c.args.releasing (ScanAndRelease c.args.word) in
-    let some = ap not c.is_empty-some.ensures ∙ took_some (woken_of (meets_at t c.load_to_scan.new.row) (the me1.0).stood.lock) scan.result.0.woken.items e.woken in
-    (omega arith, (queues_fit g.row.C g.row.N g.met.C.Condition.has_room g.C.Condition, (omega arith, (◌∙◌ {A = TableId} e.seat.0 c.load_to_scan.ensures.seat, (tt, (refl, (c.requires.word, (works t walk me1 scan.new.seat.me is.at refl e.seat.1, hand_scanned t (Released c.args.releasing) walk c.load_to_scan.new.row (the me1.0).at.seat _ _ me1 scan.new.seat.me is refl e.seat.1 (λ last. e.lists) (λ last. some) (λ last. e.bits)))))))))
+put_back-requires g c = let t = g.C.Condition.means in let look = c.scan_nobody_in_hand in let is = rw c.parts-parts.ensures at c.load_to_scan.ensures.ready in let walk = InRelease c.args.releasing (ScanAndRelease c.args.word) in (
+  omega arith,
+  (
+    queues_fit g.row.C g.row.N g.met.C.Condition.has_room g.C.Condition,
+    (
+      omega arith,
+      (
+        ◌∙◌ {A = TableId} look.ensures.seat.0 c.load_to_scan.ensures.seat,
+        (
+          tt,
+          (
+            refl,
+            (
+              c.requires.word,
+              (
+                works t walk c.load_to_scan.new.seat.me look.new.seat.me is.at refl look.ensures.seat.1,
+                hand_nobody t c.args.releasing walk c.load_to_scan.new.row c.in-Some.turned c.load_to_scan.new.seat.me look.new.seat.me is look.ensures.seat.1 look.ensures.has (sym look.ensures.nobody ∙ c.in-Some.is),
+              ),
+            ),
+          ),
+        ),
+      ),
+    ),
+  ),
+)
 
-pub pay-requires : goal.pay-requires
-pay-requires g c = let t = g.C.Condition.means in let scan = c.scan_in_hand-scan in let now = c.put_back.new.seat.me in let walk = InRelease c.args.releasing (ScanAndRelease c.parts-parts.result) in
-    let owed = c.put_back.ensures.owes in
-    (omega arith, (queues_fit g.row.C g.row.N g.met.C.Condition.has_room g.C.Condition, (omega arith, (c.put_back.ensures.seat, (record { pays = refl; free = refl; more = refl }, (subst (λ ns. HasReached t (TheRequest.Release c.args.releasing) (pay_releasing c.args.releasing (has_some ns)) now) (sym owed) c.put_back.ensures.returned, owed ∙ sym (calls_are t walk c.load_to_scan.new.row _ _ _ c.load_to_scan.new.seat.me scan.new.seat.me c.load_to_scan.ensures.ready scan.ensures.seat.1 (c.called-owed.ensures ∙ (λ i. called_by (c.as_slice.ensures.value i) (c.as_slice-2.ensures.value i))) scan.ensures.woken scan.ensures.vias)))))))
-
-pub returns : goal.returns
-returns g c = record {
-  seat = search rules;
-  since = let scan = c.scan_in_hand-scan in
-      since_then None _ _ _ (still_since g.C.Condition.means None _ c.load_to_scan.new.seat.me scan.new.seat.me scan.ensures.seat.1 c.load_to_scan.ensures.since) (since_then None _ _ _ c.put_back.ensures.since c.pay.ensures.since);
-  released = search rules;
+pub returns-in-Some : goal.returns-in-Some
+returns-in-Some g c = let t = g.C.Condition.means in let look = c.scan_nobody_in_hand in let is = rw c.parts-parts.ensures at c.load_to_scan.ensures.ready in let walk = InRelease c.args.releasing (ScanAndRelease c.args.word) in record {
+  seat = c.put_back.ensures.seat;
+  since = since_then None _ _ _ (still_since t None _ c.load_to_scan.new.seat.me look.new.seat.me look.ensures.seat.1 c.load_to_scan.ensures.since) c.put_back.ensures.since;
+  released = subst (λ ns. HasReached t (TheRequest.Release c.args.releasing) (pay_releasing c.args.releasing (has_some ns)) c.put_back.new.seat.me)
+      (calls_none t walk c.load_to_scan.new.row c.in-Some.turned _ c.load_to_scan.new.seat.me look.new.seat.me is look.ensures.seat.1 (sym look.ensures.nobody ∙ c.in-Some.is) refl) c.put_back.ensures.returned;
 }
 
-pub called-owed-requires : goal.called-owed-requires
-called-owed-requires g c = record { few = search rules; same = rw (c.as_slice.ensures.value, c.as_slice-2.ensures.value) (as_many _ _ _ c.scan_in_hand-scan.ensures.woken c.scan_in_hand-scan.ensures.vias) }
+pub scan_and_wake-requires : goal.scan_and_wake-requires
+scan_and_wake-requires g c = let t = g.C.Condition.means in let look = c.scan_nobody_in_hand in let is = rw c.parts-parts.ensures at c.load_to_scan.ensures.ready in let walk = InRelease c.args.releasing (ScanAndRelease c.args.word) in
+    (omega arith, (queues_fit g.row.C g.row.N g.met.C.Condition.has_room g.C.Condition, (omega arith, (omega (arith, g.met.C.Condition.has_cells), (◌∙◌ {A = TableId} look.ensures.seat.0 c.load_to_scan.ensures.seat, (c.requires.word, ready_still t walk c.load_to_scan.new.row c.load_to_scan.new.seat.me look.new.seat.me refl is look.ensures.seat.1 look.ensures.has))))))
+
+pub returns : goal.returns
+returns g c = let look = c.scan_nobody_in_hand in record {
+  seat = c.scan_and_wake.ensures.seat;
+  since = since_then None _ _ _ (still_since g.C.Condition.means None _ c.load_to_scan.new.seat.me look.new.seat.me look.ensures.seat.1 c.load_to_scan.ensures.since) c.scan_and_wake.ensures.since;
+  released = c.scan_and_wake.ensures.released;
+}

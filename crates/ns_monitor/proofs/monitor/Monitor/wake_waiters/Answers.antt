@@ -1,5 +1,5 @@
 use Rattle.std.proofs.Common.{◌≡◌, ◌∙◌, ap, sym, subst, refl, arith, Bool, None, rules}
-use Rattle.ns_gate.specs.Prelude.{TableId, HasReached, InSignal, IsOrderly, WakeAndReturn, has_some, owed_woken, seats_of, taken_from, the}
+use Rattle.ns_gate.specs.Prelude.{TableId, HasReached, InSignal, IsOrderly, WakeAndReturn, has_some, owed_woken, taken_from, the}
 use Rattle.ns_gate.proofs.Calls.{since_itself, since_then, works}
 use Rattle.ns_gate.proofs.Room.{queues_fit}
 use Rattle.ns_word.specs.Owed.{wakes_of}

@@ -1,8 +1,8 @@
-use Rattle.std.proofs.Common.{rules, true, false, sym, arith}
+use Rattle.std.proofs.Common.{rules, true, false, sym}
 use Rattle.std.specs.Option.{option_copied}
 use Rattle.ns_queue.proofs.Seeking.{answered, counted}
 use Rattle.ns_queue.specs.Waiters.{has_condition}
-use Rattle.ns_queue.proofs.Places.{seated_low}
+use Rattle.ns_queue.proofs.Places.{seated_stands}
 use Rattle.ns_queue.proofs.Running.{next_run, sought_few, sought_here, sought_none, sought_on, sought_smaller, sought_start, tests_fit}
 use Rattle.ns_queue.proofs.Making.{start_link}
 use Rattle.ns_queue.proofs.lock_list.LockList.seek.Goals as goal
@@ -35,19 +35,15 @@ returns-then-is_met-clause-tests g c =
     let met = answered same meets w.cond (option_copied c.as_ref-cond.result) c.is_met.result true c.as_ref-cond.ensures.value c.is_met.ensures c.if-is_met.true in
     rw (← c.self.view_is) (sought_here same meets (λ d e is. g.met.C.Condition.same_agrees d e c.args.row.now c.told-row is) _ _ c.loop-waiter.seat c.loop-waiter.tests c.tests_for-tests.result c.self.inside.ring w (sym c.in-Some.ensures.waiter) met (counted g.C.Condition.means.same meets w.cond (option_copied c.as_ref-cond.result) c.tests_for-tests.result c.as_ref-cond.ensures.value c.tests_for-tests.ensures) c.loop-waiter.invariant).1
 
-pub bounds-self-inside-seat : goal.bounds-self-inside-seat
-bounds-self-inside-seat g c = let low = seated_low c.loop-waiter.seat c.self.inside.ring c.in-Some.waiter.now c.front-seat.ensures.orderly (sym c.in-Some.ensures.waiter) in omega (arith, low)
-
-pub next-seat-requires : goal.next-seat-requires
-next-seat-requires g c =
-    let r = next_run g.C.Condition.means.same c.self.inside.heads c.self.inside.lasts c.loop-waiter.seat c.self.inside.ring c.in-Some.waiter.now c.front-seat.ensures.orderly (sym c.in-Some.ensures.waiter) c.loop-waiter.invariant.runs in
-    (search rules, r.stands)
+pub beyond-seat-requires : goal.beyond-seat-requires
+beyond-seat-requires g c =
+    (search rules, (c.front-seat.ensures.orderly, (seated_stands c.loop-waiter.seat c.self.inside.ring c.in-Some.waiter.now (sym c.in-Some.ensures.waiter), c.loop-waiter.invariant.runs)))
 
 pub loop-waiter-smaller : goal.loop-waiter-smaller
 loop-waiter-smaller g c =
     let meets = λ (d : g.row.C.Denot). g.C.Condition.means.holds d c.args.row.now in
     let r = next_run g.C.Condition.means.same c.self.inside.heads c.self.inside.lasts c.loop-waiter.seat c.self.inside.ring c.in-Some.waiter.now c.front-seat.ensures.orderly (sym c.in-Some.ensures.waiter) c.loop-waiter.invariant.runs in
-    sought_smaller g.C.Condition.means.same c.self.inside.lasts c.loop-waiter.seat c.next-seat.result c.self.inside.ring c.in-Some.waiter.now r c.next-seat.ensures
+    sought_smaller g.C.Condition.means.same c.self.inside.lasts c.loop-waiter.seat c.beyond-seat.result c.self.inside.ring c.in-Some.waiter.now r c.beyond-seat.ensures
 
 pub loop-waiter-preserved : goal.loop-waiter-preserved
 loop-waiter-preserved g c =
@@ -56,8 +52,8 @@ loop-waiter-preserved g c =
     let w = c.in-Some.waiter.now in
     let unmet = answered same meets w.cond (option_copied c.as_ref-cond.result) c.is_met.result false c.as_ref-cond.ensures.value c.is_met.ensures c.if-is_met.false in
     let r = next_run same c.self.inside.heads c.self.inside.lasts c.loop-waiter.seat c.self.inside.ring w c.front-seat.ensures.orderly (sym c.in-Some.ensures.waiter) c.loop-waiter.invariant.runs in
-    sought_on same meets (λ d e is. g.met.C.Condition.same_agrees d e c.args.row.now c.told-row is) c.self.inside.heads c.self.inside.lasts c.loop-waiter.seat c.loop-waiter.tests c.tests_for-tests.result c.next-seat.result c.self.inside.ring w
-    (start_link same c.self.inside.heads c.self.inside.lasts c.self.inside.ring c.self.invariant.on) r unmet (counted same meets w.cond (option_copied c.as_ref-cond.result) c.tests_for-tests.result c.as_ref-cond.ensures.value c.tests_for-tests.ensures) c.next-seat.ensures c.loop-waiter.invariant
+    sought_on same meets (λ d e is. g.met.C.Condition.same_agrees d e c.args.row.now c.told-row is) c.self.inside.heads c.self.inside.lasts c.loop-waiter.seat c.loop-waiter.tests c.tests_for-tests.result c.beyond-seat.result c.self.inside.ring w
+    (start_link same c.self.inside.heads c.self.inside.lasts c.self.inside.ring c.self.invariant.on) r unmet (counted same meets w.cond (option_copied c.as_ref-cond.result) c.tests_for-tests.result c.as_ref-cond.ensures.value c.tests_for-tests.ensures) c.beyond-seat.ensures c.loop-waiter.invariant
 
 pub returns-clause-seat : goal.returns-clause-seat
 returns-clause-seat g c =

@@ -1,4 +1,3 @@
-use Rattle.std.proofs.Common.{arith, rules}
 use Rattle.ns_queue.proofs.Orders.{offset_fits, list_small}
 use Rattle.ns_queue.proofs.Inside.{list_has_room, list_pushed, list_at, list_put}
 use Rattle.ns_queue.proofs.queues.Queues.push_to.Goals as goal
