@@ -28,15 +28,15 @@ pub enum AcquirePlace {
 }
 
 /// Where an acquire goes by the word last seen.
-fn acquire_by<C: Copy>(aim: Aim<C>, arrival: Arrival, word: Word) -> Next<C>
-    ensures { result ≡ acquire_by aim arrival word }
+fn acquire_by<C: Copy>(aim: &Aim<C>, arrival: Arrival, word: Word) -> Next<C>
+    ensures { result ≡ acquire_by aim.now arrival word }
 {
     if word.may_acquire(aim.mode(), arrival) {
-        Next::On(Walk::InAcquire(aim, AcquirePlace::AcquireExchange(arrival, word)))
+        Next::On(Walk::InAcquire(*aim, AcquirePlace::AcquireExchange(arrival, word)))
     } else if word.spin {
-        Next::Idle(Walk::InAcquire(aim, AcquirePlace::AcquireLoad(arrival)))
+        Next::Idle(Walk::InAcquire(*aim, AcquirePlace::AcquireLoad(arrival)))
     } else {
-        Next::On(Walk::InAcquire(aim, AcquirePlace::TakeToQueue(arrival, word)))
+        Next::On(Walk::InAcquire(*aim, AcquirePlace::TakeToQueue(arrival, word)))
     }
 }
 
@@ -52,29 +52,29 @@ fn reply_for(variables: Variables, outcome: Outcome) -> Reply
 }
 
 /// Where an acquire goes that was made.
-fn acquired_for<C: Copy, const N: usize>(aim: Aim<C>) -> Next<C>
+fn acquired_for<C: Copy, const N: usize>(aim: &Aim<C>) -> Next<C>
     requires { N ≤ 16 }
-    ensures { result ≡ acquired_for N aim }
+    ensures { result ≡ acquired_for N aim.now }
 {
     match aim {
         Aim::ForLock(_) => Next::Done(Reply::Succeeded),
         Aim::ForWait(wait, outcome) => match wait.on {
             Subject::OnCondition(_) => {
-                Next::On(test_place::<C, N>(wait, Visit::OnReturn(outcome), 0))
+                Next::On(test_place::<C, N>(wait, Visit::OnReturn(*outcome), 0))
             }
-            Subject::OnVariables(variables) => Next::Done(reply_for(variables, outcome)),
+            Subject::OnVariables(variables) => Next::Done(reply_for(variables, *outcome)),
         },
     }
 }
 
 impl AcquirePlace {
     /// The step that the place wants next.
-    pub(crate) fn want<C: Copy>(self, aim: Aim<C>) -> Act<C>
-        ensures { result ≡ want_acquiring aim self }
+    pub(crate) fn want<C: Copy>(self, aim: &Aim<C>) -> Act<C>
+        ensures { result ≡ want_acquiring aim.now self }
     {
         match self {
             AcquirePlace::AcquireLoad(_) => Act::LoadWord,
-            AcquirePlace::AcquireExchange(arrival, last) => Act::Acquire(aim, arrival, last),
+            AcquirePlace::AcquireExchange(arrival, last) => Act::Acquire(*aim, arrival, last),
             AcquirePlace::TakeToQueue(arrival, last) => {
                 Act::TakeQueues(Taking::ToQueue(aim.mode(), arrival), last)
             }
@@ -87,9 +87,9 @@ impl AcquirePlace {
     }
 
     /// Where the acquire goes with what its step found.
-    pub(crate) fn got<C: Copy, const N: usize>(self, aim: Aim<C>, found: Found) -> Next<C>
+    pub(crate) fn got<C: Copy, const N: usize>(self, aim: &Aim<C>, found: Found) -> Next<C>
         requires { N ≤ 16 }
-        ensures { result ≡ got_acquiring N aim self found }
+        ensures { result ≡ got_acquiring N aim.now self found }
     {
         match (self, found) {
             (AcquirePlace::AcquireLoad(arrival), Found::Saw(word)) => {
@@ -104,26 +104,26 @@ impl AcquirePlace {
             }
             (AcquirePlace::TakeToQueue(arrival, last), Found::Made) => {
                 let word = last.taken(Taking::ToQueue(aim.mode(), arrival));
-                Next::On(Walk::InAcquire(aim, AcquirePlace::Arm(arrival, word)))
+                Next::On(Walk::InAcquire(*aim, AcquirePlace::Arm(arrival, word)))
             }
             (AcquirePlace::Arm(arrival, last), Found::Made) => {
-                Next::On(Walk::InAcquire(aim, AcquirePlace::Queue(arrival, last)))
+                Next::On(Walk::InAcquire(*aim, AcquirePlace::Queue(arrival, last)))
             }
             (AcquirePlace::Queue(arrival, _), Found::Saw(word)) => {
-                Next::On(Walk::InAcquire(aim, AcquirePlace::Queue(arrival, word)))
+                Next::On(Walk::InAcquire(*aim, AcquirePlace::Queue(arrival, word)))
             }
             (AcquirePlace::Queue(arrival, _), Found::Made) => {
-                Next::On(Walk::InAcquire(aim, AcquirePlace::AwaitWake(arrival.tries())))
+                Next::On(Walk::InAcquire(*aim, AcquirePlace::AwaitWake(arrival.tries())))
             }
             (AcquirePlace::AwaitWake(tries), Found::Flag(value)) => {
                 if value == 1 {
-                    Next::Idle(Walk::InAcquire(aim, AcquirePlace::AwaitWake(tries)))
+                    Next::Idle(Walk::InAcquire(*aim, AcquirePlace::AwaitWake(tries)))
                 } else {
                     let place = AcquirePlace::AcquireLoad(arrival_of(tries, value));
-                    Next::On(Walk::InAcquire(aim, place))
+                    Next::On(Walk::InAcquire(*aim, place))
                 }
             }
-            (place, _) => Next::On(Walk::InAcquire(aim, place)),
+            (place, _) => Next::On(Walk::InAcquire(*aim, place)),
         }
     }
 }

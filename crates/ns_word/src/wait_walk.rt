@@ -44,44 +44,44 @@ use ns_model::event::Answer;
 
 /// Where a wait goes that tests its condition and has loaded so many cells.
 pub(crate) fn test_place<C: Copy, const N: usize>(
-    wait: Wait<C>,
+    wait: &Wait<C>,
     visit: Visit,
     loaded: usize,
 ) -> Walk<C>
     requires { N ≤ 16 }
-    ensures { result ≡ test_place N wait visit loaded }
+    ensures { result ≡ test_place N wait.now visit loaded }
 {
     let last = N.saturating_sub(1);
     if loaded < last {
-        Walk::InWait(wait, WaitPlace::TestCells(visit, loaded as u8))
+        Walk::InWait(*wait, WaitPlace::TestCells(visit, loaded as u8))
     } else {
-        Walk::InWait(wait, WaitPlace::TestLast(visit, last as u8))
+        Walk::InWait(*wait, WaitPlace::TestLast(visit, last as u8))
     }
 }
 
 /// Where a wait goes that has to go on waiting, unless a look shows something.
-fn look_or_queue<C: Copy>(wait: Wait<C>, again: bool) -> Next<C>
-    ensures { result ≡ look_or_queue wait again }
+fn look_or_queue<C: Copy>(wait: &Wait<C>, again: bool) -> Next<C>
+    ensures { result ≡ look_or_queue wait.now again }
 {
     if wait.limits.is_some() {
-        Next::On(Walk::InWait(wait, WaitPlace::InQueuing(again, QueuePlace::LookIn)))
+        Next::On(Walk::InWait(*wait, WaitPlace::InQueuing(again, QueuePlace::LookIn)))
     } else {
-        Next::On(Walk::InWait(wait, WaitPlace::InQueuing(again, QueuePlace::Load)))
+        Next::On(Walk::InWait(*wait, WaitPlace::InQueuing(again, QueuePlace::Load)))
     }
 }
 
 /// Where a wait goes that has found this value in its flag and comes back, with what came of it: it
 /// acquires, and has not failed in that yet.
-fn acquire_woken<C: Copy>(wait: Wait<C>, outcome: Outcome, value: u8) -> Next<C>
-    ensures { result ≡ Next.On (Walk.InAcquire (Aim.ForWait wait outcome) (AcquirePlace.AcquireLoad (arrival_of 0 value))) }
+fn acquire_woken<C: Copy>(wait: &Wait<C>, outcome: Outcome, value: u8) -> Next<C>
+    ensures { result ≡ Next.On (Walk.InAcquire (Aim.ForWait wait.now outcome) (AcquirePlace.AcquireLoad (arrival_of 0 value))) }
 {
     let place = AcquirePlace::AcquireLoad(arrival_of(0, value));
-    Next::On(Walk::InAcquire(Aim::ForWait(wait, outcome), place))
+    Next::On(Walk::InAcquire(Aim::ForWait(*wait, outcome), place))
 }
 
 /// Where a wait goes whose condition is false.
-fn unmet_by<C: Copy>(wait: Wait<C>, visit: Visit) -> Next<C>
-    ensures { result ≡ unmet_by wait visit }
+fn unmet_by<C: Copy>(wait: &Wait<C>, visit: Visit) -> Next<C>
+    ensures { result ≡ unmet_by wait.now visit }
 {
     match visit {
         Visit::OnEntry => look_or_queue(wait, false),
@@ -91,58 +91,58 @@ fn unmet_by<C: Copy>(wait: Wait<C>, visit: Visit) -> Next<C>
 }
 
 /// Where a wait that is about to queue goes by the word last seen.
-fn queue_by<C: Copy>(wait: Wait<C>, again: bool, word: Word) -> Next<C>
-    ensures { result ≡ queue_by wait again word }
+fn queue_by<C: Copy>(wait: &Wait<C>, again: bool, word: Word) -> Next<C>
+    ensures { result ≡ queue_by wait.now again word }
 {
     if word.spin {
-        Next::Idle(Walk::InWait(wait, WaitPlace::InQueuing(again, QueuePlace::Load)))
+        Next::Idle(Walk::InWait(*wait, WaitPlace::InQueuing(again, QueuePlace::Load)))
     } else {
-        Next::On(Walk::InWait(wait, WaitPlace::InQueuing(again, QueuePlace::Take(word))))
+        Next::On(Walk::InWait(*wait, WaitPlace::InQueuing(again, QueuePlace::Take(word))))
     }
 }
 
 /// Where a wait goes that has queued, and owes wakes or none.
-fn pay_waiting<C: Copy>(wait: Wait<C>, owes: bool) -> Next<C>
-    ensures { result ≡ pay_waiting wait owes }
+fn pay_waiting<C: Copy>(wait: &Wait<C>, owes: bool) -> Next<C>
+    ensures { result ≡ pay_waiting wait.now owes }
 {
     if owes {
-        Next::On(Walk::InWait(wait, WaitPlace::PayInWait))
+        Next::On(Walk::InWait(*wait, WaitPlace::PayInWait))
     } else {
-        Next::On(Walk::InWait(wait, WaitPlace::AwaitWakeInWait))
+        Next::On(Walk::InWait(*wait, WaitPlace::AwaitWakeInWait))
     }
 }
 
 /// Where a wait goes that waits to be woken, and wasn't yet.
-fn rest_or_look<C: Copy>(wait: Wait<C>) -> Next<C>
-    ensures { result ≡ rest_or_look wait }
+fn rest_or_look<C: Copy>(wait: &Wait<C>) -> Next<C>
+    ensures { result ≡ rest_or_look wait.now }
 {
     if wait.limits.is_some() {
-        Next::On(Walk::InWait(wait, WaitPlace::LookOut))
+        Next::On(Walk::InWait(*wait, WaitPlace::LookOut))
     } else {
-        Next::Idle(Walk::InWait(wait, WaitPlace::AwaitWakeInWait))
+        Next::Idle(Walk::InWait(*wait, WaitPlace::AwaitWakeInWait))
     }
 }
 
 /// Where a wait that leaves goes by the word last seen.
-fn leave_by<C: Copy>(wait: Wait<C>, cause: Cause, word: Word) -> Next<C>
-    ensures { result ≡ leave_by wait cause word }
+fn leave_by<C: Copy>(wait: &Wait<C>, cause: Cause, word: Word) -> Next<C>
+    ensures { result ≡ leave_by wait.now cause word }
 {
     if word.spin {
-        Next::Idle(Walk::InWait(wait, WaitPlace::InLeaving(cause, LeavePlace::LeaveLoad)))
+        Next::Idle(Walk::InWait(*wait, WaitPlace::InLeaving(cause, LeavePlace::LeaveLoad)))
     } else {
         Next::On(Walk::InWait(
-            wait,
+            *wait,
             WaitPlace::InLeaving(cause, LeavePlace::TakeToLeave(word)),
         ))
     }
 }
 
 /// The step that tells of a condition.
-fn judge<C: Copy>(on: Subject<C>, i: u8) -> Act<C>
-    ensures { result ≡ judge_of on i }
+fn judge<C: Copy>(on: &Subject<C>, i: u8) -> Act<C>
+    ensures { result ≡ judge_of on.now i }
 {
     match on {
-        Subject::OnCondition(cond) => Act::JudgeMet(i, cond),
+        Subject::OnCondition(cond) => Act::JudgeMet(i, *cond),
         Subject::OnVariables(_) => Act::LoadCell(i),
     }
 }
@@ -161,9 +161,9 @@ fn load_place<const N: usize>(last: Word, loaded: usize) -> QueuePlace
 
 /// Where a wait goes that has the queues and has set its flag. One for a condition has loaded the
 /// row already; another does where some waiter has a condition.
-fn armed_place<C: Copy, const N: usize>(on: Subject<C>, last: Word) -> QueuePlace
+fn armed_place<C: Copy, const N: usize>(on: &Subject<C>, last: Word) -> QueuePlace
     requires { N ≤ 16 }
-    ensures { result ≡ armed_place N on last }
+    ensures { result ≡ armed_place N on.now last }
 {
     match on {
         Subject::OnVariables(_) if last.cond => load_place::<N>(last, 0),
@@ -173,8 +173,8 @@ fn armed_place<C: Copy, const N: usize>(on: Subject<C>, last: Word) -> QueuePlac
 
 impl QueuePlace {
     /// The step that the place wants next.
-    fn want<C: Copy>(self, wait: Wait<C>, again: bool) -> Act<C>
-        ensures { result ≡ want_queuing wait again self }
+    fn want<C: Copy>(self, wait: &Wait<C>, again: bool) -> Act<C>
+        ensures { result ≡ want_queuing wait.now again self }
     {
         match self {
             QueuePlace::LookIn => Act::Look(wait.limits, again),
@@ -182,18 +182,18 @@ impl QueuePlace {
             QueuePlace::Take(last) => Act::TakeQueues(Taking::ToChange, last),
             QueuePlace::ArmToWait(_) => Act::ArmFlag,
             QueuePlace::LoadToScan(_, i) => Act::LoadCell(i),
-            QueuePlace::QueueToWait(last) => Act::WaitReturning(wait, again, last),
+            QueuePlace::QueueToWait(last) => Act::WaitReturning(*wait, again, last),
         }
     }
 
     /// Where the wait goes with what its step found.
-    fn got<C: Copy, const N: usize>(self, wait: Wait<C>, again: bool, found: Found) -> Next<C>
+    fn got<C: Copy, const N: usize>(self, wait: &Wait<C>, again: bool, found: Found) -> Next<C>
         requires { N ≤ 16 }
-        ensures { result ≡ got_queuing N wait again self found }
+        ensures { result ≡ got_queuing N wait.now again self found }
     {
         match (self, found) {
             (QueuePlace::LookIn, Found::Looked(None)) => {
-                Next::On(Walk::InWait(wait, WaitPlace::InQueuing(again, QueuePlace::Load)))
+                Next::On(Walk::InWait(*wait, WaitPlace::InQueuing(again, QueuePlace::Load)))
             }
             (QueuePlace::LookIn, Found::Looked(Some(cause))) => {
                 Next::Done(Reply::Answered(answer_of(cause)))
@@ -202,30 +202,30 @@ impl QueuePlace {
             (QueuePlace::Take(_), Found::Saw(word)) => queue_by(wait, again, word),
             (QueuePlace::Take(last), Found::Made) => {
                 let place = QueuePlace::ArmToWait(last.taken(Taking::ToChange));
-                Next::On(Walk::InWait(wait, WaitPlace::InQueuing(again, place)))
+                Next::On(Walk::InWait(*wait, WaitPlace::InQueuing(again, place)))
             }
             (QueuePlace::ArmToWait(last), Found::Made) => {
-                let place = armed_place::<C, N>(wait.on, last);
-                Next::On(Walk::InWait(wait, WaitPlace::InQueuing(again, place)))
+                let place = armed_place::<C, N>(&wait.on, last);
+                Next::On(Walk::InWait(*wait, WaitPlace::InQueuing(again, place)))
             }
             (QueuePlace::LoadToScan(last, i), Found::Cell(_)) => {
                 let place = load_place::<N>(last, i as usize + 1);
-                Next::On(Walk::InWait(wait, WaitPlace::InQueuing(again, place)))
+                Next::On(Walk::InWait(*wait, WaitPlace::InQueuing(again, place)))
             }
             (QueuePlace::QueueToWait(_), Found::Saw(word)) => {
                 let place = QueuePlace::QueueToWait(word);
-                Next::On(Walk::InWait(wait, WaitPlace::InQueuing(again, place)))
+                Next::On(Walk::InWait(*wait, WaitPlace::InQueuing(again, place)))
             }
             (QueuePlace::QueueToWait(_), Found::Scanned { owes, .. }) => pay_waiting(wait, owes),
-            (place, _) => Next::On(Walk::InWait(wait, WaitPlace::InQueuing(again, place))),
+            (place, _) => Next::On(Walk::InWait(*wait, WaitPlace::InQueuing(again, place))),
         }
     }
 }
 
 impl LeavePlace {
     /// The step that the place wants next.
-    fn want<C: Copy>(self, wait: Wait<C>) -> Act<C>
-        ensures { result ≡ want_leaving wait self }
+    fn want<C: Copy>(self, wait: &Wait<C>) -> Act<C>
+        ensures { result ≡ want_leaving wait.now self }
     {
         match self {
             LeavePlace::LeaveLoad => Act::LoadWord,
@@ -236,49 +236,49 @@ impl LeavePlace {
     }
 
     /// Where the wait goes with what its step found.
-    fn got<C: Copy>(self, wait: Wait<C>, cause: Cause, found: Found) -> Next<C>
-        ensures { result ≡ got_leaving wait cause self found }
+    fn got<C: Copy>(self, wait: &Wait<C>, cause: Cause, found: Found) -> Next<C>
+        ensures { result ≡ got_leaving wait.now cause self found }
     {
         match (self, found) {
             (LeavePlace::LeaveLoad, Found::Saw(word)) => leave_by(wait, cause, word),
             (LeavePlace::TakeToLeave(_), Found::Saw(word)) => leave_by(wait, cause, word),
             (LeavePlace::TakeToLeave(last), Found::Made) => {
                 let place = LeavePlace::Leave(last.taken(Taking::ToChange));
-                Next::On(Walk::InWait(wait, WaitPlace::InLeaving(cause, place)))
+                Next::On(Walk::InWait(*wait, WaitPlace::InLeaving(cause, place)))
             }
             (LeavePlace::Leave(_), Found::Saw(word)) => {
-                Next::On(Walk::InWait(wait, WaitPlace::InLeaving(cause, LeavePlace::Leave(word))))
+                Next::On(Walk::InWait(*wait, WaitPlace::InLeaving(cause, LeavePlace::Leave(word))))
             }
             (LeavePlace::Leave(_), Found::Left(stood)) => {
                 if stood {
-                    let aim = Aim::ForWait(wait, Outcome::Ended(cause));
+                    let aim = Aim::ForWait(*wait, Outcome::Ended(cause));
                     Next::On(Walk::InAcquire(aim, AcquirePlace::AcquireLoad(Arrival::AsFresh)))
                 } else {
                     let place = LeavePlace::AwaitWakeToLeave;
-                    Next::On(Walk::InWait(wait, WaitPlace::InLeaving(cause, place)))
+                    Next::On(Walk::InWait(*wait, WaitPlace::InLeaving(cause, place)))
                 }
             }
             (LeavePlace::AwaitWakeToLeave, Found::Flag(value)) => {
                 if value == 1 {
                     let place = LeavePlace::AwaitWakeToLeave;
-                    Next::Idle(Walk::InWait(wait, WaitPlace::InLeaving(cause, place)))
+                    Next::Idle(Walk::InWait(*wait, WaitPlace::InLeaving(cause, place)))
                 } else {
                     acquire_woken(wait, wait.on.outcome_taken(cause, value), value)
                 }
             }
-            (place, _) => Next::On(Walk::InWait(wait, WaitPlace::InLeaving(cause, place))),
+            (place, _) => Next::On(Walk::InWait(*wait, WaitPlace::InLeaving(cause, place))),
         }
     }
 }
 
 impl WaitPlace {
     /// The step that the place wants next.
-    pub(crate) fn want<C: Copy>(self, wait: Wait<C>) -> Act<C>
-        ensures { result ≡ want_waiting wait self }
+    pub(crate) fn want<C: Copy>(self, wait: &Wait<C>) -> Act<C>
+        ensures { result ≡ want_waiting wait.now self }
     {
         match self {
             WaitPlace::TestCells(_, i) => Act::LoadCell(i),
-            WaitPlace::TestLast(_, i) => judge(wait.on, i),
+            WaitPlace::TestLast(_, i) => judge(&wait.on, i),
             WaitPlace::InQueuing(again, place) => place.want(wait, again),
             WaitPlace::PayInWait => Act::PayWake,
             WaitPlace::AwaitWakeInWait => Act::LoadFlag,
@@ -288,9 +288,9 @@ impl WaitPlace {
     }
 
     /// Where the wait goes with what its step found.
-    pub(crate) fn got<C: Copy, const N: usize>(self, wait: Wait<C>, found: Found) -> Next<C>
+    pub(crate) fn got<C: Copy, const N: usize>(self, wait: &Wait<C>, found: Found) -> Next<C>
         requires { N ≤ 16 }
-        ensures { result ≡ got_waiting N wait self found }
+        ensures { result ≡ got_waiting N wait.now self found }
     {
         match (self, found) {
             (WaitPlace::TestCells(visit, i), Found::Cell(_)) => {
@@ -313,13 +313,13 @@ impl WaitPlace {
                 }
             }
             (WaitPlace::LookOut, Found::Looked(None)) => {
-                Next::Idle(Walk::InWait(wait, WaitPlace::AwaitWakeInWait))
+                Next::Idle(Walk::InWait(*wait, WaitPlace::AwaitWakeInWait))
             }
             (WaitPlace::LookOut, Found::Looked(Some(cause))) => {
-                Next::On(Walk::InWait(wait, WaitPlace::InLeaving(cause, LeavePlace::LeaveLoad)))
+                Next::On(Walk::InWait(*wait, WaitPlace::InLeaving(cause, LeavePlace::LeaveLoad)))
             }
             (WaitPlace::InLeaving(cause, place), found) => place.got(wait, cause, found),
-            (place, _) => Next::On(Walk::InWait(wait, place)),
+            (place, _) => Next::On(Walk::InWait(*wait, place)),
         }
     }
 }

@@ -204,7 +204,7 @@ impl<C: Copy> Walk<C> {
         ensures asked { asked_of result ≡ TheRequest.Await wait }
     {
         match wait.on {
-            Subject::OnCondition(_) => test_place::<C, N>(wait, Visit::OnEntry, 0),
+            Subject::OnCondition(_) => test_place::<C, N>(&wait, Visit::OnEntry, 0),
             Subject::OnVariables(_) => {
                 Walk::InWait(wait, WaitPlace::InQueuing(false, QueuePlace::Load))
             }
@@ -231,13 +231,13 @@ impl<C: Copy> Walk<C> {
     pub fn want(&self) -> Act<C>
         ensures { result ≡ want_of self.now }
     {
-        match *self {
-            Walk::InTry(mode, place) => place.want(mode),
+        match self {
+            Walk::InTry(mode, place) => place.want(*mode),
             Walk::InAcquire(aim, place) => place.want(aim),
-            Walk::InRelease(releasing, place) => place.want(releasing),
+            Walk::InRelease(releasing, place) => place.want(*releasing),
             Walk::InCells(place) => place.want(),
             Walk::InWait(wait, place) => place.want(wait),
-            Walk::InSignal(waking, k, place) => place.want(waking, k),
+            Walk::InSignal(waking, k, place) => place.want(*waking, *k),
             Walk::InShow(place) => place.want(),
         }
     }
@@ -246,17 +246,17 @@ impl<C: Copy> Walk<C> {
     /// place finds leaves it where it is.
     ///
     /// Needs a row of at most 16 cells, which every condition's law says.
-    pub fn got<const N: usize>(self, found: Found) -> Next<C>
+    pub fn got<const N: usize>(&self, found: Found) -> Next<C>
         requires { N ≤ 16 }
-        ensures { result ≡ got_of N self found }
+        ensures { result ≡ got_of N self.now found }
     {
         match self {
-            Walk::InTry(mode, place) => place.got(mode, found),
+            Walk::InTry(mode, place) => place.got(*mode, found),
             Walk::InAcquire(aim, place) => place.got::<C, N>(aim, found),
-            Walk::InRelease(releasing, place) => place.got::<C, N>(releasing, found),
+            Walk::InRelease(releasing, place) => place.got::<C, N>(*releasing, found),
             Walk::InCells(place) => place.got::<C, N>(found),
             Walk::InWait(wait, place) => place.got::<C, N>(wait, found),
-            Walk::InSignal(waking, k, place) => place.got(waking, k, found),
+            Walk::InSignal(waking, k, place) => place.got(*waking, *k, found),
             Walk::InShow(place) => place.got(found),
         }
     }

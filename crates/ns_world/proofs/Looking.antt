@@ -54,7 +54,7 @@ use Rattle.ns_env.specs.Walks.{is_limited}
 use Rattle.ns_word.specs.Waits.{mode_for}
 use Rattle.ns_model.specs.Truths.{Truths}
 use Rattle.ns_word.specs.Steps.{Part, Effect, MayShow, held_after}
-use Rattle.ns_world.specs.Looks.{looks_at, came_back, look_place, look_of, LookFits, AsksFor, note_for, note_in, is_among}
+use Rattle.ns_world.specs.Looks.{looks_at, came_back, look_place, look_of, LookFits, AsksFor, note_for, note_in, waits_among}
 
 -- ---- the note that may end a wait
 
@@ -201,19 +201,19 @@ module _ {C : Type 0} where
 
   pub first_if : (notes : ℕ → NoteStanding) (walk : Option (Walk C)) → IfMade notes (note_in walk) → FirstIf notes (look_of walk)
   first_if notes None p = tt
-  first_if notes (Some walk) p = first_by notes (is_among walk) (look_place (want_of walk)) (first_look notes walk p)
+  first_if notes (Some walk) p = first_by notes (waits_among walk) (look_place (want_of walk)) (first_look notes walk p)
 
   right_by : (walk : Walk C) (act : Act C) → want_of walk ≡ act → AsksFor (Some walk) (look_place act)
   right_by walk (Look limits again) e = (limits, ap looks_at e, refl)
   right_by walk act e = λ not. ap looks_at e
 
-  right_among : (walk : Walk C) (b : Bool) → is_among walk ≡ b → AsksFor (Some walk) (cond b None (look_place (want_of walk)))
+  right_among : (walk : Walk C) (b : Bool) → waits_among walk ≡ b → AsksFor (Some walk) (cond b None (look_place (want_of walk)))
   right_among walk true among = λ not. let no = sym among ∙ not in absurd (cc)
   right_among walk false among = right_by walk (want_of walk) refl
 
   pub right_here : (walk : Option (Walk C)) → AsksFor walk (look_of walk)
   right_here None = tt
-  right_here (Some walk) = right_among walk (is_among walk) refl
+  right_here (Some walk) = right_among walk (waits_among walk) refl
 
 -- ---- a step of a look
 

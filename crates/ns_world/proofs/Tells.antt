@@ -42,7 +42,7 @@ use Rattle.ns_world.specs.Among.{asks_for_any, CanTell, HasTold, IsFew, at_will,
 use Rattle.ns_world.specs.Asks.{plain_of}
 use Rattle.ns_world.specs.Calls.{mode_of, mode_waited}
 use Rattle.ns_world.specs.Items.{IsLow, items_of}
-use Rattle.ns_world.specs.Looks.{AsksFor, is_among, looks_at}
+use Rattle.ns_world.specs.Looks.{AsksFor, waits_among, looks_at}
 use Rattle.ns_world.specs.Looked.{Sees}
 use Rattle.ns_world.specs.Objects.{HasOperated, WalkFits, is_there, wait_in, walk_in}
 use Rattle.ns_counters.specs.Objects.{ObjectStanding, objects_after}
@@ -253,7 +253,7 @@ module _ {C : Type 0} {N : ℕ} (truths : Truths C) (some : 0 < N) (quiet : Quie
 
 -- ---- a step on the lock
 
-among_asks : {C : Type 0} (walk : Walk C) → asks_for_any (asked_of walk) ≡ false → is_among walk ≡ false
+among_asks : {C : Type 0} (walk : Walk C) → asks_for_any (asked_of walk) ≡ false → waits_among walk ≡ false
 among_asks (InWait wait place) e = e
 among_asks walk e = refl
 

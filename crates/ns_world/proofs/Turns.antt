@@ -192,6 +192,16 @@ module _ {C : Type 0} {N : ℕ} where
   turns_without old new seat Nothing p = λ lists over lines e.
       inr (inr (record { idle = p.1; none = e; answer = refl; after = ap (λ world. progress world over lines) p.0 }))
 
+  -- a call was in progress, whatever would have come next
+  pub turns_going : (next : Option (Call C)) (old new : Whole C N) (seat : ℕ) (step : Step) → step ≢ Nothing → WholeStep old new seat step → TurnsWith next old seat step new
+  turns_going next old new seat Went not p = λ lists over lines e.
+      inl (record { begun = old; leads = inl (whole_busy_of old new seat Went p, refl); world = new; steps = p; goes = not; after = refl })
+  turns_going next old new seat Idle not p = λ lists over lines e.
+      inl (record { begun = old; leads = inl (whole_busy_of old new seat Idle p, refl); world = new; steps = p; goes = not; after = refl })
+  turns_going next old new seat (Finished reply) not p = λ lists over lines e.
+      inl (record { begun = old; leads = inl (whole_busy_of old new seat (Finished reply) p, refl); world = new; steps = p; goes = not; after = refl })
+  turns_going next old new seat Nothing not p = absurd (not refl)
+
   -- the call was refused
   pub turns_misused : (old new : Whole C N) (seat : ℕ) (call : Call C) → WholeBegins old new seat call Misuse → TurnsWith (Some call) old seat (Finished TheReply.Misuse) new
   turns_misused old new seat call p = λ lists over lines e.

@@ -67,7 +67,7 @@ use Rattle.ns_counters.specs.declared.object.Setup.{Setup}
 use Rattle.ns_world.specs.Begins.{Starts, begun_at}
 use Rattle.ns_world.specs.Calls.{mode_of, start_of, mode_waited, CallFits}
 use Rattle.ns_word.specs.declared.walk.Walk.TheVariants.{InAcquire, InCells, InRelease, InShow, InSignal, InTry, InWait}
-use Rattle.ns_world.specs.Looks.{looks_at, LookFits, AsksFor, is_among, is_for_any, look_of, note_in}
+use Rattle.ns_world.specs.Looks.{looks_at, LookFits, AsksFor, waits_among, is_for_any, look_of, note_in}
 use Rattle.ns_world.specs.Meanings.{WasShown, AnswersOfLock, AnswersOfNotes, held_at, limits_for, limits_of, asks_of, held_in}
 use Rattle.ns_world.specs.Performs.{step_of}
 use Rattle.ns_world.specs.World.{Goes, LookGoes, Moves, Now, Asks, IsLawfulWorld, LedTo, env_done, Acts}
@@ -118,7 +118,7 @@ among_for (OnVariables (Any cvs)) limits e = refl
 among_for (OnVariables (Only k)) limits e = absurd (cc)
 among_for (OnCondition c) limits e = absurd (cc)
 
-among_says : {C : Type 0} (walk : Walk C) → is_among walk ≡ true → limits_of (asked_of walk) ≡ None
+among_says : {C : Type 0} (walk : Walk C) → waits_among walk ≡ true → limits_of (asked_of walk) ≡ None
 among_says (InWait wait place) e = among_for wait.on wait.limits e
 among_says (InTry mode place) e = absurd (cc)
 among_says (InAcquire aim place) e = absurd (cc)
@@ -576,14 +576,14 @@ module _ (C : Type 0) (N : ℕ) (before : Now C N) (earlier : List EnvEvent) (se
   unfolding lock_rests
   lock_moves request events old new step lawful led since u (inl p) =
       let now = lock_rests request events [] old old (same_world old) (no_more events) u in
-      let same : is_among p.goes.makes.walk ≡ false → looked_after p.goes.found u.course.looked ≡ u.course.looked = λ not. acts_show_not old new step p u.course.looked (p.is_no_look not) in
+      let same : waits_among p.goes.makes.walk ≡ false → looked_after p.goes.found u.course.looked ≡ u.course.looked = λ not. acts_show_not old new step p u.course.looked (p.is_no_look not) in
       let views : Some p.goes.view ≡ Some u.view = sym p.goes.at ∙ u.at in
       let view_is : p.goes.view ≡ u.view = cc in
       let walks : Some p.goes.makes.walk ≡ Some u.walk = sym p.goes.makes.walks ∙ ap (λ v. v.walk) view_is ∙ u.walks in
       let walk_is : p.goes.makes.walk ≡ u.walk = cc in
-      let none : is_among p.goes.makes.walk ≡ true → limits_of request ≡ None = λ is. ap limits_of (sym u.asked ∙ ap asked_of (sym walk_is)) ∙ among_says p.goes.makes.walk is in (
+      let none : waits_among p.goes.makes.walk ≡ true → limits_of request ≡ None = λ is. ap limits_of (sym u.asked ∙ ap asked_of (sym walk_is)) ∙ among_says p.goes.makes.walk is in (
         no_event events new (acts_led events old new seat step lawful led p),
-        (lock_goes request (events ++ []) old new step lawful (begins_on earlier events [] since) now p.goes (shown_by (events ++ []) (is_among p.goes.makes.walk) refl (limits_of request) u.course.looked (looked_after p.goes.found u.course.looked) same none now.shown)).0,
+        (lock_goes request (events ++ []) old new step lawful (begins_on earlier events [] since) now p.goes (shown_by (events ++ []) (waits_among p.goes.makes.walk) refl (limits_of request) u.course.looked (looked_after p.goes.found u.course.looked) same none now.shown)).0,
       )
   lock_moves request events old new step lawful led since u (inr (inl p)) =
       let views : Some p.view ≡ Some u.view = sym p.at ∙ u.at in

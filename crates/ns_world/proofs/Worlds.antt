@@ -44,7 +44,7 @@ use Rattle.ns_world.specs.declared.seat.Seat.{Seat}
 use Rattle.ns_world.specs.declared.step.Step.{Step}
 use Rattle.ns_world.specs.declared.step.Step.TheVariants.{Went, Idle, Finished, Nothing}
 use Rattle.ns_world.specs.Performs.{Performs, view_of, seat_part, step_of, tests_after}
-use Rattle.ns_world.specs.Looks.{AsksFor, LookFits, is_among, look_of, looks_at, note_in}
+use Rattle.ns_world.specs.Looks.{AsksFor, LookFits, waits_among, look_of, looks_at, note_in}
 use Rattle.ns_world.specs.Looked.{EnvMoves, LookStep, MovesFrom, SeatLooks, Sees}
 use Rattle.ns_world.specs.World.{Now, now_with, Goes, Acts, Asks, Looks, LookGoes, Moves, StepOf, IsLawfulWorld, StandRight, NotesMade}
 use Rattle.ns_world.proofs.Looking.{FirstIf, LookLeads, first_if, look_leads, look_stays, noted, right_here, shown_effect}
@@ -177,7 +177,7 @@ module _ {C : Type 0} {N : ℕ} (truths : Truths C) (some : 0 < N) (quiet : Quie
   asks_for asking e = lawful.right i (view_of (get_or seats i d)) asking (got-map view_of seats i d within) (asks_at ∙ ap Some e)
 
   -- one that stands nowhere there wants no look
-  pub inside_here : (walk : Walk C) → (get_or seats i d).walk ≡ Some walk → (get_or seats i d).asking ≡ None → is_among walk ≡ false → looks_at (want_of walk) ≡ None
+  pub inside_here : (walk : Walk C) → (get_or seats i d).walk ≡ Some walk → (get_or seats i d).asking ≡ None → waits_among walk ≡ false → looks_at (want_of walk) ≡ None
   inside_here walk e f = subst (λ w. AsksFor w None) e (asks_for None f)
 
   in_asks : i < length (map (λ s. s.asking) seats)

@@ -14,6 +14,7 @@ use Rattle.ns_word.specs.declared.walk.Walk.TheVariants.{InAcquire, InWait}
 use Rattle.ns_word.specs.declared.act.Act.{Act}
 use Rattle.ns_word.specs.declared.act.Act.TheVariants.{Look}
 use Rattle.ns_word.specs.Walks.{want_of}
+use Rattle.ns_world.specs.declared.wanted.Look.{Look as LookBy}
 
 -- what a look goes by, where the act is one
 abbrev pub looks_at : {C : Type 0} → Act C → Option Limits
@@ -30,20 +31,25 @@ abbrev pub look_place : {C : Type 0} → Act C → Option EnvWalk
 look_place (Look limits again) = Some (ClockLoad (ForLook limits))
 look_place act = None
 
+-- the look that the act is, if it is one: what it goes by, and whether the wait has come back
+abbrev pub look_in : {C : Type 0} → Act C → Option LookBy
+look_in (Look limits again) = Some (record { limits = limits; again = again })
+look_in act = None
+
 -- what is waited for is any of a set of variables
 abbrev pub is_for_any : {C : Type 0} → Subject C → Bool
 is_for_any (OnVariables (Any cvs)) = true
 is_for_any on = false
 
 -- The walk waits for any of a set of variables. Such a wait looks at the objects among which they are, and not at the clock and the notes by itself.
-abbrev pub is_among : {C : Type 0} → Walk C → Bool
-is_among (InWait wait place) = is_for_any wait.on
-is_among walk = false
+abbrev pub waits_among : {C : Type 0} → Walk C → Bool
+waits_among (InWait wait place) = is_for_any wait.on
+waits_among walk = false
 
 -- where a seat stands on the clock and the notes that has come to this place in its call on the lock
 abbrev pub look_of : {C : Type 0} → Option (Walk C) → Option EnvWalk
 look_of None = None
-look_of (Some walk) = if is_among walk then None else look_place (want_of walk)
+look_of (Some walk) = if waits_among walk then None else look_place (want_of walk)
 
 -- a place in a look by these limits
 abbrev pub LookFits : Limits → EnvWalk → Type 0
@@ -54,7 +60,7 @@ LookFits limits walk = ⊥
 -- A seat stands in a call of its own on the clock and the notes where it is in none on the lock; else it stands there only where its wait looks, and always then, if that isn't one for any of a set of variables.
 abbrev pub AsksFor : {C : Type 0} → Option (Walk C) → Option EnvWalk → Type 0
 AsksFor None asking = Unit {0}
-AsksFor (Some walk) None = is_among walk ≡ false → looks_at (want_of walk) ≡ None
+AsksFor (Some walk) None = waits_among walk ≡ false → looks_at (want_of walk) ≡ None
 AsksFor (Some walk) (Some place) = (limits : Limits) × (looks_at (want_of walk) ≡ Some limits) × LookFits limits place
 
 -- the note that may end the wait that a seat is in

@@ -33,7 +33,7 @@ use Rattle.ns_world.specs.declared.fault.Fault.{Fault}
 use Rattle.ns_world.specs.declared.fault.Fault.TheVariants.{OutOfMemory, NoSuchSeat, TooManySeats, StepLimit}
 use Rattle.ns_world.specs.Asks.{plain_of, env_state, env_step_of}
 use Rattle.ns_world.specs.Commits.{Commits}
-use Rattle.ns_world.specs.Looks.{AsksFor, is_among, look_of, looks_at, note_in}
+use Rattle.ns_world.specs.Looks.{AsksFor, waits_among, look_of, looks_at, note_in}
 use Rattle.ns_world.specs.Performs.{view_of, flag_at, step_of, tests_after}
 
 -- what the conditions mean, the lock and its seats, how many conditions the scan of each seat's call tested, all that has happened, the clock and the notes, and each seat's place in a call on them
@@ -173,7 +173,7 @@ pub record Goes {C : Type 0} {N : ℕ} (old new : Now C N) (seat : ℕ) (step : 
 pub record Acts {C : Type 0} {N : ℕ} (old new : Now C N) (seat : ℕ) (step : Step) : Type 0 where
   pub goes : Goes old new seat step
   pub unasked : slice_get old.asking seat ≡ Some None
-  pub is_no_look : is_among goes.makes.walk ≡ false → looks_at (want_of goes.makes.walk) ≡ None
+  pub is_no_look : waits_among goes.makes.walk ≡ false → looks_at (want_of goes.makes.walk) ≡ None
 
 -- The seat makes one step on the clock and the notes, and it was this: it replies where its walk is over, and nothing else changes.
 pub record Asks {C : Type 0} {N : ℕ} (old new : Now C N) (seat : ℕ) (step : Step) : Type 0 where

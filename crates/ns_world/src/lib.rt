@@ -41,4 +41,5 @@ mod seats;
 mod shows;
 pub mod state;
 pub mod step;
+mod wanted;
 pub mod world;

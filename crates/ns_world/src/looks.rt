@@ -5,7 +5,7 @@ ghost use Rattle.ns_env.specs.Asks.{EnvActFits};
 ghost use Rattle.ns_env.specs.Walks.{env_want_of};
 ghost use Rattle.ns_word.specs.Steps.{held_after, opening_by};
 ghost use Rattle.ns_world.specs.Asks.{plain_of};
-ghost use Rattle.ns_world.specs.Looks.{AsksFor, came_back};
+ghost use Rattle.ns_world.specs.Looks.{AsksFor};
 ghost use Rattle.ns_world.specs.Looked.{EnvMoves, LookStep, Sees};
 
 use crate::asks::ask;
@@ -14,9 +14,10 @@ use crate::perform::settle;
 use crate::room::Seated;
 use crate::seat::Seat;
 use crate::step::Step;
+use crate::wanted::came_back;
 use ns_env::limits::Cause;
 use ns_env::walk::{EnvNext, EnvWalk};
-use ns_word::act::{Act, Found};
+use ns_word::act::Found;
 use ns_word::view::{Held, Opening};
 use ns_word::wait::Outcome;
 use ns_word::walk::Walk;
@@ -49,16 +50,6 @@ fn keep<C: Seated<N>, const N: usize>(
     }
 }
 
-/// Whether the act is a look of a wait that has come back.
-fn came_back<C: Seated<N>, const N: usize>(act: Act<C>) -> bool
-    ensures { result ≡ came_back act }
-{
-    match act {
-        Act::Look(_, again) => again,
-        _ => false,
-    }
-}
-
 /// The wait goes on with what its look has shown.
 pub(crate) fn see<C: Seated<N>, const N: usize>(
     seat: &mut Seat<C, N>,
@@ -67,8 +58,8 @@ pub(crate) fn see<C: Seated<N>, const N: usize>(
 ) -> Step
     ensures { Sees seat.old walk cause seat.new result }
 {
-    keep(&mut seat.held, came_back(walk.want()), cause);
-    settle(seat, walk.got::<N>(Found::Looked(cause)))
+    keep(&mut seat.held, came_back(&walk), cause);
+    settle(seat, &walk.got::<N>(Found::Looked(cause)))
 }
 
 /// Makes the next step of the look that the seat's wait wants.

@@ -7,7 +7,7 @@ ghost use Rattle.ns_word.specs.Places.{ActFits, HasMode, OwesOne};
 ghost use Rattle.ns_word.specs.Steps.{Effect};
 ghost use Rattle.ns_word.specs.Walks.{want_of, walk_after};
 ghost use Rattle.ns_world.specs.Commits.{Commits};
-ghost use Rattle.ns_world.specs.Looks.{is_among, look_of, look_place, looks_at};
+ghost use Rattle.ns_world.specs.Looks.{waits_among, look_of, looks_at};
 ghost use Rattle.ns_world.specs.Performs.{part, seat_part, step_of, tests_after, IsSeat, Makes, Performs};
 
 use crate::exchanges::{
@@ -17,8 +17,8 @@ use crate::reply::told;
 use crate::room::Seated;
 use crate::seat::Seat;
 use crate::step::Step;
+use crate::wanted::look_place;
 use arrayvec::ArrayVec;
-use ns_env::walk::{Chain, EnvWalk};
 use ns_model::cvs::Variables;
 use ns_model::event::Event;
 use ns_queue::queues::Queues;
@@ -146,19 +146,9 @@ fn tests_after(found: Found, before: u32) -> u32
     }
 }
 
-/// The first place of a look, where the act is one.
-fn look_place<C: Seated<N>, const N: usize>(act: Act<C>) -> Option<EnvWalk>
-    ensures { result ≡ look_place act }
-{
-    match act {
-        Act::Look(limits, _) => Some(EnvWalk::ClockLoad(Chain::ForLook(limits))),
-        _ => None,
-    }
-}
-
 /// Whether the walk waits for any of a set of variables.
-fn is_among<C: Seated<N>, const N: usize>(walk: &Walk<C>) -> bool
-    ensures { result ≡ is_among walk.now }
+fn waits_among<C: Seated<N>, const N: usize>(walk: &Walk<C>) -> bool
+    ensures { result ≡ waits_among walk.now }
 {
     match walk {
         Walk::InWait(wait, _) => match wait.on {
@@ -171,21 +161,21 @@ fn is_among<C: Seated<N>, const N: usize>(walk: &Walk<C>) -> bool
 
 /// Puts the seat at this place of its walk, and at the beginning of a look where its wait looks at the clock
 /// and the notes.
-fn go_to<C: Seated<N>, const N: usize>(seat: &mut Seat<C, N>, walk: Walk<C>)
-    ensures { seat.new ≡ record seat.old { walk = Some walk; asking = look_of (Some walk) } }
+fn go_to<C: Seated<N>, const N: usize>(seat: &mut Seat<C, N>, walk: &Walk<C>)
+    ensures { seat.new ≡ record seat.old { walk = Some walk.now; asking = look_of (Some walk.now) } }
 {
-    seat.asking = if is_among(&walk) {
+    seat.asking = if waits_among(walk) {
         None
     } else {
-        look_place(walk.want())
+        look_place(walk)
     };
-    seat.walk = Some(walk);
+    seat.walk = Some(*walk);
 }
 
 /// Puts the seat where its walk goes, and tells what the step was.
-pub(crate) fn settle<C: Seated<N>, const N: usize>(seat: &mut Seat<C, N>, next: Next<C>) -> Step
-    ensures step { result ≡ step_of next }
-    ensures seat { seat.new ≡ record seat.old { walk = walk_after next; asking = look_of (walk_after next) } }
+pub(crate) fn settle<C: Seated<N>, const N: usize>(seat: &mut Seat<C, N>, next: &Next<C>) -> Step
+    ensures step { result ≡ step_of next.now }
+    ensures seat { seat.new ≡ record seat.old { walk = walk_after next.now; asking = look_of (walk_after next.now) } }
 {
     match next {
         Next::On(walk) => {
@@ -199,7 +189,7 @@ pub(crate) fn settle<C: Seated<N>, const N: usize>(seat: &mut Seat<C, N>, next: 
         Next::Done(reply) => {
             seat.asking = None;
             seat.walk = None;
-            Step::Finished(told(reply))
+            Step::Finished(told(*reply))
         }
     }
 }
@@ -223,5 +213,5 @@ pub(crate) fn perform<C: Seated<N>, const N: usize>(
 {
     let found = make(word, row, queues, flags, seat, history, walk.want())?;
     seat.tests = tests_after(found, seat.tests);
-    Ok(settle(seat, walk.got::<N>(found)))
+    Ok(settle(seat, &walk.got::<N>(found)))
 }

@@ -104,6 +104,29 @@ fn count(tally: &mut Tally, seat: u8, step: Step, tests: u32) -> Result<(), Allo
     Ok(())
 }
 
+/// A turn of the seat, of whose calls so many are over: a step of the call that is in progress, or else of
+/// its next one. Only where none is in progress is the next one looked for.
+fn next_turn<C: Seated<N>, const N: usize>(
+    world: &mut World<C, N>,
+    lists: &[Vec<Call<C>>],
+    seat: u8,
+    over: u16,
+) -> Result<Step, Fault>
+    requires lists { All (λ calls. ListFits N calls.items) lists.now }
+    ensures ok { IfOk result (λ step. TurnsWith (slice_get (calls_of (map (λ calls. calls.items) lists.now) seat) over) (whole_of C.means world.old) seat step (whole_of C.means world.new)) }
+    ensures err { IfErr result (λ fault. ((whole_of C.means world.new) ≡ (whole_of C.means world.old)) × TurnFault (whole_of C.means world.old) seat fault) }
+{
+    match world.step(seat)? {
+        Step::Nothing => match next_call(lists, seat, over) {
+            Some(call) => turn(world, Some(call), seat),
+            None => Ok(Step::Nothing),
+        },
+        Step::Went => Ok(Step::Went),
+        Step::Idle => Ok(Step::Idle),
+        Step::Finished(reply) => Ok(Step::Finished(reply)),
+    }
+}
+
 /// One turn of the seat, counted: its step, where the run goes on.
 fn counted_turn<C: Seated<N>, const N: usize>(
     world: &mut World<C, N>,
@@ -128,8 +151,7 @@ fn counted_turn<C: Seated<N>, const N: usize>(
     if tally.turns == limit {
         return Err(Fault::StepLimit);
     }
-    let next = next_call(lists, seat, tally.over[seat as usize]);
-    let step = turn(world, next, seat)?;
+    let step = next_turn(world, lists, seat, tally.over[seat as usize])?;
     count(tally, seat, step, world.tests(seat))?;
     Ok(step)
 }

@@ -10,6 +10,6 @@ keep-requires g c = g.met.C.Fits.held_fits
 
 pub returns : goal.returns
 returns g c = record {
-  goes = rw (c.got.ensures, c.keep.ensures, c.came_back.ensures, c.want.ensures) at c.settle.ensures.seat;
+  goes = rw (c.got.ensures, c.keep.ensures, c.came_back.ensures) at c.settle.ensures.seat;
   answers = c.settle.ensures.step ∙ ap step_of c.got.ensures;
 }

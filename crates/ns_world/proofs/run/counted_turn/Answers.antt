@@ -1,15 +1,12 @@
-use Rattle.std.proofs.Common.{rules, arith, sym, ◌∷◌, [], map, subst, slice_index, Vec, Global}
+use Rattle.std.proofs.Common.{rules, arith, refl, sym, ◌∷◌, [], map, subst, Vec, Global}
 use Rattle.std.proofs.lemmas.Result.{err_from_is_err_and}
 use Rattle.ns_world.specs.Whole.{whole_of}
 use Rattle.ns_world.specs.declared.call.Call.{Call}
 use Rattle.ns_world.specs.Runs.{Progress, progress, progressed, IsCounted}
 use Rattle.ns_world.proofs.Schedules.{stops_now, turn_stops, untold_stops}
-use Rattle.ns_world.proofs.Counted.{turn_counted, calls_fit, next_fits, counts_progress}
+use Rattle.ns_world.proofs.Counted.{turn_counted, calls_fit, counts_progress}
 use Rattle.ns_world.proofs.Turns.{seats_stay, progressed_world}
 use Rattle.ns_world.proofs.run.counted_turn.Goals as goal
-
-pub turn-requires : goal.turn-requires
-turn-requires g c = (search rules, rw c.next_call-next.ensures (next_fits g.row.N _ (slice_index c.args.tally.now.over c.args.seat) (calls_fit g.row.N c.args.lists.now c.args.seat c.requires.lists)))
 
 pub returns-then-seat-seats-clause-err : goal.returns-then-seat-seats-clause-err
 returns-then-seat-seats-clause-err g c = λ whole.
@@ -24,36 +21,36 @@ returns-then-tally-limit-clause-err g c = λ whole.
 pub returns-in_err-step-clause-err : goal.returns-in_err-step-clause-err
 returns-in_err-step-clause-err g c =
     let p = err_from_is_err_and c.from_residual.result c.from_residual.ensures.1 in
-    rw (p.1, p.2) (λ whole. turn_stops _ c.args.limit (progress (whole_of g.C.Condition.means c.args.world.now) c.args.tally.now.over c.args.tally.now.lines.items) c.args.tally.now.turns c.args.seat whole (whole_of g.C.Condition.means c.turn.new.world) c.in_err-step.field-0.0 c.requires.turns c.in_err-step.ensures.err)
+    rw (p.1, p.2) (λ whole. turn_stops _ c.args.limit (progress (whole_of g.C.Condition.means c.args.world.now) c.args.tally.now.over c.args.tally.now.lines.items) c.args.tally.now.turns c.args.seat whole (whole_of g.C.Condition.means c.next_turn.new.world) c.in_err-step.field-0.0 c.requires.turns c.in_err-step.ensures.err)
 
 pub tests-requires : goal.tests-requires
 tests-requires g c =
     let before = progress (whole_of g.C.Condition.means c.args.world.now) c.args.tally.now.over c.args.tally.now.lines.items in
-    let turn = c.in_ok-step.ensures.ok _ c.args.tally.now.over c.args.tally.now.lines.items (sym c.next_call-next.ensures) in
-    let same = seats_stay _ before c.args.seat c.in_ok-step.step (whole_of g.C.Condition.means c.turn.new.world) turn in
+    let turn = c.in_ok-step.ensures.ok _ c.args.tally.now.over c.args.tally.now.lines.items refl in
+    let same = seats_stay _ before c.args.seat c.in_ok-step.step (whole_of g.C.Condition.means c.next_turn.new.world) turn in
     (search rules, omega (arith, same))
 
 pub returns-in_err-count-clause-err : goal.returns-in_err-count-clause-err
 returns-in_err-count-clause-err g c =
     let p = err_from_is_err_and c.from_residual-in_err-count.result c.from_residual-in_err-count.ensures.1 in
     let before = progress (whole_of g.C.Condition.means c.args.world.now) c.args.tally.now.over c.args.tally.now.lines.items in
-    let turn = c.in_ok-step.ensures.ok _ c.args.tally.now.over c.args.tally.now.lines.items (sym c.next_call-next.ensures) in
-    rw (p.1, p.2) (λ whole. untold_stops _ c.args.limit before (progressed before c.args.seat c.in_ok-step.step (whole_of g.C.Condition.means c.turn.new.world)) c.args.tally.now.turns c.args.seat whole c.in_ok-step.step (whole_of g.C.Condition.means c.turn.new.world) turn c.in_err-count.ensures.err (omega arith) (progressed_world before c.args.seat c.in_ok-step.step (whole_of g.C.Condition.means c.turn.new.world)))
+    let turn = c.in_ok-step.ensures.ok _ c.args.tally.now.over c.args.tally.now.lines.items refl in
+    rw (p.1, p.2) (λ whole. untold_stops _ c.args.limit before (progressed before c.args.seat c.in_ok-step.step (whole_of g.C.Condition.means c.next_turn.new.world)) c.args.tally.now.turns c.args.seat whole c.in_ok-step.step (whole_of g.C.Condition.means c.next_turn.new.world) turn c.in_err-count.ensures.err (omega arith) (progressed_world before c.args.seat c.in_ok-step.step (whole_of g.C.Condition.means c.next_turn.new.world)))
 
 pub returns-clause-ok : goal.returns-clause-ok
 returns-clause-ok g c =
-    let counted = counts_progress (whole_of g.C.Condition.means c.args.world.now) (whole_of g.C.Condition.means c.turn.new.world) c.args.tally.now.over c.count.new.tally.over c.args.tally.now.lines.items c.count.new.tally.lines.items c.args.seat c.tests.result c.in_ok-step.step c.tests.ensures c.in_ok-count.ensures.ok in
-    rw counted (c.in_ok-step.ensures.ok _ c.args.tally.now.over c.args.tally.now.lines.items (sym c.next_call-next.ensures))
+    let counted = counts_progress (whole_of g.C.Condition.means c.args.world.now) (whole_of g.C.Condition.means c.next_turn.new.world) c.args.tally.now.over c.count.new.tally.over c.args.tally.now.lines.items c.count.new.tally.lines.items c.args.seat c.tests.result c.in_ok-step.step c.tests.ensures c.in_ok-count.ensures.ok in
+    rw counted (c.in_ok-step.ensures.ok _ c.args.tally.now.over c.args.tally.now.lines.items refl)
 
 pub returns-clause-counted : goal.returns-clause-counted
 returns-clause-counted g c =
     let before = progress (whole_of g.C.Condition.means c.args.world.now) c.args.tally.now.over c.args.tally.now.lines.items in
-    let counted = counts_progress (whole_of g.C.Condition.means c.args.world.now) (whole_of g.C.Condition.means c.turn.new.world) c.args.tally.now.over c.count.new.tally.over c.args.tally.now.lines.items c.count.new.tally.lines.items c.args.seat c.tests.result c.in_ok-step.step c.tests.ensures c.in_ok-count.ensures.ok in
+    let counted = counts_progress (whole_of g.C.Condition.means c.args.world.now) (whole_of g.C.Condition.means c.next_turn.new.world) c.args.tally.now.over c.count.new.tally.over c.args.tally.now.lines.items c.count.new.tally.lines.items c.args.seat c.tests.result c.in_ok-step.step c.tests.ensures c.in_ok-count.ensures.ok in
     let calls = map (λ (calls : Vec (Call _) Global). calls.items) c.args.lists.now in
-    let turn = c.in_ok-step.ensures.ok calls c.args.tally.now.over c.args.tally.now.lines.items (sym c.next_call-next.ensures) in
+    let turn = c.in_ok-step.ensures.ok calls c.args.tally.now.over c.args.tally.now.lines.items refl in
     let few = (calls_fit g.row.N c.args.lists.now c.args.seat c.requires.lists).0 in
     subst (λ (q : Progress _ _). IsCounted q.world q.over) (sym counted)
-    (turn_counted calls before (progressed before c.args.seat c.in_ok-step.step (whole_of g.C.Condition.means c.turn.new.world)) c.args.seat c.in_ok-step.step few (omega arith) turn c.requires.counted)
+    (turn_counted calls before (progressed before c.args.seat c.in_ok-step.step (whole_of g.C.Condition.means c.next_turn.new.world)) c.args.seat c.in_ok-step.step few (omega arith) turn c.requires.counted)
 
 pub count-requires-clause-over : goal.count-requires-clause-over
 count-requires-clause-over g c = let most = c.requires.counted.most c.args.seat in omega (arith, most)
