@@ -70,6 +70,22 @@ pub fn add_one_at<R: Wait>(rt: &R, monitor: &SixCells, seat: SixSeat, i: usize) 
     monitor.unlock(rt, held)
 }
 
+/// Adds 1 to the cell for which nobody waits, in each of so many sections whose release looks for whom to
+/// wake.
+pub fn tick<R: Wait>(rt: &R, monitor: &SixCells, seat: SixSeat, times: u64) -> SixSeat
+    requires { seat.monitor ≡ monitor.now }
+    ensures { result.monitor ≡ monitor.now }
+{
+    let mut seat = seat;
+    for _ in 0..times {
+        let mut held = monitor.lock(rt, seat);
+        let value = monitor.get(&mut held, TICK);
+        monitor.set(&mut held, TICK, value.wrapping_add(1));
+        seat = monitor.unlock(rt, held);
+    }
+    seat
+}
+
 /// Adds 1 to the cell for which nobody waits, in a section that wakes nobody as long as it is quiet.
 fn tick_once_quietly<R: Wait>(rt: &R, monitor: &SixCells, seat: SixSeat) -> SixSeat
     requires { seat.monitor ≡ monitor.now }

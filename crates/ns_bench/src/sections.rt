@@ -44,24 +44,20 @@ pub fn lock<R: Wait>(rt: &R, monitor: &OneCell, seat: OneSeat, times: u64) -> Co
     Count::of_writes(times)
 }
 
-/// Adds 1 to the cell in each of so many sections that are tried for; counts the tries that succeed.
+/// Adds 1 to the cell in each of so many sections that are tried for, of which each has to succeed.
 pub fn try_lock<R: Wait>(rt: &R, monitor: &OneCell, seat: OneSeat, times: u64) -> Count
     requires { seat.monitor ≡ monitor.now }
 {
     let mut seat = seat;
-    let mut count = Count::new();
     for _ in 0..times {
-        seat = match monitor.try_lock(seat) {
-            Ok(mut held) => {
-                let value = monitor.get(&mut held, 0);
-                monitor.set(&mut held, 0, value.wrapping_add(1));
-                count = count.with_write();
-                monitor.unlock(rt, held)
-            }
-            Err(back) => back,
+        let Ok(mut held) = monitor.try_lock(seat) else {
+            return Count::new();
         };
+        let value = monitor.get(&mut held, 0);
+        monitor.set(&mut held, 0, value.wrapping_add(1));
+        seat = monitor.unlock(rt, held);
     }
-    count
+    Count::of_writes(times)
 }
 
 /// Adds up the cell, read in each of so many sections.

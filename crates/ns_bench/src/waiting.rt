@@ -6,7 +6,6 @@ ghost use Rattle.std.specs.Thread.{IsSync};
 use crate::amount::{Amount, Count};
 use crate::conditions::{Awaited, SixCells, SixSeat, TICK};
 use crate::crowd;
-use crate::crowd::add_one_at;
 use crate::hand_over::take_turn;
 use crate::long_reads::{read_long, read_until_told, write_beside, write_long};
 use crate::mixed::mix;
@@ -146,14 +145,7 @@ impl Waiting {
             Waiting::Crowd(_, beside) => {
                 let seat = crowd::wait_for_all(rt, monitor, seat, amount.threads);
                 match beside {
-                    Beside::Tick => repeat(
-                        times,
-                        seat,
-                        |seat: SixSeat| -> SixSeat
-                            requires { seat.monitor ≡ monitor.now }
-                            ensures { result.monitor ≡ monitor.entry.now }
-                        { add_one_at(rt, monitor, seat, TICK) },
-                    ),
+                    Beside::Tick => crowd::tick(rt, monitor, seat, times),
                     Beside::TickQuietly => crowd::tick_quietly(rt, monitor, seat, times),
                     Beside::Read => crowd::read_beside(rt, monitor, seat, times),
                 }
