@@ -1,3 +1,4 @@
+pub mod AtOnce
 pub mod Meetings
 pub mod Numbered
 pub mod Sights
