@@ -79,7 +79,7 @@ module _ {C : Type 0} {N : ℕ} (truths : Truths C) where
   finds_exchanged act last new view slots e k = absurd e
 
   -- so it is told
-  exchanged_by : (last new : Word) (k : ℕ) (me now : Me (Lists C) (List (GateView C N))) (m : MayExchange truths last new me) → PerformedWith truths None (act_by None (the me.0)) k me now → Performed truths None m.act (exchanged k last (made_by truths m.act (the me.0))) me now
+  pub exchanged_by : (last new : Word) (k : ℕ) (me now : Me (Lists C) (List (GateView C N))) (m : MayExchange truths last new me) → PerformedWith truths None (act_by None (the me.0)) k me now → Performed truths None m.act (exchanged k last (made_by truths m.act (the me.0))) me now
   exchanged_by last new k me now m s = subst (λ f. Performed truths None m.act f me now) (finds_exchanged m.act last new (the me.0) me.1 m.exchanges k) (stepped None k me now s m.act m.can).made
 
   pub found_packs : (last new : Word) (k : ℕ) (me now : Me (Lists C) (List (GateView C N))) → IsPackable last → MayExchange truths last new me → PerformedWith truths None (act_by None (the me.0)) k me now → IsPackable (word_of k)

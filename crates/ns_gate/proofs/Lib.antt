@@ -7,5 +7,6 @@ pub mod Room
 pub mod Starts
 pub mod Stays
 pub mod Findings
+pub mod Guesses
 pub mod Allowed
 pub mod Wakes

@@ -250,6 +250,46 @@ pub record MayExchange {C : Type 0} {N : ℕ} (truths : Truths C) (last new : Wo
   pub can : CanStep truths None act me
   pub exchanges : IsExchange truths act last new (the me.0) me.1
 
+-- A call that loads the lock word, and finds this content, has right behind that made the exchange which it then wanted, with nothing between: one step of the table was both.
+pub record PerformedBoth {C : Type 0} {N : ℕ} (truths : Truths C) (begun : Option (Walk C)) (content : ℕ) (me now : Me (Lists C) (List (GateView C N))) : Type 0 where
+  pub between : Me (Lists C) (List (GateView C N))
+  pub loaded : PerformedWith truths begun (act_by begun (the me.0)) content me between
+  pub exchanged : PerformedWith truths None (act_by None (the between.0)) content between now
+
+-- One exchange, for which a content was guessed, by a call that would load the lock word: where it found another it was that load, and else both.
+pub record HasGuessed {C : Type 0} {N : ℕ} (truths : Truths C) (begun : Option (Walk C)) (guess content : ℕ) (me now : Me (Lists C) (List (GateView C N))) : Type 0 where
+  pub missed : (content ≡ guess → ⊥) → PerformedWith truths begun (act_by begun (the me.0)) content me now
+  pub hit : content ≡ guess → PerformedBoth truths begun content me now
+
+-- a call that begins so, with a load of the lock word, wants this act next where it finds this word
+pub record WantsNext {C : Type 0} (N : ℕ) (first : Walk C) (word : Word) (act : Act C) : Type 0 where
+  pub next : Walk C
+  pub goes : walk_after (got_of N first (Saw word)) ≡ Some next
+  pub wants : want_of next ≡ act
+
+-- the act exchanges the one word for the other, whatever its seat has in hand
+abbrev pub IsPlainExchange : {C : Type 0} → Act C → Word → Word → Type 0
+IsPlainExchange (Acquire aim arrival seen) last new = (seen ≡ last) × (new ≡ word_acquired (mode_for aim) arrival seen)
+IsPlainExchange (Release releasing seen) last new = (seen ≡ last) × (new ≡ word_released releasing seen)
+IsPlainExchange act last new = ⊥
+
+-- a call that begins so wants such an exchange next, where it finds the one word
+pub record MayGuess {C : Type 0} (N : ℕ) (first : Walk C) (guess new : Word) : Type 0 where
+  pub act : Act C
+  pub next : WantsNext N first guess act
+  pub plain : IsPlainExchange act guess new
+
+-- The seat has begun the call with a load of the lock word, which found this word, and right behind that, with nothing between, has made this act.
+pub record HasMadeBoth {C : Type 0} {N : ℕ} (truths : Truths C) (first : Walk C) (word : Word) (act : Act C) (me now : Me (Lists C) (List (GateView C N))) : Type 0 where
+  pub between : Me (Lists C) (List (GateView C N))
+  pub loaded : Performed truths (Some first) LoadWord (Saw word) me between
+  pub made : Performed truths None act Made between now
+
+-- a call that began by such a guess has made both; or it has begun with the load alone, which found this word
+abbrev pub CameByGuess : {C : Type 0} {N : ℕ} → Truths C → Walk C → Word → Act C → Result Unit Word → Me (Lists C) (List (GateView C N)) → Me (Lists C) (List (GateView C N)) → Type 0
+CameByGuess truths first guess act (Ok x) me now = HasMadeBoth truths first guess act me now
+CameByGuess truths first guess act (Err word) me now = Performed truths (Some first) LoadWord (Saw word) me now
+
 -- what the seat's act finds if its exchange is made
 abbrev pub made_by : {C : Type 0} {N : ℕ} → Truths C → Act C → GateView C N → Found
 made_by truths (ReturnQueues change last) view = change_found view.at.seat change last view.stood

@@ -1,17 +1,17 @@
 //! The gate: a lock word, a row and flags, shared by threads.
 
 ghost use Rattle.std.specs.Prelude.{◌≡◌, ◌+◌, ◌<◌, ◌≤◌, [], ◌∷◌, replicate, None, IfErr, IfOk, MatchResult, slice_index};
-ghost use Rattle.ns_gate.specs.Prelude.{word_of, IsPackable, before_in, exchanged, row_in, MayShow, IsAtRest, EndsAs, first_of, fresh, no_lists, rest_of, RefusesGate, HaveMet, CanStep, IsOne, MayExchange, MayLoad, MayStore, Performed, PerformedWith, made_by, the, tried, tried_for};
+ghost use Rattle.ns_gate.specs.Prelude.{word_of, IsPackable, before_in, exchanged, row_in, CameByGuess, MayGuess, MayShow, WantsNext, IsAtRest, EndsAs, first_of, fresh, no_lists, rest_of, RefusesGate, HaveMet, CanStep, IsOne, MayExchange, MayLoad, MayStore, Performed, PerformedWith, made_by, the, tried, tried_for};
 
 use crate::closed::{Closed, cells};
 use crate::fault::Fault;
-use crate::plays::{FirstOut, Go, Law, Learn, Load, Look, Together};
+use crate::plays::{Both, FirstOut, Go, Law, Learn, Load, Look, Together};
 use crate::view::View;
 use atomic_table::{Refused, Table};
 use ns_env::limits::{Cause, Limits};
 use ns_model::condition::Condition;
 use ns_queue::queues::Queues;
-use ns_seats::saying::load_saying;
+use ns_seats::saying::{exchange_saying, load_saying};
 use ns_word::act::{Act, Found};
 use ns_word::codec::unpacked;
 use ns_word::number::LockWord;
@@ -182,6 +182,37 @@ impl<C: Condition<N>, const N: usize> Gate<C, N> {
         came_to(found, last)
     }
 
+    /// Begins a call that loads the lock word and then wants an exchange of it, by that exchange, with a
+    /// guess of the word. Where the guess is right, this one exchange is the load and the exchange behind
+    /// it, with nothing between; else it is the load alone, and tells the word.
+    #[inline(always)]
+    fn exchange_guessing(
+        &self,
+        seat: &mut GateSeat<C, N>,
+        first: Walk<C>,
+        guess: LockWord,
+        new: LockWord,
+    ) -> Result<(), LockWord>
+        requires of { seat.old.table_id ≡ self.now }
+        requires can { CanStep C.means (Some first) Act.LoadWord seat.old.me }
+        requires may { MayGuess N first guess new }
+        ensures seat { seat.new.table_id ≡ seat.old.table_id }
+        ensures word { IfErr result IsPackable }
+        ensures came { (act : Act C) → WantsNext N first guess act → CameByGuess C.means first guess act result seat.old.me seat.new.me }
+    {
+        let shared = &self.table.shared;
+        let content = guess.number();
+        let found = exchange_saying::<
+            Queues<C, N>,
+            View<C, N>,
+            u8,
+            Law<C, N>,
+            Option<Walk<C>>,
+            Both<C, N>,
+        >(shared, seat, 0, content, new.number(), &Some(first));
+        came_to(found, guess)
+    }
+
     /// Loads the lock word, as the next step of the seat's call, or as the first one of the call that
     /// it begins.
     ///
@@ -239,6 +270,56 @@ impl<C: Condition<N>, const N: usize> Gate<C, N> {
         ensures did { Performed C.means None (Act.Release releasing last) (tried result) seat.old.me seat.new.me }
     {
         self.exchange(seat, last, last.released(releasing))
+    }
+
+    /// Begins a call that loads the lock word and acquires the lock for this where it finds the word that
+    /// is guessed: one exchange is both where the guess is right. Else it is the load alone, and tells the
+    /// word.
+    ///
+    /// Needs a seat of this gate, whose last call is over and which may begin this one, and a guess at
+    /// which the call would acquire the lock.
+    #[inline(always)]
+    pub fn acquire_guessing(
+        &self,
+        seat: &mut GateSeat<C, N>,
+        first: Walk<C>,
+        aim: Aim<C>,
+        arrival: Arrival,
+        guess: LockWord,
+    ) -> Result<(), LockWord>
+        requires of { seat.old.table_id ≡ self.now }
+        requires guess { IsPackable guess }
+        requires can { CanStep C.means (Some first) Act.LoadWord seat.old.me }
+        requires next { WantsNext N first guess (Act.Acquire aim arrival guess) }
+        ensures seat { seat.new.table_id ≡ seat.old.table_id }
+        ensures word { IfErr result IsPackable }
+        ensures came { CameByGuess C.means first guess (Act.Acquire aim arrival guess) result seat.old.me seat.new.me }
+    {
+        self.exchange_guessing(seat, first, guess, guess.acquired(aim.mode(), arrival))
+    }
+
+    /// Begins a call that loads the lock word and releases the section in hand where it finds the word that
+    /// is guessed: one exchange is both where the guess is right. Else it is the load alone, and tells the
+    /// word.
+    ///
+    /// Needs a seat of this gate, whose last call is over and which may begin this one, and a guess at
+    /// which the call would release the section.
+    #[inline(always)]
+    pub fn release_guessing(
+        &self,
+        seat: &mut GateSeat<C, N>,
+        first: Walk<C>,
+        releasing: Releasing,
+        guess: LockWord,
+    ) -> Result<(), LockWord>
+        requires of { seat.old.table_id ≡ self.now }
+        requires can { CanStep C.means (Some first) Act.LoadWord seat.old.me }
+        requires next { WantsNext N first guess (Act.Release releasing guess) }
+        ensures seat { seat.new.table_id ≡ seat.old.table_id }
+        ensures word { IfErr result IsPackable }
+        ensures came { CameByGuess C.means first guess (Act.Release releasing guess) result seat.old.me seat.new.me }
+    {
+        self.exchange_guessing(seat, first, guess, guess.released(releasing))
     }
 
     /// Loads a cell of the row, as the next step of the seat's call, or as the first one of the call

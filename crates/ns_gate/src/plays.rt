@@ -1,7 +1,7 @@
 //! The rule of the table, and what each step on it tells.
 
 ghost use Rattle.std.specs.Prelude.{◌++◌, [], None};
-ghost use Rattle.ns_gate.specs.Prelude.{Holds, first_of, fresh, rest_of, HaveLearned, HasLooked, PerformedWith, act_by, first_said, the};
+ghost use Rattle.ns_gate.specs.Prelude.{Holds, first_of, fresh, rest_of, HaveLearned, HasGuessed, HasLooked, PerformedWith, act_by, first_said, the};
 
 use crate::view::View;
 use atomic_table::{Join, Play, Split, TableRule};
@@ -40,6 +40,17 @@ pub struct Load<C, const N: usize> {
 impl<C: Condition<N>, const N: usize> Telling<Queues<C, N>, View<C, N>, Option<Walk<C>>>
     for Load<C, N> {
     ghost after = { λ begins st me found now. PerformedWith C.means (first_said begins) (act_by (first_said begins) (the me.0)) found me now };
+}
+
+/// The load of the lock word with which a call begins that it is told, and the exchange that the call
+/// wants behind it where it found the word that was guessed.
+pub struct Both<C, const N: usize> {
+    of: PhantomData<C>,
+}
+
+impl<C: Condition<N>, const N: usize> Telling<Queues<C, N>, View<C, N>, Option<Walk<C>>>
+    for Both<C, N> {
+    ghost after = { λ begins st me found now. HasGuessed C.means (first_said begins) st.first found me now };
 }
 
 /// The look that the seat's call wants next, which has shown what it is told.

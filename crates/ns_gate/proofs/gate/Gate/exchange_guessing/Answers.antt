@@ -1,0 +1,16 @@
+use Rattle.std.proofs.Common.{rules}
+use Rattle.ns_gate.proofs.Guesses.{may_guess, guess_packs, came_so}
+use Rattle.ns_gate.proofs.gate.Gate.exchange_guessing.Goals as goal
+
+pub exchange_saying-found-requires-clause-allows : goal.exchange_saying-found-requires-clause-allows
+exchange_saying-found-requires-clause-allows g c = may_guess _ g.met.C.Condition.has_cells.0 g.met.C.Condition.quiet_keeps _ _ _ _ c.args.first c.args.guess c.args.new _ _ c.requires.can c.requires.may c.number-content.ensures c.number.ensures
+
+pub came_to-requires : goal.came_to-requires
+came_to-requires g c = guess_packs _ c.args.first _ _ _ _ c.requires.can c.exchange_saying-found.ensures.2
+
+pub returns : goal.returns
+returns g c = record {
+  seat = search rules;
+  word = search rules;
+  came = came_so _ c.args.first c.args.guess c.args.new _ _ _ _ _ c.number-content.ensures c.requires.may c.requires.can c.came_to.ensures.tried c.exchange_saying-found.ensures.2;
+}
