@@ -1,11 +1,13 @@
 -- What a call of the gate's seat tells its caller.
 use Rattle.std.proofs.Common.{◌≡◌, ℕ, Bool, Option, true, false, cond, [], ◌∷◌, ◌++◌, None, Some, Result, Ok, Err, refl, ap, sym, ◌∙◌, subst}
 use Rattle.std.proofs.lemmas.List.{append-nil}
-use Rattle.ns_gate.specs.Prelude.{TableId, InHand, Releasing, asked_of, section_of, SeatOf, HasSince, IsAtPlace, IsAtRest, HasAnswered, HasReached, the, Performed, tried, Mode, Truths, Unchanged, row_after, got_of, may_acquire, Acquire, LoadCell, StoreCell, Saw, Made, Cell, SetStore, TryLock, Get, Set, TryAcquire, ForLock, On, Done, Busy, Succeeded, Number, Walk, InTry, InCells, AsFresh, Word}
+use Rattle.ns_gate.specs.Prelude.{TableId, InHand, Releasing, asked_of, section_of, SeatOf, HasSince, IsAtPlace, IsAtRest, HasAnswered, HasReached, the, CanStep, Performed, WantsNext, tried, walk_after, LoadWord, Mode, Truths, Unchanged, row_after, got_of, may_acquire, Acquire, LoadCell, StoreCell, Saw, Made, Cell, SetStore, TryLock, Get, Set, TryAcquire, ForLock, On, Done, Busy, Succeeded, Number, Walk, InTry, InCells, AsFresh, Word}
 use Rattle.ns_gate.proofs.Calls.{begins, goes, since, since_then}
 use Rattle.ns_model.specs.declared.event.Exit.TheVariants as TheExit
 use Rattle.ns_monitor.proofs.Begins.{locked_fresh}
-use Rattle.ns_monitor.specs.Prelude.{Grows, HasBegun, HasLocked, HasSeenMore, HasUnlocked, IsFreshIn, IsNumberOf, Known, WentAtOnce, getting, gone_to, known_of, locking, releasing_by, setting, trying}
+use Rattle.ns_monitor.proofs.Standing.{loads_first}
+use Rattle.ns_monitor.specs.declared.going.Going.TheVariants.{Acquiring}
+use Rattle.ns_monitor.specs.Prelude.{Grows, HasBegun, HasGoneBehind, HasLocked, HasSeenMore, HasUnlocked, IsFreshIn, IsNumberOf, Known, WentAtOnce, getting, going_act, gone_to, known_of, locking, may_go, releasing_by, setting, trying}
 use Rattle.ns_word.specs.Meanings as TheMeanings
 
 abbrev made_of : {A B : Type 0} → Result A B → Bool
@@ -67,6 +69,18 @@ module _ {C : Type 0} {N : ℕ} (truths : Truths C) where
 
   -- ---- tries
 
+  -- a try loads the word first
+  pub may_try : (mode : Mode) (walk : Walk C) (me : SeatOf C N) → walk ≡ trying mode → IsAtRest truths me → (the me.0).at.held ≡ None → CanStep truths (Some walk) LoadWord me
+  may_try mode walk me is rest free = subst (λ (w : Walk C). CanStep truths (Some w) LoadWord me) (sym is) (record { one = rest.one; may = (rest.over, tt, (free, tt)); walk = trying mode; walks = refl; wants = refl })
+
+  -- and wants to acquire next where that lets it
+  pub wants_to_try : (mode : Mode) (walk : Walk C) (word : Word) → walk ≡ trying mode → may_go {C = C} (Acquiring (ForLock mode) AsFresh) word ≡ true → WantsNext N walk word (going_act (Acquiring (ForLock mode) AsFresh) word)
+  wants_to_try mode walk word is may = subst (λ (w : Walk C). WantsNext N w word (going_act (Acquiring (ForLock mode) AsFresh) word)) (sym is) (record {
+    next = InTry mode (TryAcquire word);
+    goes = ap (λ (b : Bool). walk_after {C = C} (cond b (On (InTry mode (TryAcquire word))) (Done Busy))) may;
+    wants = refl;
+  })
+
   -- the word that was loaded decides
   pub tries_by : (mode : Mode) (word : Word) (b : Bool) (now : SeatOf C N) → may_acquire mode AsFresh word ≡ b → HasReached truths (TryLock mode) (got_of N (trying mode) (Saw word)) now → HasReached truths (TryLock mode) (cond b (On (InTry mode (TryAcquire word))) (Done Busy)) now
   tries_by mode word b now may led = subst (λ (x : Bool). HasReached truths (TryLock mode) (cond x (On (InTry mode (TryAcquire word))) (Done Busy)) now) may led
@@ -77,6 +91,16 @@ module _ {C : Type 0} {N : ℕ} (truths : Truths C) where
     by_result : (r : Result Unit Word) → Performed truths None (Acquire (ForLock mode) AsFresh last) (tried r) me now → HasAnswered truths (TryLock mode) (cond (made_of r) Succeeded Busy) now
     by_result (Ok x) p = goes truths (InTry mode (TryAcquire last)) (Acquire (ForLock mode) AsFresh last) Made (Done Succeeded) me now at refl refl refl p
     by_result (Err word) p = goes truths (InTry mode (TryAcquire last)) (Acquire (ForLock mode) AsFresh last) (Saw word) (Done Busy) me now at refl refl refl p
+
+  -- one exchange was both, the load and the acquire behind it
+  pub tried_behind : (mode : Mode) (walk : Walk C) (me now : SeatOf C N) → walk ≡ trying mode → IsAtRest truths me → HasGoneBehind truths walk (Acquiring (ForLock mode) AsFresh) me now → HasAnswered truths (TryLock mode) Succeeded now × HasSince (Some (trying mode)) (the me.0) (the now.0)
+  tried_behind mode walk me now is rest b =
+      let word = b.word in let mid = b.both.between in let act = Acquire (ForLock mode) AsFresh word in
+      let led = loads_first truths (trying mode) walk word me mid is rest b.both.loaded in
+      let at : IsAtPlace truths (InTry mode (TryAcquire word)) mid = tries_by mode word true mid b.may led.0 in (
+        goes truths (InTry mode (TryAcquire word)) act Made (Done Succeeded) mid now at refl refl refl b.both.made,
+        since_then (Some (trying mode)) _ _ _ led.1 (since truths None act Made mid now b.both.made),
+      )
 
   -- ---- the row
 

@@ -1,10 +1,11 @@
 -- The loops of a call, step by step, by the place at which it stands.
-use Rattle.std.proofs.Common.{◌≡◌, ℕ, ◌<◌, Bool, true, false, cond, List, [], ◌++◌, append-nil, ◌∷◌, Option, None, Some, refl, ap, sym, ◌∙◌, subst}
-use Rattle.ns_gate.proofs.Calls.{begins, can_go, goes, goes_on, since}
+use Rattle.std.specs.Prelude.{IfErr}
+use Rattle.std.proofs.Common.{◌≡◌, ℕ, ◌<◌, Bool, true, false, cond, List, [], ◌++◌, append-nil, ◌∷◌, Option, None, Some, Result, Ok, Err, refl, ap, sym, ◌∙◌, subst}
+use Rattle.ns_gate.proofs.Calls.{begins, can_go, goes, goes_on, since, since_then}
 use Rattle.ns_gate.proofs.Findings.{does}
 use Rattle.ns_word.specs.declared.owed.Owed.{Owed}
 use Rattle.ns_word.specs.Owed.{called_of}
-use Rattle.ns_gate.specs.Prelude.{SeatOf, HasSince, IsAtPlace, IsAtRest, HasReached, OwesBelow, GateView, rest_of, rest, the, act_returning, carried_by, Carries, found_returned, lists_returned, some_returned, CanStep, HasStepped, IsOwedNext, Performed, standing_after, view_in, woken_of, row_in, SectionFits, changed, meets_at, moves, Change, Bits, Request, Held, Queue, Leave, QueueToWait, Truths, Event, Lists, asked_of, IsPackable, owes_more, bits_of, has_some, Effect, LockState, Part, part_of, Told, got_of, has_queues, want_of, release_has_queues, scan_place, word_taken, Act, LoadWord, LoadFlag, PayWake, TakeQueues, Acquire, Release, ReturnQueues, ReleaseReturning, WaitReturning, Found, Saw, Made, Flag, Paid, AcquireLoad, ReleaseLoad, ScanCells, ScanAndRelease, SignalLoad, SeatView, ForLock, ForWait, LeaveLoad, Load, InQueuing, InLeaving, On, Idle, Walk, InTry, InAcquire, InRelease, InCells, InWait, InSignal, InShow, ReturnShown, Taking, ToChange, ToQueue, Word}
+use Rattle.ns_gate.specs.Prelude.{SeatOf, HasSince, IsAtPlace, IsAtRest, HasReached, OwesBelow, GateView, rest_of, rest, the, CameByGuess, act_returning, carried_by, Carries, found_returned, lists_returned, some_returned, CanStep, HasStepped, IsFirst, IsOwedNext, Performed, PlaceFits, WantsNext, walk_after, standing_after, view_in, woken_of, row_in, SectionFits, changed, meets_at, moves, Change, Bits, Request, Held, Queue, Leave, QueueToWait, Truths, Event, Lists, asked_of, IsPackable, owes_more, bits_of, has_some, Effect, LockState, Part, part_of, Told, got_of, has_queues, want_of, release_has_queues, scan_place, word_taken, Act, LoadWord, LoadFlag, PayWake, TakeQueues, Acquire, Release, ReturnQueues, ReleaseReturning, WaitReturning, Found, Saw, Made, Flag, Paid, AcquireLoad, ReleaseLoad, ScanCells, ScanAndRelease, SignalLoad, SeatView, ForLock, ForWait, LeaveLoad, Load, InQueuing, InLeaving, On, Idle, Walk, InTry, InAcquire, InRelease, InCells, InWait, InSignal, InShow, ReturnShown, Taking, ToChange, ToQueue, Word}
 use Rattle.ns_gate.specs.declared.queues.Returning.{Returning}
 use Rattle.ns_gate.specs.declared.queues.Returning.TheVariants.{Changed, Released, Waited}
 use Rattle.ns_gate.specs.declared.queues.Turned.{Turned}
@@ -13,7 +14,7 @@ use Rattle.ns_gate.proofs.Wakes.{orderly_now}
 use Rattle.ns_word.proofs.Acts.{view_fits}
 use Rattle.ns_monitor.specs.declared.going.Going.{Going}
 use Rattle.ns_monitor.specs.declared.going.Going.TheVariants.{Acquiring, Leaving, Changing}
-use Rattle.ns_monitor.specs.Prelude.{Decides, HasInHand, HasTakenAt, IsNumberOf, MayGoAlone, OwesTheWoken, Pays, PutsBack, Sleeps, found_back, going_act, going_at, going_of, gone_to, may_go, returning_at, returning_of, scanning_at, taken_at, taking_at, taking_for}
+use Rattle.ns_monitor.specs.Prelude.{Decides, HasBegunBy, HasGoneBehind, HasInHand, HasTakenAt, IsNumberOf, MayGoAlone, OwesTheWoken, Pays, PutsBack, Sleeps, found_back, going_act, going_at, going_of, gone_to, may_go, returning_at, returning_of, scanning_at, taken_at, taking_at, taking_for}
 
 -- a word that was taken has a number, if the word before has
 pub taken_packs : (taking : Taking) (word : Word) → IsPackable word → IsPackable (word_taken taking word)
@@ -184,6 +185,37 @@ module _ {C : Type 0} {N : ℕ} (truths : Truths C) where
   pub goes_by : (walk : Walk C) (last : Word) (me now : SeatOf C N) → Decides walk → may_go (going_of walk) last ≡ true → IsAtPlace truths (going_at walk last) me → Performed truths None (going_act (going_of walk) last) Made me now → HasReached truths (asked_of walk) (gone_to N walk) now
   goes_by walk last me now d may at p = let g = (decides_at N walk d).goes last may in
       subst (λ r. HasReached truths r (gone_to N walk) now) g.asked (goes truths (going_at walk last) (going_act (going_of walk) last) Made (gone_to N walk) me now at g.free g.made (keeps_slots (going_of walk) last Made (the now.0).stood me.1 may) p)
+
+  -- a call that loads the word first may begin so
+  pub may_decide : (walk : Walk C) (me : SeatOf C N) → Decides walk → IsFirst N walk → PlaceFits truths (Some walk) (the me.0).at.held → IsAtRest truths me → CanStep truths (Some walk) LoadWord me
+  may_decide walk me d first fits rest = record { one = rest.one; may = (rest.over, first, fits); walk = walk; walks = refl; wants = (decides_at N walk d).wants }
+
+  -- where the word lets it, it wants to go next
+  pub wants_to_go : (walk : Walk C) (going : Going C) (word : Word) → Decides walk → going ≡ going_of walk → may_go going word ≡ true → WantsNext N walk word (going_act going word)
+  wants_to_go walk going word d is may =
+      let lets : may_go (going_of walk) word ≡ true = ap (λ (x : Going C). may_go x word) (sym is) ∙ may in
+      record {
+        next = going_at walk word;
+        goes = ap walk_after ((decides_at N walk d).by_word word ∙ ap (λ (b : Bool). cond b (On (going_at walk word)) (cond word.spin (Idle walk) (On (taking_at walk word)))) lets);
+        wants = ((decides_at N walk d).goes word lets).wants ∙ ap (λ (x : Going C). going_act x word) (sym is);
+      }
+
+  -- what came of a guess by which it may go
+  pub began_by : (walk : Walk C) (going : Going C) (guess : Word) (result : Result Unit Word) (me now : SeatOf C N) → may_go going guess ≡ true → IfErr result IsPackable → CameByGuess truths walk guess (going_act going guess) result me now → HasBegunBy truths walk going result me now
+  began_by walk going guess (Ok x) me now may packs came = record { word = guess; may = may; both = came }
+  began_by walk going guess (Err word) me now may packs came = (packs, came)
+
+  -- it has gone right behind the load with which it began
+  pub goes_behind : (walk : Walk C) (going : Going C) (me now : SeatOf C N) → Decides walk → going ≡ going_of walk → IsAtRest truths me → HasGoneBehind truths walk going me now → HasSince (Some walk) (the me.0) (the now.0) × MayGoAlone (going_of walk) × HasReached truths (asked_of walk) (gone_to N walk) now
+  goes_behind walk going me now d is rest b =
+      let word = b.word in let mid = b.both.between in
+      let may : may_go (going_of walk) word ≡ true = ap (λ (x : Going C). may_go x word) (sym is) ∙ b.may in
+      let led = loads_first walk walk word me mid refl rest b.both.loaded in
+      let at = decided walk word true word.spin mid d may refl led.0 in (
+        since_then (Some walk) _ _ _ led.1 (since truths None (going_act going word) Made mid now b.both.made),
+        goes_alone (going_of walk) word may,
+        goes_by walk word mid now d may at (subst (λ (x : Going C). Performed truths None (going_act x word) Made mid now) is b.both.made),
+      )
 
   -- another step came between
   pub misses : (walk : Walk C) (last word : Word) (me now : SeatOf C N) → Decides walk → may_go (going_of walk) last ≡ true → IsAtPlace truths (going_at walk last) me → Performed truths None (going_act (going_of walk) last) (Saw word) me now → HasReached truths (asked_of walk) (got_of N walk (Saw word)) now

@@ -1,16 +1,17 @@
 //! What a call does by the lock word that it has seen last, as long as it hasn't the waiter queues.
 
 ghost use Rattle.std.specs.Prelude.{◌≡◌, ⊤, None, Some, true, IfErr};
-ghost use Rattle.ns_gate.specs.Prelude.{HasSince, IsAtRest, CanStep, Performed, the, tried, IsFirst, IsPackable, PlaceFits};
-ghost use Rattle.ns_monitor.specs.Prelude.{Decides, WentAtOnce, going_act, going_of, may_go, taking_for};
+ghost use Rattle.ns_gate.specs.Prelude.{CameByGuess, HasReached, HasSince, IsAtRest, CanStep, Performed, Saw, WantsNext, asked_of, got_of, the, tried, IsFirst, IsPackable, PlaceFits, Word};
+ghost use Rattle.ns_monitor.specs.Prelude.{Decides, HasBegunBy, MayGoAlone, WentAtOnce, going_act, going_of, may_go, taking_for};
 
 use crate::monitor::Monitor;
 use ns_gate::gate::GateSeat;
 use ns_model::condition::Condition;
+use ns_word::act::Act;
 use ns_word::number::LockWord;
 use ns_word::wait::Aim;
 use ns_word::walk::Walk;
-use ns_word::word::{Arrival, Releasing, Taking};
+use ns_word::word::{Arrival, Releasing, Taking, Word};
 use std::alloc::AllocError;
 
 /// What a call would do without the waiter queues, where the lock word lets it.
@@ -34,6 +35,8 @@ pub(crate) struct Begun<C: Condition<N>, const N: usize> {
     pub(crate) seat: GateSeat<C, N>,
     /// The seat's number.
     pub(crate) number: u8,
+    /// Whether the lock word that it saw first had to do with no other caller.
+    pub(crate) alone: bool,
     /// The lock word seen last, if the call has not gone.
     pub(crate) last: Option<LockWord>,
 }
@@ -59,6 +62,27 @@ impl<C: Copy> Going<C> {
             Going::Leaving(releasing) => !word.needs_scan(releasing),
             Going::Changing => false,
         }
+    }
+
+    /// The lock word as the call finds it where no other caller holds the lock, or stands in its list,
+    /// or has the queues. It lets each call go that may go at all without the queues.
+    #[inline]
+    fn word_alone(self) -> LockWord
+        ensures packs { IsPackable result }
+        ensures lets { MayGoAlone self → may_go self result ≡ true }
+    {
+        let word = match self {
+            Going::Acquiring(_, _) | Going::Changing => Word::FREE,
+            Going::Leaving(Releasing::Writer | Releasing::QuietWriter) => Word {
+                write: true,
+                ..Word::FREE
+            },
+            Going::Leaving(Releasing::Reader) => Word {
+                readers: 1,
+                ..Word::FREE
+            },
+        };
+        LockWord::new(word)
     }
 
     /// What it tells the others where it takes the queues.
@@ -99,6 +123,95 @@ impl<C: Condition<N>, const N: usize> Monitor<C, N> {
         }
     }
 
+    /// Begins a call by the exchange by which it would go where the lock word is the one that is guessed:
+    /// then the exchange is both, the load with which the call begins and what it does behind that. Else
+    /// it is the load alone, and tells the word.
+    #[inline(always)]
+    fn guess_to_go(
+        &self,
+        seat: &mut GateSeat<C, N>,
+        walk: Walk<C>,
+        going: Going<C>,
+        guess: LockWord,
+    ) -> Result<(), LockWord>
+        requires of { seat.old.table_id ≡ self.now }
+        requires can { CanStep C.means (Some walk) Act.LoadWord seat.old.me }
+        requires guess { IsPackable guess }
+        requires may { may_go going guess ≡ true }
+        requires next { WantsNext N walk guess (going_act going guess) }
+        ensures seat { seat.new.table_id ≡ self.now }
+        ensures word { IfErr result IsPackable }
+        ensures came { CameByGuess C.means walk guess (going_act going guess) result seat.old.me seat.new.me }
+    {
+        match going {
+            Going::Acquiring(aim, arrival) => {
+                self.gate.acquire_guessing(seat, walk, aim, arrival, guess)
+            }
+            Going::Leaving(releasing) => self.gate.release_guessing(seat, walk, releasing, guess),
+            Going::Changing => unreachable!(),
+        }
+    }
+
+    /// Begins a call that loads the lock word. Where the caller was alone with the lock it guesses that it
+    /// still is, and where that is right it has gone at once. Else answers the word that it saw. `alone`
+    /// then says whether the word that it saw has to do with no other caller.
+    ///
+    /// A load that follows an exchange of the same word waits for that to end, which a right guess spares.
+    /// A wrong one costs what an exchange takes more than a load.
+    #[inline(always)]
+    pub(crate) fn begin_to_go(
+        &self,
+        seat: &mut GateSeat<C, N>,
+        walk: Walk<C>,
+        going: Going<C>,
+        alone: &mut bool,
+    ) -> Result<(), LockWord>
+        requires of { seat.old.table_id ≡ self.now }
+        requires alone { MayGoAlone going }
+        requires can { CanStep C.means (Some walk) Act.LoadWord seat.old.me }
+        requires next { (word : Word) → may_go going word ≡ true → WantsNext N walk word (going_act going word) }
+        ensures seat { seat.new.table_id ≡ self.now }
+        ensures began { HasBegunBy C.means walk going result seat.old.me seat.new.me }
+    {
+        let guess = going.word_alone();
+        if *alone {
+            let tried = self.guess_to_go(seat, walk, going, guess);
+            *alone = tried.is_ok();
+            return tried;
+        }
+        let word = self.gate.load(seat, Some(walk));
+        *alone = word.number() == guess.number();
+        Err(word)
+    }
+
+    /// Goes on by the word that the call began with, by one exchange where that lets it and no other step
+    /// comes between.
+    #[inline(always)]
+    fn go_by(
+        &self,
+        seat: &mut GateSeat<C, N>,
+        going: Going<C>,
+        _walk: Walk<C>,
+        word: LockWord,
+    ) -> Option<LockWord>
+        requires of { seat.old.table_id ≡ self.now }
+        requires decides { Decides _walk }
+        requires going { going ≡ going_of _walk }
+        requires word { IsPackable word }
+        requires at { HasReached C.means (asked_of _walk) (got_of N _walk (Saw word)) seat.old.me }
+        ensures seat { seat.new.table_id ≡ self.now }
+        ensures since { HasSince None (the seat.old.me.0) (the seat.new.me.0) }
+        ensures went { WentAtOnce C.means _walk result seat.new.me }
+    {
+        if !going.may_go(word) {
+            return Some(word);
+        }
+        match self.exchange_to_go(seat, going, word) {
+            Ok(()) => None,
+            Err(other) => Some(other),
+        }
+    }
+
     /// Begins a call that loads the word first, and goes by one exchange where the word lets it and no
     /// other step comes between. Else answers the word that it saw last, with which a call goes on that
     /// may have to wait.
@@ -108,6 +221,7 @@ impl<C: Condition<N>, const N: usize> Monitor<C, N> {
         seat: &mut GateSeat<C, N>,
         going: Going<C>,
         walk: Walk<C>,
+        alone: &mut bool,
     ) -> Option<LockWord>
         requires of { seat.old.table_id ≡ self.now }
         requires rest { IsAtRest C.means seat.old.me }
@@ -115,17 +229,14 @@ impl<C: Condition<N>, const N: usize> Monitor<C, N> {
         requires first { IsFirst N walk }
         requires fits { PlaceFits C.means (Some walk) (the seat.old.me.0).at.held }
         requires going { going ≡ going_of walk }
+        requires alone { MayGoAlone going }
         ensures seat { seat.new.table_id ≡ self.now }
         ensures since { HasSince (Some walk) (the seat.old.me.0) (the seat.new.me.0) }
         ensures went { WentAtOnce C.means walk result seat.new.me }
     {
-        let word = self.gate.load(seat, Some(walk));
-        if !going.may_go(word) {
-            return Some(word);
-        }
-        match self.exchange_to_go(seat, going, word) {
+        match self.begin_to_go(seat, walk, going, alone) {
             Ok(()) => None,
-            Err(other) => Some(other),
+            Err(word) => self.go_by(seat, going, walk, word),
         }
     }
 }

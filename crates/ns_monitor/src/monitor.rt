@@ -38,6 +38,7 @@ impl<C: Condition<N>, const N: usize> Model for Monitor<C, N> {
 pub(crate) fn seated<C: Condition<N>, const N: usize>(
     seat: GateSeat<C, N>,
     number: u8,
+    alone: bool,
 ) -> Seat<C, N>
     requires { IsAtRest C.means seat.me × IsNumberOf number seat.me × ((the seat.me.0).at.held ≡ None) }
     ensures { result ≡ known_of seat.table_id seat.me }
@@ -46,6 +47,7 @@ pub(crate) fn seated<C: Condition<N>, const N: usize>(
         seat,
         number,
         hand: Free,
+        alone,
     }
 }
 
@@ -54,13 +56,19 @@ pub(crate) fn seated<C: Condition<N>, const N: usize>(
 pub(crate) fn holding<H: Renewed<C, N>, C: Condition<N>, const N: usize>(
     seat: GateSeat<C, N>,
     number: u8,
+    alone: bool,
 ) -> Caller<H, C, N>
     requires rest { IsAtRest C.means seat.me × IsNumberOf number seat.me }
     requires fresh { IsFreshIn N H.mode (the seat.me.0).at.held }
     ensures { result ≡ known_of seat.table_id seat.me }
 {
     let hand = H::begun();
-    Caller { seat, number, hand }
+    Caller {
+        seat,
+        number,
+        hand,
+        alone,
+    }
 }
 
 /// Puts a seat behind the others.
@@ -89,14 +97,15 @@ impl<C: Gated<N>, const N: usize> Monitor<C, N> {
         let mut given = Vec::new(alloc);
         for number in 0..seats {
             let seat = gate.part(&mut all);
-            add(&mut given, seated(seat, number as u8))?;
+            add(&mut given, seated(seat, number as u8, true))?;
         }
         Ok((Monitor { gate }, given))
     }
 
-    /// Tries to acquire the lock in this mode: loads its word, and makes at most one exchange.
+    /// Tries to acquire the lock in this mode: loads its word, and makes at most one exchange. One exchange
+    /// may be both.
     #[inline(always)]
-    fn try_acquire(&self, seat: &mut GateSeat<C, N>, mode: Mode) -> bool
+    fn try_acquire(&self, seat: &mut GateSeat<C, N>, mode: Mode, alone: &mut bool) -> bool
         requires of { seat.old.table_id ≡ self.now }
         requires rest { IsAtRest C.means seat.old.me }
         requires free { (the seat.old.me.0).at.held ≡ None }
@@ -104,11 +113,14 @@ impl<C: Gated<N>, const N: usize> Monitor<C, N> {
         ensures since { HasSince (Some (trying mode)) (the seat.old.me.0) (the seat.new.me.0) }
         ensures tried { HasAnswered C.means (TryLock mode) (if result then Succeeded else Busy) seat.new.me }
     {
-        let word = self.gate.load(seat, Some(Walk::try_lock(mode)));
+        let aim = Aim::ForLock(mode);
+        let going = Going::Acquiring(aim, Arrival::AsFresh);
+        let Err(word) = self.begin_to_go(seat, Walk::try_lock(mode), going, alone) else {
+            return true;
+        };
         if !word.may_acquire(mode, Arrival::AsFresh) {
             return false;
         }
-        let aim = Aim::ForLock(mode);
         self.gate
             .exchange_to_acquire(seat, aim, Arrival::AsFresh, word)
             .is_ok()
@@ -125,12 +137,23 @@ impl<C: Gated<N>, const N: usize> Monitor<C, N> {
             mut seat,
             number,
             hand,
+            mut alone,
         } = seat;
-        if self.try_acquire(&mut seat, H::mode()) {
+        if self.try_acquire(&mut seat, H::mode(), &mut alone) {
             let hand = H::begun();
-            Ok(Caller { seat, number, hand })
+            Ok(Caller {
+                seat,
+                number,
+                hand,
+                alone,
+            })
         } else {
-            Err(Caller { seat, number, hand })
+            Err(Caller {
+                seat,
+                number,
+                hand,
+                alone,
+            })
         }
     }
 
@@ -171,10 +194,16 @@ impl<C: Gated<N>, const N: usize> Monitor<C, N> {
             mut seat,
             number,
             hand: _,
+            mut alone,
         } = seat;
         let going = Going::Acquiring(Aim::ForLock(mode), Arrival::AsFresh);
-        let last = self.go_at_once(&mut seat, going, Walk::lock(mode));
-        Begun { seat, number, last }
+        let last = self.go_at_once(&mut seat, going, Walk::lock(mode), &mut alone);
+        Begun {
+            seat,
+            number,
+            alone,
+            last,
+        }
     }
 
     /// Acquires the lock to write, and waits as long as it has to. The section begins at the row after
@@ -184,12 +213,17 @@ impl<C: Gated<N>, const N: usize> Monitor<C, N> {
         requires { seat.monitor ≡ self.now }
         ensures { HasLocked C.means (locking Write) Write seat result }
     {
-        let Begun { seat, number, last } = self.begin_lock(seat, Mode::Write);
+        let Begun {
+            seat,
+            number,
+            alone,
+            last,
+        } = self.begin_lock(seat, Mode::Write);
         let seat = match last {
             None => seat,
             Some(last) => self.lock_slow(rt, seat, number, Mode::Write, last),
         };
-        holding(seat, number)
+        holding(seat, number, alone)
     }
 
     /// Acquires the lock to read, beside other readers, and waits as long as it has to. The section
@@ -199,12 +233,17 @@ impl<C: Gated<N>, const N: usize> Monitor<C, N> {
         requires { seat.monitor ≡ self.now }
         ensures { HasLocked C.means (locking Read) Read seat result }
     {
-        let Begun { seat, number, last } = self.begin_lock(seat, Mode::Read);
+        let Begun {
+            seat,
+            number,
+            alone,
+            last,
+        } = self.begin_lock(seat, Mode::Read);
         let seat = match last {
             None => seat,
             Some(last) => self.lock_slow(rt, seat, number, Mode::Read, last),
         };
-        holding(seat, number)
+        holding(seat, number, alone)
     }
 
     /// The value of a cell of the section's row.
@@ -269,22 +308,26 @@ impl<C: Gated<N>, const N: usize> Monitor<C, N> {
             seat: one,
             number,
             hand,
+            alone,
         } = first;
         let Caller {
             seat: other,
             number: other_number,
             hand: other_hand,
+            alone: other_alone,
         } = second;
         let (one, other) = self.gate.meet(one, other);
         let first = Caller {
             seat: one,
             number,
             hand,
+            alone,
         };
         let second = Caller {
             seat: other,
             number: other_number,
             hand: other_hand,
+            alone: other_alone,
         };
         (first, second)
     }
@@ -339,10 +382,16 @@ impl<C: Gated<N>, const N: usize> Monitor<C, N> {
             mut seat,
             number,
             hand: _,
+            mut alone,
         } = held;
         let going = Going::Leaving(releasing);
-        let last = self.go_at_once(&mut seat, going, Walk::release(releasing));
-        Begun { seat, number, last }
+        let last = self.go_at_once(&mut seat, going, Walk::release(releasing), &mut alone);
+        Begun {
+            seat,
+            number,
+            alone,
+            last,
+        }
     }
 
     /// Ends a write section: it is committed as it is, and the caller's events have it as their last.
@@ -357,12 +406,17 @@ impl<C: Gated<N>, const N: usize> Monitor<C, N> {
         ensures mine { InHand held.held (λ section. result.mine ≡ held.mine ++ section_of C.means.holds held.seat section TheExit.Plain ∷ []) }
     {
         let releasing = Releasing::Writer;
-        let Begun { seat, number, last } = self.begin_unlock(held, releasing);
+        let Begun {
+            seat,
+            number,
+            alone,
+            last,
+        } = self.begin_unlock(held, releasing);
         let seat = match last {
             None => seat,
             Some(last) => self.unlock_slow(rt, seat, releasing, last),
         };
-        seated(seat, number)
+        seated(seat, number, alone)
     }
 
     /// Ends a read section: it is committed, and the caller's events have it as their last.
@@ -375,12 +429,17 @@ impl<C: Gated<N>, const N: usize> Monitor<C, N> {
         ensures mine { InHand held.held (λ section. result.mine ≡ held.mine ++ section_of C.means.holds held.seat section TheExit.Plain ∷ []) }
     {
         let releasing = Releasing::Reader;
-        let Begun { seat, number, last } = self.begin_unlock(held, releasing);
+        let Begun {
+            seat,
+            number,
+            alone,
+            last,
+        } = self.begin_unlock(held, releasing);
         let seat = match last {
             None => seat,
             Some(last) => self.unlock_slow(rt, seat, releasing, last),
         };
-        seated(seat, number)
+        seated(seat, number, alone)
     }
 
     /// Ends a write section that can't have made a false condition true: it is committed as it is, as
@@ -394,12 +453,17 @@ impl<C: Gated<N>, const N: usize> Monitor<C, N> {
         ensures mine { InHand held.held (λ section. result.mine ≡ held.mine ++ section_of C.means.holds held.seat section TheExit.Plain ∷ []) }
     {
         let releasing = Releasing::QuietWriter;
-        let Begun { seat, number, last } = self.begin_unlock(held, releasing);
+        let Begun {
+            seat,
+            number,
+            alone,
+            last,
+        } = self.begin_unlock(held, releasing);
         let seat = match last {
             None => seat,
             Some(last) => self.unlock_slow(rt, seat, releasing, last),
         };
-        seated(seat, number)
+        seated(seat, number, alone)
     }
 
     /// Ends the monitor, and tells the cells as they stand, and whether the lock is free. Where it
@@ -416,6 +480,7 @@ impl<C: Gated<N>, const N: usize> Monitor<C, N> {
             seat,
             number: _,
             hand: _,
+            alone: _,
         } = seat;
         gate.close(seat)
     }

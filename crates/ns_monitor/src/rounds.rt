@@ -119,6 +119,7 @@ impl<C: Condition<N>, const N: usize> Monitor<C, N> {
             mut seat,
             number,
             hand,
+            alone,
         } = held;
         let mode = H::mode();
         let on = Subject::OnCondition(condition);
@@ -126,14 +127,32 @@ impl<C: Condition<N>, const N: usize> Monitor<C, N> {
         let first = Some(Walk::wait::<N>(wait));
         let mut row = [0; N];
         if self.test(&mut seat, first, wait, condition, Visit::OnEntry, &mut row) {
-            return (Caller { seat, number, hand }, Answer::Met);
+            let back = Caller {
+                seat,
+                number,
+                hand,
+                alone,
+            };
+            return (back, Answer::Met);
         }
         if let Some(cause) = self.look_before(&mut seat, number, wait, false, watch) {
-            return (Caller { seat, number, hand }, answer_of(cause));
+            let back = Caller {
+                seat,
+                number,
+                hand,
+                alone,
+            };
+            return (back, answer_of(cause));
         }
         let answer = self.wait_on(rt, &mut seat, number, wait, condition, &mut row, watch);
         let hand = H::begun();
-        (Caller { seat, number, hand }, answer)
+        let back = Caller {
+            seat,
+            number,
+            hand,
+            alone: false,
+        };
+        (back, answer)
     }
 
     /// Waits until the condition is true of the row, in a section in the same mode. Where it is true of

@@ -90,6 +90,7 @@ impl<C: Condition<N>, const N: usize> Monitor<C, N> {
             mut seat,
             number,
             hand: _,
+            alone: _,
         } = held;
         let mode = H::mode();
         let wait = for_any(mode, cvs);
@@ -142,7 +143,13 @@ impl<C: Condition<N>, const N: usize> Monitor<C, N> {
         let k = variable_told(flag);
         let aim = Aim::ForWait(wait, Outcome::Woken(Some(k)));
         self.acquire(rt, &mut seat, number, aim, arrival_of(0, flag));
-        Ok((Caller { seat, number, hand }, k as usize))
+        let back = Caller {
+            seat,
+            number,
+            hand,
+            alone: false,
+        };
+        Ok((back, k as usize))
     }
 
     /// Ends a wait for any of several variables, acquires the lock again, in the mode of the section that
@@ -174,6 +181,12 @@ impl<C: Condition<N>, const N: usize> Monitor<C, N> {
             Some(k) => Some(k as usize),
             None => None,
         };
-        (Caller { seat, number, hand }, by)
+        let back = Caller {
+            seat,
+            number,
+            hand,
+            alone: false,
+        };
+        (back, by)
     }
 }

@@ -41,6 +41,7 @@ impl<C: Condition<N>, const N: usize> Monitor<C, N> {
             mut seat,
             number,
             hand: _,
+            alone: _,
         } = held;
         let mode = H::mode();
         let on = Subject::OnVariables(Variables::Only(k));
@@ -51,7 +52,13 @@ impl<C: Condition<N>, const N: usize> Monitor<C, N> {
         self.leave_section(rt, &mut seat, number, wait, false, word, &mut row);
         let outcome = self.come_back(rt, &mut seat, number, wait, watch);
         let hand = H::begun();
-        (Caller { seat, number, hand }, outcome.answer())
+        let back = Caller {
+            seat,
+            number,
+            hand,
+            alone: false,
+        };
+        (back, outcome.answer())
     }
 
     /// Leaves its section and waits for a condition variable, until a signal or a broadcast of it wakes

@@ -40,8 +40,8 @@ by_is g c = elim c.match-variable.branch [ in-Some w ↦ w.by-is ∙ sym w.in-So
 answered : (g : Over) (c : Joined-variable g) → HasAnswered g.C.Condition.means (Await (waits_for_any g.H.Section.mode c.waiting.inside.cvs)) (WokenBy (variable_in c.come_back-outcome.result)) c.come_back-outcome.new.seat.me
 answered g c = subst (λ (v : Wait g.row.C.Denot). HasAcquired g.C.Condition.means (ForWait v c.come_back-outcome.result) c.come_back-outcome.new.seat.me) (c.for_any-wait.ensures ∙ ap (λ m. waits_for_any m c.waiting.inside.cvs) c.mode-mode.ensures) c.come_back-outcome.ensures.acquired
 
-pub invariant_of-result : goal.invariant_of-result
-invariant_of-result g c = let t = g.C.Condition.means in let now = c.come_back-outcome.new.seat.me in let a = answered g ((goal.at.invariant_of-result g c).Joined-variable) in let mode = g.H.Section.mode in (
+pub invariant_of-back : goal.invariant_of-back
+invariant_of-back g c = let t = g.C.Condition.means in let now = c.come_back-outcome.new.seat.me in let a = answered g ((goal.at.invariant_of-back g c).Joined-variable) in let mode = g.H.Section.mode in (
   a.rest,
   same_number t None c.waiting.inside.number c.waiting.inside.seat.me now c.waiting.invariant.1 c.come_back-outcome.ensures.since,
   fits_fresh g.row.N mode (the now.0).at.held (λ o. g.H.Hand.fits c.waiting.inside.hand o) c.waiting.invariant.2 (any_back_fresh t mode c.waiting.inside.cvs (variable_in c.come_back-outcome.result) now a),

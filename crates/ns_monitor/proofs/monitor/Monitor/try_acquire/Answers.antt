@@ -1,29 +1,40 @@
-use Rattle.std.proofs.Common.{◌∙◌, sym, true, false, None, Some, rules}
-use Rattle.ns_monitor.proofs.Callers.{is_tried, tries_by}
+use Rattle.std.proofs.Common.{◌∙◌, arith, sym, true, false, None, Some, rules}
+use Rattle.ns_monitor.proofs.Callers.{is_tried, may_try, tried_behind, tries_by, wants_to_try}
 use Rattle.ns_monitor.proofs.Standing.{loads_first}
 use Rattle.ns_monitor.specs.Prelude.{trying}
-use Rattle.ns_gate.proofs.Calls.{since, since_then}
-use Rattle.ns_gate.specs.Prelude.{HasReached, HasSince, Acquire, AsFresh, ForLock, got_of, Saw, TryLock, the, tried}
-use Rattle.ns_monitor.proofs.monitor.Monitor.try_acquire.Given.{Over}
-use Rattle.ns_monitor.proofs.monitor.Monitor.try_acquire.Goals.{After-load-word}
+use Rattle.ns_gate.proofs.Calls.{can_go, since, since_then}
+use Rattle.ns_gate.specs.Prelude.{TableId, IsAtPlace, Acquire, AsFresh, ForLock, InTry, TryAcquire, tried}
 use Rattle.ns_monitor.proofs.monitor.Monitor.try_acquire.Goals as goal
 
--- the word was loaded
-led : (g : Over) (c : After-load-word g) → HasReached g.C.Condition.means (TryLock c.args.mode) (got_of g.row.N (trying c.args.mode) (Saw c.load-word.result)) c.load-word.new.seat.me × HasSince (Some (trying c.args.mode)) (the c.args.seat.now.me.0) (the c.load-word.new.seat.me.0)
-led g c = loads_first g.C.Condition.means (trying c.args.mode) c.try_lock.result c.load-word.result c.args.seat.now.me c.load-word.new.seat.me c.try_lock.ensures.first c.requires.rest c.load-word.ensures.did
+pub begin_to_go-requires : goal.begin_to_go-requires
+begin_to_go-requires g c = let t = g.C.Condition.means in let is = c.try_lock.ensures.first in
+    (omega arith, (g.met.C.Gated.queues_fit, (omega arith, (c.requires.of, (tt, (may_try t c.args.mode c.try_lock.result c.args.seat.now.me is c.requires.rest c.requires.free, λ word may. wants_to_try t c.args.mode c.try_lock.result word is may))))))
+
+pub returns-in_default : goal.returns-in_default
+returns-in_default g c = let gone = tried_behind g.C.Condition.means c.args.mode c.try_lock.result c.args.seat.now.me c.begin_to_go.new.seat.me c.try_lock.ensures.first c.requires.rest c.in_default.ensures.began in record {
+  seat = search rules;
+  since = gone.1;
+  tried = gone.0;
+}
 
 pub returns-then-not-may_acquire : goal.returns-then-not-may_acquire
-returns-then-not-may_acquire g c = record {
+returns-then-not-may_acquire g c = let led = loads_first g.C.Condition.means (trying c.args.mode) c.try_lock.result c.in-Err.word c.args.seat.now.me c.begin_to_go.new.seat.me c.try_lock.ensures.first c.requires.rest c.in-Err.ensures.began.1 in record {
   seat = search rules;
-  since = (led g (goal.at.returns-then-not-may_acquire g c).After-load-word).1;
-  tried = tries_by g.C.Condition.means c.args.mode c.load-word.result false c.load-word.new.seat.me (sym c.may_acquire.ensures ∙ c.if-not-may_acquire.true) (led g (goal.at.returns-then-not-may_acquire g c).After-load-word).0;
+  since = led.1;
+  tried = tries_by g.C.Condition.means c.args.mode c.in-Err.word false c.begin_to_go.new.seat.me (sym c.may_acquire.ensures ∙ c.if-not-may_acquire.true) led.0;
 }
 
+pub exchange_to_acquire-requires : goal.exchange_to_acquire-requires
+exchange_to_acquire-requires g c = let t = g.C.Condition.means in let mode = c.args.mode in let word = c.in-Err.word in let me = c.begin_to_go.new.seat.me in
+    let led = loads_first t (trying mode) c.try_lock.result word c.args.seat.now.me me c.try_lock.ensures.first c.requires.rest c.in-Err.ensures.began.1 in
+    let at : IsAtPlace t (InTry mode (TryAcquire word)) me = tries_by t mode word true me (sym c.may_acquire.ensures ∙ c.if-not-may_acquire.false) led.0 in
+    (omega arith, (g.met.C.Gated.queues_fit, (omega arith, (◌∙◌ {A = TableId} c.begin_to_go.ensures.seat (sym c.self.view_is), (c.in-Err.ensures.began.0, can_go t (InTry mode (TryAcquire word)) (Acquire (ForLock mode) AsFresh word) me (λ i. Acquire (ForLock mode) AsFresh word) at)))))
+
 pub returns : goal.returns
-returns g c = record {
-  seat = search rules;
-  since = since_then (Some (trying c.args.mode)) _ _ _ (led g (goal.at.returns g c).After-load-word).1 (since g.C.Condition.means None (Acquire (ForLock c.args.mode) AsFresh c.load-word.result) (tried c.exchange_to_acquire.result) c.load-word.new.seat.me c.exchange_to_acquire.new.seat.me c.exchange_to_acquire.ensures.did);
-  tried = let word = c.load-word.result in
-      let at = tries_by g.C.Condition.means c.args.mode word true c.load-word.new.seat.me (sym c.may_acquire.ensures ∙ c.if-not-may_acquire.false) (led g (goal.at.returns g c).After-load-word).0 in
-      is_tried g.C.Condition.means c.args.mode word c.exchange_to_acquire.result c.is_ok.result c.load-word.new.seat.me c.exchange_to_acquire.new.seat.me c.is_ok.ensures.value at c.exchange_to_acquire.ensures.did;
-}
+returns g c = let t = g.C.Condition.means in let mode = c.args.mode in let word = c.in-Err.word in let me = c.begin_to_go.new.seat.me in let now = c.exchange_to_acquire.new.seat.me in
+    let led = loads_first t (trying mode) c.try_lock.result word c.args.seat.now.me me c.try_lock.ensures.first c.requires.rest c.in-Err.ensures.began.1 in
+    let did = c.exchange_to_acquire.ensures.did in record {
+      seat = search rules;
+      since = since_then (Some (trying mode)) _ _ _ led.1 (since t None (Acquire (ForLock mode) AsFresh word) (tried c.exchange_to_acquire.result) me now did);
+      tried = is_tried t mode word c.exchange_to_acquire.result c.is_ok.result me now c.is_ok.ensures.value (tries_by t mode word true me (sym c.may_acquire.ensures ∙ c.if-not-may_acquire.false) led.0) did;
+    }

@@ -36,8 +36,8 @@ over g c = since_then (Some (InWait (waits_for_variable c.mode-mode.result c.arg
 answered : (g : Over) (c : After-come_back-outcome g) → HasAnswered g.C.Condition.means (Await (waits_for_variable c.mode-mode.result c.args.k c.args.limits)) (Answered (answer_of_wait c.come_back-outcome.result)) c.come_back-outcome.new.seat.me
 answered g c = c.come_back-outcome.ensures.acquired
 
-pub invariant_of-result : goal.invariant_of-result
-invariant_of-result g c = let t = g.C.Condition.means in let after = (goal.at.invariant_of-result g c).After-come_back-outcome in let now = c.come_back-outcome.new.seat.me in let a = answered g after in let mode = c.mode-mode.result in (
+pub invariant_of-back : goal.invariant_of-back
+invariant_of-back g c = let t = g.C.Condition.means in let after = (goal.at.invariant_of-back g c).After-come_back-outcome in let now = c.come_back-outcome.new.seat.me in let a = answered g after in let mode = c.mode-mode.result in (
   a.rest,
   same_number t (Some (InWait (waits_for_variable c.mode-mode.result c.args.k c.args.limits) (InQueuing false Load))) c.held.inside.number c.held.inside.seat.me now c.held.invariant.1 (over g after),
   fits_fresh g.row.N g.H.Section.mode (the now.0).at.held (λ o. g.H.Hand.fits c.begun-hand.result o) c.begun-hand.ensures (subst (λ m. IsFreshIn g.row.N m (the now.0).at.held) c.mode-mode.ensures (back_fresh t mode c.args.k c.args.limits (answer_of_wait c.come_back-outcome.result) now a)),

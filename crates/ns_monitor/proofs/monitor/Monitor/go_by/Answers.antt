@@ -1,0 +1,44 @@
+use Rattle.std.proofs.Common.{◌≡◌, refl, subst, sym, arith, None, true, rules}
+use Rattle.ns_gate.specs.Prelude.{IsAtPlace, the, CanStep, Performed, Made, Saw}
+use Rattle.ns_gate.proofs.Calls.{since, since_itself}
+use Rattle.ns_gate.proofs.Room.{queues_fit}
+use Rattle.ns_monitor.proofs.Standing.{decided, can_go_by, goes_alone, goes_by, may_by, misses}
+use Rattle.ns_monitor.specs.Prelude.{going_act, going_at, going_of, may_go}
+use Rattle.ns_monitor.proofs.monitor.Monitor.go_by.Given.{Over}
+use Rattle.ns_monitor.proofs.monitor.Monitor.go_by.Goals.{After-may_go}
+use Rattle.ns_monitor.proofs.monitor.Monitor.go_by.Goals as goal
+
+-- the word lets it go
+at : (g : Over) (c : After-may_go g) → may_go (going_of c.args._walk) c.args.word ≡ true → IsAtPlace g.C.Condition.means (going_at c.args._walk c.args.word) c.args.seat.now.me
+at g c may = decided g.C.Condition.means c.args._walk c.args.word true _ c.args.seat.now.me c.requires.decides may refl c.requires.at
+
+pub returns-then-not-may_go : goal.returns-then-not-may_go
+returns-then-not-may_go g c = record {
+  seat = search rules;
+  since = since_itself (the c.args.seat.now.me.0);
+  went = (c.requires.word, c.requires.at);
+}
+
+pub exchange_to_go-requires : goal.exchange_to_go-requires
+exchange_to_go-requires g c = let t = g.C.Condition.means in let walk = c.args._walk in let word = c.args.word in let me = c.args.seat.now.me in let is = c.requires.going in
+    let may = may_by c.args.going walk word c.may_go.result true is c.may_go.ensures c.if-not-may_go.false in
+    (omega arith, (queues_fit g.row.C g.row.N g.met.C.Condition.has_room g.C.Condition, (omega arith, (c.requires.of, (c.requires.word, (may.0, subst (λ x. CanStep t None (going_act x word) me) (sym is) (can_go_by t walk word me c.requires.decides may.1 (at g (goal.at.exchange_to_go-requires g c).After-may_go may.1))))))))
+
+pub returns-in-Ok : goal.returns-in-Ok
+returns-in-Ok g c = record {
+  seat = search rules;
+  since = since g.C.Condition.means None (going_act c.args.going c.args.word) Made c.args.seat.now.me c.exchange_to_go.new.seat.me c.in-Ok.ensures.did;
+  went = let t = g.C.Condition.means in let walk = c.args._walk in let word = c.args.word in let me = c.args.seat.now.me in let now = c.exchange_to_go.new.seat.me in let is = c.requires.going in
+      let may = (may_by c.args.going walk word c.may_go.result true is c.may_go.ensures c.if-not-may_go.false).1 in
+      (goes_alone _ word may, goes_by t walk word me now c.requires.decides may (at g (goal.at.returns-in-Ok g c).After-may_go may) (subst (λ x. Performed t None (going_act x word) Made me now) is c.in-Ok.ensures.did));
+}
+
+-- another step came between
+pub returns-in-Err : goal.returns-in-Err
+returns-in-Err g c = record {
+  seat = search rules;
+  since = since g.C.Condition.means None (going_act c.args.going c.args.word) (Saw c.in-Err.other) c.args.seat.now.me c.exchange_to_go.new.seat.me c.in-Err.ensures.did;
+  went = let t = g.C.Condition.means in let walk = c.args._walk in let word = c.args.word in let other = c.in-Err.other in let me = c.args.seat.now.me in let now = c.exchange_to_go.new.seat.me in let is = c.requires.going in
+      let may = (may_by c.args.going walk word c.may_go.result true is c.may_go.ensures c.if-not-may_go.false).1 in
+      (c.in-Err.ensures.word, misses t walk word other me now c.requires.decides may (at g (goal.at.returns-in-Err g c).After-may_go may) (subst (λ x. Performed t None (going_act x word) (Saw other) me now) is c.in-Err.ensures.did));
+}
