@@ -8,6 +8,10 @@ use Rattle.ns_seats.proofs.AtOnce.{at_once, GoesOn}
 use Rattle.ns_word.proofs.Codes.{decoded}
 use prog.Atomic.{either}
 
+-- one word is seen
+saw_is : {x y : Word} → Saw x ≡ Saw y → x ≡ y
+saw_is e = cc
+
 module _ {C : Type 0} {N : ℕ} (truths : Truths C) where
   -- behind the load the call wants the act
   wants_then : (first : Walk C) (word : Word) (act : Act C) (k : ℕ) (me mid : SeatOf C N) → WantsNext N first word act → k ≡ number_of word → PerformedWith truths (Some first) LoadWord k me mid → CanStep truths None act mid
@@ -73,7 +77,9 @@ module _ {C : Type 0} {N : ℕ} (truths : Truths C) where
   came_so first guess new x k (Err word) me now is_x g can tries h act w = elim (cases_eq (number_of guess) k) [
     | inl e ↦ absurd (let other : Saw word ≡ Made = tries Made ∙ ap (λ (c : Bool). cond c Made (Saw (word_of k))) (eq-eqb (number_of guess) k e) in cc)
     | inr ne ↦ (let same : Saw word ≡ Saw (word_of k) = tries Made ∙ ap (λ (c : Bool). cond c Made (Saw (word_of k))) (ne_eqb (number_of guess) k ne) in
-        subst (λ (f : Found). Performed truths (Some first) LoadWord f me now) (sym same) (stepped truths (Some first) k me now (h.missed (λ e. ne (sym (e ∙ is_x)))) LoadWord can).made)
+        let p = stepped truths (Some first) k me now (h.missed (λ e. ne (sym (e ∙ is_x)))) LoadWord can in
+        let there : word_of k ≡ p.made.did.old.word = ap word_of p.tells ∙ decoded p.made.did.old.word in
+        (λ hit. ne (sym (p.tells ∙ ap number_of (sym (sym hit ∙ (saw_is same ∙ there))))), subst (λ (f : Found). Performed truths (Some first) LoadWord f me now) (sym same) p.made))
   ]
 
 module _ {C : Type 0} {N : ℕ} (truths : Truths C) (cells : 0 < N) (quiet : QuietKeeps N truths) (seat_count id slots : ℕ) (me : SeatOf C N) where

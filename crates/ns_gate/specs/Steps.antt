@@ -250,7 +250,7 @@ pub record MayExchange {C : Type 0} {N : ℕ} (truths : Truths C) (last new : Wo
   pub can : CanStep truths None act me
   pub exchanges : IsExchange truths act last new (the me.0) me.1
 
--- A call that loads the lock word, and finds this content, has right behind that made the exchange which it then wanted, with nothing between: one step of the table was both.
+-- A call that loads the lock word has found this content, and has made the exchange which it then wanted: one step of the table was both.
 pub record PerformedBoth {C : Type 0} {N : ℕ} (truths : Truths C) (begun : Option (Walk C)) (content : ℕ) (me now : Me (Lists C) (List (GateView C N))) : Type 0 where
   pub between : Me (Lists C) (List (GateView C N))
   pub loaded : PerformedWith truths begun (act_by begun (the me.0)) content me between
@@ -279,16 +279,16 @@ pub record MayGuess {C : Type 0} (N : ℕ) (first : Walk C) (guess new : Word) :
   pub next : WantsNext N first guess act
   pub plain : IsPlainExchange act guess new
 
--- The seat has begun the call with a load of the lock word, which found this word, and right behind that, with nothing between, has made this act.
+-- The seat has begun the call with a load of the lock word, which found this word, and has then made this act.
 pub record HasMadeBoth {C : Type 0} {N : ℕ} (truths : Truths C) (first : Walk C) (word : Word) (act : Act C) (me now : Me (Lists C) (List (GateView C N))) : Type 0 where
   pub between : Me (Lists C) (List (GateView C N))
   pub loaded : Performed truths (Some first) LoadWord (Saw word) me between
   pub made : Performed truths None act Made between now
 
--- a call that began by such a guess has made both; or it has begun with the load alone, which found this word
+-- A call that began by such a guess has made both; or it has begun with the load alone, which found another word than the guess.
 abbrev pub CameByGuess : {C : Type 0} {N : ℕ} → Truths C → Walk C → Word → Act C → Result Unit Word → Me (Lists C) (List (GateView C N)) → Me (Lists C) (List (GateView C N)) → Type 0
 CameByGuess truths first guess act (Ok x) me now = HasMadeBoth truths first guess act me now
-CameByGuess truths first guess act (Err word) me now = Performed truths (Some first) LoadWord (Saw word) me now
+CameByGuess truths first guess act (Err word) me now = (word ≡ guess → ⊥) × Performed truths (Some first) LoadWord (Saw word) me now
 
 -- what the seat's act finds if its exchange is made
 abbrev pub made_by : {C : Type 0} {N : ℕ} → Truths C → Act C → GateView C N → Found

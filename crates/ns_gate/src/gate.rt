@@ -183,8 +183,8 @@ impl<C: Condition<N>, const N: usize> Gate<C, N> {
     }
 
     /// Begins a call that loads the lock word and then wants an exchange of it, by that exchange, with a
-    /// guess of the word. Where the guess is right, this one exchange is the load and the exchange behind
-    /// it, with nothing between; else it is the load alone, and tells the word.
+    /// guess of the word. Where the guess is right, this one exchange is both the load and the exchange
+    /// behind it; else it is the load alone, and tells the word.
     #[inline(always)]
     fn exchange_guessing(
         &self,

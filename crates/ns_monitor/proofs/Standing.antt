@@ -203,7 +203,7 @@ module _ {C : Type 0} {N : ℕ} (truths : Truths C) where
   -- what came of a guess by which it may go
   pub began_by : (walk : Walk C) (going : Going C) (guess : Word) (result : Result Unit Word) (me now : SeatOf C N) → may_go going guess ≡ true → IfErr result IsPackable → CameByGuess truths walk guess (going_act going guess) result me now → HasBegunBy truths walk going result me now
   began_by walk going guess (Ok x) me now may packs came = record { word = guess; may = may; both = came }
-  began_by walk going guess (Err word) me now may packs came = (packs, came)
+  began_by walk going guess (Err word) me now may packs came = (packs, came.1)
 
   -- it has gone right behind the load with which it began
   pub goes_behind : (walk : Walk C) (going : Going C) (me now : SeatOf C N) → Decides walk → going ≡ going_of walk → IsAtRest truths me → HasGoneBehind truths walk going me now → HasSince (Some walk) (the me.0) (the now.0) × MayGoAlone (going_of walk) × HasReached truths (asked_of walk) (gone_to N walk) now

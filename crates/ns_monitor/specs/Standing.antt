@@ -158,13 +158,13 @@ abbrev pub WentAtOnce : {C : Type 0} {N : ℕ} → Truths C → Walk C → Optio
 WentAtOnce {C} {N} truths walk None now = MayGoAlone (going_of walk) × HasReached truths (asked_of walk) (gone_to N walk) now
 WentAtOnce {C} {N} truths walk (Some last) now = IsPackable last × HasReached truths (asked_of walk) (got_of N walk (Saw last)) now
 
--- A call has gone right behind the load with which it began, with nothing between, by the word that it found, which let it.
+-- A call has begun with a load of the lock word, and has then gone by the word that it found, which let it.
 pub record HasGoneBehind {C : Type 0} {N : ℕ} (truths : Truths C) (walk : Walk C) (going : Going C) (me now : SeatOf C N) : Type 0 where
   pub word : Word
   pub may : may_go going word ≡ true
   pub both : HasMadeBoth truths walk word (going_act going word) me now
 
--- A call has begun with a load of the lock word, which found this word, or has gone right behind it.
+-- A call has begun with a load of the lock word, which found this word, or has then gone by what it found.
 abbrev pub HasBegunBy : {C : Type 0} {N : ℕ} → Truths C → Walk C → Going C → Result Unit Word → SeatOf C N → SeatOf C N → Type 0
 HasBegunBy truths walk going (Ok x) me now = HasGoneBehind truths walk going me now
 HasBegunBy truths walk going (Err word) me now = IsPackable word × Performed truths (Some walk) LoadWord (Saw word) me now

@@ -111,8 +111,8 @@ pub struct Caller<H: Hand<C, N>, C: Condition<N>, const N: usize> {
     pub(crate) number: u8,
     /// What is in hand.
     pub(crate) hand: H,
-    /// Whether the lock word that its last lock, try or release saw first had to do with no other caller, and
-    /// no wait came since: by it the next one guesses, and nothing rests on it.
+    /// Whether the word that its last lock, try or release began with had to do with no other caller; after a
+    /// wait it is false. By it the next one guesses, and nothing rests on it.
     pub(crate) alone: bool,
 }
 

@@ -35,7 +35,7 @@ pub(crate) struct Begun<C: Condition<N>, const N: usize> {
     pub(crate) seat: GateSeat<C, N>,
     /// The seat's number.
     pub(crate) number: u8,
-    /// Whether the lock word that it saw first had to do with no other caller.
+    /// Whether the word that it began with had to do with no other caller.
     pub(crate) alone: bool,
     /// The lock word seen last, if the call has not gone.
     pub(crate) last: Option<LockWord>,
@@ -153,8 +153,8 @@ impl<C: Condition<N>, const N: usize> Monitor<C, N> {
     }
 
     /// Begins a call that loads the lock word. Where the caller was alone with the lock it guesses that it
-    /// still is, and where that is right it has gone at once. Else answers the word that it saw. `alone`
-    /// then says whether the word that it saw has to do with no other caller.
+    /// still is, and where that is right it has gone at once. Else answers the word that it began with.
+    /// `alone` then says whether that has to do with no other caller.
     ///
     /// A load that follows an exchange of the same word waits for that to end, which a right guess spares.
     /// A wrong one costs what an exchange takes more than a load.

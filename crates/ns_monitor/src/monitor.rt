@@ -103,7 +103,7 @@ impl<C: Gated<N>, const N: usize> Monitor<C, N> {
     }
 
     /// Tries to acquire the lock in this mode: loads its word, and makes at most one exchange. One exchange
-    /// may be both.
+    /// may be both; one that guessed wrong is the load.
     #[inline(always)]
     fn try_acquire(&self, seat: &mut GateSeat<C, N>, mode: Mode, alone: &mut bool) -> bool
         requires of { seat.old.table_id ≡ self.now }

@@ -46,7 +46,7 @@ impl<C: Condition<N>, const N: usize> Monitor<C, N> {
     /// Scans the lock list in hand at the section's row, puts it back and releases, and pays the wakes
     /// of those whom the scan took.
     ///
-    /// Where it takes nobody, as at most releases, no list of those whom it took is made: a function pays
+    /// Where it takes nobody, no list of those whom it took is made: a function pays
     /// for its lists as it is called, whether it uses them or not.
     fn scan_and_release<R: Wait>(
         &self,
