@@ -109,11 +109,11 @@ pub struct Caller<H: Hand<C, N>, C: Condition<N>, const N: usize> {
     pub(crate) seat: GateSeat<C, N>,
     /// The seat's number.
     pub(crate) number: u8,
-    /// What is in hand.
-    pub(crate) hand: H,
     /// Whether the word that its last lock, try or release began with had to do with no other caller; after a
     /// wait it is false. By it the next one guesses, and nothing rests on it.
     pub(crate) alone: bool,
+    /// What is in hand.
+    pub(crate) hand: H,
 }
 
 impl<H: Hand<C, N>, C: Condition<N>, const N: usize> Model for Caller<H, C, N> {

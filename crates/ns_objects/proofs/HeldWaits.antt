@@ -116,13 +116,9 @@ beside_small a s n k few most small = omega (arith, up_most a n, up_most k (up a
 small_by : (τ : Ty) → room τ < 2 ^ 32 → align τ + size τ < 2 ^ 32
 small_by τ few = let most = room_enough τ in omega (arith, most, few)
 
--- a section in hand fits, where what stands for it takes little
-pub caller_fits : (τ : Ty) → room τ < 2 ^ 32 → up (max 1 (max 1 (max (align τ) 1))) (up (align τ) 1 + size τ) < 2 ^ 63
-caller_fits τ few = beside_small (align τ) (size τ) 1 (max 1 (max 1 (max (align τ) 1))) (omega arith) (omega arith) (small_by τ few)
-
--- so does a wait that it was left for
-pub waiting_fits : (τ : Ty) → room τ < 2 ^ 32 → up (max 1 (max 1 (max 1 (max (align τ) 1)))) (up (align τ) 2 + size τ) < 2 ^ 63
-waiting_fits τ few = beside_small (align τ) (size τ) 2 (max 1 (max 1 (max 1 (max (align τ) 1)))) (omega arith) (omega arith) (small_by τ few)
+-- a section in hand fits, where what stands for it takes little, and so does a wait that it was left for
+pub hand_fits : (τ : Ty) → room τ < 2 ^ 32 → up (max 1 (max 1 (max 1 (max (align τ) 1)))) (up (align τ) 2 + size τ) < 2 ^ 63
+hand_fits τ few = beside_small (align τ) (size τ) 2 (max 1 (max 1 (max 1 (max (align τ) 1)))) (omega arith) (omega arith) (small_by τ few)
 
 -- the wait is for variables that there are, where one is among the items
 pub some_wait : (cvs : Cvs) (items : List Item) (k : ℕ) → cvs.0 < 256 → AreAmong cvs items → Every IsLow items → is_among k items ≡ true → AreSome cvs

@@ -4,7 +4,7 @@ use Rattle.ns_model.specs.Cvs.{is_in}
 use Rattle.ns_model.specs.declared.cvs.Cvs.{Cvs}
 use Rattle.ns_objects.specs.Any.{BothKnown, RoundAnswers}
 use Rattle.ns_objects.specs.Held.{is_among}
-use Rattle.ns_objects.proofs.HeldWaits.{all_low, caller_fits, place_within, some_wait, waited, waiting_fits}
+use Rattle.ns_objects.proofs.HeldWaits.{all_low, place_within, some_wait, waited, hand_fits}
 use Rattle.ns_objects.proofs.Rests.{env_grows_not, grows_not}
 use Rattle.ns_objects.proofs.Rounds.{all_known_later, nothing_later}
 use Rattle.ns_objects.proofs.objects.Objects.wait_any_held.Goals as goal
@@ -13,9 +13,9 @@ pub any_begin-waiting-requires : goal.any_begin-waiting-requires
 any_begin-waiting-requires g c = (
   omega arith,
   (
-    caller_fits (layout g.row.H) c.requires.small,
+    hand_fits (layout g.row.H) c.requires.small,
     (
-      waiting_fits (layout g.row.H) c.requires.small,
+      hand_fits (layout g.row.H) c.requires.small,
       (
         c.requires.monitor,
         some_wait c.variables_in.result c.args.items.now c.requires.variable.0 c.variables_in.ensures.byte c.variables_in.ensures.among (all_low c.args.items.now (c.args.seat.now, c.args.watch.now) c.requires.named) c.requires.variable.1,
@@ -28,9 +28,9 @@ pub await_any-requires : goal.await_any-requires
 await_any-requires g c = let look = c.look_at_any.ensures in let begun = c.any_begin-waiting.ensures in (
   omega arith,
   (
-    waiting_fits (layout g.row.H) c.requires.small,
+    hand_fits (layout g.row.H) c.requires.small,
     (
-      caller_fits (layout g.row.H) c.requires.small,
+      hand_fits (layout g.row.H) c.requires.small,
       (
         look.grows.objects ∙ c.requires.objects,
         (
