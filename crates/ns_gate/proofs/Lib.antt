@@ -4,6 +4,7 @@ pub mod Keeps
 pub mod Looks
 pub mod Meets
 pub mod Room
+pub mod Scans
 pub mod Starts
 pub mod Stays
 pub mod Findings

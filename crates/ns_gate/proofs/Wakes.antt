@@ -3,23 +3,25 @@ use Rattle.std.proofs.Common.{◌≡◌, ℕ, ◌+◌, ◌≤◌, ◌<◌, ◌�
 use Rattle.std.specs.Bool.{OnFalse, OnTrue}
 use Rattle.std.specs.List.{sum_by}
 use Rattle.std.specs.Int.{bit_at}
-use Rattle.std.proofs.lemmas.Bool.{cases_eq, eq-eqb, ne_eqb}
+use Rattle.std.proofs.Math.Bool.{and-true}
+use Rattle.std.proofs.lemmas.Bool.{cases_Bool, cases_eq, eq-eqb, ne_eqb}
+use Rattle.std.specs.Option.{option_map}
 use Rattle.std.proofs.lemmas.List.Elements.{filter-append}
 use Rattle.std.proofs.lemmas.List.Sums.{sum_by-cons}
 use Rattle.ns_word.specs.Owed.{wakes_of}
 use Rattle.ns_model.proofs.Sets.{in_more, none_in}
-use Rattle.ns_queue.specs.Signals.{taken_set}
+use Rattle.ns_queue.specs.Signals.{sole_of, taken_set}
 use Rattle.ns_queue.specs.declared.waiter.Which.TheVariants.{Cv, Lock}
 use Rattle.ns_queue.specs.Queues.{cvs_without}
-use Rattle.ns_queue.specs.Waiters.{is_of, outside, without_in}
+use Rattle.ns_queue.specs.Waiters.{is_of, outside, without_in, writes}
 use Rattle.ns_queue.proofs.Inside.{told_no}
 use Rattle.ns_queue.proofs.Marking.{drop_step}
 use Rattle.ns_queue.proofs.Outside.{gone_those, same_each}
 use Rattle.ns_queue.proofs.Parts.{below_in, once_in}
 use Rattle.ns_queue.proofs.Seats.{none_without, own_times, times_in-cons}
-use Rattle.ns_queue.proofs.Taken.{times_signaled}
+use Rattle.ns_queue.proofs.Taken.{sole_is, times_signaled}
 use Rattle.ns_word.proofs.Ranges.{lists_orderly}
-use Rattle.ns_gate.specs.Prelude.{SeatOf, the, Carries, Performed, change_found, moves, seats_of, Act, Found, Walk, Truths, Lists, Waiter, HaveSeats, IsOrderly, bits_of, times, times_in, waiters_of, with_waiters, without, Part, SeatView, has_queues, has_some, is_held, kept_by, moved_to, taken_by, lists_left, lists_woken, owed_woken, taken_from, turned_to, without_each, woken_nobody, ReturnQueues, WakeWaiters, Woke, Waking, Broadcasting, Signaling, Word}
+use Rattle.ns_gate.specs.Prelude.{SeatOf, the, Carries, Performed, change_found, moves, seats_of, Act, Found, Walk, Truths, Lists, Waiter, HaveSeats, IsOrderly, bits_of, times, times_in, waiters_of, with_waiters, without, Part, SeatView, has_queues, has_some, is_held, kept_by, moved_to, taken_by, lists_left, lists_woken, owed_woken, taken_from, turned_to, without_each, woken_nobody, woken_sole, ReturnQueues, WakeWaiters, Woke, Waking, Broadcasting, Signaling, Word}
 use Rattle.ns_gate.specs.declared.queues.Turned.{Turned}
 use Rattle.ns_gate.proofs.Stays.{HasKeptItsQueues, effect_of, still_carries}
 
@@ -135,6 +137,39 @@ module _ {C : Type 0} where
     by : (ws : List (Waiter C)) → (if has_some ws then None else Some (record { some = false; bits = bits_of lists.lock })) ≡ Some turned → (ws ≡ []) × (turned.some ≡ false) × (turned.bits ≡ bits_of lists.lock)
     by [] is = (refl, cc, cc)
     by (w ∷ ws) is = absurd (cc)
+
+  -- ---- where just one waits for the variable
+
+  -- a signal takes that one, as a broadcast does
+  pub takes_sole : (waking : Waking) (k : ℕ) (lists : Lists C) (w : Waiter C) → sole_of (waiters_of lists (Cv k)) ≡ Some w → taken_from waking k lists ≡ w ∷ []
+  takes_sole waking k lists w sole = ap (taken_by waking) (sole_is (waiters_of lists (Cv k)) w sole) ∙ alone waking where
+    alone : (waking : Waking) → taken_by waking (w ∷ []) ≡ w ∷ []
+    alone Signaling = elim (cases_Bool (writes w)) [ inl e ↦ rw e refl | inr e ↦ rw e refl ]
+    alone Broadcasting = refl
+
+  -- the lists without the whole list of the variable are those without that one
+  pub left_sole : (waking : Waking) (k : ℕ) (lists : Lists C) (w : Waiter C) → sole_of (waiters_of lists (Cv k)) ≡ Some w → cvs_without (taken_set (waiters_of lists (Cv k))) lists ≡ lists_left waking k lists
+  left_sole waking k lists w sole = ap (λ ws. cvs_without (taken_set ws) lists) (sole_is (waiters_of lists (Cv k)) w sole ∙ sym (takes_sole waking k lists w sole))
+
+  -- that one moved, where the lock is held, they are the lists that are put back
+  pub woken_by_sole : (waking : Waking) (k : ℕ) (held : Bool) (lists left now : Lists C) (w : Waiter C) → sole_of (waiters_of lists (Cv k)) ≡ Some w → left ≡ cvs_without (taken_set (waiters_of lists (Cv k))) lists → now ≡ moved_to held (w ∷ []) left → now ≡ lists_woken waking k held lists
+  woken_by_sole waking k held lists left now w sole gone moved = moved ∙ (λ i. moved_to held (sym (takes_sole waking k lists w sole) i) ((gone ∙ left_sole waking k lists w sole) i))
+
+  -- what the hand that takes it answers
+  pub made_sole : (waking : Waking) (k : ℕ) (held : Bool) (lists : Lists C) (w : Waiter C) (turned : Turned) → sole_of (waiters_of lists (Cv k)) ≡ Some w → turned.some ≡ (held && true) → turned.bits ≡ bits_of (lists_woken waking k held lists).lock → Some (w, turned) ≡ woken_sole waking k held lists
+  made_sole waking k held lists w turned sole some bits = rw sole (λ i. Some (w, record { some = (some ∙ and-true held) i; bits = bits i }))
+
+  -- the hand that finds one alone has made this
+  pub found_sole : (waking : Waking) (k : ℕ) (held : Bool) (lists : Lists C) (w : Waiter C) (turned : Turned) → woken_sole waking k held lists ≡ Some (w, turned) →
+      (taken_from waking k lists ≡ w ∷ []) × (turned.some ≡ (held && has_some (taken_from waking k lists))) × (turned.bits ≡ bits_of (lists_woken waking k held lists).lock)
+  found_sole waking k held lists w turned is = by (sole_of (waiters_of lists (Cv k))) refl is where
+    by : (sole : Option (Waiter C)) → sole_of (waiters_of lists (Cv k)) ≡ sole → option_map {U = Waiter C × Turned} (λ v. (v, record { some = held; bits = bits_of (lists_woken waking k held lists).lock })) sole ≡ Some (w, turned) →
+        (taken_from waking k lists ≡ w ∷ []) × (turned.some ≡ (held && has_some (taken_from waking k lists))) × (turned.bits ≡ bits_of (lists_woken waking k held lists).lock)
+    by None sole is = absurd (cc)
+    by (Some v) sole is =
+        let pair : ◌≡◌ {A = Waiter C × Turned} (v, record { some = held; bits = bits_of (lists_woken waking k held lists).lock }) (w, turned) = cc in
+        let takes : taken_from waking k lists ≡ w ∷ [] = takes_sole waking k lists v sole ∙ ap (λ p. p.0 ∷ []) pair in
+        (takes, sym (ap (λ (ws : List (Waiter C)). held && has_some ws) takes ∙ (and-true held ∙ ap (λ p. p.1.some) pair)), sym (ap (λ p. p.1.bits) pair))
 
   -- ---- by the names of the machine's change, where this is the word last seen
 

@@ -1,13 +1,14 @@
--- What a signal or a broadcast makes of the lists in hand, and a scan that takes nobody.
+-- What a signal or a broadcast makes of the lists in hand, and a scan that takes nobody, or a writer alone.
 use Rattle.std.specs.Prelude.{ℕ, Bool, false, if◌then◌else◌, List, [], ◌∷◌, Option, None, Some}
+use Rattle.std.specs.Option.{option_map}
 use Rattle.ns_gate.specs.declared.queues.Turned.{Turned}
 use Rattle.ns_model.specs.Truths.{Truths}
 use Rattle.ns_queue.specs.declared.waiter.Waiter.{Waiter}
 use Rattle.ns_queue.specs.declared.waiter.Which.TheVariants.{Cv}
 use Rattle.ns_queue.specs.Queues.{Lists, cvs_without, waiters_of, without}
-use Rattle.ns_queue.specs.Scans.{woken_of}
-use Rattle.ns_queue.specs.Signals.{taken_set}
-use Rattle.ns_word.specs.Owed.{wakes_of}
+use Rattle.ns_queue.specs.Scans.{foremost_of, is_reader, left_of, woken_of}
+use Rattle.ns_queue.specs.Signals.{sole_of, taken_set}
+use Rattle.ns_word.specs.Owed.{value_of, wakes_of}
 use Rattle.ns_word.specs.declared.owed.Owed.{Owed}
 use Rattle.ns_word.specs.Lists.{bits_of, has_some}
 use Rattle.ns_word.specs.declared.act.Waking.{Waking}
@@ -29,9 +30,20 @@ lists_woken waking k held lists = moved_to held (taken_from waking k lists) (lis
 abbrev pub woken_nobody : {C : Type 0} → ℕ → Lists C → Option Turned
 woken_nobody k lists = if has_some (waiters_of lists (Cv k)) then None else Some (record { some = false; bits = bits_of lists.lock })
 
--- the same for a scan at this row, where it takes nobody
-abbrev pub scanned_nobody : {C : Type 0} → Truths C → List ℕ → Lists C → Option Turned
-scanned_nobody truths row lists = if has_some (woken_of (meets_at truths row) lists.lock) then None else Some (record { some = false; bits = bits_of lists.lock })
+-- the wake that is owed to a writer whom a scan takes, who goes alone, or to nobody where it takes none
+abbrev pub wake_told : {C : Type 0} → List (Waiter C) → Option Owed
+wake_told [] = None
+wake_told (w ∷ ws) = Some (record { seat = w.seat; value = value_of w.via })
+
+-- What the hand has made of the queues by a scan at this row that takes nobody, or a writer alone, and the wake that is owed then; nothing where a scan takes a reader.
+abbrev pub scanned_writer : {C : Type 0} → Truths C → List ℕ → Lists C → Option (Option Owed × Turned)
+scanned_writer truths row lists = let woken = woken_of (meets_at truths row) lists.lock in
+    if is_reader (foremost_of woken) then None
+    else Some (wake_told woken, record { some = has_some woken; bits = bits_of (left_of (meets_at truths row) lists.lock) })
+
+-- what a call that wakes has made of the queues where just one waits for the variable, with that one beside: it takes it, and they are as `lists_woken`. Else it has made nothing of them.
+abbrev pub woken_sole : {C : Type 0} → Waking → ℕ → Bool → Lists C → Option (Waiter C × Turned)
+woken_sole waking k held lists = option_map (λ w. (w, record { some = held; bits = bits_of (lists_woken waking k held lists).lock })) (sole_of (waiters_of lists (Cv k)))
 
 -- to whom a wake is owed then: to those who were taken and not moved
 abbrev pub owed_woken : {C : Type 0} → Waking → ℕ → Bool → Lists C → List Owed

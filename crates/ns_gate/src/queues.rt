@@ -1,15 +1,18 @@
 //! The steps on the waiter queues, and what is done to the queues in a hand between them.
 
-ghost use Rattle.std.specs.Prelude.{◌≡◌, ◌<◌, ⊤, map, IfErr};
-ghost use Rattle.ns_gate.specs.Prelude.{stands_at, times, woken_of, tests_of, seats_of, IsPackable, row_in, bits_of, IsInRange, changed, meets_at, waited_in, CanStep, Carries, HasUnchangedQueues, Performed, act_returning, found_returned, lists_returned, lists_scanned, scanned_nobody, some_returned, the, tried, tried_for, word_returning};
+ghost use Rattle.std.specs.Prelude.{◌≡◌, ◌<◌, ⊤, map, IfErr, IfSome, None};
+ghost use Rattle.ns_gate.specs.Prelude.{stands_at, times, woken_of, tests_of, seats_of, IsPackable, row_in, bits_of, IsInRange, changed, meets_at, waited_in, CanStep, Carries, HasUnchangedQueues, Performed, act_returning, found_returned, lists_returned, lists_scanned, scanned_writer, some_returned, the, tried, tried_for, word_returning};
 
 use crate::gate::{Gate, GateSeat};
 use ns_model::condition::Condition;
 use ns_model::event::Mode;
-use ns_queue::scan::Scan;
+use ns_queue::queues::Queues;
+use ns_queue::room::Queueable;
+use ns_queue::scan::{Foremost, Scan};
 use ns_word::act::{Act, Change};
 use ns_word::hand::{bits, leave_self, queue_self, scan_and_queue};
 use ns_word::number::LockWord;
+use ns_word::owed::{Owed, called_one};
 use ns_word::wait::{Home, Wait};
 use ns_word::word::{Arrival, Bits, Releasing, Taking};
 use std::alloc::AllocError;
@@ -60,6 +63,16 @@ impl<C> Returning<C> {
                 last.released_returning(Releasing::of(wait.mode), turned.some, turned.bits)
             }
         }
+    }
+}
+
+/// What the hand has made of these queues by a scan that took somebody, or nobody.
+fn scanned<C: Queueable<N>, const N: usize>(queues: &Queues<C, N>, some: bool) -> Turned
+    ensures { result ≡ record { some = some; bits = bits_of queues.now.lock } }
+{
+    Turned {
+        some,
+        bits: bits(queues),
     }
 }
 
@@ -153,25 +166,33 @@ impl<C: Condition<N>, const N: usize> Gate<C, N> {
         (stood, bits(queues))
     }
 
-    /// What the hand has made of the queues for a scan at this row that takes nobody: they stay as they
-    /// stood. Where a scan takes somebody, answers nothing.
+    /// Takes out of the lock list in hand the writer whom a scan at this row wakes, if it wakes one, who
+    /// then goes alone. Tells the wake that is owed to that one, and what the hand has made of the
+    /// queues; where a scan takes nobody, there is no wake. Where a scan takes readers, answers nothing,
+    /// and the queues stay as they stood.
     ///
     /// Needs a seat of this gate, which has the queues in hand as they stood.
-    pub fn scan_nobody_in_hand(&self, seat: &mut GateSeat<C, N>, row: &[u64; N]) -> Option<Turned>
+    pub fn scan_writer_in_hand(
+        &self,
+        seat: &mut GateSeat<C, N>,
+        row: &[u64; N],
+    ) -> Option<(Option<Owed>, Turned)>
         requires of { seat.old.table_id ≡ self.now }
         requires has { HasUnchangedQueues seat.old.me }
         ensures seat { (seat.new.table_id ≡ seat.old.table_id) × (seat.new.me.0 ≡ seat.old.me.0) }
-        ensures has { HasUnchangedQueues seat.new.me }
-        ensures nobody { result ≡ scanned_nobody C.means row.now (the seat.old.me.0).stood }
+        ensures told { result ≡ scanned_writer C.means row.now (the seat.old.me.0).stood }
+        ensures lists { IfSome result (λ _. Carries (lists_scanned C.means row.now (the seat.old.me.0).stood) seat.new.me) }
+        ensures still { result ≡ None → HasUnchangedQueues seat.new.me }
     {
         let queues = seat.slot_mut(&self.table.shared, 0);
-        if queues.wakes(row) {
-            return None;
+        match queues.take_writer(row) {
+            Foremost::Reader => None,
+            Foremost::Nobody => Some((None, scanned(queues, false))),
+            Foremost::Writer(number, via) => {
+                let wake = called_one(number, via);
+                Some((Some(wake), scanned(queues, true)))
+            }
         }
-        Some(Turned {
-            some: false,
-            bits: bits(queues),
-        })
     }
 
     /// Takes out of the lock list in hand those whom a scan at this row wakes. Tells whom it took, and

@@ -5,8 +5,8 @@
 //! of the lock word, which fails where another step came between, and the word that is found may
 //! differ in whether it is held. So they are kept apart, and the queues in hand are turned then.
 
-ghost use Rattle.std.specs.Prelude.{◌≡◌, ℕ, ◌<◌, ◌≤◌, ◌&&◌, not, true, false};
-ghost use Rattle.ns_gate.specs.Prelude.{Carries, HasUnchangedQueues, HaveSeats, IsOrderly, bits_of, has_some, lists_woken, moved_to, taken_from, the, times, times_in, turned_to, waiters_of, woken_nobody, without_each};
+ghost use Rattle.std.specs.Prelude.{◌≡◌, ℕ, ◌<◌, ◌≤◌, ◌&&◌, not, true, false, IfNone, OnSome};
+ghost use Rattle.ns_gate.specs.Prelude.{Carries, HasUnchangedQueues, HaveSeats, IsOrderly, bits_of, has_some, lists_woken, moved_to, taken_from, the, times, times_in, turned_to, waiters_of, woken_nobody, woken_sole, without_each};
 ghost use Rattle.ns_queue.specs.declared.waiter.Which.TheVariants.{Cv};
 
 use crate::gate::{Gate, GateSeat};
@@ -130,6 +130,40 @@ impl<C: Condition<N>, const N: usize> Gate<C, N> {
             some: false,
             bits: bits(queues),
         })
+    }
+
+    /// Does what [`Gate::wake_in_hand`] does, where just one waits for the variable: whom a signal takes
+    /// then, a broadcast takes too. Answers that one and what the hand has made of the queues. It makes
+    /// no list, which costs more than the rest of such a call. Where nobody waits, or several do, answers
+    /// nothing, and the queues stay as they stood.
+    ///
+    /// Needs a seat of this gate, which has the queues in hand as they stood, and a number below 4. The
+    /// call is for the proof alone.
+    pub fn wake_sole_in_hand(
+        &self,
+        seat: &mut GateSeat<C, N>,
+        _waking: Waking,
+        k: u8,
+        held: bool,
+    ) -> Option<(Waiter<C>, Turned)>
+        requires of { seat.old.table_id ≡ self.now }
+        requires has { HasUnchangedQueues seat.old.me }
+        requires variable { k < 4 }
+        ensures seat { (seat.new.table_id ≡ seat.old.table_id) × (seat.new.me.0 ≡ seat.old.me.0) }
+        ensures orderly { IsOrderly (the seat.old.me.0).stood }
+        ensures sole { result ≡ woken_sole _waking k held (the seat.old.me.0).stood }
+        ensures lists { OnSome result (Carries (lists_woken _waking k held (the seat.old.me.0).stood) seat.new.me) }
+        ensures same { IfNone result (HasUnchangedQueues seat.new.me) }
+    {
+        let queues = seat.slot_mut(&self.table.shared, 0);
+        match queues.take_sole(k) {
+            Some(waiter) => {
+                let taken = [waiter];
+                move_if(queues, &taken, held);
+                Some((waiter, turned_by(queues, &taken, held)))
+            }
+            None => None,
+        }
     }
 
     /// Takes those out of the lists of the variables whom the call wakes, and puts them at the back of

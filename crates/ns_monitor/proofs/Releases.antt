@@ -2,7 +2,7 @@
 use Rattle.std.proofs.Common.{◌≡◌, ℕ, ◌==◌, inl, inr, Bool, true, false, not, ◌&&◌, ◌||◌, cond, subst, List, [], ◌∷◌, length, filter, map, Option, None, Some, is_some, refl, ap, sym, ◌∙◌, ne_eqb, arith}
 use Rattle.std.proofs.lemmas.Bool.{cases_Bool}
 use Rattle.std.specs.List.{list_any}
-use Rattle.ns_gate.specs.Prelude.{SeatOf, the, Carries, GateView, HasUnchangedQueues, has_queues, lists_returned, scanned_nobody, Subject, OnCondition, OnVariables, some_returned, Truths, Lists, is_eligible, is_satisfied, left_of, woken_of, has_condition, reads, seats_of, writes, Waiter, row_in, bits_of, has_some, meets_at, waits_at, with_lock, Walk, Bits, Word}
+use Rattle.ns_gate.specs.Prelude.{SeatOf, the, Carries, GateView, HasUnchangedQueues, has_queues, lists_returned, lists_scanned, scanned_writer, wake_told, Subject, OnCondition, OnVariables, some_returned, Truths, Lists, is_eligible, is_satisfied, foremost_of, is_reader, left_of, woken_of, has_condition, reads, seats_of, writes, Waiter, row_in, bits_of, has_some, meets_at, waits_at, with_lock, Walk, Bits, Word}
 use Rattle.ns_gate.specs.declared.queues.Returning.{Returning}
 use Rattle.ns_gate.specs.declared.queues.Turned.{Turned}
 use Rattle.ns_gate.proofs.Calls.{works}
@@ -57,22 +57,26 @@ pub took_some : {C : Type 0} (ws : List (Waiter C)) (items : List ℕ) → items
 took_some [] items is = ap (λ (ns : List ℕ). not (length ns == 0)) is
 took_some (w ∷ ws) items is = ap (λ (ns : List ℕ). not (length ns == 0)) is ∙ ap not (ne_eqb (length (seats_of (w ∷ ws))) 0 (λ e. omega (arith, e)))
 
--- nobody was taken where this tells of none, and then all stay
-none_of : {A : Type 0} (xs : List A) → has_some xs ≡ false → xs ≡ []
-none_of [] none = refl
-none_of (x ∷ xs) none = absurd (cc)
+-- the wakes that are owed where this was told
+abbrev pub told_list : Option Owed → List Owed
+told_list None = []
+told_list (Some wake) = wake ∷ []
 
-none_left : {C : Type 0} (meets : C → Bool) (ws : List (Waiter C)) → has_some (woken_of meets ws) ≡ false → left_of meets ws ≡ ws
-none_left meets [] none = refl
-none_left meets (w ∷ ws) none = elim (cases_Bool (is_eligible meets w)) [
-  | inl goes ↦ absurd (let e = rw goes at none in cc)
-  | inr stays ↦ rw stays (ap (λ vs. w ∷ vs) (none_left meets ws (rw stays at none)))
+-- where a scan begins with no reader, it takes one at most
+called_alone : {C : Type 0} (meets : C → Bool) (ws : List (Waiter C)) → is_reader (foremost_of (woken_of meets ws)) ≡ false → called_of (woken_of meets ws) ≡ told_list (wake_told (woken_of meets ws))
+called_alone meets [] none = refl
+called_alone meets (w ∷ ws) none = elim (cases_Bool (is_eligible meets w)) [
+  | inl goes ↦ elim (cases_Bool (writes w)) [
+    | inl alone ↦ rw (goes, alone) refl
+    | inr reader ↦ absurd (let e = rw (goes, reader) at none in cc)
+  ]
+  | inr stays ↦ rw stays (called_alone meets ws (rw stays at none))
 ]
 
--- what was made of the queues where a scan takes nobody
-turned_none : (b : Bool) (made turned : Turned) → cond b None (Some made) ≡ Some turned → (b ≡ false) × (made ≡ turned)
-turned_none true made turned e = absurd (cc)
-turned_none false made turned e = (refl, cc)
+-- what was told of a scan that begins with no reader
+turned_few : (b : Bool) (made : Option Owed × Turned) (wake : Option Owed) (turned : Turned) → cond b None (Some made) ≡ Some (wake, turned) → (b ≡ false) × (made.0 ≡ wake) × (made.1 ≡ turned)
+turned_few true made wake turned e = absurd (cc)
+turned_few false made wake turned e = let same : made ≡ (wake, turned) = cc in (refl, ap (λ p. p.0) same, ap (λ p. p.1) same)
 
 -- ---- in a call
 
@@ -101,25 +105,21 @@ module _ {C : Type 0} {N : ℕ} (truths : Truths C) where
       → seats ≡ seats_of (woken_of (meets_at truths row) (the me.0).stood.lock) → vias ≡ map (λ (w : Waiter C). w.via) (woken_of (meets_at truths row) (the me.0).stood.lock) → owed ≡ called_of (woken_of (meets_at truths (row_in (the now.0).at.held)) (the now.0).stood.lock)
   calls_are walk row seats vias owed me now ready same is told names = are_called (woken_of (meets_at truths row) (the me.0).stood.lock) seats vias owed is told names ∙ (ap called_of ready.scans.woken ∙ (λ i. called_of (woken_of (meets_at truths (row_in (the (sym same i)).at.held)) (the (sym same i)).stood.lock)))
 
-  -- where a scan at this row takes nobody, the queues in hand as they stood are what is put back
-  pub hand_nobody : (releasing : Releasing) (walk : Walk C) (row : List ℕ) (turned : Turned) (me now : SeatOf C N) → IsReady truths walk row me → now.0 ≡ me.0 → HasUnchangedQueues now → scanned_nobody truths row (the me.0).stood ≡ Some turned
-      → HasInHand truths (Released releasing) turned now
-  hand_nobody releasing walk row turned me now ready same has told =
-      let lock = (the me.0).stood.lock in
-      let nobody = turned_none (has_some (woken_of (meets_at truths row) lock)) _ turned told in
-      let left = none_left (meets_at truths row) lock nobody.0 in
-      subst (λ t. HasInHand truths (Released releasing) t now) nobody.1 (hand_scanned (Released releasing) walk row (the me.0).at.seat false (bits_of lock) me now ready refl same
-      (λ last. has ∙ (λ i. (0, (the (same i)).stood) ∷ []) ∙ ap (λ l. (0, with_lock (the me.0).stood l) ∷ []) (sym left))
-      (λ last. sym nobody.0)
-      (λ last. ap bits_of (sym left)))
+  -- where a scan at this row takes a writer alone, or nobody, the queues in hand without that one are what is put back
+  pub hand_few : (releasing : Releasing) (walk : Walk C) (row : List ℕ) (wake : Option Owed) (turned : Turned) (me now : SeatOf C N) → IsReady truths walk row me → now.0 ≡ me.0 → Carries (lists_scanned truths row (the me.0).stood) now
+      → scanned_writer truths row (the me.0).stood ≡ Some (wake, turned) → HasInHand truths (Released releasing) turned now
+  hand_few releasing walk row wake turned me now ready same carries told =
+      let woken = woken_of (meets_at truths row) (the me.0).stood.lock in
+      let few = turned_few (is_reader (foremost_of woken)) _ wake turned told in
+      hand_scanned (Released releasing) walk row (the me.0).at.seat turned.some turned.bits me now ready refl same (λ last. carries) (λ last. sym (ap (λ (t : Turned). t.some) few.2)) (λ last. sym (ap (λ (t : Turned). t.bits) few.2))
 
-  -- and no wake is owed
-  pub calls_none : (walk : Walk C) (row : List ℕ) (turned : Turned) (owed : List Owed) (me now : SeatOf C N) → IsReady truths walk row me → now.0 ≡ me.0 → scanned_nobody truths row (the me.0).stood ≡ Some turned
-      → owed ≡ called_of (woken_of (meets_at truths (row_in (the now.0).at.held)) (the now.0).stood.lock) → owed ≡ []
-  calls_none walk row turned owed me now ready same told owes =
+  -- and the wake that was told is all that is owed
+  pub calls_few : (walk : Walk C) (row : List ℕ) (wake : Option Owed) (turned : Turned) (owed : List Owed) (me now : SeatOf C N) → IsReady truths walk row me → now.0 ≡ me.0 → scanned_writer truths row (the me.0).stood ≡ Some (wake, turned)
+      → owed ≡ called_of (woken_of (meets_at truths (row_in (the now.0).at.held)) (the now.0).stood.lock) → owed ≡ told_list wake
+  calls_few walk row wake turned owed me now ready same told owes =
       let lock = (the me.0).stood.lock in
-      let nobody = sym (none_of (woken_of (meets_at truths row) lock) (turned_none (has_some (woken_of (meets_at truths row) lock)) _ turned told).0) in
-      owes ∙ sym (calls_are walk row [] [] [] me now ready same refl (ap seats_of nobody) (ap (map (λ (w : Waiter C). w.via)) nobody))
+      let few = turned_few (is_reader (foremost_of (woken_of (meets_at truths row) lock))) _ wake turned told in
+      owes ∙ sym (ap called_of ready.scans.woken ∙ (λ i. called_of (woken_of (meets_at truths (row_in (the (sym same i)).at.held)) (the (sym same i)).stood.lock))) ∙ called_alone (meets_at truths row) lock few.0 ∙ ap told_list few.1
 
   -- a row stays ready as the queues are looked at
   pub ready_still : (walk : Walk C) (row : List ℕ) (me now : SeatOf C N) → has_queues (Some walk) ≡ true → IsReady truths walk row me → now.0 ≡ me.0 → HasUnchangedQueues now → IsReady truths walk row now

@@ -5,7 +5,7 @@ use Rattle.ns_gate.proofs.Findings.{does}
 use Rattle.ns_gate.proofs.Stays.{HasKeptItsQueues, stays_by}
 use Rattle.ns_gate.proofs.Wakes.{found_nobody, moves_nobody, owes_the_woken, still_woken, takes_nobody, woken_found}
 use Rattle.ns_word.specs.declared.owed.Owed.{Owed}
-use Rattle.ns_word.specs.Owed.{wakes_of}
+use Rattle.ns_word.specs.Owed.{wake_by, wakes_of}
 use Rattle.ns_gate.specs.Prelude.{SeatOf, HasAnswered, HasReached, HasSince, HasUnchangedQueues, IsAtPlace, IsOrderly, SignalLoad, TableId, woken_nobody, rest, the, Carries, CanStep, Performed, Truths, Lists, lists_woken, taken_from, bits_of, has_some, change_found, Event, LockState, Part, part_of, has_queues, owed_woken, is_held, ReturnQueues, WakeWaiters, Waking, Signaling, Broadcasting, Saw, Woke, WakeAndReturn, Succeeded, On, Walk, InSignal, Word}
 use Rattle.ns_gate.specs.declared.queues.Turned.{Turned}
 use Rattle.ns_monitor.proofs.Standing.{saw_keeps}
@@ -112,6 +112,13 @@ module _ {C : Type 0} {N : ℕ} (truths : Truths C) where
       }) where
         owed_in : Lists C → List Owed
         owed_in lists = owed_woken waking k (is_held last) lists
+
+  -- One alone was taken, and the queues are back. Where it wasn't moved, its wake is owed, and no other.
+  pub owes_sole : (waking : Waking) (k : ℕ) (moved : Bool) (stood : Lists C) (w : Waiter C) (wake : Owed) (now : SeatOf C N) → taken_from waking k stood ≡ w ∷ [] → moved ≡ false → wake ≡ wake_by k w.seat → HasReturnedWoken truths waking k moved stood now
+      → ((the now.0).at.owed ≡ wake ∷ []) × HasReached truths (TheRequest.Wake waking k) (pay_woken waking k true) now
+  owes_sole waking k moved stood w wake now alone free is back =
+      let owed : owed_woken waking k moved stood ≡ wake ∷ [] = ap (λ b. owed_woken waking k b stood) free ∙ (ap (wakes_of k) alone ∙ ap (λ o. o ∷ []) (sym is)) in
+      (back.owed ∙ owed, subst (λ ns. HasReached truths (TheRequest.Wake waking k) (pay_woken waking k (has_some ns)) now) owed back.leads)
 
   -- ---- what it tells
 

@@ -1,7 +1,7 @@
 //! The loops that a call may go round in, each once. Each is told the place at which its call stands,
 //! which is for the proof alone: no code reads it.
 
-ghost use Rattle.std.specs.Prelude.{◌≡◌, ◌≢◌, None, Some, false, []};
+ghost use Rattle.std.specs.Prelude.{◌≡◌, ◌≢◌, ◌∷◌, None, Some, false, true, []};
 ghost use Rattle.ns_gate.specs.Prelude.{HasSince, IsAtPlace, IsAtRest, IsFirst, HasReached, PlaceFits, the, asked_of, IsPackable, has_some, got_of};
 ghost use Rattle.ns_monitor.specs.Prelude.{Decides, HasInHand, HasSeenTrue, HasTakenAt, IsNumberOf, OwesTheWoken, Pays, PutsBack, Sleeps, WentOrTook, found_back, going_of, returning_at, returning_of};
 ghost use Rattle.ns_monitor.specs.declared.going.Going.TheVariants.{Changing};
@@ -185,5 +185,20 @@ impl<C: Condition<N>, const N: usize> Monitor<C, N> {
         for &wake in owed.as_slice() {
             self.gate.pay_wake(seat, wake);
         }
+    }
+
+    /// Pays the one wake that the seat owes.
+    pub(crate) fn pay_one(&self, seat: &mut GateSeat<C, N>, _walk: Walk<C>, wake: Owed)
+        requires of { seat.old.table_id ≡ self.now }
+        requires pays { Pays N _walk }
+        requires at { HasReached C.means (asked_of _walk) (got_of N _walk (Found.Paid true)) seat.old.me }
+        requires owed { (the seat.old.me.0).at.owed ≡ wake ∷ [] }
+        ensures seat { seat.new.table_id ≡ self.now }
+        ensures since { HasSince None (the seat.old.me.0) (the seat.new.me.0) }
+        ensures paid { HasReached C.means (asked_of _walk) (got_of N _walk (Found.Paid false)) seat.new.me }
+        ensures none { (the seat.new.me.0).at.owed ≡ [] }
+        ensures true_to { HasSeenTrue C.means seat.old.me → HasSeenTrue C.means seat.new.me }
+    {
+        self.gate.pay_wake(seat, wake);
     }
 }

@@ -46,8 +46,8 @@ impl<C: Condition<N>, const N: usize> Monitor<C, N> {
     /// Scans the lock list in hand at the section's row, puts it back and releases, and pays the wakes
     /// of those whom the scan took.
     ///
-    /// Where it takes nobody, no list of those whom it took is made: a function pays
-    /// for its lists as it is called, whether it uses them or not.
+    /// Where that is nobody, or a writer alone, no list of them is made: a function pays for its lists
+    /// as it is called, whether it uses them or not, and all others wait for the queues meanwhile.
     fn scan_and_release<R: Wait>(
         &self,
         rt: &R,
@@ -68,16 +68,21 @@ impl<C: Condition<N>, const N: usize> Monitor<C, N> {
         let mut row = [0; N];
         let place = Walk::InRelease(releasing, ReleasePlace::ScanCells(parts, 0));
         self.load_to_scan(seat, parts.cond, place, &mut row);
-        if let Some(turned) = self.gate.scan_nobody_in_hand(seat, &row) {
-            let returning = Returning::Released(releasing);
-            let place = Walk::InRelease(releasing, ReleasePlace::ScanAndRelease(parts));
-            self.put_back(rt, seat, returning, place, word, turned);
+        let Some((wake, turned)) = self.gate.scan_writer_in_hand(seat, &row) else {
+            self.scan_and_wake(rt, seat, releasing, word, &row);
             return;
-        }
-        self.scan_and_wake(rt, seat, releasing, word, &row);
+        };
+        let returning = Returning::Released(releasing);
+        let place = Walk::InRelease(releasing, ReleasePlace::ScanAndRelease(parts));
+        self.put_back(rt, seat, returning, place, word, turned);
+        let Some(wake) = wake else {
+            return;
+        };
+        let place = Walk::InRelease(releasing, ReleasePlace::Pay);
+        self.pay_one(seat, place, wake);
     }
 
-    /// The same with a row ready for the scan, where that takes somebody.
+    /// The same with a row ready for the scan, for all whom that takes.
     #[cold]
     fn scan_and_wake<R: Wait>(
         &self,

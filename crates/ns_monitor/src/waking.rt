@@ -1,6 +1,6 @@
 //! Condition variables: signals and broadcasts.
 
-ghost use Rattle.std.specs.Prelude.{◌≡◌, ◌<◌, None, Some};
+ghost use Rattle.std.specs.Prelude.{◌≡◌, ◌<◌, [], ◌∷◌, None, Some};
 ghost use Rattle.ns_gate.specs.Prelude.{Broadcasting, HasAnswered, HasSince, IsAtPlace, IsAtRest, IsOrderly, IsPackable, InSignal, SignalLoad, Signaling, Succeeded, WakeAndReturn, is_held, taken_from, the};
 ghost use Rattle.ns_word.specs.declared.request.Request.TheVariants as TheRequest;
 ghost use Rattle.ns_monitor.specs.Prelude.{Grows, HasReturnedWoken, HasTakenAt, HasWoken, HasWokenInHand, is_held_by_one, waking_by};
@@ -15,7 +15,7 @@ use ns_model::condition::Condition;
 use ns_queue::waiter::Waiter;
 use ns_word::act::{Change, Waking};
 use ns_word::number::LockWord;
-use ns_word::owed::wakes;
+use ns_word::owed::{wake_by, wakes};
 use ns_word::signal_walk::SignalPlace;
 use ns_word::walk::Walk;
 use std::sync::Wait;
@@ -74,9 +74,42 @@ impl<C: Condition<N>, const N: usize> Monitor<C, N> {
         unreachable!()
     }
 
+    /// Puts the queues back without this one waiter, which the call has taken alone, and pays it its wake
+    /// where the lock was free. It makes no list of those taken, nor of the wakes that are owed.
+    fn wake_sole<R: Wait>(
+        &self,
+        rt: &R,
+        seat: &mut GateSeat<C, N>,
+        waking: Waking,
+        k: u8,
+        word: LockWord,
+        sole: Waiter<C>,
+        made: Turned,
+    )
+        requires of { seat.old.table_id ≡ self.now }
+        requires variable { k < 4 }
+        requires word { IsPackable word }
+        requires at { IsAtPlace C.means (InSignal waking k (WakeAndReturn word)) seat.old.me }
+        requires orderly { IsOrderly (the seat.old.me.0).stood }
+        requires alone { taken_from waking k (the seat.old.me.0).stood ≡ sole ∷ [] }
+        requires hand { HasWokenInHand waking k (is_held word) made seat.old.me }
+        ensures seat { seat.new.table_id ≡ self.now }
+        ensures since { HasSince None (the seat.old.me.0) (the seat.new.me.0) }
+        ensures woke { HasAnswered C.means (TheRequest.Wake waking k) Succeeded seat.new.me }
+    {
+        let taken = [sole];
+        let moved = self.return_woken(rt, seat, waking, k, word, &taken, made);
+        if !moved {
+            let place = Walk::InSignal(waking, k, SignalPlace::PayTheWoken);
+            self.pay_one(seat, place, wake_by(k, sole.seat));
+        }
+    }
+
     /// With the queues in hand, taken at this word: takes those of the list of the variable whom the
     /// call wakes out of all variables' lists, and moves them to the lock list where the lock is held,
-    /// else pays them their wakes.
+    /// else pays them their wakes. Its lists have room for 64 waiters, so it is kept apart from the
+    /// calls that wake just one.
+    #[cold]
     fn wake_waiters<R: Wait>(
         &self,
         rt: &R,
@@ -104,6 +137,30 @@ impl<C: Condition<N>, const N: usize> Monitor<C, N> {
         self.pay(seat, place, &owed);
     }
 
+    /// With the queues in hand, taken at this word: wakes those of the list of the variable whom the
+    /// call wakes, mostly just one.
+    fn wake_some<R: Wait>(
+        &self,
+        rt: &R,
+        seat: &mut GateSeat<C, N>,
+        waking: Waking,
+        k: u8,
+        word: LockWord,
+    )
+        requires of { seat.old.table_id ≡ self.now }
+        requires variable { k < 4 }
+        requires taken { HasTakenAt C.means (InSignal waking k SignalLoad) word seat.old.me seat.old.me }
+        ensures seat { seat.new.table_id ≡ self.now }
+        ensures since { HasSince None (the seat.old.me.0) (the seat.new.me.0) }
+        ensures woke { HasAnswered C.means (TheRequest.Wake waking k) Succeeded seat.new.me }
+    {
+        let held = word.is_held();
+        match self.gate.wake_sole_in_hand(seat, waking, k, held) {
+            Some((sole, made)) => self.wake_sole(rt, seat, waking, k, word, sole, made),
+            None => self.wake_waiters(rt, seat, waking, k, word),
+        }
+    }
+
     /// Takes the queues, and wakes those whom the call wakes. Where nobody waits for the variable, it
     /// only puts the queues back.
     fn wake<R: Wait>(&self, rt: &R, seat: &mut GateSeat<C, N>, waking: Waking, k: u8)
@@ -121,7 +178,7 @@ impl<C: Condition<N>, const N: usize> Monitor<C, N> {
             self.return_woken(rt, seat, waking, k, word, &taken, made);
             return;
         }
-        self.wake_waiters(rt, seat, waking, k, word);
+        self.wake_some(rt, seat, waking, k, word);
     }
 }
 

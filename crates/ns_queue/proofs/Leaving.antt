@@ -1,8 +1,8 @@
 -- What is left of a list whose taken waiters are taken out one by one.
-use Rattle.std.proofs.Common.{◌≡◌, ◌≢◌, ℕ, ◌+◌, ◌-◌, ◌≤◌, ◌<◌, inl, inr, Bool, not, List, [], ◌∷◌, length, drop, filter, get_or, refl, ap, sym, ◌∙◌, arith}
+use Rattle.std.proofs.Common.{◌≡◌, ◌≢◌, ℕ, ◌+◌, ◌-◌, ◌≤◌, ◌<◌, inl, inr, Bool, true, false, cond, not, List, [], ◌∷◌, length, drop, filter, get_or, refl, ap, sym, ◌∙◌, arith}
 use Rattle.std.proofs.lemmas.Bool.{cases_Bool, eq-eqb, ne_eqb}
 use Rattle.ns_queue.specs.declared.waiter.Waiter.{Waiter}
-use Rattle.ns_queue.specs.Scans.{is_eligible, left_of, woken_of}
+use Rattle.ns_queue.specs.Scans.{foremost_of, is_eligible, is_reader, left_by_writer, left_of, woken_of}
 use Rattle.ns_queue.specs.Waiters.{seats_of, times_in, without_in, writes}
 use Rattle.ns_queue.proofs.Inside.{times_in-filter}
 use Rattle.ns_queue.proofs.Marking.{drop_step}
@@ -82,3 +82,7 @@ module _ {C : Type 0} where
       ]
       | inr stays ↦ rw stays (omega (arith, times_in-cons seat w ws, times_in-cons seat w (left_of meets ws), times_left ws seat))
     ]
+
+    pub times_left_by_writer : (ws : List (Waiter C)) (seat : ℕ) → times_in seat (left_by_writer meets ws) ≤ times_in seat ws
+    times_left_by_writer ws seat =
+        elim (is_reader (foremost_of (woken_of meets ws))) as (λ b. times_in seat (cond b ws (left_of meets ws)) ≤ times_in seat ws) [ true ↦ omega arith | false ↦ times_left ws seat ]

@@ -1,19 +1,20 @@
 -- Whom a scan takes behind the first, and what it tests for that.
-use Rattle.std.proofs.Common.{◌≡◌, ◌≢◌, ℕ, zero, suc, ◌+◌, ◌≤◌, ◌<◌, inl, inr, Bool, true, false, cond, not, ◌&&◌, ◌||◌, List, [], ◌∷◌, ◌++◌, length, filter, get_or, drop, take, Option, None, Some, is_some, refl, ap, sym, ◌∙◌, subst, eqb, nat_lt, arith, append_assoc, Fits, w32}
+use Rattle.std.proofs.Common.{◌≡◌, ℕ, zero, suc, ◌+◌, ◌≤◌, ◌<◌, inl, inr, Bool, true, false, cond, not, ◌&&◌, ◌||◌, List, [], ◌∷◌, ◌++◌, length, filter, get_or, drop, take, Option, None, Some, is_some, refl, ap, sym, ◌∙◌, arith, append_assoc, Fits, w32}
 use Rattle.std.specs.Prelude.{unwrap_or}
-use Rattle.std.proofs.lemmas.Bool.{cases_Bool, cases_eq, eq-eqb, lt-ltb, ne_eqb}
+use Rattle.std.proofs.lemmas.Bool.{cases_Bool}
 use Rattle.std.proofs.lemmas.List.{append-nil, length-append, length-drop, take-append-drop}
 use Rattle.ns_queue.specs.declared.waiter.Waiter.{Waiter}
-use Rattle.ns_queue.specs.Scans.{is_eligible, is_alike, tests_of, woken_of}
+use Rattle.ns_queue.specs.Scans.{foremost_of, is_eligible, is_alike, is_reader, left_by_writer, left_of, tests_of, woken_of}
+use Rattle.ns_queue.specs.declared.scan.Foremost.TheVariants.{Nobody, Reader, Writer}
 use Rattle.ns_queue.specs.Stages.{asked_for, asking, in_front, needs, stage_next, tests_from, tests_seeking}
-use Rattle.ns_queue.specs.Waiters.{reads, seats_of, writes}
+use Rattle.ns_queue.specs.Waiters.{reads, seats_of, without_in, writes}
 use Rattle.ns_queue.proofs.Asking.{Enters, Knows, asking_most, knows_asked, knows_entered, met_entered, taken_asked}
 use Rattle.ns_queue.proofs.RunCounts.{tests_is}
 use Rattle.ns_queue.proofs.Seats.{few}
 use Rattle.ns_queue.proofs.Seeking.{all_sought, few_sought, front_most, goes_along, nobody_taken, tests_found}
-use Rattle.ns_queue.specs.Rings.{behind, from, first_seat, seated, IsRow}
+use Rattle.ns_queue.specs.Rings.{behind, from, first_seat, seated, without_all, IsRow}
 use Rattle.ns_queue.specs.Runs.{sought_seat}
-use Rattle.ns_queue.proofs.Hops.{seated_none}
+use Rattle.ns_queue.proofs.Leaving.{woken_leave}
 use Rattle.ns_queue.proofs.Places.{cut_at, found, from_none, row_at, stepped}
 
 -- the first of what is left, by its index
@@ -118,19 +119,38 @@ module _ {C : Type 0} (same : C → C → Bool) (meets : C → Bool) where
       let all = none_front s ws row is none in
       (sym (ap seats_of (nobody_taken same meets ws all)), counts ∙ all_sought same meets ws all ∙ tests_is same meets ws)
 
-  some_sought : (vs ws : List (Waiter C)) → drop (in_front meets ws) ws ≡ vs → first_seat 64 vs ≢ 64 → nat_lt 0 (length (woken_of meets ws)) ≡ true
-  some_sought [] ws e ne = absurd (ne refl)
-  some_sought (w ∷ vs) ws e ne = lt-ltb 0 (length (woken_of meets ws)) (let size = ap length (woken_cut ws w vs e).woken in omega (arith, size))
+  -- ---- whom a scan takes first
 
-  -- a search comes to a place that isn't the one behind the list where somebody is taken, and only there
-  pub told_by_seat : (s : ℕ) (ws : List (Waiter C)) → IsRow ws → s ≡ sought_seat meets ws → not (eqb s 64) ≡ nat_lt 0 (length (woken_of meets ws))
-  told_by_seat s ws row is = elim (cases_eq s 64) [
-    | inl end ↦
-        let P : ℕ → Type 0 = λ k. seated k ws ≡ None in
-        let nobody = nobody_taken same meets ws (none_front s ws row is (subst P (sym end) (seated_none 64 ws (row.below 64 (omega arith))))) in
-        ap not (eq-eqb s 64 end) ∙ sym (ap (λ vs. nat_lt 0 (length vs)) nobody)
-    | inr ne ↦ ap not (ne_eqb s 64 ne) ∙ sym (some_sought (drop (in_front meets ws) ws) ws refl (λ e. ne (is ∙ e)))
+  none_left : (ws : List (Waiter C)) → woken_of meets ws ≡ [] → left_of meets ws ≡ ws
+  none_left [] none = refl
+  none_left (w ∷ ws) none = elim (cases_Bool (is_eligible meets w)) [
+    | inl goes ↦ absurd (let e = rw goes at none in cc)
+    | inr stays ↦ rw stays (ap (λ vs. w ∷ vs) (none_left ws (rw stays at none)))
   ]
+
+  pub nobody_first : (s : ℕ) (ws : List (Waiter C)) → IsRow ws → s ≡ sought_seat meets ws → seated s ws ≡ None → (Nobody ≡ foremost_of (woken_of meets ws)) × (ws ≡ left_by_writer meets ws)
+  nobody_first s ws row is none =
+      let nobody = nobody_taken same meets ws (none_front s ws row is none) in
+      rw nobody (refl, sym (none_left ws nobody))
+
+  first_found : (s : ℕ) (ws : List (Waiter C)) (w : Waiter C) → IsRow ws → s ≡ sought_seat meets ws → seated s ws ≡ Some w → (w.seat ≡ s) × (woken_of meets ws ≡ w ∷ cond (writes w) [] (filter (goes_along meets) (behind s ws)))
+  first_found s ws w row is stands =
+      let f = found s ws w stands in
+      (f.here, (woken_cut ws w (behind s ws) (sought_from s ws row is ∙ f.from_is)).woken)
+
+  pub reader_first : (s : ℕ) (ws : List (Waiter C)) (w : Waiter C) → IsRow ws → s ≡ sought_seat meets ws → seated s ws ≡ Some w → writes w ≡ false → (Reader ≡ foremost_of (woken_of meets ws)) × (ws ≡ left_by_writer meets ws)
+  reader_first s ws w row is stands reader =
+      let f = first_found s ws w row is stands in
+      rw (f.1, reader) (refl, refl)
+
+  pub writer_first : (s : ℕ) (via : Option ℕ) (ws left : List (Waiter C)) (w : Waiter C) → IsRow ws → s ≡ sought_seat meets ws → seated s ws ≡ Some w → writes w ≡ true → via ≡ w.via → left ≡ without_in s ws →
+      ((Writer s via) ≡ foremost_of (woken_of meets ws)) × (left ≡ left_by_writer meets ws)
+  writer_first s via ws left w row is stands alone names out =
+      let f = first_found s ws w row is stands in
+      let taken : woken_of meets ws ≡ w ∷ [] = rw alone at f.1 in
+      let first : foremost_of (woken_of meets ws) ≡ Writer w.seat w.via = ap foremost_of taken ∙ ap (λ b. cond b (Writer w.seat w.via) Reader) alone in
+      let stay : left_of meets ws ≡ without_in s ws = sym (woken_leave meets ws row) ∙ ap (λ vs. without_all (seats_of vs) ws) taken ∙ ap (λ n. without_in n ws) f.0 in
+      ((λ i. Writer (sym f.0 i) (names i)) ∙ sym first, out ∙ sym stay ∙ sym (ap (λ o. cond (is_reader o) ws (left_of meets ws)) first))
 
   -- those taken so far, the tests so far, and the rest
   pub record Reads (first : Option C) (truth : Option Bool) (at tests : ℕ) (woken : List ℕ) (ws : List (Waiter C)) : Type 0 where

@@ -1,5 +1,5 @@
 -- What a wake takes of a list, and what it leaves there.
-use Rattle.std.proofs.Common.{◌≡◌, ℕ, zero, suc, ◌+◌, ◌<◌, Bool, true, false, ◌||◌, inl, inr, eqb, nat_lt, List, [], ◌∷◌, length, get_or, take, ap, sym, ◌∙◌, arith, ◌≤◌}
+use Rattle.std.proofs.Common.{◌≡◌, ℕ, zero, suc, ◌+◌, ◌<◌, Bool, true, false, ◌||◌, inl, inr, eqb, nat_lt, List, [], ◌∷◌, length, get_or, take, Some, refl, ap, sym, ◌∙◌, subst, arith, ◌≤◌}
 use Rattle.std.proofs.Math.Bool.{or_comm}
 use Rattle.std.proofs.lemmas.Bool.{ltb-true, lt-ltb, ne_eqb, eq-eqb, cases_eq, cases_lt, le-ltb}
 use Rattle.std.proofs.lemmas.List.{take_more}
@@ -10,7 +10,7 @@ use Rattle.ns_model.specs.Tallies.{Every, one_if}
 use Rattle.ns_queue.specs.declared.waiter.Waiter.{Waiter}
 use Rattle.ns_queue.specs.declared.signal.Wanted.TheVariants.{Anybody}
 use Rattle.ns_queue.specs.Waiters.{times_in, seats_of, HaveSeats}
-use Rattle.ns_queue.specs.Signals.{signaled_of, unsignaled_of, taken_set}
+use Rattle.ns_queue.specs.Signals.{signaled_of, sole_of, unsignaled_of, taken_set}
 use Rattle.ns_queue.specs.Marks.{marked, unmarked, signal_marks}
 use Rattle.ns_queue.proofs.Seats.{some_more, times_in-cons, times_in_push}
 use Rattle.ns_queue.proofs.Meaning.{signal_takes, signal_leaves}
@@ -105,3 +105,19 @@ module _ {C : Type 0} where
   -- a set that has just those who stand in the list is its set
   pub set_whole : (ws : List (Waiter C)) (set : Seats) → ((n : ℕ) → is_in set n ≡ nat_lt 0 (times_in n ws)) → set ≡ taken_set ws
   set_whole ws set each = same_seats set (taken_set ws) (λ n. each n ∙ sym (in_taken ws n))
+
+  -- ---- the only one of a list
+
+  -- it is the whole list
+  pub sole_is : (ws : List (Waiter C)) (w : Waiter C) → sole_of ws ≡ Some w → ws ≡ w ∷ []
+  sole_is [] w is = absurd (cc)
+  sole_is (v ∷ []) w is = let same : v ≡ w = cc in ap (λ u. u ∷ []) same
+  sole_is (v ∷ u ∷ ws) w is = absurd (cc)
+
+  -- it has a seat below 64, where everybody in the list has
+  pub sole_low : (ws : List (Waiter C)) (w : Waiter C) → HaveSeats ws → sole_of ws ≡ Some w → w.seat < 64
+  sole_low ws w low is = low_at (w ∷ []) 0 w (subst HaveSeats (sole_is ws w is) low) (omega arith) refl
+
+  -- a set of its seat alone is the set of the list
+  pub set_sole : (ws : List (Waiter C)) (w : Waiter C) (none set : Seats) → sole_of ws ≡ Some w → ((n : ℕ) → is_in none n ≡ false) → ((n : ℕ) → is_in set n ≡ (is_in none n || eqb n w.seat)) → set ≡ taken_set ws
+  set_sole ws w none set is empty more = set_whole (w ∷ []) set (set_more (w ∷ []) 0 w none set (omega arith) refl more empty) ∙ ap taken_set (sym (sole_is ws w is))

@@ -1,6 +1,8 @@
 -- The scan of the lock list: whom a release wakes, who stays, and how many conditions it has to test.
 use Rattle.std.specs.Prelude.{ℕ, Bool, true, false, not, ◌&&◌, List, [], ◌∷◌, ◌++◌, map, filter, count_by, if◌then◌else◌, Option, None, Some, is_some}
 use Rattle.std.specs.List.{list_any}
+use Rattle.ns_queue.specs.declared.scan.Foremost.{Foremost}
+use Rattle.ns_queue.specs.declared.scan.Foremost.TheVariants.{Nobody, Reader, Writer}
 use Rattle.ns_queue.specs.declared.waiter.Waiter.{Waiter}
 use Rattle.ns_queue.specs.Waiters.{reads, writes}
 
@@ -26,6 +28,20 @@ left_of meets [] = []
 left_of meets (w ∷ ws) =
     if is_eligible meets w then (if writes w then ws else filter (λ v. not (reads v && is_eligible meets v)) ws)
     else w ∷ left_of meets ws
+
+-- Whom a scan takes first, where it takes these: nobody, a writer, whom it takes alone, or a reader, whom others may follow.
+abbrev pub foremost_of : {C : Type 0} → List (Waiter C) → Foremost
+foremost_of [] = Nobody
+foremost_of (w ∷ ws) = if writes w then Writer w.seat w.via else Reader
+
+-- whether that is a reader
+abbrev pub is_reader : Foremost → Bool
+is_reader Reader = true
+is_reader _ = false
+
+-- Who stays where a scan takes out a writer, and leaves all as they are where it would begin with a reader.
+abbrev pub left_by_writer : {C : Type 0} → (C → Bool) → List (Waiter C) → List (Waiter C)
+left_by_writer meets ws = if is_reader (foremost_of (woken_of meets ws)) then ws else left_of meets ws
 
 -- a waiter, and whether its truth is needed
 pub record Asked (C : Type 0) : Type 0 where

@@ -1,5 +1,5 @@
 -- Whom a signal takes from the list of a condition variable, and who stays.
-use Rattle.std.specs.Prelude.{List, [], ◌∷◌, filter, drop, if◌then◌else◌}
+use Rattle.std.specs.Prelude.{List, [], ◌∷◌, filter, drop, if◌then◌else◌, Option, None, Some}
 use Rattle.ns_queue.specs.declared.waiter.Waiter.{Waiter}
 use Rattle.ns_model.specs.declared.seats.Seats.{Seats}
 use Rattle.ns_model.specs.Seats.{seats_in}
@@ -23,3 +23,9 @@ unsignaled_of (w ∷ ws) = if writes w then ws else drop 1 (filter writes ws)
 -- the set of the seats of those taken
 abbrev pub taken_set : {C : Type 0} → List (Waiter C) → Seats
 taken_set ws = seats_in (seats_of ws)
+
+-- the waiter of a list that has just one, and nobody of any other
+abbrev pub sole_of : {C : Type 0} → List (Waiter C) → Option (Waiter C)
+sole_of [] = None
+sole_of (w ∷ []) = Some w
+sole_of (w ∷ v ∷ ws) = None

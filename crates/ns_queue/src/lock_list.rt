@@ -1,10 +1,10 @@
 //! The lock list: waiters in a row of links, with links from the first of each run to its last.
 
-ghost use Rattle.std.specs.Prelude.{◌≡◌, ◌<◌, ◌≤◌, ◌↔◌, ◌&&◌, ◌∷◌, ◌++◌, not, [], IsTrue, None, length, map, nat_lt, slice_index};
+ghost use Rattle.std.specs.Prelude.{◌≡◌, ◌<◌, ◌≤◌, ◌↔◌, ◌&&◌, ◌∷◌, ◌++◌, not, [], IsTrue, None, length, map, slice_index};
 ghost use Rattle.std.specs.Bool.{OnFalse};
 ghost use Rattle.std.specs.List.{list_any};
 ghost use Rattle.ns_queue.specs.Stages.{tests_seeking};
-ghost use Rattle.ns_queue.specs.Scans.{left_of, runs_of, tests_of, woken_of};
+ghost use Rattle.ns_queue.specs.Scans.{foremost_of, left_by_writer, left_of, runs_of, tests_of, woken_of};
 ghost use Rattle.ns_queue.specs.Waiters.{has_condition, is_long, seats_of, shown_of, times_in, without_in, writes};
 ghost use Rattle.ns_queue.specs.Rings.{IsRow, behind, first_seat, from, without_all};
 ghost use Rattle.ns_queue.specs.Runs.{RunsOn, head_of, last_run, place_of, sought_seat};
@@ -14,7 +14,7 @@ use crate::gather::{gathered, shown_ring, vias_of};
 use crate::remake::{mend, remake};
 use crate::ring::{END, Ring, take_out};
 use crate::room::Queueable;
-use crate::scan::{Scan, Sought, choose};
+use crate::scan::{Foremost, Scan, Sought, choose};
 use crate::waiter::{Shown, Waiter};
 use arrayvec::ArrayVec;
 use ns_model::condition::Condition;
@@ -254,11 +254,24 @@ impl<C: Queueable<N>, const N: usize> LockList<C, N> {
         }
     }
 
-    /// Whether a scan at this row would take somebody.
-    pub fn wakes(&self, row: &[u64; N]) -> bool
-        ensures { result ≡ nat_lt 0 (length (woken_of (λ c. C.means.holds c row.now) self.now)) }
+    /// Tells whom a scan at this row takes first. A writer, whom a scan takes alone, is taken out; a
+    /// reader stays where it stands.
+    ///
+    /// It tests as a scan does, up to that one.
+    pub fn take_writer(&mut self, row: &[u64; N]) -> Foremost
+        ensures told { result ≡ foremost_of (woken_of (λ c. C.means.holds c row.now) self.old) }
+        ensures left { self.new ≡ left_by_writer (λ c. C.means.holds c row.now) self.old }
     {
-        self.seek(row).seat != END
+        let sought = self.seek(row);
+        let Some(found) = self.ring.get(sought.seat) else {
+            return Foremost::Nobody;
+        };
+        if !found.mode.is_write() {
+            return Foremost::Reader;
+        }
+        let via = found.via;
+        self.remove(sought.seat);
+        Foremost::Writer(sought.seat, via)
     }
 
     /// Takes those out whom a release at this row wakes: the first waiter without condition or with one

@@ -1,11 +1,11 @@
 //! Whom a release of the lock wakes.
 
-ghost use Rattle.std.specs.Prelude.{◌≡◌, ◌<◌, ◌&&◌, ◌++◌, ◌∷◌, [], None, if◌then◌else◌, true, unwrap_or, ◌≤◌, length, map, nat_lt};
+ghost use Rattle.std.specs.Prelude.{◌≡◌, ◌<◌, ◌&&◌, ◌++◌, ◌∷◌, [], None, if◌then◌else◌, true, unwrap_or, ◌≤◌, length, map};
 ghost use Rattle.std.specs.Option.{option_copied};
 ghost use Rattle.arrayvec.specs.ArrayVec.{array_vec_len};
 ghost use Rattle.ns_queue.specs.Stages.{asked_for, asking, tests_seeking};
 ghost use Rattle.ns_queue.specs.Queues.{with_waiters};
-ghost use Rattle.ns_queue.specs.Scans.{tests_of, woken_of, left_of, runs_of};
+ghost use Rattle.ns_queue.specs.Scans.{foremost_of, left_by_writer, left_of, runs_of, tests_of, woken_of};
 ghost use Rattle.ns_queue.specs.Waiters.{reads, seats_of};
 ghost use Rattle.ns_queue.specs.Rings.{IsRow};
 ghost use Rattle.ns_queue.specs.Runs.{sought_seat};
@@ -27,6 +27,17 @@ pub struct Scan {
     pub vias: ArrayVec<Option<u8>, 64>,
     /// How many conditions it tested.
     pub tests: u32,
+}
+
+/// Whom a scan takes first.
+#[derive(Clone, Copy)]
+pub enum Foremost {
+    /// Nobody: it takes none.
+    Nobody,
+    /// A writer, of this seat, and the condition variable that it names, if it names one. It goes alone.
+    Writer(u8, Option<u8>),
+    /// A reader, whom others may follow.
+    Reader,
 }
 
 /// Whom a scan takes, by their seats, in order, and how many conditions were tested to find that out.
@@ -142,11 +153,15 @@ pub(crate) fn choose<C: Queueable<N>, const N: usize>(
 }
 
 impl<C: Queueable<N>, const N: usize> Queues<C, N> {
-    /// Whether a scan at this row would take somebody. It tests as a scan does, up to the first that is taken.
-    pub fn wakes(&self, row: &[u64; N]) -> bool
-        ensures { result ≡ nat_lt 0 (length (woken_of (λ c. C.means.holds c row.now) self.now.lock)) }
+    /// Tells whom a scan at this row takes first, with no list made. A writer, whom a scan takes alone,
+    /// is taken out of the lock list; a reader stays where it stands, and with it all others.
+    ///
+    /// It tests as a scan does, up to that one.
+    pub fn take_writer(&mut self, row: &[u64; N]) -> Foremost
+        ensures told { result ≡ foremost_of (woken_of (λ c. C.means.holds c row.now) self.old.lock) }
+        ensures left { self.new ≡ with_waiters self.old Which.Lock (left_by_writer (λ c. C.means.holds c row.now) self.old.lock) }
     {
-        self.lock.wakes(row)
+        self.lock.take_writer(row)
     }
 
     /// Takes those out of the lock list whom a release at this row wakes: the first waiter without

@@ -1,9 +1,9 @@
 //! Whom a signal and a broadcast take from the list of a condition variable.
 
-ghost use Rattle.std.specs.Prelude.{◌≡◌, ◌<◌, ◌≤◌, [], length};
+ghost use Rattle.std.specs.Prelude.{◌≡◌, ◌<◌, ◌≤◌, [], length, IfNone, OnSome};
 ghost use Rattle.ns_queue.specs.Marks.{is_wanted, signal_marks, wanted_after};
 ghost use Rattle.ns_queue.specs.Queues.{IsOrderly, waiters_of, cvs_without};
-ghost use Rattle.ns_queue.specs.Signals.{signaled_of, taken_set};
+ghost use Rattle.ns_queue.specs.Signals.{signaled_of, sole_of, taken_set};
 ghost use Rattle.ns_queue.specs.Waiters.{HaveSeats};
 ghost use Rattle.ns_queue.specs.declared.signal.Wanted.TheVariants.{Anybody};
 
@@ -77,6 +77,16 @@ fn signaled<C: Queueable<N>, const N: usize>(
     marked(waiters.as_slice(), marks.as_slice())
 }
 
+/// The waiter of a list that has just one.
+fn sole_in<C: Queueable<N>, const N: usize>(waiters: &[Waiter<C>]) -> Option<Waiter<C>>
+    ensures { result ≡ sole_of waiters.now }
+{
+    match waiters {
+        [waiter] => Some(*waiter),
+        _ => None,
+    }
+}
+
 /// The set of the seats of those whom a signal or a broadcast took.
 ///
 /// Needs each seat to be below 64, as every seat of the lists is.
@@ -122,6 +132,27 @@ impl<C: Queueable<N>, const N: usize> Queues<C, N> {
         let all = copied(&self.cvs[k as usize]);
         drop_from_all(&mut self.cvs, taken_set(all.as_slice()));
         all
+    }
+
+    /// Where just one waits for the variable, takes that one out of the lists of the variables and
+    /// answers it, as a signal and a broadcast do alike; the others stay, in order, and so does the lock
+    /// list. Else answers nothing, and the lists stay as they are. It makes no list of those taken.
+    ///
+    /// Needs a number below 4.
+    pub fn take_sole(&mut self, k: u8) -> Option<Waiter<C>>
+        requires { k < 4 }
+        ensures sole { result ≡ sole_of (waiters_of self.old (Which.Cv k)) }
+        ensures left { OnSome result (self.new ≡ cvs_without (taken_set (waiters_of self.old (Which.Cv k))) self.old) }
+        ensures same { IfNone result (self.new ≡ self.old) }
+        ensures orderly { IsOrderly self.old }
+    {
+        match sole_in(self.cvs[k as usize].as_slice()) {
+            Some(sole) => {
+                drop_from_all(&mut self.cvs, Seats::none().with(sole.seat));
+                Some(sole)
+            }
+            None => None,
+        }
     }
 
     /// The set of the seats whom a signal of the variable would take, with the lists left as they are.

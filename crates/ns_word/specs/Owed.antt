@@ -18,9 +18,13 @@ called_by (seat ∷ seats) (via ∷ vias) = record { seat = seat; value = value_
 abbrev pub called_of : {C : Type 0} → List (Waiter C) → List Owed
 called_of ws = map (λ w. record { seat = w.seat; value = value_of w.via }) ws
 
+-- the wake of one, of this seat, whom a call takes from the list of the variable k
+abbrev pub wake_by : ℕ → ℕ → Owed
+wake_by k seat = record { seat = seat; value = 2 + k }
+
 -- the wakes of those whom a call takes from the list of the variable k
 abbrev pub wakes_of : {C : Type 0} → ℕ → List (Waiter C) → List Owed
-wakes_of k ws = map (λ w. record { seat = w.seat; value = 2 + k }) ws
+wakes_of k ws = map (λ w. wake_by k w.seat) ws
 
 -- a flag of this value tells that its seat was taken from the lock list
 abbrev pub is_from_lock : ℕ → Bool

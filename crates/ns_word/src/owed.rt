@@ -1,7 +1,7 @@
 //! Wakes that are owed, and what a flag tells that a wake has set.
 
-ghost use Rattle.std.specs.Prelude.{◌≡◌, ◌<◌, ◌≤◌, length};
-ghost use Rattle.ns_word.specs.Owed.{called_by, is_from_lock, value_of, variable_told, wakes_of};
+ghost use Rattle.std.specs.Prelude.{◌≡◌, ◌<◌, ◌≤◌, ◌∷◌, [], length};
+ghost use Rattle.ns_word.specs.Owed.{called_by, is_from_lock, value_of, variable_told, wake_by, wakes_of};
 
 use arrayvec::ArrayVec;
 use ns_queue::waiter::Waiter;
@@ -46,6 +46,17 @@ fn value_of(via: Option<u8>) -> u8
     }
 }
 
+/// The wake of one seat, which a scan has taken from the lock list, where the wake of this variable had
+/// moved it there, or where none had.
+pub fn called_one(seat: u8, via: Option<u8>) -> Owed
+    ensures { result ∷ [] ≡ called_by (seat ∷ []) (via ∷ []) }
+{
+    Owed {
+        seat,
+        value: value_of(via),
+    }
+}
+
 /// The wakes of those seats, which a scan has taken from the lock list, in that order, where the wakes of
 /// these variables had moved them there.
 pub fn called(seats: &[u8], vias: &[Option<u8>]) -> ArrayVec<Owed, 64>
@@ -64,6 +75,14 @@ pub fn called(seats: &[u8], vias: &[Option<u8>]) -> ArrayVec<Owed, 64>
     owed
 }
 
+/// The wake of one, of this seat, whom a call has taken from the list of the variable `k`.
+pub fn wake_by(k: u8, seat: u8) -> Owed
+    requires { k < 4 }
+    ensures { result ≡ wake_by k seat }
+{
+    Owed { seat, value: 2 + k }
+}
+
 /// The wakes of those whom a call has taken from the list of the variable `k`, in that order.
 pub fn wakes<C: Copy>(k: u8, taken: &[Waiter<C>]) -> ArrayVec<Owed, 64>
     requires low { k < 4 }
@@ -72,10 +91,7 @@ pub fn wakes<C: Copy>(k: u8, taken: &[Waiter<C>]) -> ArrayVec<Owed, 64>
 {
     let mut owed = ArrayVec::new();
     for waiter in taken {
-        owed.push(Owed {
-            seat: waiter.seat,
-            value: 2 + k,
-        });
+        owed.push(wake_by(k, waiter.seat));
     }
     owed
 }

@@ -29,13 +29,13 @@ returns-in-Some g c = record {
       nobody_woken g.C.Condition.means c.args.waking c.args.k c.return_woken.result (the now.0).stood c.in-Some.made c.return_woken.new.seat.me nobody c.return_woken.ensures.returned;
 }
 
-pub wake_waiters-requires : goal.wake_waiters-requires
-wake_waiters-requires g c = let t = g.C.Condition.means in let took = c.begin_to_take-word in let look = c.wake_nobody_in_hand in let e = look.ensures in
+pub wake_some-requires : goal.wake_some-requires
+wake_some-requires g c = let t = g.C.Condition.means in let took = c.begin_to_take-word in let look = c.wake_nobody_in_hand in let e = look.ensures in
     (omega arith, (queues_fit g.row.C g.row.N g.met.C.Condition.has_room g.C.Condition, (omega arith, (◌∙◌ {A = TableId} e.seat.0 took.ensures.seat, (c.requires.variable, taken_still t c.args.waking c.args.k took.result c.args.seat.now.me took.new.seat.me look.new.seat.me took.ensures.taken e.seat.1 e.has)))))
 
 pub returns : goal.returns
 returns g c = record {
   seat = search rules;
-  since = since_then (Some (waking_by c.args.waking c.args.k)) _ _ _ (since_look g (goal.at.returns g c).After-wake_nobody_in_hand) c.wake_waiters.ensures.since;
+  since = since_then (Some (waking_by c.args.waking c.args.k)) _ _ _ (since_look g (goal.at.returns g c).After-wake_nobody_in_hand) c.wake_some.ensures.since;
   woke = search rules;
 }

@@ -1,0 +1,31 @@
+use Rattle.std.proofs.Common.{◌≡◌, [], ◌∷◌, ap, sym, ◌∙◌, rules}
+use Rattle.ns_gate.specs.Prelude.{bits_of, lists_woken, the, woken_sole}
+use Rattle.ns_gate.proofs.Findings.{has_slot, now_in_hand, was_in_hand}
+use Rattle.ns_gate.proofs.Wakes.{left_sole, made_sole, may_move, takes_sole, woken_by_sole}
+use Rattle.ns_gate.proofs.gate.Gate.wake_sole_in_hand.Given.{Over}
+use Rattle.ns_gate.proofs.gate.Gate.wake_sole_in_hand.Goals.{After-move_if}
+use Rattle.ns_gate.proofs.gate.Gate.wake_sole_in_hand.Goals as goal
+
+pub slot_mut-queues-requires : goal.slot_mut-queues-requires
+slot_mut-queues-requires g c = (search rules, has_slot _ _ c.requires.has)
+
+pub move_if-requires : goal.move_if-requires
+move_if-requires g c = let waking = c.args._waking in let k = c.args.k in let lists = c.slot_mut-queues.result.now in let w = c.in-Some.waiter in let sole = sym c.in-Some.ensures.sole in (
+  search rules,
+  may_move waking k lists c.take_sole.new.self (w ∷ []) c.take_sole.ensures.orderly c.requires.variable (sym (takes_sole waking k lists w sole)) (c.in-Some.ensures.left ∙ left_sole waking k lists w sole),
+)
+
+-- the queues in hand are those that are put back
+put : (g : Over) (c : After-move_if g) → c.move_if.new.queues ≡ lists_woken c.args._waking c.args.k c.args.held c.slot_mut-queues.result.now
+put g c = woken_by_sole c.args._waking c.args.k c.args.held c.slot_mut-queues.result.now c.take_sole.new.self c.move_if.new.queues c.in-Some.waiter (sym c.in-Some.ensures.sole) c.in-Some.ensures.left c.move_if.ensures
+
+pub returns-in-Some-clause-sole : goal.returns-in-Some-clause-sole
+returns-in-Some-clause-sole g c = let waking = c.args._waking in let k = c.args.k in let held = c.args.held in let lists = c.slot_mut-queues.result.now in
+    let bits = c.turned_by.ensures.bits ∙ ap (λ queues. bits_of queues.lock) (put g (goal.at.returns-in-Some-clause-sole g c).After-move_if) in
+    made_sole waking k held lists c.in-Some.waiter c.turned_by.result (sym c.in-Some.ensures.sole) c.turned_by.ensures.some bits
+    ∙ ap (woken_sole waking k held) (was_in_hand _ _ c.args.seat.now.me.1 c.requires.has c.slot_mut-queues.ensures.value)
+
+pub returns-in-Some-clause-lists : goal.returns-in-Some-clause-lists
+returns-in-Some-clause-lists g c =
+    now_in_hand (the c.args.seat.now.me.0).stood _ _ c.args.seat.now.me.1 c.requires.has (put g (goal.at.returns-in-Some-clause-lists g c).After-move_if
+    ∙ ap (lists_woken c.args._waking c.args.k c.args.held) (was_in_hand _ _ c.args.seat.now.me.1 c.requires.has c.slot_mut-queues.ensures.value))

@@ -1,0 +1,13 @@
+use Rattle.std.proofs.Common.{refl}
+use Rattle.ns_queue.proofs.Inside.{lock_lessened}
+use Rattle.ns_queue.proofs.Leaving.{times_left_by_writer}
+use Rattle.ns_queue.proofs.queues.Queues.take_writer.Goals as goal
+
+pub invariant_of-self : goal.invariant_of-self
+invariant_of-self g c = lock_lessened _ _ _ c.self.invariant (λ seat. rw c.take_writer.ensures.left (times_left_by_writer (λ d. g.C.Condition.means.holds d c.args.row.now) c.self.inside.lock seat))
+
+pub returns-clause-told : goal.returns-clause-told
+returns-clause-told g c = rw (← c.self.view_is) c.take_writer.ensures.told
+
+pub returns-clause-left : goal.returns-clause-left
+returns-clause-left g c = rw (← c.self.view_is, c.take_writer.ensures.left) refl
