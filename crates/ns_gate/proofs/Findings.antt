@@ -1,9 +1,9 @@
 -- What a step tells its caller.
 use Rattle.std.specs.Prelude.{slice_index}
-use Rattle.std.proofs.Common.{◌≡◌, ℕ, Bool, cond, inl, inr, ◌<◌, List, [], ◌++◌, ◌∷◌, length, nat_lt, Option, None, Some, Result, refl, ap, sym, ◌∙◌, subst, arith}
-use Rattle.std.proofs.lemmas.Bool.{ne_eqb, cases_eq, lt-ltb}
+use Rattle.std.proofs.Common.{◌≡◌, ℕ, Bool, cond, inl, inr, ◌<◌, List, [], ◌++◌, ◌∷◌, Option, None, Some, Result, refl, ap, sym, ◌∙◌, subst}
+use Rattle.std.proofs.lemmas.Bool.{ne_eqb, cases_eq}
 use Rattle.ns_gate.specs.Prelude.{Owed}
-use Rattle.ns_gate.specs.Prelude.{Me, has_some, rest, GateView, the, walk_by, CanStep, HasStepped, Performed, PerformedWith, IsExchange, IsOwedNext, MayExchange, act_by, act_of, act_returning, found_returned, made_by, next_owed, tried_for, standing_after, Truths, Lists, BeginsIf, view_in, number_of, word_of, IsPackable, found_of, exchanged, row_in, scanned, SectionFits, ActFits, LockState, Part, part_of, Effect, change_found, want_of, got_of, walk_after, LoadWord, LoadCell, JudgeQuiet, JudgeMet, LoadFlag, Acquire, TakeQueues, ReturnQueues, Release, ReleaseReturning, WaitReturning, Act, Saw, Made, Cell, Flag, Found, Held, SeatView, Walk, Word}
+use Rattle.ns_gate.specs.Prelude.{Me, rest, GateView, the, walk_by, CanStep, HasStepped, Performed, PerformedWith, IsExchange, IsOwedNext, MayExchange, act_by, act_of, act_returning, found_returned, made_by, next_owed, tried_for, standing_after, Truths, Lists, BeginsIf, view_in, number_of, word_of, IsPackable, found_of, exchanged, row_in, scanned, SectionFits, ActFits, LockState, Part, part_of, Effect, change_found, want_of, got_of, walk_after, LoadWord, LoadCell, JudgeQuiet, JudgeMet, LoadFlag, Acquire, TakeQueues, ReturnQueues, Release, ReleaseReturning, WaitReturning, Act, Saw, Made, Cell, Flag, Found, Held, SeatView, Walk, Word}
 use Rattle.ns_gate.specs.declared.queues.Returning.{Returning}
 use Rattle.ns_gate.specs.declared.queues.Returning.TheVariants.{Changed, Released, Waited}
 use Rattle.ns_word.proofs.Codes.{decoded}
@@ -18,11 +18,6 @@ owed_next wake (next ∷ others) is = sym is
 -- a seat that has the queues in hand may be lent them
 pub has_slot : {C : Type 0} (lists : Lists C) (slots : List (ℕ × Lists C)) → slots ≡ (0, lists) ∷ [] → (was : Lists C) × (slots ≡ (0, was) ∷ rest slots)
 has_slot lists slots carries = (lists, carries ∙ ap (λ xs. (0, lists) ∷ xs) (sym (ap rest carries)))
-
--- whether a list has anything, told by its length
-pub some_told : {A : Type 0} (xs : List A) → nat_lt 0 (length xs) ≡ has_some xs
-some_told [] = refl
-some_told (x ∷ xs) = lt-ltb 0 (length (x ∷ xs)) (omega arith)
 
 abbrev first_slot : {C : Type 0} → Lists C → List (ℕ × Lists C) → Lists C
 first_slot lists [] = lists

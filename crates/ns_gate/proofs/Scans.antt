@@ -1,5 +1,5 @@
 -- A scan of the lock list in hand that takes a writer alone, or nobody: what is told of it.
-use Rattle.std.proofs.Common.{◌≡◌, ℕ, inl, inr, Bool, true, false, cond, List, [], ◌∷◌, Option, None, Some, refl, ap, sym, ◌∙◌}
+use Rattle.std.proofs.Common.{◌≡◌, ℕ, inl, inr, Bool, true, false, cond, List, [], ◌∷◌, Option, None, Some, ap, sym, ◌∙◌}
 use Rattle.std.proofs.lemmas.Bool.{cases_Bool}
 use Rattle.ns_gate.specs.Prelude.{Bits, Lists, Owed, Truths, Waiter, bits_of, foremost_of, has_some, is_reader, left_of, lists_scanned, meets_at, wake_told, woken_of, writes}
 use Rattle.ns_gate.specs.declared.queues.Turned.{Turned}

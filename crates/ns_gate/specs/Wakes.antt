@@ -30,7 +30,7 @@ lists_woken waking k held lists = moved_to held (taken_from waking k lists) (lis
 abbrev pub woken_nobody : {C : Type 0} → ℕ → Lists C → Option Turned
 woken_nobody k lists = if has_some (waiters_of lists (Cv k)) then None else Some (record { some = false; bits = bits_of lists.lock })
 
--- the wake that is owed to a writer whom a scan takes, who goes alone, or to nobody where it takes none
+-- the wake that is owed where a scan takes these, of whom the first writes, and so goes alone; none where it takes nobody
 abbrev pub wake_told : {C : Type 0} → List (Waiter C) → Option Owed
 wake_told [] = None
 wake_told (w ∷ ws) = Some (record { seat = w.seat; value = value_of w.via })

@@ -66,8 +66,8 @@ impl<C> Returning<C> {
     }
 }
 
-/// What the hand has made of these queues by a scan that took somebody, or nobody.
-fn scanned<C: Queueable<N>, const N: usize>(queues: &Queues<C, N>, some: bool) -> Turned
+/// What the hand has made of these queues, where it took somebody, or nobody.
+fn turned_with<C: Queueable<N>, const N: usize>(queues: &Queues<C, N>, some: bool) -> Turned
     ensures { result ≡ record { some = some; bits = bits_of queues.now.lock } }
 {
     Turned {
@@ -187,10 +187,10 @@ impl<C: Condition<N>, const N: usize> Gate<C, N> {
         let queues = seat.slot_mut(&self.table.shared, 0);
         match queues.take_writer(row) {
             Foremost::Reader => None,
-            Foremost::Nobody => Some((None, scanned(queues, false))),
+            Foremost::Nobody => Some((None, turned_with(queues, false))),
             Foremost::Writer(number, via) => {
                 let wake = called_one(number, via);
-                Some((Some(wake), scanned(queues, true)))
+                Some((Some(wake), turned_with(queues, true)))
             }
         }
     }

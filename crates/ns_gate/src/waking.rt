@@ -134,8 +134,7 @@ impl<C: Condition<N>, const N: usize> Gate<C, N> {
 
     /// Does what [`Gate::wake_in_hand`] does, where just one waits for the variable: whom a signal takes
     /// then, a broadcast takes too. Answers that one and what the hand has made of the queues. It makes
-    /// no list, which costs more than the rest of such a call. Where nobody waits, or several do, answers
-    /// nothing, and the queues stay as they stood.
+    /// no list. Where nobody waits, or several do, answers nothing, and the queues stay as they stood.
     ///
     /// Needs a seat of this gate, which has the queues in hand as they stood, and a number below 4. The
     /// call is for the proof alone.

@@ -47,7 +47,7 @@ impl<C: Condition<N>, const N: usize> Monitor<C, N> {
     /// of those whom the scan took.
     ///
     /// Where that is nobody, or a writer alone, no list of them is made: a function pays for its lists
-    /// as it is called, whether it uses them or not, and all others wait for the queues meanwhile.
+    /// as it is called, whether it uses them or not, and whoever needs the queues waits meanwhile.
     fn scan_and_release<R: Wait>(
         &self,
         rt: &R,
@@ -82,7 +82,7 @@ impl<C: Condition<N>, const N: usize> Monitor<C, N> {
         self.pay_one(seat, place, wake);
     }
 
-    /// The same with a row ready for the scan, for all whom that takes.
+    /// The same with a row ready for the scan, with lists of those whom that takes.
     #[cold]
     fn scan_and_wake<R: Wait>(
         &self,

@@ -138,7 +138,7 @@ impl<C: Condition<N>, const N: usize> Monitor<C, N> {
     }
 
     /// With the queues in hand, taken at this word: wakes those of the list of the variable whom the
-    /// call wakes, mostly just one.
+    /// call wakes, with no list made where just one waits.
     fn wake_some<R: Wait>(
         &self,
         rt: &R,

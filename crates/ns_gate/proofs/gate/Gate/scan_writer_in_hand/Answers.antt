@@ -14,7 +14,7 @@ returns-in-Nobody-clause-told g c =
     let was = was_in_hand _ _ c.args.seat.now.me.1 c.requires.has c.slot_mut-queues.ensures.value in
     let first = sym c.in-Nobody.is ∙ c.take_writer.ensures.told in
     let left = lists_few t c.args.row.now _ _ c.take_writer.new.self first refl c.take_writer.ensures.left ∙ ap (lists_scanned t c.args.row.now) was in
-    ap (λ (made : Turned). Some (None, made)) c.scanned.ensures ∙ told_nobody (woken_of meets stood.lock) (left_of meets stood.lock) _ (first ∙ ap (λ lists. foremost_of (woken_of meets lists.lock)) was) (ap (λ lists. bits_of lists.lock) left)
+    ap (λ (made : Turned). Some (None, made)) c.turned_with.ensures ∙ told_nobody (woken_of meets stood.lock) (left_of meets stood.lock) _ (first ∙ ap (λ lists. foremost_of (woken_of meets lists.lock)) was) (ap (λ lists. bits_of lists.lock) left)
 
 pub returns-in-Nobody-clause-lists : goal.returns-in-Nobody-clause-lists
 returns-in-Nobody-clause-lists g c =
@@ -30,7 +30,7 @@ returns-in-Writer-clause-told g c =
     let was = was_in_hand _ _ c.args.seat.now.me.1 c.requires.has c.slot_mut-queues.ensures.value in
     let first = sym c.in-Writer.is ∙ c.take_writer.ensures.told in
     let left = lists_few t c.args.row.now _ _ c.take_writer.new.self first refl c.take_writer.ensures.left ∙ ap (lists_scanned t c.args.row.now) was in
-    ap (λ (made : Turned). Some (Some c.called_one-wake.result, made)) c.scanned-in-Writer.ensures ∙ told_writer (woken_of meets stood.lock) (left_of meets stood.lock) c.in-Writer.number c.in-Writer.via c.called_one-wake.result _ (first ∙ ap (λ lists. foremost_of (woken_of meets lists.lock)) was) c.called_one-wake.ensures (ap (λ lists. bits_of lists.lock) left)
+    ap (λ (made : Turned). Some (Some c.called_one-wake.result, made)) c.turned_with-in-Writer.ensures ∙ told_writer (woken_of meets stood.lock) (left_of meets stood.lock) c.in-Writer.number c.in-Writer.via c.called_one-wake.result _ (first ∙ ap (λ lists. foremost_of (woken_of meets lists.lock)) was) c.called_one-wake.ensures (ap (λ lists. bits_of lists.lock) left)
 
 pub returns-in-Writer-clause-lists : goal.returns-in-Writer-clause-lists
 returns-in-Writer-clause-lists g c =

@@ -1,4 +1,4 @@
-use Rattle.std.proofs.Common.{◌∙◌, ap, sym, subst, refl, arith, None, rules}
+use Rattle.std.proofs.Common.{◌∙◌, ap, sym, subst, refl, arith, None}
 use Rattle.ns_gate.specs.Prelude.{TableId, IsAtPlace, HasReached, the, row_in, has_some, pay_releasing, scan_place, ScanAndRelease, InRelease}
 use Rattle.ns_gate.proofs.Calls.{since_then, works}
 use Rattle.ns_gate.proofs.Room.{queues_fit}
