@@ -6,10 +6,9 @@ ghost use Rattle.ns_queue.specs.Queues.{IsList};
 
 use arrayvec::ArrayVec;
 use ns_model::condition::Condition;
-use ns_model::cvs::Cvs;
 use ns_model::event::Mode;
 use ns_queue::queues::Queues;
-use ns_queue::waiter::{Shown, Waiter, Which};
+use ns_queue::waiter::{Waiter, Which};
 use std::sync::atomic::AtomicU32;
 use std::sync::atomic::Ordering::SeqCst;
 
@@ -132,11 +131,24 @@ const SIGNALS: [SignalRow; 3] = [
     (&[], &[], &[]),
 ];
 
-/// Puts a seat at the back of a list, if it stands nowhere yet.
-fn queue<'a>(queues: &mut Queues<AtLeast<'a>, 2>, list: Which, waiter: Waiter<AtLeast<'a>>)
+/// Puts a seat that is untried and names no variable at the back of a list, if it stands nowhere yet.
+fn queue<'a>(
+    queues: &mut Queues<AtLeast<'a>, 2>,
+    list: Which,
+    seat: u8,
+    mode: Mode,
+    cond: Option<AtLeast<'a>>,
+)
     requires { IsList list }
 {
-    if waiter.seat < 64 && !queues.holds(waiter.seat) {
+    if seat < 64 && !queues.holds(seat) {
+        let waiter = Waiter {
+            seat,
+            mode,
+            cond,
+            tries: 0,
+            via: None,
+        };
         queues.push_back(list, waiter);
     }
 }
@@ -157,116 +169,50 @@ fn seats<'a>(waiters: &ArrayVec<Waiter<AtLeast<'a>>, 64>) -> ArrayVec<u8, 64> {
     seats
 }
 
-/// The variables that waiters name.
-fn vias<'a>(waiters: &ArrayVec<Waiter<AtLeast<'a>>, 64>) -> ArrayVec<Option<u8>, 64> {
-    let mut vias = ArrayVec::new();
-    for waiter in waiters.as_slice() {
-        let _ = vias.try_push(waiter.via);
+/// Whether these seats stand in the list.
+fn are_seats<'a>(waiters: &ArrayVec<Waiter<AtLeast<'a>>, 64>, wanted: &[u8]) -> bool {
+    seats(waiters).as_slice() == wanted
+}
+
+/// Whether a scan takes whom the row says, and makes the tests that it says.
+fn is_scanned(row: &ScanRow) -> bool {
+    let (given, cells, woken, left, tests) = row;
+    let counter = AtomicU32::new(0);
+    let mut queues = Queues::new();
+    for (seat, (mode, cond)) in (0u8..64).zip(given.iter()) {
+        let cond = condition(*cond, &counter);
+        queue(&mut queues, Which::Lock, seat, *mode, cond);
     }
-    vias
+    let scan = queues.scan(cells);
+    scan.woken.as_slice() == *woken
+        && are_seats(&queues.waiters(Which::Lock), *left)
+        && scan.tests == *tests
+        && counter.load(SeqCst) == *tests
 }
 
 #[test]
 fn scan_table(rt: HostRuntime) {
-    for (given, row, woken, left, tests) in SCANS.iter() {
-        let counter = AtomicU32::new(0);
-        let mut queues = Queues::new();
-        for (seat, (mode, cond)) in (0u8..64).zip(given.iter()) {
-            let cond = condition(*cond, &counter);
-            queue(
-                &mut queues,
-                Which::Lock,
-                Waiter {
-                    seat,
-                    mode: *mode,
-                    cond,
-                    tries: 0,
-                    via: None,
-                },
-            );
-        }
-        let scan = queues.scan(row);
-        let others = queues.waiters(Which::Lock);
-        assert_eq!(rt; scan.woken.as_slice(), *woken);
-        assert_eq!(rt; seats(&others).as_slice(), *left);
-        assert_eq!(rt; scan.tests, *tests);
-        assert_eq!(rt; counter.load(SeqCst), *tests);
+    for (i, row) in SCANS.iter().enumerate() {
+        assert!(rt; is_scanned(row), "the scan {i}");
     }
+}
+
+/// Whether a signal takes whom the row says, and a broadcast then the others.
+fn is_signaled(row: &SignalRow) -> bool {
+    let (modes, taken, left) = row;
+    let mut queues: Queues<AtLeast<'_>, 2> = Queues::new();
+    for (seat, mode) in (0u8..64).zip(modes.iter()) {
+        queue(&mut queues, Which::Cv(3), seat, *mode, None);
+    }
+    let signaled = queues.take_signal(3);
+    are_seats(&signaled, *taken) && are_seats(&queues.take_all(3), *left)
 }
 
 #[test]
 fn signal_table(rt: HostRuntime) {
-    let counter = AtomicU32::new(0);
-    for (modes, taken, left) in SIGNALS.iter() {
-        let mut queues: Queues<AtLeast<'_>, 2> = Queues::new();
-        for (seat, mode) in (0u8..64).zip(modes.iter()) {
-            queue(
-                &mut queues,
-                Which::Cv(3),
-                Waiter {
-                    seat,
-                    mode: *mode,
-                    cond: condition(None, &counter),
-                    tries: 0,
-                    via: None,
-                },
-            );
-        }
-        let signaled = queues.take_signal(3);
-        let others = queues.take_all(3);
-        assert_eq!(rt; seats(&signaled).as_slice(), *taken);
-        assert_eq!(rt; seats(&others).as_slice(), *left);
+    for (i, row) in SIGNALS.iter().enumerate() {
+        assert!(rt; is_signaled(row), "the signal {i}");
     }
-}
-
-/// Who waits in the lists of several variables stands at the back of just these, and a signal of one of
-/// them takes it out of all, as it does who is removed.
-#[test]
-fn stands_in_several(rt: HostRuntime) {
-    let counter = AtomicU32::new(0);
-    let mut queues: Queues<AtLeast<'_>, 2> = Queues::new();
-    let waiter = Waiter {
-        seat: 7,
-        mode: Mode::Write,
-        cond: condition(None, &counter),
-        tries: 2,
-        via: None,
-    };
-    if !queues.holds(7) {
-        queues.push_any(Cvs(13), waiter);
-    }
-    if !queues.holds(8) {
-        queues.push_any(Cvs(10), Waiter { seat: 8, ..waiter });
-    }
-    assert_eq!(rt;
-        seats(&queues.waiters(Which::Cv(0))).as_slice(),
-        [7].as_slice()
-    );
-    assert_eq!(rt;
-        seats(&queues.waiters(Which::Cv(1))).as_slice(),
-        [8].as_slice()
-    );
-    assert_eq!(rt;
-        seats(&queues.waiters(Which::Cv(2))).as_slice(),
-        [7].as_slice()
-    );
-    assert_eq!(rt;
-        seats(&queues.waiters(Which::Cv(3))).as_slice(),
-        [7, 8].as_slice()
-    );
-    let first = queues.waiters(Which::Cv(0));
-    assert_eq!(rt; vias(&first).as_slice(), [Some(0)].as_slice());
-    assert!(rt; first.iter().all(|waiter| waiter.tries == 2));
-    assert_eq!(rt;
-        vias(&queues.waiters(Which::Cv(2))).as_slice(),
-        [Some(2)].as_slice()
-    );
-    let signaled = queues.take_signal(3);
-    assert_eq!(rt; seats(&signaled).as_slice(), [7].as_slice());
-    assert_eq!(rt; vias(&signaled).as_slice(), [Some(3)].as_slice());
-    assert!(rt; !queues.holds(7));
-    assert!(rt; queues.remove(8));
-    assert!(rt; !queues.holds(8));
 }
 
 /// How many tests a scan of 64 writers with false conditions reports, how many were made, and how
@@ -277,17 +223,7 @@ fn crowd(step: u64) -> (u32, u32, usize) {
     let mut value = 1u64;
     for seat in 0u8..64 {
         let cond = condition(Some((0, value)), &counter);
-        queue(
-            &mut queues,
-            Which::Lock,
-            Waiter {
-                seat,
-                mode: Mode::Write,
-                cond,
-                tries: 0,
-                via: None,
-            },
-        );
+        queue(&mut queues, Which::Lock, seat, Mode::Write, cond);
         value = value.wrapping_add(step);
     }
     let scan = queues.scan(&[0, 0]);
@@ -295,84 +231,24 @@ fn crowd(step: u64) -> (u32, u32, usize) {
     (scan.tests, counter.load(SeqCst), others.len())
 }
 
-#[test]
-fn tests_counted(rt: HostRuntime) {
-    assert!(rt; crowd(0) == (1, 1, 64));
-    assert!(rt; crowd(1) == (64, 64, 64));
+/// How many tests a scan reports of two waiters with one condition and one between them with another, how
+/// many a scan reports once that one is removed, and how many were made in all.
+fn parted() -> (u32, u32, u32) {
     let counter = AtomicU32::new(0);
     let mut queues = Queues::new();
     for (seat, given) in (0u8..64).zip([(0, 5), (1, 1), (0, 5)].iter()) {
         let cond = condition(Some(*given), &counter);
-        queue(
-            &mut queues,
-            Which::Lock,
-            Waiter {
-                seat,
-                mode: Mode::Write,
-                cond,
-                tries: 0,
-                via: None,
-            },
-        );
+        queue(&mut queues, Which::Lock, seat, Mode::Write, cond);
     }
     let apart = queues.scan(&[0, 0]).tests;
-    assert!(rt; apart == 3 && counter.load(SeqCst) == 3);
-    assert!(rt; queues.remove(1)); // the two beside it are neighbours now, and one run
+    queues.remove(1); // the two beside it are neighbours now, and one run
     let together = queues.scan(&[0, 0]).tests;
-    assert!(rt; together == 1 && counter.load(SeqCst) == 4);
+    (apart, together, counter.load(SeqCst))
 }
 
 #[test]
-fn one_after_another(rt: HostRuntime) {
-    let counter = AtomicU32::new(0);
-    let mut queues = Queues::new();
-    let cond = condition(None, &counter);
-    queue(
-        &mut queues,
-        Which::Lock,
-        Waiter {
-            seat: 1,
-            mode: Mode::Write,
-            cond,
-            tries: 30,
-            via: None,
-        },
-    );
-    let cond = condition(Some((1, 1)), &counter);
-    if !queues.holds(2) {
-        queues.push_front(Waiter {
-            seat: 2,
-            mode: Mode::Read,
-            cond,
-            tries: 29,
-            via: None,
-        });
-    }
-    let waiters = queues.waiters(Which::Lock);
-    assert_eq!(rt; seats(&waiters).as_slice(), [2, 1].as_slice());
-    assert!(rt; queues.bits() == (true, true, true, true));
-    assert!(rt; queues.remove(1));
-    assert!(rt; !queues.remove(1));
-    assert!(rt; queues.bits() == (true, true, false, false));
-}
-
-#[test]
-fn shows(rt: HostRuntime) {
-    let counter = AtomicU32::new(0);
-    let waiter = Waiter {
-        seat: 5,
-        mode: Mode::Read,
-        cond: condition(Some((1, 1)), &counter),
-        tries: 0,
-        via: None,
-    };
-    let shown = waiter.shown();
-    assert!(rt;
-        shown
-            == Shown {
-                seat: 5,
-                mode: Mode::Read,
-                conditional: true
-            }
-    );
+fn tests_counted(rt: HostRuntime) {
+    assert!(rt; crowd(0) == (1, 1, 64));
+    assert!(rt; crowd(1) == (64, 64, 64));
+    assert!(rt; parted() == (3, 1, 4));
 }
