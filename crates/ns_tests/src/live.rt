@@ -1,7 +1,5 @@
 //! The live threads: that they take all that is put, and what is said of their end.
 
-ghost use Rattle.std.specs.Prelude.{◌≡◌, false};
-
 use crate::memory::{Collected, Printed};
 use ns_command::{Ending, NoSum, finish_live};
 use ns_live::{LiveFault, live};
@@ -11,26 +9,20 @@ use std::alloc::Global;
 /// What is said of a sum of ten items.
 const TEXT: &str = "items 10\nsum 55\n";
 
-/// What must be seen of a run that has ended.
-#[derive(Clone, Copy)]
-struct Wanted {
+/// Whether a run of ten items whose threads answered so ends so, with this written and this said.
+fn is_ended(
+    alloc: Global,
+    outcome: Result<u64, NoSum>,
+    writes: usize,
     ending: Ending,
-    status: u8,
-    output: &'static str,
-    errors: &'static str,
-}
-
-/// Whether a run of ten items whose threads answered so is seen to end as it must.
-fn is_seen(alloc: Global, outcome: Result<u64, NoSum>, sink: Collected, wanted: Wanted) -> bool
-    requires { sink.has_failed ≡ false }
-{
-    let mut sink = sink;
+    errors: &str,
+) -> bool {
+    let mut sink = Collected::with_room(alloc, 1, writes);
     let mut printer = Printed::new(alloc);
-    let ending = finish_live(alloc, 10, outcome, &mut sink, &mut printer);
-    ending == wanted.ending
-        && ending.status() == wanted.status
-        && sink.into_bytes().as_slice() == wanted.output.as_bytes()
-        && printer.errors.as_str() == wanted.errors
+    let ended = finish_live(alloc, 10, outcome, &mut sink, &mut printer);
+    ended == ending
+        && sink.into_bytes().as_slice() == &TEXT.as_bytes()[..writes.min(TEXT.len())]
+        && printer.errors.as_str() == errors
         && printer.output.is_empty()
 }
 
@@ -50,52 +42,30 @@ fn refused_memory(rt: HostRuntime) {
     assert!(rt; outcome == Ok(55) || outcome == Err(LiveFault::OutOfMemory));
 }
 
-/// What is printed by what the threads answered, and the status.
+/// What is said where a thread could not be made, and the status.
 #[test]
-fn ends(rt: HostRuntime) {
-    let lived = Wanted {
-        ending: Ending::Lived,
-        status: 0,
-        output: TEXT,
-        errors: "",
-    };
-    let no_thread = Wanted {
-        ending: Ending::NoThread,
-        status: 3,
-        output: "",
-        errors: "refused 12: no thread\n",
-    };
-    let no_memory = Wanted {
-        ending: Ending::Failed(Fault::OutOfMemory),
-        status: 3,
-        output: "",
-        errors: "refused 2: out of memory\n",
-    };
-    for (outcome, wanted) in [
-        (Ok(55), lived),
-        (Err(NoSum::NoThread), no_thread),
-        (Err(NoSum::OutOfMemory), no_memory),
-    ] {
-        let sink = Collected::new(rt.alloc());
-        assert!(rt;
-            is_seen(rt.alloc(), outcome, sink, wanted),
-            "{}",
-            wanted.errors
-        );
-    }
+fn no_thread(rt: HostRuntime) {
+    let errors = "refused 12: no thread\n";
+    assert!(rt;
+        is_ended(
+            rt.alloc(),
+            Err(NoSum::NoThread),
+            0,
+            Ending::NoThread,
+            errors
+        )
+    );
+    assert!(rt; Ending::NoThread.status() == 3);
 }
 
 /// A sink that fails has taken what was written before, and the ending says that it failed.
 #[test]
 fn failing_sinks(rt: HostRuntime) {
     for writes in 0..TEXT.len() {
-        let wanted = Wanted {
-            ending: Ending::Failed(Fault::Write),
-            status: 4,
-            output: &TEXT[..writes],
-            errors: "fault 11: write\n",
-        };
-        let sink = Collected::with_room(rt.alloc(), 1, writes);
-        assert!(rt; is_seen(rt.alloc(), Ok(55), sink, wanted), "at {writes}");
+        let ending = Ending::Failed(Fault::Write);
+        assert!(rt;
+            is_ended(rt.alloc(), Ok(55), writes, ending, "fault 11: write\n"),
+            "at {writes}"
+        );
     }
 }

@@ -1,15 +1,18 @@
 //! What no contract says: streams that fail at each place, and what memory there is. Scripts with
 //! their texts, and refusals at their places, are rows.
 
+ghost use Rattle.std.specs.Prelude.{◌≡◌, ◌≤◌, false};
+
 mod errors;
 mod example;
 mod memory;
 mod timelines;
 mod worlds;
 
-use self::memory::{Expects, Interrupted, Pieces};
-use ns_replay::{Fault, Options, OverRead, OverWrite, ScriptPath, Sink, Source, replay};
-use std::alloc::Global;
+use self::memory::{Expects, Interrupted};
+use crate::memory::Given;
+use ns_replay::{Fault, Options, ScriptPath, Sink, Source, replay};
+use std::alloc::{AllocError, Global};
 use std::test::Fail;
 
 /// The first path.
@@ -33,148 +36,135 @@ const PLAIN: Options = Options {
     limit: 1_000_000,
 };
 
-/// What a replay of the script answers, and whether it wrote this text.
-fn replayed(
-    alloc: Global,
-    script: &str,
-    options: Options,
-    text: &str,
-) -> (Result<(), Fault>, bool) {
-    let mut source = Pieces::new(script.as_bytes(), 4096, usize::MAX);
+/// What a replay answers of the pieces, which writes to a sink that expects its text.
+fn replayed(alloc: Global, source: &mut Given<'_>, sink: &mut Expects<'_>) -> Result<(), Fault>
+    requires source { source.old.has_failed ≡ false }
+    requires sink { sink.old.has_failed ≡ false }
+{
+    replay(alloc, source, sink, PLAIN)
+}
+
+/// What a replay of the script in pieces of this length answers, if it wrote this text and nothing else.
+fn answered(alloc: Global, script: &[u8], piece: usize, text: &str) -> Option<Result<(), Fault>>
+    requires { 1 ≤ piece }
+{
+    let mut source = Given::in_pieces(script, piece, usize::MAX);
     let mut sink = Expects::new(text.as_bytes(), 4096, usize::MAX);
-    let outcome = replay(alloc, &mut source, &mut sink, options);
-    (outcome, sink.is_done())
+    let outcome = replayed(alloc, &mut source, &mut sink);
+    if sink.is_done() { Some(outcome) } else { None }
 }
 
 #[test]
 fn fronts(rt: HostRuntime) {
     let bytes = WORKED.as_bytes();
     for n in 0..bytes.len() {
-        let mut source = Pieces::new(&bytes[..n], 4096, usize::MAX);
-        let mut sink = Expects::new(b"", 4096, usize::MAX);
-        let outcome = replay(rt.alloc(), &mut source, &mut sink, PLAIN);
-        assert_eq!(rt; outcome, Err(Fault::NotJson), "at {n}");
+        let answer = answered(rt.alloc(), &bytes[..n], 4096, "");
+        assert!(rt; matches!(answer, Some(Err(Fault::NotJson))), "at {n}");
     }
+}
+
+/// A script of so many bytes.
+fn blank_script(alloc: Global, length: usize) -> Result<Vec<u8>, AllocError> {
+    let mut script = Vec::new(alloc);
+    script.extend_from_slice(EMPTY.as_bytes())?;
+    for _ in EMPTY.len()..length {
+        script.push(b' ')?;
+    }
+    Ok(script)
 }
 
 #[test]
 fn lengths(rt: HostRuntime) -> Result<(), Fail> {
-    for (length, piece, want) in [
-        (1_048_576, 4096, Ok(())),
-        (1_048_576, 1, Ok(())),
-        (1_048_577, 4096, Err(Fault::TooMany(ScriptPath::Root))),
-        (1_048_577, 1, Err(Fault::TooMany(ScriptPath::Root))),
-    ] {
-        let mut script = Vec::new(rt.alloc());
-        script.extend_from_slice(EMPTY.as_bytes())?;
-        for _ in EMPTY.len()..length {
-            script.push(b' ')?;
-        }
-        let written = if want.is_ok() { ROW } else { "" };
-        let mut source = Pieces::new(&script, piece, usize::MAX);
-        let mut sink = Expects::new(written.as_bytes(), 4096, usize::MAX);
-        let outcome = replay(rt.alloc(), &mut source, &mut sink, PLAIN);
-        assert_eq!(rt; outcome, want, "at {length}");
-        assert!(rt; sink.is_done(), "at {length}");
+    for piece in [4096, 1] {
+        let most = blank_script(rt.alloc(), 1_048_576)?;
+        assert!(rt; matches!(answered(rt.alloc(), &most, piece, ROW), Some(Ok(()))));
+        let more = blank_script(rt.alloc(), 1_048_577)?;
+        let answer = answered(rt.alloc(), &more, piece, "");
+        assert!(rt; matches!(answer, Some(Err(Fault::TooMany(ScriptPath::Root)))));
     }
     Ok(())
 }
 
+/// Whether a replay is at fault whose source fails after so many reads of one byte, and writes nothing.
+fn is_read_failed(alloc: Global, reads: usize) -> bool {
+    let mut source = Given::in_pieces(FIRST.as_bytes(), 1, reads);
+    let mut sink = Expects::new(b"", 1, usize::MAX);
+    let outcome = replayed(alloc, &mut source, &mut sink);
+    matches!(outcome, Err(Fault::Read)) && source.failed() && sink.is_done()
+}
+
 #[test]
 fn failing_reads(rt: HostRuntime) {
-    let script = FIRST.as_bytes();
-    for reads in 0..script.len() + 1 {
-        let mut source = Pieces::new(script, 1, reads);
-        let mut sink = Expects::new(b"", 1, usize::MAX);
-        let outcome = replay(rt.alloc(), &mut source, &mut sink, PLAIN);
-        assert_eq!(rt; outcome, Err(Fault::Read), "at {reads}");
-        assert!(rt; source.failed(), "at {reads}");
-        assert!(rt; sink.is_done(), "at {reads}");
+    for reads in 0..FIRST.len() + 1 {
+        assert!(rt; is_read_failed(rt.alloc(), reads), "at {reads}");
     }
+}
+
+/// Whether a replay whose sink fails after so many writes of one byte has written just these, and is at fault
+/// where the sink has failed.
+fn is_written(alloc: Global, writes: usize) -> bool {
+    let text = FIRST_TEXT.as_bytes();
+    let mut source = Given::new(FIRST.as_bytes());
+    let mut sink = Expects::new(text, 1, writes);
+    let outcome = replayed(alloc, &mut source, &mut sink);
+    let is_whole = writes == text.len();
+    let is_answered = match outcome {
+        Ok(()) => is_whole,
+        Err(fault) => fault == Fault::Write && !is_whole,
+    };
+    is_answered && sink.failed() != is_whole && sink.has_taken(text, writes)
 }
 
 #[test]
 fn failing_writes(rt: HostRuntime) {
-    let text = FIRST_TEXT.as_bytes();
-    for writes in 0..text.len() + 1 {
-        let mut source = Pieces::new(FIRST.as_bytes(), 4096, usize::MAX);
-        let mut sink = Expects::new(text, 1, writes);
-        let outcome = replay(rt.alloc(), &mut source, &mut sink, PLAIN);
-        let want = if writes < text.len() {
-            Err(Fault::Write)
-        } else {
-            Ok(())
-        };
-        assert_eq!(rt; outcome, want, "at {writes}");
-        assert_eq!(rt; sink.failed(), want.is_err(), "at {writes}");
-        assert!(rt; !sink.is_wrong, "at {writes}");
-        assert_eq!(rt; sink.rest, &text[writes..], "at {writes}");
+    for writes in 0..FIRST_TEXT.len() + 1 {
+        assert!(rt; is_written(rt.alloc(), writes), "at {writes}");
     }
 }
 
 #[test]
 fn stuck(rt: HostRuntime) {
-    let mut source = Pieces::new(FIRST.as_bytes(), 4096, usize::MAX);
+    let mut source = Given::new(FIRST.as_bytes());
     let mut sink = Expects::new(FIRST_TEXT.as_bytes(), 0, usize::MAX);
-    let outcome = replay(rt.alloc(), &mut source, &mut sink, PLAIN);
-    assert_eq!(rt; outcome, Err(Fault::Write));
-    assert!(rt; !sink.failed());
-    assert_eq!(rt; sink.rest, FIRST_TEXT.as_bytes());
+    let outcome = replayed(rt.alloc(), &mut source, &mut sink);
+    assert!(rt; matches!(outcome, Err(Fault::Write)) && !sink.failed());
+    assert!(rt; sink.has_taken(FIRST_TEXT.as_bytes(), 0));
+}
+
+/// What a replay of a source whose reads are interrupted answers, how often it was asked, and whether just this
+/// text was written.
+fn interrupted_by(alloc: Global, always: bool, text: &str) -> (Result<(), Fault>, u64, bool) {
+    let mut source = Interrupted {
+        bytes: FIRST.as_bytes(),
+        is_next: true,
+        always,
+        asked: 0,
+        ends: 0,
+        last: 0,
+    };
+    let mut sink = Expects::new(text.as_bytes(), 4096, usize::MAX);
+    let outcome = replay(alloc, &mut source, &mut sink, PLAIN);
+    (outcome, source.asked, sink.is_done())
 }
 
 #[test]
 fn interrupted(rt: HostRuntime) {
-    for (always, want, written) in [(false, Ok(()), FIRST_TEXT), (true, Err(Fault::Read), "")] {
-        let mut source = Interrupted {
-            bytes: FIRST.as_bytes(),
-            is_next: true,
-            always,
-            asked: 0,
-            ends: 0,
-            last: 0,
-        };
-        let mut sink = Expects::new(written.as_bytes(), 4096, usize::MAX);
-        let outcome = replay(rt.alloc(), &mut source, &mut sink, PLAIN);
-        assert_eq!(rt; outcome, want);
-        assert!(rt; sink.is_done());
-        assert!(rt; !always || source.asked == 2_097_152);
-    }
+    let now_and_then = interrupted_by(rt.alloc(), false, FIRST_TEXT);
+    assert!(rt; matches!(now_and_then, (Ok(()), _, true)));
+    let always = interrupted_by(rt.alloc(), true, "");
+    assert!(rt; matches!(always, (Err(Fault::Read), 2_097_152, true)));
 }
 
-#[test]
-fn std_streams(rt: HostRuntime) {
-    let mut source = OverRead::new(FIRST.as_bytes());
-    let mut sink = OverWrite::new(Vec::new(rt.alloc()));
-    let outcome = replay(rt.alloc(), &mut source, &mut sink, PLAIN);
-    assert_eq!(rt; outcome, Ok(()));
-    assert!(rt; !source.failed());
-    assert!(rt; !sink.failed());
-}
-
-/// With each allocation refused in turn the replay is refused, or does without.
+/// With each allocation refused in turn the replay is refused and writes nothing, or does without.
 #[test]
 fn refused_memory(rt: HostRuntime) {
-    let (outcome, done) = replayed(rt.alloc(), FIRST, PLAIN, FIRST_TEXT);
-    assert!(rt; outcome == Ok(()) && done || outcome == Err(Fault::OutOfMemory) && !done);
-}
-
-#[test]
-fn faults(rt: HostRuntime) -> Result<(), Fail> {
-    let table = [
-        (Fault::OutOfMemory, "refused 2: out of memory"),
-        (Fault::NotJson, "refused 6: not JSON"),
-        (
-            Fault::BadScript(ScriptPath::Call(0, 3)),
-            "refused 7: bad script at /threads/0/3",
-        ),
-        (Fault::TooMany(ScriptPath::Root), "refused 8: too many at /"),
-        (Fault::StepLimit, "refused 9: step limit"),
-        (Fault::Read, "fault 10: read"),
-        (Fault::Write, "fault 11: write"),
-    ];
-    for (fault, want) in table {
-        let text = fault.to_string(rt.alloc())?;
-        assert_eq!(rt; text.as_str(), want);
+    let mut source = Given::new(FIRST.as_bytes());
+    let mut sink = Expects::new(FIRST_TEXT.as_bytes(), 4096, usize::MAX);
+    match replayed(rt.alloc(), &mut source, &mut sink) {
+        Ok(()) => assert!(rt; sink.is_done()),
+        Err(fault) => {
+            assert!(rt; fault == Fault::OutOfMemory);
+            assert!(rt; sink.has_taken(FIRST_TEXT.as_bytes(), 0));
+        }
     }
-    Ok(())
 }

@@ -4,6 +4,7 @@
 use super::memory::Expects;
 use super::{FIRST, FIRST_TEXT, PLAIN};
 use ns_replay::{Fault, OverRead, OverWrite, Sink, Source, replay};
+use std::alloc::Global;
 use std::io::{self, ErrorKind, Read, Write};
 
 /// The kinds, and whether a read that returned it is made again.
@@ -66,56 +67,66 @@ impl Write for Fails<'_> {
     }
 }
 
+/// Whether a replay of a reader that returns such an error is made as it must be: with one call more where the
+/// read is made again, and else with no other call, and at fault.
+fn is_read_by_kind(alloc: Global, kind: ErrorKind, before: usize, is_again: bool) -> bool {
+    let mut reader = Fails {
+        bytes: FIRST.as_bytes(),
+        kind,
+        before,
+        calls: 0,
+    };
+    let mut source = OverRead::new(&mut reader);
+    let text = if is_again { FIRST_TEXT } else { "" };
+    let mut sink = Expects::new(text.as_bytes(), 4096, usize::MAX);
+    let outcome = replay(alloc, &mut source, &mut sink, PLAIN);
+    let is_failed = source.failed();
+    let calls = reader.calls;
+    match outcome {
+        Ok(()) => is_again && !is_failed && sink.is_done() && calls == FIRST.len() + 2,
+        Err(Fault::Read) => !is_again
+            && is_failed
+            && sink.is_done()
+            && calls == before.wrapping_add(1),
+        Err(_) => false,
+    }
+}
+
 #[test]
 fn reads_by_kind(rt: HostRuntime) {
     for (kind, is_again) in KINDS {
         for before in [0, 7, FIRST.len()] {
-            let mut reader = Fails {
-                bytes: FIRST.as_bytes(),
-                kind,
-                before,
-                calls: 0,
-            };
-            let mut source = OverRead::new(&mut reader);
-            let text = if is_again { FIRST_TEXT } else { "" };
-            let mut sink = Expects::new(text.as_bytes(), 4096, usize::MAX);
-            let outcome = replay(rt.alloc(), &mut source, &mut sink, PLAIN);
-            let failed = source.failed();
-            assert_eq!(rt; outcome.is_ok(), is_again, "{kind:?} at {before}");
-            assert_eq!(rt;
-                outcome == Err(Fault::Read),
-                !is_again,
+            assert!(rt;
+                is_read_by_kind(rt.alloc(), kind, before, is_again),
                 "{kind:?} at {before}"
             );
-            assert_eq!(rt; failed, !is_again, "{kind:?} at {before}");
-            assert!(rt; sink.is_done(), "{kind:?} at {before}");
-            let calls = if is_again {
-                FIRST.len() + 2
-            } else {
-                before + 1
-            };
-            assert_eq!(rt; reader.calls, calls, "{kind:?} at {before}");
         }
     }
+}
+
+/// Whether a replay to a writer that returns such an error is at fault, and makes no other call.
+fn is_written_by_kind(alloc: Global, kind: ErrorKind, before: usize) -> bool {
+    let mut writer = Fails {
+        bytes: b"",
+        kind,
+        before,
+        calls: 0,
+    };
+    let mut source = OverRead::new(FIRST.as_bytes());
+    let mut sink = OverWrite::new(&mut writer);
+    let outcome = replay(alloc, &mut source, &mut sink, PLAIN);
+    let is_failed = sink.failed();
+    matches!(outcome, Err(Fault::Write)) && is_failed && writer.calls == before.wrapping_add(1)
 }
 
 #[test]
 fn writes_by_kind(rt: HostRuntime) {
     for (kind, _) in KINDS {
         for before in [0, 7, FIRST_TEXT.len() - 1] {
-            let mut writer = Fails {
-                bytes: b"",
-                kind,
-                before,
-                calls: 0,
-            };
-            let mut source = OverRead::new(FIRST.as_bytes());
-            let mut sink = OverWrite::new(&mut writer);
-            let outcome = replay(rt.alloc(), &mut source, &mut sink, PLAIN);
-            let failed = sink.failed();
-            assert_eq!(rt; outcome, Err(Fault::Write), "{kind:?} at {before}");
-            assert!(rt; failed, "{kind:?} at {before}");
-            assert_eq!(rt; writer.calls, before + 1, "{kind:?} at {before}");
+            assert!(rt;
+                is_written_by_kind(rt.alloc(), kind, before),
+                "{kind:?} at {before}"
+            );
         }
     }
 }

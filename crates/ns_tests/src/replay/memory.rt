@@ -1,73 +1,8 @@
-//! A source and a sink in memory, which fail when they are told to.
+//! A source whose reads are interrupted, and a sink that takes no memory and fails when it is told to.
 
-ghost use Rattle.std.specs.Prelude.{◌≡◌, ◌≤◌, Some, None, false};
+ghost use Rattle.std.specs.Prelude.{◌≡◌, Some, None, false};
 
 use ns_replay::{Got, Sink, Source};
-
-/// Bytes in pieces of at most `piece`, up to a read that fails.
-#[derive(Drop)]
-pub struct Pieces<'a> {
-    pub bytes: &'a [u8],
-    pub piece: usize,
-    /// How many reads don't fail.
-    pub reads: usize,
-    pub has_failed: bool,
-    pub asked: u64,
-    pub ends: u64,
-    pub last: usize,
-    ghost some_piece: { 1 ≤ piece },
-}
-
-impl<'a> Pieces<'a> {
-    pub fn new(bytes: &'a [u8], piece: usize, reads: usize) -> Self
-        requires { 1 ≤ piece }
-        ensures { result.has_failed ≡ false }
-    {
-        Pieces {
-            bytes,
-            piece,
-            reads,
-            has_failed: false,
-            asked: 0,
-            ends: 0,
-            last: 0,
-        }
-    }
-}
-
-impl Source for Pieces<'_> {
-    ghost to_come = { λ s. Some s.bytes.now };
-
-    ghost has_failed = { λ s. s.has_failed };
-
-    ghost asked = { λ s. s.asked };
-
-    ghost ends = { λ s. s.ends };
-
-    ghost last = { λ s. s.last };
-
-    fn read(&mut self, buffer: &mut [u8]) -> Got {
-        self.asked = self.asked.wrapping_add(1);
-        self.last = 0;
-        if self.reads == 0 {
-            self.has_failed = true;
-            return Got::Failed;
-        }
-        self.reads -= 1;
-        let count = self.bytes.len().min(buffer.len()).min(self.piece);
-        buffer[..count].copy_from_slice(&self.bytes[..count]);
-        self.bytes = &self.bytes[count..];
-        self.last = count;
-        if count == 0 {
-            self.ends = self.ends.wrapping_add(1);
-        }
-        Got::Bytes(count)
-    }
-
-    fn failed(&self) -> bool {
-        self.has_failed
-    }
-}
 
 /// Bytes with an interrupted read before each piece of one byte, or interrupted at each read.
 #[derive(Drop)]
@@ -145,6 +80,11 @@ impl<'a> Expects<'a> {
     /// Whether all that was expected was written, and nothing else.
     pub fn is_done(&self) -> bool {
         self.rest.is_empty() && !self.is_wrong
+    }
+
+    /// Whether just so many bytes of this text were written, where it was expected.
+    pub fn has_taken(&self, text: &[u8], count: usize) -> bool {
+        count <= text.len() && self.rest == &text[count..] && !self.is_wrong
     }
 }
 

@@ -1,9 +1,11 @@
 //! Pictures of runs, where streams fail and memory is refused. What stands in them are rows.
 
 use super::FIRST;
-use super::memory::{Expects, Pieces};
-use ns_replay::{Fault, OverRead, OverWrite, ScriptPath, Sink};
+use super::memory::Expects;
+use crate::memory::Given;
+use ns_replay::{Fault, OverRead, OverWrite, Sink};
 use ns_timeline::timeline;
+use std::alloc::Global;
 
 const PICTURE: &str = "\
 #  writes   :  reads   @  has the queues   .  is in a call   !  is to be woken
@@ -18,52 +20,39 @@ z  waits for the lock or a condition   0-3  waits for that condition variable
        7      0 unlock, releases -> ok
 ";
 
-/// Where the sink fails, a front of the picture was written, and nothing after that.
+/// Whether a picture to a sink that fails after so many writes of one byte has these bytes at its front and no
+/// other, and is at fault where the sink has failed.
+fn is_drawn(alloc: Global, writes: usize) -> bool {
+    let text = PICTURE.as_bytes();
+    let mut source = Given::new(FIRST.as_bytes());
+    let mut sink = Expects::new(text, 1, writes);
+    let is_whole = writes == text.len();
+    let is_answered = match timeline(alloc, &mut source, &mut sink, 7) {
+        Ok(()) => is_whole,
+        Err(fault) => fault == Fault::Write && !is_whole,
+    };
+    is_answered && sink.failed() != is_whole && sink.has_taken(text, writes)
+}
+
 #[test]
 fn failing_writes(rt: HostRuntime) {
-    let text = PICTURE.as_bytes();
-    for (writes, want) in [
-        (0, Err(Fault::Write)),
-        (1, Err(Fault::Write)),
-        (text.len() - 1, Err(Fault::Write)),
-        (text.len(), Ok(())),
-    ] {
-        let mut source = Pieces::new(FIRST.as_bytes(), 4096, usize::MAX);
-        let mut sink = Expects::new(text, 1, writes);
-        let outcome = timeline(rt.alloc(), &mut source, &mut sink, 7);
-        assert_eq!(rt; outcome, want, "at {writes}");
-        assert_eq!(rt; sink.failed(), want.is_err(), "at {writes}");
-        assert!(rt; !sink.is_wrong, "at {writes}");
-        assert_eq!(rt; sink.rest, &text[writes..], "at {writes}");
+    for writes in [0, 1, PICTURE.len() - 1, PICTURE.len()] {
+        assert!(rt; is_drawn(rt.alloc(), writes), "at {writes}");
     }
 }
 
-/// What a replay refuses is refused, and nothing is written.
-#[test]
-fn refusals(rt: HostRuntime) {
-    for (script, reads, limit, want) in [
-        (FIRST, 0, 7, Fault::Read),
-        (FIRST, 1, 7, Fault::Read),
-        (FIRST, 2, 6, Fault::StepLimit),
-        ("{", 2, 7, Fault::NotJson),
-        ("{}", 2, 7, Fault::BadScript(ScriptPath::Version)),
-    ] {
-        let mut source = Pieces::new(script.as_bytes(), 4096, reads);
-        let mut sink = Expects::new(b"", 4096, usize::MAX);
-        let outcome = timeline(rt.alloc(), &mut source, &mut sink, limit);
-        assert_eq!(rt; outcome, Err(want), "for {want}");
-        assert!(rt; sink.is_done(), "for {want}");
-    }
-}
-
-/// With each allocation refused in turn the picture is refused, or drawn without.
+/// With each allocation refused in turn the picture is refused and nothing is written, or it is drawn without.
 #[test]
 fn refused_memory(rt: HostRuntime) {
-    let mut source = Pieces::new(FIRST.as_bytes(), 4096, usize::MAX);
+    let mut source = Given::new(FIRST.as_bytes());
     let mut sink = Expects::new(PICTURE.as_bytes(), 4096, usize::MAX);
-    let outcome = timeline(rt.alloc(), &mut source, &mut sink, 7);
-    let done = sink.is_done();
-    assert!(rt; outcome == Ok(()) && done || outcome == Err(Fault::OutOfMemory) && !done);
+    match timeline(rt.alloc(), &mut source, &mut sink, 7) {
+        Ok(()) => assert!(rt; sink.is_done()),
+        Err(fault) => {
+            assert!(rt; fault == Fault::OutOfMemory);
+            assert!(rt; sink.has_taken(PICTURE.as_bytes(), 0));
+        }
+    }
 }
 
 /// The example at the head of the crate.
