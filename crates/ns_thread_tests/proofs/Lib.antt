@@ -1,3 +1,2 @@
 mod Meanings
-mod Seats
 mod Walking

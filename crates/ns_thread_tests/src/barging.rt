@@ -4,12 +4,11 @@
 ghost use Rattle.std.specs.Prelude.{◌≡◌};
 ghost use Rattle.std.specs.Thread.{IsSync};
 
-use crate::waits::{AtLeast, MANY_TRIES, set, two_seats};
+use crate::waits::{AtLeast, MANY_TRIES, row_at_end, set, two_seats};
 use ns_monitor::caller::{Seat, WriteHeld};
 use ns_monitor::monitor::Monitor;
 use std::process::Abort;
 use std::sync::Wait;
-use std::test::Fail;
 use std::thread::{Threads, join, yield_now};
 
 /// How often one takes the lock again, at most.
@@ -81,11 +80,11 @@ fn barge_past<R: Threads + Wait + Sync>(
     monitor: &Monitor<AtLeast, 2>,
     first: Seat<AtLeast, 2>,
     second: Seat<AtLeast, 2>,
-) -> ((Seat<AtLeast, 2>, bool), Seat<AtLeast, 2>)
+) -> (Seat<AtLeast, 2>, bool)
     requires { (first.monitor ≡ monitor.now) × (second.monitor ≡ monitor.now) }
-    ensures { result.0.0.monitor ≡ monitor.now }
+    ensures { result.0.monitor ≡ monitor.now }
 {
-    join(
+    let (came, _) = join(
         rt,
         move || -> (Seat<AtLeast, 2>, bool)
             requires { IsSync R.row × (first.monitor ≡ monitor.now) }
@@ -94,20 +93,15 @@ fn barge_past<R: Threads + Wait + Sync>(
         move || -> Seat<AtLeast, 2>
             requires { IsSync R.row × (second.monitor ≡ monitor.now) }
         { go_inside(rt, monitor, second) },
-    )
+    );
+    came
 }
 
 /// The lock word says of one past whom another takes the lock again and again that it waits long, and that
 /// one comes through.
 #[test]
-fn long_wait_is_shown_and_comes_through(rt: HostRuntime) -> Result<(), Fail> {
-    let Some((monitor, first, second)) = two_seats(rt.alloc()) else {
-        panic!(rt; "no monitor")
-    };
-    let ((seat, long), _) = barge_past(&rt, &monitor, first, second);
-    assert!(rt; long);
-    let closed = monitor.close(seat);
-    assert!(rt; closed.free);
-    assert_eq!(rt; closed.row, [1, 1]);
-    Ok(())
+fn long_wait_is_shown_and_comes_through(rt: HostRuntime) {
+    let (monitor, first, second) = two_seats(&rt, rt.alloc());
+    let (seat, long) = barge_past(&rt, &monitor, first, second);
+    assert_eq!(rt; (long, row_at_end(monitor, seat)), (true, Some([1, 1])));
 }

@@ -8,10 +8,10 @@ use ns_model::condition::Condition;
 use ns_monitor::caller::{Seat, WriteHeld};
 use ns_monitor::monitor::Monitor;
 use std::alloc::{AllocError, Global};
+use std::process::Abort;
 use std::sync::Wait;
 use std::sync::atomic::AtomicU64;
 use std::sync::atomic::Ordering::SeqCst;
-use std::test::Fail;
 use std::thread::{Threads, join, map_vec};
 
 /// How many threads wait.
@@ -135,22 +135,26 @@ fn count_tests<R: Wait>(
     (second.wrapping_sub(first), third.wrapping_sub(second))
 }
 
-/// Has the crowd wait, each in a thread of its own.
+/// Has the crowd wait, each in a thread of its own. Answers how many have come back.
 fn meet_crowd<R: Threads + Wait + Sync>(
     rt: &R,
     monitor: &Monitor<Opened, 2>,
     seats: Vec<Seat<Opened, 2>>,
     opened: Opened,
-) -> Result<Vec<Seat<Opened, 2>>, AllocError>
+) -> usize
     requires { All (λ seat. seat.monitor ≡ monitor.now) seats.items }
 {
-    map_vec(
+    let back = map_vec(
         rt,
         seats,
         &|seat: Seat<Opened, 2>| -> Seat<Opened, 2>
             requires { seat.monitor ≡ monitor.now }
         { wait_in_crowd(rt, monitor, seat, opened) },
-    )
+    );
+    match back {
+        Ok(seats) => seats.len(),
+        Err(_) => 0,
+    }
 }
 
 /// The crowd waits in threads of its own, while the tests of two releases are counted; then it may go on.
@@ -160,34 +164,62 @@ fn crowd_and_count<R: Threads + Wait + Sync>(
     seats: Vec<Seat<Opened, 2>>,
     seat: Seat<Opened, 2>,
     tests: &'static AtomicU64,
-) -> (Result<Vec<Seat<Opened, 2>>, AllocError>, (u64, u64))
+) -> (usize, u64, u64)
     requires { All (λ seat. seat.monitor ≡ monitor.now) seats.items × (seat.monitor ≡ monitor.now) }
 {
-    join(
+    let (back, (once, never)) = join(
         rt,
-        move || -> Result<Vec<Seat<Opened, 2>>, AllocError>
+        move || -> usize
             requires { IsSync R.row × All (λ seat. seat.monitor ≡ monitor.now) seats.items }
         { meet_crowd(rt, monitor, seats, Opened { tests }) },
         move || -> (u64, u64)
             requires { IsSync R.row × (seat.monitor ≡ monitor.now) }
         { count_tests(rt, monitor, seat, tests) },
-    )
+    );
+    (back, once, never)
+}
+
+/// The last seat that is left of a monitor's.
+fn take_seat<R: Abort>(
+    rt: &R,
+    monitor: &Monitor<Opened, 2>,
+    seats: &mut Vec<Seat<Opened, 2>>,
+) -> Seat<Opened, 2>
+    requires { All (λ seat. seat.monitor ≡ monitor.now) seats.old.items }
+    ensures taken { result.monitor ≡ monitor.now }
+    ensures left { All (λ seat. seat.monitor ≡ monitor.now) seats.new.items }
+{
+    seats.pop().expect(rt, "a seat")
+}
+
+/// A monitor and 62 seats.
+fn new_monitor<R: Abort>(rt: &R, alloc: Global) -> (Monitor<Opened, 2>, Vec<Seat<Opened, 2>>)
+    ensures { All (λ seat. seat.monitor ≡ result.0) result.1.items }
+{
+    Monitor::<Opened, 2>::new(alloc, 62)
+        .ok()
+        .expect(rt, "a monitor")
+}
+
+/// How many of the crowd come back, how many tests each of the two releases makes, and the cells at the end.
+fn count_past_crowd<R: Abort + Threads + Wait + Sync>(
+    rt: &R,
+    alloc: Global,
+) -> ((usize, u64, u64), Option<[u64; 2]>) {
+    let tests = new_count(alloc).ok().expect(rt, "a word to count in");
+    let (monitor, mut seats) = new_monitor(rt, alloc);
+    let last = take_seat(rt, &monitor, &mut seats);
+    let seat = take_seat(rt, &monitor, &mut seats);
+    let (back, once, never) = crowd_and_count(rt, &monitor, seats, seat, tests);
+    let closed = monitor.close(last);
+    let row = if closed.free { Some(closed.row) } else { None };
+    ((back, once, never), row)
 }
 
 /// Past sixty that wait for one false condition, a release tests it once, and a quiet one behind it
 /// doesn't. Once it is true, all sixty go on.
 #[test]
-fn sixty_waiters(rt: HostRuntime) -> Result<(), Fail> {
-    let tests = new_count(rt.alloc())?;
-    let (monitor, mut seats) = Monitor::<Opened, 2>::new(rt.alloc(), 62)?;
-    let (Some(last), Some(seat)) = (seats.pop(), seats.pop()) else {
-        panic!(rt; "no seats")
-    };
-    let (back, (once, never)) = crowd_and_count(&rt, &monitor, seats, seat, tests);
-    assert_eq!(rt; (once, never), (1, 0));
-    assert_eq!(rt; back?.len(), 60);
-    let closed = monitor.close(last);
-    assert!(rt; closed.free);
-    assert_eq!(rt; closed.row, [1, 0]);
-    Ok(())
+fn sixty_waiters(rt: HostRuntime) {
+    let (came, row) = count_past_crowd(&rt, rt.alloc());
+    assert_eq!(rt; (came, row), ((60, 1, 0), Some([1, 0])));
 }

@@ -1,7 +1,7 @@
 //! A gate, from outside: it is made, its seats are taken out, and it is refused; and a seat is driven
 //! by walks as values, act by act, from what a place wants to where it goes.
 
-ghost use Rattle.std.specs.Prelude.{◌≡◌, [], None, Some, nat_le, slice_index, true, false};
+ghost use Rattle.std.specs.Prelude.{◌≡◌, ◌<◌, [], None, Some, nat_le, slice_index, true, false};
 ghost use Rattle.ns_gate.specs.Calls.{HasAnswered, HasSince, IsAtRest, SeatOf};
 ghost use Rattle.ns_gate.specs.Performing.{Needs};
 ghost use Rattle.ns_gate.specs.Steps.{CanStep, Performed, carried_by, the};
@@ -9,53 +9,45 @@ ghost use Rattle.ns_model.specs.Truths.{truths};
 ghost use Rattle.ns_queue.specs.Queues.{Lists};
 ghost use Rattle.ns_word.specs.Asked.{asked_of};
 ghost use Rattle.ns_word.specs.Begins.{IsFirst};
-ghost use Rattle.ns_word.specs.Places.{HasMode, PlaceFits};
+ghost use Rattle.ns_word.specs.Places.{PlaceFits};
 ghost use Rattle.ns_word.specs.Walks.{got_of, want_of};
-ghost use Rattle.ns_word.specs.declared.request.Request.TheVariants.{Await};
 
 use crate::waits::AtLeast;
-use ns_env::limits::Limits;
 use ns_gate::fault::Fault;
 use ns_gate::gate::{Gate, GateSeat};
 use ns_gate::perform::Beside;
 use ns_gate::queues::Turned;
 use ns_model::condition::Condition;
-use ns_model::event::{Answer, Mode};
+use ns_model::event::Mode;
 use ns_monitor::room::Gated;
 use ns_word::act::{Act, Found};
 use ns_word::owed::Owed;
-use ns_word::wait::{Subject, Wait};
 use ns_word::walk::{Next, Reply, Walk};
 use ns_word::word::{Bits, Releasing};
+use std::alloc::Global;
 use std::process::Abort;
 
-/// A gate of as many seats as there may be, of which the first is taken out.
-#[test]
-fn a_gate_is_made(rt: HostRuntime) {
-    let Ok((gate, mut all)) = Gate::<AtLeast, 2>::new(rt.alloc(), 64) else {
-        panic!(rt; "no gate")
-    };
+/// Makes a gate and takes its first seat out; or why none is made.
+fn gate_of(alloc: Global, seats: usize) -> Result<(), Fault>
+    requires { 0 < seats }
+{
+    let (gate, mut all) = Gate::<AtLeast, 2>::new(alloc, seats)?;
     gate.part(&mut all);
+    Ok(())
 }
 
-/// One seat more is refused before any memory is asked for.
+/// A gate of as many seats as there may be is made; one seat more is refused before any memory is asked for.
 #[test]
 fn too_many_seats(rt: HostRuntime) {
-    match Gate::<AtLeast, 2>::new(rt.alloc(), 65) {
-        Ok((_gate, _all)) => panic!(rt; "a gate of 65 seats"),
-        Err(fault) => assert_eq!(rt; fault, Fault::TooManySeats),
-    }
+    let made = [gate_of(rt.alloc(), 64), gate_of(rt.alloc(), 65)];
+    assert_eq!(rt; made, [Ok(()), Err(Fault::TooManySeats)]);
 }
 
 /// With each allocation refused in turn no gate is made, for that reason.
 #[test]
 fn refused_memory(rt: HostRuntime) {
-    match Gate::<AtLeast, 2>::new(rt.alloc(), 3) {
-        Ok((gate, mut all)) => {
-            gate.part(&mut all);
-        }
-        Err(fault) => assert_eq!(rt; fault, Fault::OutOfMemory),
-    }
+    let made = gate_of(rt.alloc(), 3);
+    assert!(rt; matches!(made, Ok(()) | Err(Fault::OutOfMemory)));
 }
 
 /// The cell is at least 1.
@@ -173,53 +165,20 @@ fn call<A: Abort, C: Gated<1>>(
     panic!(rt; "the call is not over")
 }
 
-/// Drives a wait for the condition, which is true: it is over with its first step.
-fn answer_at_once<A: Abort, C: Gated<1>>(
-    rt: &A,
-    gate: &Gate<C, 1>,
-    seat: &mut GateSeat<C, 1>,
-    wait: Wait<C>,
-    condition: C,
-) -> Reply
-    requires of { seat.old.table_id ≡ gate.now }
-    requires rest { IsAtRest C.means seat.old.me }
-    requires writes { HasMode Mode.Write (the seat.old.me.0).at.held }
-    requires on { (wait.on ≡ Subject.OnCondition condition) × (wait.mode ≡ Mode.Write) }
-    ensures of { seat.new.table_id ≡ gate.now }
-    ensures answered { HasAnswered C.means (Await wait) result seat.new.me }
-{
-    let first = Walk::wait::<1>(wait);
-    let found = gate.perform(seat, Some(first), first.want(), &NOTHING);
-    match first.got::<1>(found) {
-        Next::Done(reply) => reply,
-        _ => panic!(rt; "the condition is not met"),
-    }
-}
-
-/// A lock, a set, a wait that is answered at once, and a release, each reply as it is promised.
+/// A lock, a set and a release, each reply as it is promised.
 #[test]
 fn walks_drive_a_seat(rt: HostRuntime) {
-    let Ok((gate, mut all)) = Gate::<Raised, 1>::new(rt.alloc(), 1) else {
-        panic!(rt; "no gate")
-    };
+    let (gate, mut all) = Gate::<Raised, 1>::new(rt.alloc(), 1)
+        .ok()
+        .expect(&rt, "a gate");
     let mut seat = gate.part(&mut all);
     let locked = call(&rt, &gate, &mut seat, Walk::lock(Mode::Write));
-    assert_eq!(rt; locked, Reply::Succeeded);
     let set = call(&rt, &gate, &mut seat, Walk::set(0, 7));
-    assert_eq!(rt; set, Reply::Succeeded);
-    let wait = Wait {
-        mode: Mode::Write,
-        on: Subject::OnCondition(Raised),
-        limits: Limits {
-            deadline: None,
-            note: None,
-        },
-    };
-    let answered = answer_at_once(&rt, &gate, &mut seat, wait, Raised);
-    assert_eq!(rt; answered, Reply::Answered(Answer::Met));
     let released = call(&rt, &gate, &mut seat, Walk::release(Releasing::Writer));
-    assert_eq!(rt; released, Reply::Succeeded);
     let closed = gate.close(seat);
-    assert_eq!(rt; closed.row, [7]);
-    assert!(rt; closed.free);
+    let row = closed.row;
+    let all_succeeded = locked == Reply::Succeeded
+        && set == Reply::Succeeded
+        && released == Reply::Succeeded;
+    assert_eq!(rt; (all_succeeded, closed.free, row), (true, true, [7]));
 }

@@ -2,6 +2,9 @@
 //! back, and that threads meet and wake one another. There is nothing here but tests.
 //!
 //! They stand apart from those of ns_tests, which wait for the branch of the replay.
+//!
+//! A test's own body is what takes the longest to prove, and the more values it has to let go, the longer:
+//! so what a test does stands in functions, and its body has little more than what it compares.
 #![tactic(auto)]
 
 #[cfg(test)]

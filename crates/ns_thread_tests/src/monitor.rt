@@ -1,17 +1,18 @@
 //! What no clause says of a monitor: that its calls succeed where they can, and that threads meet in
 //! it.
 
-ghost use Rattle.std.specs.Prelude.{◌≡◌, IfOk, IfErr};
+ghost use Rattle.std.specs.Prelude.{◌≡◌, ◌<◌, IfSome};
 ghost use Rattle.std.specs.Thread.{IsSync};
 
-use crate::note::{is_notified, notify};
-use crate::waits::{AtLeast, MANY_TRIES, two_env_seats, two_seats};
+use crate::note::{is_notified, notify, two_env_seats};
+use crate::waits::{AtLeast, MANY_TRIES, count, row_at_end, two_seats};
 use ns_monitor::Fault;
-use ns_monitor::caller::{ReadHeld, Seat};
+use ns_monitor::caller::Seat;
 use ns_monitor::monitor::Monitor;
 use ns_note::env::Env;
 use ns_note::note::Note;
 use ns_note::seat::EnvSeat;
+use std::alloc::Global;
 use std::sync::Wait;
 use std::test::Fail;
 use std::thread::{Threads, join, yield_now};
@@ -19,82 +20,69 @@ use std::thread::{Threads, join, yield_now};
 /// How often a thread tries.
 const TRIES: u64 = 10_000;
 
-/// A writer, then a reader, and a writer that finds the lock held.
-#[test]
-fn tries(rt: HostRuntime) -> Result<(), Fail> {
-    let Some((monitor, first, second)) = two_seats(rt.alloc()) else {
-        panic!(rt; "no monitor")
-    };
-    let Ok(mut held) = monitor.try_lock(first) else {
-        panic!(rt; "busy")
-    };
-    monitor.set(&mut held, 1, 7);
-    let first = monitor.unlock(&rt, held);
-    let Ok(mut held) = monitor.try_rlock(first) else {
-        panic!(rt; "busy for a reader")
-    };
-    assert_eq!(rt; monitor.get(&mut held, 1), 7);
-    let Err(second) = monitor.try_lock(second) else {
-        panic!(rt; "two hold the lock")
-    };
-    let Ok(other) = monitor.try_rlock(second) else {
-        panic!(rt; "busy beside a reader")
-    };
-    let first = monitor.runlock(&rt, held);
-    let second = monitor.runlock(&rt, other);
-    let (first, _) = monitor.meet(first, second);
+/// Tries to lock, and sets the second cell to 7.
+fn write_by_try<R: Wait>(
+    rt: &R,
+    monitor: &Monitor<AtLeast, 2>,
+    seat: Seat<AtLeast, 2>,
+) -> Option<Seat<AtLeast, 2>>
+    requires { seat.monitor ≡ monitor.now }
+    ensures { IfSome result (λ back. back.monitor ≡ monitor.now) }
+{
+    match monitor.try_lock(seat) {
+        Ok(mut held) => {
+            monitor.set(&mut held, 1, 7);
+            Some(monitor.unlock(rt, held))
+        }
+        Err(_) => None,
+    }
+}
+
+/// Two try to read beside each other, between which the second tries to write in vain. They meet as they read,
+/// and behind that; what the first reads.
+fn read_by_tries<R: Wait>(
+    rt: &R,
+    monitor: &Monitor<AtLeast, 2>,
+    first: Seat<AtLeast, 2>,
+    second: Seat<AtLeast, 2>,
+) -> Option<((Seat<AtLeast, 2>, Seat<AtLeast, 2>), u64)>
+    requires { (first.monitor ≡ monitor.now) × (second.monitor ≡ monitor.now) }
+    ensures { IfSome result (λ r. (r.0.0.monitor ≡ monitor.now) × (r.0.1.monitor ≡ monitor.now)) }
+{
+    let held = monitor.try_rlock(first).ok()?;
+    let second = monitor.try_lock(second).err()?;
+    let other = monitor.try_rlock(second).ok()?;
+    let (mut held, other) = monitor.both_read(held, other);
+    let value = monitor.get(&mut held, 1);
+    let first = monitor.runlock(rt, held);
+    let second = monitor.runlock(rt, other);
+    Some((monitor.meet(first, second), value))
+}
+
+/// Ends a monitor while the second has a section in hand. Tells whether the lock is free, and the cells.
+fn close_while_held(
+    monitor: Monitor<AtLeast, 2>,
+    first: Seat<AtLeast, 2>,
+    second: Seat<AtLeast, 2>,
+) -> Option<(bool, [u64; 2])>
+    requires { (first.monitor ≡ monitor) × (second.monitor ≡ monitor) }
+{
+    let mut held = monitor.try_lock(second).ok()?;
+    monitor.set(&mut held, 0, 3);
     let closed = monitor.close(first);
-    assert!(rt; closed.free);
-    assert_eq!(rt; closed.row, [0, 7]);
-    Ok(())
+    let row = closed.row;
+    Some((closed.free, row))
 }
 
-/// A monitor that is closed while a section is in hand says so.
+/// A writer's try, two readers' beside each other, and a writer's that finds the lock held. At last the monitor
+/// is closed while a section is in hand, and says so.
 #[test]
-fn closed_while_held(rt: HostRuntime) -> Result<(), Fail> {
-    let Some((monitor, first, second)) = two_seats(rt.alloc()) else {
-        panic!(rt; "no monitor")
-    };
-    let Ok(mut held) = monitor.try_lock(first) else {
-        panic!(rt; "busy")
-    };
-    monitor.set(&mut held, 0, 3);
-    let closed = monitor.close(second);
-    assert!(rt; !closed.free);
-    assert_eq!(rt; closed.row, [3, 0]);
-    Ok(())
-}
-
-/// A fall of a cell is quiet, a rise is not, and a rise that is taken back is.
-#[test]
-fn quiet_sections(rt: HostRuntime) -> Result<(), Fail> {
-    let Ok((monitor, mut seats)) = Monitor::<AtLeast, 2>::new(rt.alloc(), 1) else {
-        panic!(rt; "no monitor")
-    };
-    let Some(seat) = seats.pop() else {
-        panic!(rt; "no seat")
-    };
-    let Ok(mut held) = monitor.try_lock(seat) else {
-        panic!(rt; "busy")
-    };
-    assert!(rt; monitor.is_quiet(&mut held));
-    monitor.set(&mut held, 0, 3);
-    assert!(rt; !monitor.is_quiet(&mut held));
-    let seat = monitor.unlock(&rt, held);
-    let Ok(mut held) = monitor.try_lock(seat) else {
-        panic!(rt; "busy again")
-    };
-    monitor.set(&mut held, 0, 2);
-    assert!(rt; monitor.is_quiet(&mut held));
-    monitor.set(&mut held, 0, 4);
-    assert!(rt; !monitor.is_quiet(&mut held));
-    monitor.set(&mut held, 0, 3);
-    assert!(rt; monitor.is_quiet(&mut held));
-    monitor.set(&mut held, 0, 5);
-    monitor.set(&mut held, 0, 4);
-    assert!(rt; !monitor.is_quiet(&mut held)); // 4 is more than the 3 that it began at
-    monitor.unlock(&rt, held);
-    Ok(())
+fn tries(rt: HostRuntime) {
+    let (monitor, first, second) = two_seats(&rt, rt.alloc());
+    let first = write_by_try(&rt, &monitor, first).expect(&rt, "busy");
+    let (seats, value) = read_by_tries(&rt, &monitor, first, second).expect(&rt, "busy beside");
+    let closed = close_while_held(monitor, seats.0, seats.1);
+    assert_eq!(rt; (value, closed), (7, Some((false, [3, 7]))));
 }
 
 /// Tries to lock, and adds 1 to a cell where it succeeds; tells how often it did.
@@ -110,8 +98,7 @@ fn add_many<R: Wait>(
     for _ in 0..TRIES {
         seat = match monitor.try_lock(seat) {
             Ok(mut held) => {
-                let value = monitor.get(&mut held, 0);
-                monitor.set(&mut held, 0, value.wrapping_add(1));
+                count(monitor, &mut held, 0);
                 won = won.wrapping_add(1);
                 monitor.unlock(rt, held)
             }
@@ -121,17 +108,17 @@ fn add_many<R: Wait>(
     (seat, won)
 }
 
-/// Two threads add, each as often as its tries succeed.
+/// Two threads add, each as often as its tries succeed; how often both did.
 fn add_twice<R: Threads + Wait + Sync>(
     rt: &R,
     monitor: &Monitor<AtLeast, 2>,
     first: Seat<AtLeast, 2>,
     second: Seat<AtLeast, 2>,
-) -> ((Seat<AtLeast, 2>, u64), (Seat<AtLeast, 2>, u64))
+) -> (Seat<AtLeast, 2>, u64)
     requires { (first.monitor ≡ monitor.now) × (second.monitor ≡ monitor.now) }
-    ensures { result.0.0.monitor ≡ monitor.now }
+    ensures { result.0.monitor ≡ monitor.now }
 {
-    join(
+    let ((seat, won), (_, other)) = join(
         rt,
         move || -> (Seat<AtLeast, 2>, u64)
             requires { IsSync R.row × (first.monitor ≡ monitor.now) }
@@ -140,86 +127,17 @@ fn add_twice<R: Threads + Wait + Sync>(
         move || -> (Seat<AtLeast, 2>, u64)
             requires { IsSync R.row × (second.monitor ≡ monitor.now) }
         { add_many(rt, monitor, second) },
-    )
+    );
+    (seat, won.wrapping_add(other))
 }
 
 /// No addition is lost, and the lock ends free.
 #[test]
-fn two_adders(rt: HostRuntime) -> Result<(), Fail> {
-    let Some((monitor, first, second)) = two_seats(rt.alloc()) else {
-        panic!(rt; "no monitor")
-    };
-    let ((seat, won), (_, other)) = add_twice(&rt, &monitor, first, second);
-    let closed = monitor.close(seat);
-    assert!(rt; closed.free);
-    assert_eq!(rt; closed.row[0], won.wrapping_add(other));
-    assert!(rt; closed.row[0] > 0);
-    Ok(())
-}
-
-/// Locks to read, after as many tries as it takes.
-fn read_soon(
-    monitor: &Monitor<AtLeast, 2>,
-    mut seat: Seat<AtLeast, 2>,
-) -> Result<ReadHeld<AtLeast, 2>, Seat<AtLeast, 2>>
-    requires { seat.monitor ≡ monitor.now }
-    ensures { IfOk result (λ held. held.monitor ≡ monitor.now) × IfErr result (λ back. back.monitor ≡ monitor.now) }
-{
-    for _ in 0..MANY_TRIES {
-        match monitor.try_rlock(seat) {
-            Ok(held) => return Ok(held),
-            Err(back) => seat = back,
-        }
-    }
-    Err(seat)
-}
-
-/// Two threads lock to read.
-fn read_twice<R: Threads>(
-    rt: &R,
-    monitor: &Monitor<AtLeast, 2>,
-    first: Seat<AtLeast, 2>,
-    second: Seat<AtLeast, 2>,
-) -> (
-    Result<ReadHeld<AtLeast, 2>, Seat<AtLeast, 2>>,
-    Result<ReadHeld<AtLeast, 2>, Seat<AtLeast, 2>>,
-)
-    requires { (first.monitor ≡ monitor.now) × (second.monitor ≡ monitor.now) }
-    ensures { IfOk result.0 (λ held. held.monitor ≡ monitor.now) × IfOk result.1 (λ held. held.monitor ≡ monitor.now) }
-{
-    join(
-        rt,
-        move || -> Result<ReadHeld<AtLeast, 2>, Seat<AtLeast, 2>>
-            requires { first.monitor ≡ monitor.now }
-            ensures { IfOk result (λ held. held.monitor ≡ monitor.entry.now) }
-        { read_soon(monitor, first) },
-        move || -> Result<ReadHeld<AtLeast, 2>, Seat<AtLeast, 2>>
-            requires { second.monitor ≡ monitor.now }
-            ensures { IfOk result (λ held. held.monitor ≡ monitor.entry.now) }
-        { read_soon(monitor, second) },
-    )
-}
-
-/// Two threads hold read sections at once, which meet.
-#[test]
-fn two_readers_meet(rt: HostRuntime) -> Result<(), Fail> {
-    let Some((monitor, first, second)) = two_seats(rt.alloc()) else {
-        panic!(rt; "no monitor")
-    };
-    let (first, second) = read_twice(&rt, &monitor, first, second);
-    let Ok(first) = first else {
-        panic!(rt; "the first reader was kept out")
-    };
-    let Ok(second) = second else {
-        panic!(rt; "the second reader was kept out")
-    };
-    let (mut first, mut second) = monitor.both_read(first, second);
-    assert_eq!(rt; monitor.get(&mut first, 0), monitor.get(&mut second, 0));
-    let first = monitor.runlock(&rt, first);
-    let second = monitor.runlock(&rt, second);
-    let (first, _) = monitor.meet(first, second);
-    assert!(rt; monitor.close(first).free);
-    Ok(())
+fn two_adders(rt: HostRuntime) {
+    let (monitor, first, second) = two_seats(&rt, rt.alloc());
+    let (seat, won) = add_twice(&rt, &monitor, first, second);
+    assert!(rt; won > 0);
+    assert_eq!(rt; row_at_end(monitor, seat), Some([won, 0]));
 }
 
 /// Looks until the note is seen to be notified, and answers whether it was.
@@ -282,39 +200,37 @@ fn look_for_each_other<R: Threads + Wait + Sync>(
 /// Two threads are in read sections at once: each sees there that the other is in its own.
 #[test]
 fn two_readers_see_each_other(rt: HostRuntime) -> Result<(), Fail> {
-    let Some((monitor, first, second)) = two_seats(rt.alloc()) else {
-        panic!(rt; "no monitor")
-    };
-    let Some((env, mut one, mut two)) = two_env_seats(rt.alloc()) else {
-        panic!(rt; "no environment")
-    };
-    let mine = env.note_new(&mut one, None, None)?;
-    let other = env.note_new(&mut two, None, None)?;
-    let seen = look_for_each_other(&rt, &monitor, first, second, &env, one, two, (mine, other));
+    let (monitor, first, second) = two_seats(&rt, rt.alloc());
+    let (env, mut one, two) = two_env_seats(&rt, rt.alloc());
+    let notes = (
+        env.note_new(&mut one, None, None)?,
+        env.note_new(&mut one, None, None)?,
+    );
+    let seen = look_for_each_other(&rt, &monitor, first, second, &env, one, two, notes);
     assert_eq!(rt; seen, (true, true));
     Ok(())
+}
+
+/// How many seats are made of so many, or why no monitor is.
+fn seats_of(alloc: Global, seats: usize) -> Result<usize, Fault>
+    requires { 0 < seats }
+{
+    let (_monitor, made) = Monitor::<AtLeast, 2>::new(alloc, seats)?;
+    Ok(made.len())
 }
 
 /// 64 seats are made, and 65 are refused before any memory is asked for.
 #[test]
 fn too_many_seats(rt: HostRuntime) {
-    match Monitor::<AtLeast, 2>::new(rt.alloc(), 64) {
-        Ok((_monitor, seats)) => assert_eq!(rt; seats.len(), 64),
-        Err(_) => panic!(rt; "no monitor"),
-    }
-    match Monitor::<AtLeast, 2>::new(rt.alloc(), 65) {
-        Ok((_monitor, _seats)) => panic!(rt; "a monitor of 65 seats"),
-        Err(fault) => assert_eq!(rt; fault, Fault::TooManySeats),
-    }
+    let made = [seats_of(rt.alloc(), 64), seats_of(rt.alloc(), 65)];
+    assert_eq!(rt; made, [Ok(64), Err(Fault::TooManySeats)]);
 }
 
 /// With each allocation refused in turn no monitor is made, for that reason.
 #[test]
 fn refused_memory(rt: HostRuntime) {
-    match Monitor::<AtLeast, 2>::new(rt.alloc(), 3) {
-        Ok((_monitor, seats)) => assert_eq!(rt; seats.len(), 3),
-        Err(fault) => assert_eq!(rt; fault, Fault::OutOfMemory),
-    }
+    let made = seats_of(rt.alloc(), 3);
+    assert!(rt; matches!(made, Ok(3) | Err(Fault::OutOfMemory)));
 }
 
 /// Any `Condition<2>`, by the name that it has in the example.

@@ -1,33 +1,72 @@
 //! What no clause says: worked trees of notes, that calls can succeed, and that threads see one
 //! another's steps.
 
-ghost use Rattle.std.specs.Prelude.{◌≡◌, ◌<◌, ◌^◌, IfSome};
+ghost use Rattle.std.specs.Prelude.{◌≡◌, ◌<◌, All};
 ghost use Rattle.std.specs.Thread.{IsSync};
 
 use ns_env::note::NoteState;
 use ns_model::event::Answer;
 use ns_note::env::Env;
 use ns_note::fault::Fault;
-use ns_note::note::{Note, decode_note, encode_note};
+use ns_note::note::{Note, encode_note};
 use ns_note::seat::EnvSeat;
 use std::alloc::Global;
+use std::process::Abort;
 use std::sync::Wait;
 use std::test::Fail;
 use std::thread::{Threads, join, sleep};
 use std::time::{Clock, Duration};
 
-fn one_seat(alloc: Global) -> Option<(Env, EnvSeat)>
-    ensures { IfSome result (λ r. r.1.env ≡ r.0) }
+/// An environment and so many seats.
+pub fn new_env<R: Abort>(rt: &R, alloc: Global, seats: usize) -> (Env, Vec<EnvSeat>)
+    requires { 0 < seats }
+    ensures { All (λ seat. seat.env ≡ result.0) result.1.items }
 {
-    let (env, mut seats) = Env::new(alloc, 1).ok()?;
-    let seat = seats.pop()?;
-    Some((env, seat))
+    Env::new(alloc, seats).ok().expect(rt, "an environment")
+}
+
+/// The last seat that is left of an environment's.
+pub fn take_env_seat<R: Abort>(rt: &R, env: &Env, seats: &mut Vec<EnvSeat>) -> EnvSeat
+    requires { All (λ seat. seat.env ≡ env.now) seats.old.items }
+    ensures taken { result.env ≡ env.now }
+    ensures left { All (λ seat. seat.env ≡ env.now) seats.new.items }
+{
+    seats.pop().expect(rt, "a seat")
+}
+
+/// An environment and one seat.
+fn one_env_seat<R: Abort>(rt: &R, alloc: Global) -> (Env, EnvSeat)
+    ensures { result.1.env ≡ result.0 }
+{
+    let (env, mut seats) = new_env(rt, alloc, 1);
+    let seat = take_env_seat(rt, &env, &mut seats);
+    (env, seat)
+}
+
+/// An environment and its two seats.
+pub fn two_env_seats<R: Abort>(rt: &R, alloc: Global) -> (Env, EnvSeat, EnvSeat)
+    ensures { (result.1.env ≡ result.0) × (result.2.env ≡ result.0) }
+{
+    let (env, mut seats) = new_env(rt, alloc, 2);
+    let second = take_env_seat(rt, &env, &mut seats);
+    let first = take_env_seat(rt, &env, &mut seats);
+    (env, first, second)
+}
+
+/// An environment and its three seats.
+fn three_env_seats<R: Abort>(rt: &R, alloc: Global) -> (Env, EnvSeat, EnvSeat, EnvSeat)
+    ensures { (result.1.env ≡ result.0) × (result.2.env ≡ result.0) × (result.3.env ≡ result.0) }
+{
+    let (env, mut seats) = new_env(rt, alloc, 3);
+    let third = take_env_seat(rt, &env, &mut seats);
+    let second = take_env_seat(rt, &env, &mut seats);
+    let first = take_env_seat(rt, &env, &mut seats);
+    (env, first, second, third)
 }
 
 /// A new note, where the seat knows its parent and there is a number left.
-fn make(env: &Env, seat: &mut EnvSeat, parent: Option<Note>, deadline: Option<u64>) -> Option<Note>
-    requires env { seat.old.env ≡ env.now }
-    requires deadline { IfSome deadline (λ d. d < 2 ^ 54) }
+fn make(env: &Env, seat: &mut EnvSeat, parent: Option<Note>) -> Option<Note>
+    requires { seat.old.env ≡ env.now }
     ensures { seat.new.env ≡ seat.old.env }
 {
     if let Some(parent) = parent {
@@ -35,7 +74,7 @@ fn make(env: &Env, seat: &mut EnvSeat, parent: Option<Note>, deadline: Option<u6
             return None;
         }
     }
-    env.note_new(seat, parent, deadline).ok()
+    env.note_new(seat, parent, None).ok()
 }
 
 /// Whether the note is notified, where the seat knows it.
@@ -51,24 +90,12 @@ pub fn is_notified(env: &Env, seat: &mut EnvSeat, note: Note) -> Option<bool>
 }
 
 /// A look, where the seat knows the note.
-fn look(env: &Env, seat: &mut EnvSeat, note: Note, deadline: Option<u64>) -> Option<Option<Answer>>
+fn look(env: &Env, seat: &mut EnvSeat, note: Note) -> Option<Option<Answer>>
     requires { seat.old.env ≡ env.now }
     ensures { seat.new.env ≡ seat.old.env }
 {
     if env.knows(seat, note) {
-        Some(env.look(seat, Some(note), deadline))
-    } else {
-        None
-    }
-}
-
-/// The note's expiry, where the seat knows it.
-fn expiry(env: &Env, seat: &mut EnvSeat, note: Note) -> Option<Option<u64>>
-    requires { seat.old.env ≡ env.now }
-    ensures { seat.new.env ≡ seat.old.env }
-{
-    if env.knows(seat, note) {
-        Some(env.expiry(seat, note))
+        Some(env.look(seat, Some(note), None))
     } else {
         None
     }
@@ -104,70 +131,45 @@ fn wait<R: Wait>(
     }
 }
 
+/// A root and its grandchild, which the seat has made with one between them.
+pub fn lineage(env: &Env, seat: &mut EnvSeat) -> Option<(Note, Note)>
+    requires { seat.old.env ≡ env.now }
+    ensures { seat.new.env ≡ seat.old.env }
+{
+    let root = make(env, seat, None)?;
+    let child = make(env, seat, Some(root))?;
+    let grandchild = make(env, seat, Some(child))?;
+    Some((root, grandchild))
+}
+
+/// What a seat is told of a note: whether it is notified, and what a look shows.
+fn told(env: &Env, seat: &mut EnvSeat, note: Note) -> (Option<bool>, Option<Option<Answer>>)
+    requires { seat.old.env ≡ env.now }
+    ensures { seat.new.env ≡ seat.old.env }
+{
+    let notified = is_notified(env, seat, note);
+    (notified, look(env, seat, note))
+}
+
+/// What a seat is told of a grandchild before its root is notified, and behind that.
+fn notify_root(env: &Env, seat: &mut EnvSeat) -> Option<[(Option<bool>, Option<Option<Answer>>); 2]>
+    requires { seat.old.env ≡ env.now }
+    ensures { seat.new.env ≡ seat.old.env }
+{
+    let (root, grandchild) = lineage(env, seat)?;
+    let before = told(env, seat, grandchild);
+    notify(env, seat, root);
+    Some([before, told(env, seat, grandchild)])
+}
+
 /// A note, its child and its grandchild: who is below a notified note is notified.
 #[test]
-fn note_tree(rt: HostRuntime) -> Result<(), Fail> {
-    let Some((env, mut seat)) = one_seat(rt.alloc()) else {
-        panic!(rt; "no environment")
-    };
-    let root = make(&env, &mut seat, None, None).expect(&rt, "a root");
-    let child = make(&env, &mut seat, Some(root), None).expect(&rt, "a child");
-    let grandchild = make(&env, &mut seat, Some(child), None).expect(&rt, "a grandchild");
-    assert_eq!(rt; (root.index, child.index, grandchild.index), (0, 1, 2));
-    assert_eq!(rt; is_notified(&env, &mut seat, grandchild), Some(false));
-    assert_eq!(rt; look(&env, &mut seat, grandchild, None), Some(None));
-    assert!(rt; notify(&env, &mut seat, root));
-    assert_eq!(rt; is_notified(&env, &mut seat, grandchild), Some(true));
-    assert_eq!(rt;
-        look(&env, &mut seat, grandchild, None),
-        Some(Some(Answer::Canceled))
-    );
-    assert_eq!(rt; expiry(&env, &mut seat, grandchild), Some(None));
-    Ok(())
-}
-
-/// A deadline of 5 below one of 3: both have come at 3, and not at 2. The clock doesn't go back.
-#[test]
-fn note_tree_by_deadline(rt: HostRuntime) -> Result<(), Fail> {
-    let Some((env, mut seat)) = one_seat(rt.alloc()) else {
-        panic!(rt; "no environment")
-    };
-    let root = make(&env, &mut seat, None, Some(3)).expect(&rt, "a root");
-    let child = make(&env, &mut seat, Some(root), Some(5)).expect(&rt, "a child");
-    assert_eq!(rt; expiry(&env, &mut seat, child), Some(Some(3)));
-    env.advance(&mut seat, 2);
-    assert_eq!(rt; is_notified(&env, &mut seat, child), Some(false));
-    env.advance(&mut seat, 3);
-    assert_eq!(rt; is_notified(&env, &mut seat, child), Some(true));
-    env.advance(&mut seat, 1);
-    assert_eq!(rt; env.now(&mut seat), 3);
-    Ok(())
-}
-
-/// Where the note's deadline and the caller's come together, the note counts. A wait ends by
-/// either.
-#[test]
-fn looks_and_waits(rt: HostRuntime) -> Result<(), Fail> {
-    let Some((env, mut seat)) = one_seat(rt.alloc()) else {
-        panic!(rt; "no environment")
-    };
-    let timed = make(&env, &mut seat, None, Some(10)).expect(&rt, "a note");
-    let plain = make(&env, &mut seat, None, None).expect(&rt, "a note");
-    assert_eq!(rt; look(&env, &mut seat, timed, Some(10)), Some(None));
-    env.advance(&mut seat, 10);
-    assert_eq!(rt;
-        look(&env, &mut seat, timed, Some(10)),
-        Some(Some(Answer::Canceled))
-    );
-    assert_eq!(rt;
-        look(&env, &mut seat, plain, Some(10)),
-        Some(Some(Answer::TimedOut))
-    );
-    assert_eq!(rt; look(&env, &mut seat, plain, Some(11)), Some(None));
-    assert_eq!(rt; wait(&rt, &env, &mut seat, plain, Some(5)), Some(false));
-    assert!(rt; notify(&env, &mut seat, plain));
-    assert_eq!(rt; wait(&rt, &env, &mut seat, plain, None), Some(true));
-    Ok(())
+fn note_tree(rt: HostRuntime) {
+    let (env, mut seat) = one_env_seat(&rt, rt.alloc());
+    let came = notify_root(&env, &mut seat);
+    let before = (Some(false), Some(None));
+    let behind = (Some(true), Some(Some(Answer::Canceled)));
+    assert_eq!(rt; came, Some([before, behind]));
 }
 
 /// Makes 64 notes, and answers whether they came in order.
@@ -176,7 +178,7 @@ fn makes_all(env: &Env, seat: &mut EnvSeat) -> bool
     ensures { seat.new.env ≡ seat.old.env }
 {
     for i in 0..64u8 {
-        match make(env, seat, None, None) {
+        match make(env, seat, None) {
             Some(note) if note.index == i => {}
             _ => return false,
         }
@@ -184,81 +186,64 @@ fn makes_all(env: &Env, seat: &mut EnvSeat) -> bool
     true
 }
 
+/// Whether 64 notes are made and no more, the last of which is then notified, and no other.
+fn fills(env: &Env, seat: &mut EnvSeat) -> bool
+    requires { seat.old.env ≡ env.now }
+{
+    let all = makes_all(env, seat);
+    let refused = make(env, seat, None).is_none();
+    let known = notify(env, seat, Note { index: 63 });
+    let last = is_notified(env, seat, Note { index: 63 });
+    let other = is_notified(env, seat, Note { index: 62 });
+    all && refused && known && last == Some(true) && other == Some(false)
+}
+
 /// There are 64 notes and no more, and the last of them answers still.
 #[test]
-fn notes_full(rt: HostRuntime) -> Result<(), Fail> {
-    let Some((env, mut seat)) = one_seat(rt.alloc()) else {
-        panic!(rt; "no environment")
-    };
-    assert!(rt; makes_all(&env, &mut seat));
-    assert!(rt; make(&env, &mut seat, None, None).is_none());
-    assert!(rt; make(&env, &mut seat, None, None).is_none());
-    let last = Note { index: 63 };
-    assert_eq!(rt; is_notified(&env, &mut seat, last), Some(false));
-    assert!(rt; notify(&env, &mut seat, last));
-    assert_eq!(rt; is_notified(&env, &mut seat, last), Some(true));
-    assert_eq!(rt;
-        is_notified(&env, &mut seat, Note { index: 62 }),
-        Some(false)
-    );
-    Ok(())
+fn notes_full(rt: HostRuntime) {
+    let (env, mut seat) = one_env_seat(&rt, rt.alloc());
+    assert!(rt; fills(&env, &mut seat));
+}
+
+/// How many seats are made of so many, or why none is.
+fn seats_of(alloc: Global, seats: usize) -> Result<usize, Fault>
+    requires { 0 < seats }
+{
+    let (_env, made) = Env::new(alloc, seats)?;
+    Ok(made.len())
 }
 
 /// 64 seats are made, and 65 are refused.
 #[test]
-fn seats_of_an_environment(rt: HostRuntime) -> Result<(), Fail> {
-    let Ok((_env, seats)) = Env::new(rt.alloc(), 64) else {
-        panic!(rt; "no environment")
-    };
-    assert_eq!(rt; seats.len(), 64);
-    let refused = Env::new(rt.alloc(), 65).err();
-    assert_eq!(rt; refused, Some(Fault::TooManySeats));
-    Ok(())
+fn seats_of_an_environment(rt: HostRuntime) {
+    let made = [seats_of(rt.alloc(), 64), seats_of(rt.alloc(), 65)];
+    assert_eq!(rt; made, [Ok(64), Err(Fault::TooManySeats)]);
 }
 
 /// With each allocation refused in turn no environment is made, for that reason.
 #[test]
 fn refused_memory(rt: HostRuntime) {
-    match Env::new(rt.alloc(), 3) {
-        Ok((_env, seats)) => assert_eq!(rt; seats.len(), 3),
-        Err(fault) => assert_eq!(rt; fault, Fault::OutOfMemory),
-    }
+    let made = seats_of(rt.alloc(), 3);
+    assert!(rt; matches!(made, Ok(3) | Err(Fault::OutOfMemory)));
 }
 
 /// The word of note 1 under note 0 with deadline 5, and of a notified note with neither.
 #[test]
-fn words(rt: HostRuntime) -> Result<(), Fail> {
+fn words(rt: HostRuntime) {
     let below = NoteState {
         called: false,
         made: true,
         parent: Some(0),
         deadline: Some(5),
     };
-    assert_eq!(rt; encode_note(below), 9_223_372_036_854_778_374);
-    assert_eq!(rt; decode_note(9_223_372_036_854_778_374), below);
     let alone = NoteState {
         called: true,
         made: true,
         parent: None,
         deadline: None,
     };
-    assert_eq!(rt; encode_note(alone), 3);
-    assert_eq!(rt; decode_note(3), alone);
-    Ok(())
-}
-
-/// Three seats, the first of which has made a note, its child and its grandchild.
-fn family(alloc: Global) -> Option<(Env, EnvSeat, EnvSeat, EnvSeat, Note, Note)>
-    ensures { IfSome result (λ r. (r.1.env ≡ r.0) × (r.2.env ≡ r.0) × (r.3.env ≡ r.0)) }
-{
-    let (env, mut seats) = Env::new(alloc, 3).ok()?;
-    let third = seats.pop()?;
-    let second = seats.pop()?;
-    let mut first = seats.pop()?;
-    let root = make(&env, &mut first, None, None)?;
-    let child = make(&env, &mut first, Some(root), None)?;
-    let grandchild = make(&env, &mut first, Some(child), None)?;
-    Some((env, first, second, third, root, grandchild))
+    let words = [encode_note(below), encode_note(alone)];
+    assert_eq!(rt; words, [9_223_372_036_854_778_374, 3]);
 }
 
 /// One thread moves the clock and notifies the root, while the other waits for the grandchild.
@@ -269,47 +254,48 @@ fn notify_and_wait<R: Threads + Wait + Sync>(
     mut second: EnvSeat,
     root: Note,
     grandchild: Note,
-) -> ((EnvSeat, bool), (EnvSeat, Option<bool>))
+) -> Option<bool>
     requires { (first.env ≡ env.now) × (second.env ≡ env.now) }
-    ensures { (result.0.0.env ≡ env.now) × (result.1.0.env ≡ env.now) }
 {
-    join(
+    let (_, answer) = join(
         rt,
-        move || -> (EnvSeat, bool)
+        move || -> bool
             requires { first.env ≡ env.now }
-            ensures { result.0.env ≡ env.entry.now }
         {
             env.advance(&mut first, 3);
-            let known = notify(env, &mut first, root);
-            (first, known)
+            notify(env, &mut first, root)
         },
-        move || -> (EnvSeat, Option<bool>)
+        move || -> Option<bool>
             requires { IsSync R.row × (second.env ≡ env.now) }
-            ensures { result.0.env ≡ env.entry.now }
-        {
-            let answer = wait(rt, env, &mut second, grandchild, None);
-            (second, answer)
-        },
-    )
+        { wait(rt, env, &mut second, grandchild, None) },
+    );
+    answer
+}
+
+/// Makes a note, its child and its grandchild, of which one thread notifies the first while another waits for
+/// the last. What the other was answered, and what the third seat is told then: of the note, and the clock.
+fn wait_below<R: Threads + Wait + Sync>(
+    rt: &R,
+    env: &Env,
+    first: EnvSeat,
+    second: EnvSeat,
+    third: &mut EnvSeat,
+) -> Option<(Option<bool>, Option<bool>, u64)>
+    requires { (first.env ≡ env.now) × (second.env ≡ env.now) × (third.old.env ≡ env.now) }
+{
+    let mut maker = first;
+    let (root, grandchild) = lineage(env, &mut maker)?;
+    let answer = notify_and_wait(rt, env, maker, second, root, grandchild);
+    let told = is_notified(env, third, grandchild);
+    Some((answer, told, env.now(third)))
 }
 
 /// After the join a third seat, which has met nobody, sees all that was done.
 #[test]
-fn note_threads(rt: HostRuntime) -> Result<(), Fail> {
-    let Some((env, first, second, mut third, root, grandchild)) = family(rt.alloc()) else {
-        panic!(rt; "no environment")
-    };
-    let ((first, known), (second, answer)) = notify_and_wait(
-        &rt, &env, first, second, root, grandchild,
-    );
-    assert!(rt; known);
-    assert_eq!(rt; answer, Some(true));
-    assert!(rt; env.knows(&mut third, grandchild));
-    assert_eq!(rt; is_notified(&env, &mut third, grandchild), Some(true));
-    assert_eq!(rt; env.now(&mut third), 3);
-    let (mut first, _) = env.meet(first, second);
-    assert_eq!(rt; env.now(&mut first), 3);
-    Ok(())
+fn note_threads(rt: HostRuntime) {
+    let (env, first, second, mut third) = three_env_seats(&rt, rt.alloc());
+    let came = wait_below(&rt, &env, first, second, &mut third);
+    assert_eq!(rt; came, Some((Some(true), Some(true), 3)));
 }
 
 /// Whether the note is notified before so many milliseconds have passed.
@@ -342,48 +328,62 @@ fn wait_and_advance<R: Threads + Wait + Clock + Sync>(
     mut second: EnvSeat,
     root: Note,
     other: Note,
-) -> ((EnvSeat, bool, bool), (EnvSeat, Option<bool>))
+) -> ((bool, bool), Option<bool>)
     requires { (first.env ≡ env.now) × (second.env ≡ env.now) }
-    ensures { (result.0.0.env ≡ env.now) × (result.1.0.env ≡ env.now) }
 {
     join(
         rt,
-        move || -> (EnvSeat, bool, bool)
+        move || -> (bool, bool)
             requires { IsSync R.row × (first.env ≡ env.now) }
-            ensures { result.0.env ≡ env.entry.now }
         {
             env.advance(&mut first, 9);
             let early = is_notified_within(rt, env, &mut first, root, 50);
             env.advance(&mut first, 10);
             let in_time = is_notified_within(rt, env, &mut first, root, 10_000);
             env.advance(&mut first, 11);
-            (first, early, in_time)
+            (early, in_time)
         },
-        move || -> (EnvSeat, Option<bool>)
+        move || -> Option<bool>
             requires { IsSync R.row × (second.env ≡ env.now) }
-            ensures { result.0.env ≡ env.entry.now }
         {
             let answer = wait(rt, env, &mut second, other, Some(10));
             let _ = notify(env, &mut second, root);
-            (second, answer)
+            answer
         },
     )
 }
 
+/// Two notes, neither below the other.
+fn two_roots(env: &Env, seat: &mut EnvSeat) -> Option<(Note, Note)>
+    requires { seat.old.env ≡ env.now }
+    ensures { seat.new.env ≡ seat.old.env }
+{
+    let one = make(env, seat, None)?;
+    let other = make(env, seat, None)?;
+    Some((one, other))
+}
+
+/// What `wait_and_advance` comes to with two new notes: whether the wait was back at each tick, and its answer.
+fn wait_for_one_of_two<R: Threads + Wait + Clock + Sync>(
+    rt: &R,
+    env: &Env,
+    first: EnvSeat,
+    second: EnvSeat,
+) -> Option<(bool, bool, Option<bool>)>
+    requires { (first.env ≡ env.now) × (second.env ≡ env.now) }
+{
+    let mut maker = first;
+    let (root, other) = two_roots(env, &mut maker)?;
+    let ((early, in_time), answer) = wait_and_advance(rt, env, maker, second, root, other);
+    Some((early, in_time, answer))
+}
+
 /// A wait goes on at the tick before its deadline, and ends at the tick itself.
 #[test]
-fn waits_to_the_tick(rt: HostRuntime) -> Result<(), Fail> {
-    let Some((env, mut first, second, _third, root, _grandchild)) = family(rt.alloc()) else {
-        panic!(rt; "no environment")
-    };
-    let other = make(&env, &mut first, None, None).expect(&rt, "another root");
-    let ((_first, early, in_time), (_second, answer)) = wait_and_advance(
-        &rt, &env, first, second, root, other,
-    );
-    assert!(rt; !early);
-    assert!(rt; in_time);
-    assert_eq!(rt; answer, Some(false));
-    Ok(())
+fn waits_to_the_tick(rt: HostRuntime) {
+    let (env, first, second) = two_env_seats(&rt, rt.alloc());
+    let came = wait_for_one_of_two(&rt, &env, first, second);
+    assert_eq!(rt; came, Some((false, true, Some(false))));
 }
 
 /// The example at the head of the crate.

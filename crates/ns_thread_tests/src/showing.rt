@@ -4,8 +4,8 @@
 ghost use Rattle.std.specs.Prelude.{◌≡◌, ◌<◌};
 ghost use Rattle.std.specs.Thread.{IsSync};
 
-use crate::variables::{Comer, come_and_wait, lock_at, two_and_one};
-use crate::waits::{AtLeast, MANY_TRIES, set, two_seats};
+use crate::variables::{Comer, come_and_wait, lock_at, one_and_one};
+use crate::waits::{AtLeast, MANY_TRIES, row_at_end, set, two_seats};
 use ns_model::event::{Answer, Mode};
 use ns_monitor::caller::{ReadHeld, Seat};
 use ns_monitor::monitor::Monitor;
@@ -15,19 +15,42 @@ use ns_queue::waiter::Shown;
 use ns_word::word::Word;
 use std::process::Abort;
 use std::sync::Wait;
-use std::test::Fail;
 use std::thread::{Threads, join, yield_now};
 
-/// Whether just these stand in the lock list, just these wait for the variable of this number, and nobody
-/// for another.
-fn shows_just(state: &DebugState, lock: &[Shown], k: usize, variable: &[Shown]) -> bool {
+/// Who may be shown: the second seat, which writes; the first, which reads for a condition; and the first, which
+/// writes.
+const WRITER: Shown = Shown {
+    seat: 1,
+    mode: Mode::Write,
+    conditional: false,
+};
+
+const READER: Shown = Shown {
+    seat: 0,
+    mode: Mode::Read,
+    conditional: true,
+};
+
+const WAITER: Shown = Shown {
+    seat: 0,
+    mode: Mode::Write,
+    conditional: false,
+};
+
+/// The word that is shown, where just these stand in the lock list, just these wait for the variable of this
+/// number, and nobody for another.
+fn word_with(state: &DebugState, lock: &[Shown], k: usize, variable: &[Shown]) -> Option<Word> {
     for (number, list) in state.cvs.iter().enumerate() {
         let just: &[Shown] = if number == k { variable } else { &[] };
         if list.as_slice() != just {
-            return false;
+            return None;
         }
     }
-    state.lock.as_slice() == lock
+    if state.lock.as_slice() == lock {
+        Some(state.word)
+    } else {
+        None
+    }
 }
 
 /// Asks from a read section how the monitor stands, until somebody stands in the lock list.
@@ -49,73 +72,69 @@ fn look_for_waiter<R: Abort + Wait>(
     panic!(rt; "nobody waits for the lock")
 }
 
-/// Looks from its read section for one who waits for the lock, and leaves.
+/// Looks from its read section for the writer who waits for the lock, and leaves. Answers the word that is shown
+/// with that one alone.
 fn look_and_leave<R: Abort + Wait>(
     rt: &R,
     monitor: &Monitor<AtLeast, 2>,
     mut held: ReadHeld<AtLeast, 2>,
-) -> (Seat<AtLeast, 2>, DebugState)
+) -> (Seat<AtLeast, 2>, Option<Word>)
     requires { held.monitor ≡ monitor.now }
     ensures { result.0.monitor ≡ monitor.now }
 {
     let state = look_for_waiter(rt, monitor, &mut held);
-    (monitor.runlock(rt, held), state)
+    (
+        monitor.runlock(rt, held),
+        word_with(&state, &[WRITER], 0, &[]),
+    )
 }
 
-/// One thread looks from its read section, and the other locks to write.
+/// One thread looks from a read section, and the other locks to write.
 fn look_and_lock<R: Abort + Threads + Wait + Sync>(
     rt: &R,
     monitor: &Monitor<AtLeast, 2>,
-    held: ReadHeld<AtLeast, 2>,
+    first: Seat<AtLeast, 2>,
     second: Seat<AtLeast, 2>,
-) -> ((Seat<AtLeast, 2>, DebugState), Seat<AtLeast, 2>)
-    requires { (held.monitor ≡ monitor.now) × (second.monitor ≡ monitor.now) }
-    ensures { result.0.0.monitor ≡ monitor.now }
+) -> (Seat<AtLeast, 2>, Option<Word>)
+    requires { (first.monitor ≡ monitor.now) × (second.monitor ≡ monitor.now) }
+    ensures { result.0.monitor ≡ monitor.now }
 {
-    join(
+    let held = monitor.rlock(rt, first);
+    let (came, _) = join(
         rt,
-        move || -> (Seat<AtLeast, 2>, DebugState)
+        move || -> (Seat<AtLeast, 2>, Option<Word>)
             requires { IsSync R.row × (held.monitor ≡ monitor.now) }
             ensures { result.0.monitor ≡ monitor.entry.now }
         { look_and_leave(rt, monitor, held) },
         move || -> Seat<AtLeast, 2>
             requires { IsSync R.row × (second.monitor ≡ monitor.now) }
         { set(rt, monitor, second, 1) },
-    )
+    );
+    came
 }
 
 /// A reader sees the writer who waits for it to leave, and the word that says so.
 #[test]
-fn writer_is_shown_to_a_reader(rt: HostRuntime) -> Result<(), Fail> {
-    let Some((monitor, first, second)) = two_seats(rt.alloc()) else {
-        panic!(rt; "no monitor")
-    };
-    let held = monitor.rlock(&rt, first);
-    let ((seat, state), _) = look_and_lock(&rt, &monitor, held, second);
-    let writer = Shown {
-        seat: 1,
-        mode: Mode::Write,
-        conditional: false,
-    };
-    assert!(rt; shows_just(&state, &[writer], 0, &[]));
+fn writer_is_shown_to_a_reader(rt: HostRuntime) {
+    let (monitor, first, second) = two_seats(&rt, rt.alloc());
+    let (seat, shown) = look_and_lock(&rt, &monitor, first, second);
     let mut word = Word::FREE;
     word.waiting = true;
     word.writer_waits = true;
     word.readers = 1;
-    assert_eq!(rt; state.word, word);
-    let closed = monitor.close(seat);
-    assert!(rt; closed.free);
-    assert_eq!(rt; closed.row, [1, 0]);
-    Ok(())
+    assert_eq!(rt;
+        (shown, row_at_end(monitor, seat)),
+        (Some(word), Some([1, 0]))
+    );
 }
 
 /// Looks for one who waits in the lock list, looks at it once more with no section in hand, and then sets
-/// the first cell to 1.
+/// the first cell to 1. Answers the word that is shown with the reader alone.
 fn look_and_set<R: Abort + Wait>(
     rt: &R,
     monitor: &Monitor<AtLeast, 2>,
     seat: Seat<AtLeast, 2>,
-) -> DebugState
+) -> Option<Word>
     requires { seat.monitor ≡ monitor.now }
 {
     let mut held = monitor.rlock(rt, seat);
@@ -123,126 +142,121 @@ fn look_and_set<R: Abort + Wait>(
     let mut seat = monitor.runlock(rt, held);
     let state = monitor.debug_state_and_waiters(rt, &mut seat);
     set(rt, monitor, seat, 1);
-    state
+    word_with(&state, &[READER], 0, &[])
 }
 
-/// One thread waits for a condition in its read section, and the other looks, and makes it true.
-fn wait_and_look<R: Abort + Threads + Wait + Sync>(
+/// Waits for a condition in the read section in hand. Answers what the first cell is then.
+fn read_for_one<R: Wait>(
     rt: &R,
     monitor: &Monitor<AtLeast, 2>,
     held: ReadHeld<AtLeast, 2>,
-    second: Seat<AtLeast, 2>,
-) -> (ReadHeld<AtLeast, 2>, DebugState)
-    requires { (held.monitor ≡ monitor.now) × (second.monitor ≡ monitor.now) }
+) -> (Seat<AtLeast, 2>, u64)
+    requires { held.monitor ≡ monitor.now }
     ensures { result.0.monitor ≡ monitor.now }
 {
-    join(
+    let mut held = monitor.wait(rt, held, AtLeast { least: 1 });
+    let value = monitor.get(&mut held, 0);
+    (monitor.runlock(rt, held), value)
+}
+
+/// One thread waits for a condition in a read section, and the other looks, and makes it true.
+fn wait_and_look<R: Abort + Threads + Wait + Sync>(
+    rt: &R,
+    monitor: &Monitor<AtLeast, 2>,
+    first: Seat<AtLeast, 2>,
+    second: Seat<AtLeast, 2>,
+) -> (Seat<AtLeast, 2>, u64, Option<Word>)
+    requires { (first.monitor ≡ monitor.now) × (second.monitor ≡ monitor.now) }
+    ensures { result.0.monitor ≡ monitor.now }
+{
+    let held = monitor.rlock(rt, first);
+    let ((seat, value), shown) = join(
         rt,
-        move || -> ReadHeld<AtLeast, 2>
+        move || -> (Seat<AtLeast, 2>, u64)
             requires { IsSync R.row × (held.monitor ≡ monitor.now) }
-            ensures { result.monitor ≡ monitor.entry.now }
-        { monitor.wait(rt, held, AtLeast { least: 1 }) },
-        move || -> DebugState
+            ensures { result.0.monitor ≡ monitor.entry.now }
+        { read_for_one(rt, monitor, held) },
+        move || -> Option<Word>
             requires { IsSync R.row × (second.monitor ≡ monitor.now) }
         { look_and_set(rt, monitor, second) },
-    )
+    );
+    (seat, value, shown)
+}
+
+/// Whether the word of a free lock says that somebody waits for a condition, and no writer for the lock.
+fn tells_of_condition(word: Word) -> bool {
+    let free = !word.write && word.readers == 0;
+    free && word.waiting && word.cond && !word.writer_waits
 }
 
 /// A reader who waits for a condition is shown as such, and is back once the condition is true.
 #[test]
-fn conditional_reader_is_shown(rt: HostRuntime) -> Result<(), Fail> {
-    let Some((monitor, first, second)) = two_seats(rt.alloc()) else {
-        panic!(rt; "no monitor")
-    };
-    let held = monitor.rlock(&rt, first);
-    let (mut held, state) = wait_and_look(&rt, &monitor, held, second);
-    let reader = Shown {
-        seat: 0,
-        mode: Mode::Read,
-        conditional: true,
-    };
-    assert!(rt; shows_just(&state, &[reader], 0, &[]));
-    assert!(rt; state.word.waiting && state.word.cond && !state.word.writer_waits);
-    assert!(rt; !state.word.write && state.word.readers == 0);
-    assert_eq!(rt; monitor.get(&mut held, 0), 1);
-    let seat = monitor.runlock(&rt, held);
-    let closed = monitor.close(seat);
-    assert!(rt; closed.free);
-    assert_eq!(rt; closed.row, [1, 0]);
-    Ok(())
+fn conditional_reader_is_shown(rt: HostRuntime) {
+    let (monitor, first, second) = two_seats(&rt, rt.alloc());
+    let (seat, value, shown) = wait_and_look(&rt, &monitor, first, second);
+    let told = shown.map(tells_of_condition);
+    let came = (told, value, row_at_end(monitor, seat));
+    assert_eq!(rt; came, (Some(true), 1, Some([1, 0])));
 }
 
-/// Looks from one write section while somebody waits for the variable, and behind a signal of it. Then looks
-/// for the waiter to be back.
+/// Looks from one write section while somebody waits for the third variable, and behind a signal of it. Then looks
+/// for the waiter to be back. Answers both words that are shown with that waiter alone, where it stands.
 fn look_and_signal<R: Abort + Wait>(
     rt: &R,
     monitor: &Monitor<AtLeast, 2>,
     seat: Seat<AtLeast, 2>,
-    k: usize,
-) -> (Seat<AtLeast, 2>, DebugState, DebugState)
-    requires of { seat.monitor ≡ monitor.now }
-    requires variable { k < 4 }
+) -> (Seat<AtLeast, 2>, Option<Word>, Option<Word>)
+    requires { seat.monitor ≡ monitor.now }
     ensures { result.0.monitor ≡ monitor.now }
 {
     let mut held = lock_at(rt, monitor, seat, 0, 1);
     let before = monitor.debug_state_and_waiters(rt, &mut held);
-    monitor.signal(rt, &mut held, k);
+    monitor.signal(rt, &mut held, 2);
     let behind = monitor.debug_state_and_waiters(rt, &mut held);
     let seat = monitor.unlock(rt, held);
     let held = lock_at(rt, monitor, seat, 1, 1);
-    (monitor.unlock(rt, held), before, behind)
+    let seat = monitor.unlock(rt, held);
+    let before = word_with(&before, &[], 2, &[WAITER]);
+    (seat, before, word_with(&behind, &[WAITER], 2, &[]))
 }
 
-/// One thread waits for the variable, and the other looks and signals.
+/// One thread waits for the third variable, and the other looks and signals.
 fn wait_and_be_shown<R: Abort + Threads + Wait + Sync>(
     rt: &R,
     monitor: &Monitor<AtLeast, 2>,
     env: &Env,
     comer: Comer,
     waker: Seat<AtLeast, 2>,
-    k: usize,
-) -> (Answer, (Seat<AtLeast, 2>, DebugState, DebugState))
-    requires of { (comer.seat.monitor ≡ monitor.now) × (waker.monitor ≡ monitor.now) × (comer.env_seat.env ≡ env.now) }
-    requires variable { k < 4 }
-    ensures { result.1.0.monitor ≡ monitor.now }
+) -> (Seat<AtLeast, 2>, Answer, [Option<Word>; 2])
+    requires { (comer.seat.monitor ≡ monitor.now) × (waker.monitor ≡ monitor.now) × (comer.env_seat.env ≡ env.now) }
+    ensures { result.0.monitor ≡ monitor.now }
 {
-    join(
+    let (answer, (seat, before, behind)) = join(
         rt,
         move || -> Answer
-            requires { IsSync R.row × (comer.seat.monitor ≡ monitor.now) × (comer.env_seat.env ≡ env.now) × (k < 4) }
-        { come_and_wait(rt, monitor, env, comer, k) },
-        move || -> (Seat<AtLeast, 2>, DebugState, DebugState)
-            requires { IsSync R.row × (waker.monitor ≡ monitor.now) × (k < 4) }
+            requires { IsSync R.row × (comer.seat.monitor ≡ monitor.now) × (comer.env_seat.env ≡ env.now) }
+        { come_and_wait(rt, monitor, env, comer, 2) },
+        move || -> (Seat<AtLeast, 2>, Option<Word>, Option<Word>)
+            requires { IsSync R.row × (waker.monitor ≡ monitor.now) }
             ensures { result.0.monitor ≡ monitor.entry.now }
-        { look_and_signal(rt, monitor, waker, k) },
-    )
+        { look_and_signal(rt, monitor, waker) },
+    );
+    (seat, answer, [before, behind])
 }
 
 /// A waiter is shown at its variable, and behind a signal under the lock in the lock list.
 #[test]
 fn moved_waiter_is_shown(rt: HostRuntime) {
-    let waiter = Shown {
-        seat: 0,
-        mode: Mode::Write,
-        conditional: false,
-    };
+    let (monitor, env, comer, waker) = one_and_one(&rt, rt.alloc(), None);
+    let (seat, answer, shown) = wait_and_be_shown(&rt, &monitor, &env, comer, waker);
     let mut held = Word::FREE;
     held.write = true;
     let mut waited_for = held;
     waited_for.waiting = true;
     waited_for.writer_waits = true;
-    for k in 0..4 {
-        let Some(((monitor, env), comer, _, waker)) = two_and_one(rt.alloc(), None) else {
-            panic!(rt; "no monitor")
-        };
-        let (answer, (seat, before, behind)) = wait_and_be_shown(
-            &rt, &monitor, &env, comer, waker, k,
-        );
-        assert_eq!(rt; answer, Answer::Met);
-        assert!(rt; shows_just(&before, &[], k, &[waiter]));
-        assert_eq!(rt; before.word, held);
-        assert!(rt; shows_just(&behind, &[waiter], k, &[]));
-        assert_eq!(rt; behind.word, waited_for);
-        assert!(rt; monitor.close(seat).free);
-    }
+    let came = (answer, shown, row_at_end(monitor, seat));
+    assert_eq!(rt;
+        came,
+        (Answer::Met, [Some(held), Some(waited_for)], Some([1, 1]))
+    );
 }

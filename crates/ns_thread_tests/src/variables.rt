@@ -1,22 +1,21 @@
 //! What no clause says of condition variables between threads: that a waiter comes back, by a signal
-//! or a broadcast from each kind of caller, by its deadline or by its note.
+//! or a broadcast from each kind of caller. By its deadline and by its note it does in `waits`.
 
-ghost use Rattle.std.specs.Prelude.{◌≡◌, ◌<◌, All, IfSome};
+ghost use Rattle.std.specs.Prelude.{◌≡◌, ◌<◌, All};
 ghost use Rattle.std.specs.Thread.{IsSync};
 
+use crate::note::{new_env, take_env_seat, two_env_seats};
 use crate::waits::{
-    AtLeast, MANY_TRIES, TICK, advance_behind, notify_behind, two_env_seats, two_seats,
+    AtLeast, MANY_TRIES, TICK, count, new_monitor, row_at_end, take_seat, two_seats,
 };
 use ns_model::event::Answer;
 use ns_monitor::caller::{ReadHeld, Seat, WriteHeld};
 use ns_monitor::monitor::Monitor;
 use ns_note::env::Env;
-use ns_note::note::Note;
 use ns_note::seat::EnvSeat;
 use std::alloc::Global;
 use std::process::Abort;
 use std::sync::Wait;
-use std::test::Fail;
 use std::thread::{Threads, join, yield_now};
 
 /// A caller with no section in hand, that may wait, until a deadline if it has one.
@@ -34,52 +33,60 @@ struct Reader {
     env_seat: EnvSeat,
 }
 
-/// A monitor and an environment.
-pub type Shared = (Monitor<AtLeast, 2>, Env);
-
-/// The last seat that is left of a monitor's.
-fn take_seat(
+/// A caller that may wait, with the last seats that are left.
+fn take_comer<R: Abort>(
+    rt: &R,
     monitor: &Monitor<AtLeast, 2>,
+    env: &Env,
     seats: &mut Vec<Seat<AtLeast, 2>>,
-) -> Option<Seat<AtLeast, 2>>
-    requires { All (λ seat. seat.monitor ≡ monitor.now) seats.old.items }
-    ensures taken { IfSome result (λ seat. seat.monitor ≡ monitor.now) }
-    ensures left { All (λ seat. seat.monitor ≡ monitor.now) seats.new.items }
+    env_seats: &mut Vec<EnvSeat>,
+) -> Comer
+    requires seats { All (λ seat. seat.monitor ≡ monitor.now) seats.old.items }
+    requires env_seats { All (λ seat. seat.env ≡ env.now) env_seats.old.items }
+    ensures taken { (result.seat.monitor ≡ monitor.now) × (result.env_seat.env ≡ env.now) }
+    ensures seats { All (λ seat. seat.monitor ≡ monitor.now) seats.new.items }
+    ensures env_seats { All (λ seat. seat.env ≡ env.now) env_seats.new.items }
 {
-    seats.pop()
+    Comer {
+        seat: take_seat(rt, monitor, seats),
+        env_seat: take_env_seat(rt, env, env_seats),
+        deadline: None,
+    }
 }
 
-/// A monitor and an environment, two callers that may wait until a deadline, and one that may wake them.
-pub fn two_and_one(
+/// A monitor and an environment, a caller that may wait until a deadline, and one that may wake it.
+pub fn one_and_one<R: Abort>(
+    rt: &R,
     alloc: Global,
     deadline: Option<u64>,
-) -> Option<(Shared, Comer, Comer, Seat<AtLeast, 2>)>
-    ensures monitor { IfSome result (λ r. (r.1.seat.monitor ≡ r.0.0) × (r.2.seat.monitor ≡ r.0.0) × (r.3.monitor ≡ r.0.0)) }
-    ensures env { IfSome result (λ r. (r.1.env_seat.env ≡ r.0.1) × (r.2.env_seat.env ≡ r.0.1)) }
+) -> (Monitor<AtLeast, 2>, Env, Comer, Seat<AtLeast, 2>)
+    ensures monitor { (result.2.seat.monitor ≡ result.0) × (result.3.monitor ≡ result.0) }
+    ensures env { result.2.env_seat.env ≡ result.1 }
 {
-    let (monitor, mut seats) = Monitor::<AtLeast, 2>::new(alloc, 3).ok()?;
-    let (env, first_env, second_env) = two_env_seats(alloc)?;
-    let waker = seats.pop()?;
-    let second = Comer {
-        seat: seats.pop()?,
-        env_seat: second_env,
+    let (monitor, seat, waker) = two_seats(rt, alloc);
+    let (env, env_seat, _) = two_env_seats(rt, alloc);
+    let comer = Comer {
+        seat,
+        env_seat,
         deadline,
     };
-    let first = Comer {
-        seat: seats.pop()?,
-        env_seat: first_env,
-        deadline,
-    };
-    Some(((monitor, env), first, second, waker))
+    (monitor, env, comer, waker)
 }
 
-/// Adds 1 to a cell of the section in hand.
-fn count(monitor: &Monitor<AtLeast, 2>, held: &mut WriteHeld<AtLeast, 2>, cell: usize)
-    requires { (held.old.monitor ≡ monitor.now) × (cell < 2) }
-    ensures { held.new.monitor ≡ held.old.monitor }
+/// A monitor and an environment, two callers that may wait, and one that may wake them.
+fn two_and_one<R: Abort>(
+    rt: &R,
+    alloc: Global,
+) -> (Monitor<AtLeast, 2>, Env, (Comer, Comer), Seat<AtLeast, 2>)
+    ensures monitor { (result.2.0.seat.monitor ≡ result.0) × (result.2.1.seat.monitor ≡ result.0) × (result.3.monitor ≡ result.0) }
+    ensures env { (result.2.0.env_seat.env ≡ result.1) × (result.2.1.env_seat.env ≡ result.1) }
 {
-    let value = monitor.get(held, cell);
-    monitor.set(held, cell, value.wrapping_add(1));
+    let (monitor, mut seats) = new_monitor(rt, alloc, 3);
+    let (env, mut env_seats) = new_env(rt, alloc, 2);
+    let waker = take_seat(rt, &monitor, &mut seats);
+    let second = take_comer(rt, &monitor, &env, &mut seats, &mut env_seats);
+    let first = take_comer(rt, &monitor, &env, &mut seats, &mut env_seats);
+    (monitor, env, (first, second), waker)
 }
 
 /// Counts itself in the first cell, waits from that section for a variable, and counts itself in the second
@@ -176,15 +183,15 @@ fn wait_twice_and_broadcast<R: Abort + Threads + Wait + Sync>(
     rt: &R,
     monitor: &Monitor<AtLeast, 2>,
     env: &Env,
-    first: Comer,
-    second: Comer,
+    comers: (Comer, Comer),
     waker: Seat<AtLeast, 2>,
-) -> (Answer, (Answer, Seat<AtLeast, 2>))
-    requires monitor { (first.seat.monitor ≡ monitor.now) × (second.seat.monitor ≡ monitor.now) × (waker.monitor ≡ monitor.now) }
-    requires env { (first.env_seat.env ≡ env.now) × (second.env_seat.env ≡ env.now) }
-    ensures { result.1.1.monitor ≡ monitor.now }
+) -> (Answer, Answer, Seat<AtLeast, 2>)
+    requires monitor { (comers.0.seat.monitor ≡ monitor.now) × (comers.1.seat.monitor ≡ monitor.now) × (waker.monitor ≡ monitor.now) }
+    requires env { (comers.0.env_seat.env ≡ env.now) × (comers.1.env_seat.env ≡ env.now) }
+    ensures { result.2.monitor ≡ monitor.now }
 {
-    join(
+    let (first, second) = comers;
+    let (one, (other, seat)) = join(
         rt,
         move || -> Answer
             requires { IsSync R.row × (first.seat.monitor ≡ monitor.now) × (first.env_seat.env ≡ env.now) }
@@ -193,21 +200,17 @@ fn wait_twice_and_broadcast<R: Abort + Threads + Wait + Sync>(
             requires { IsSync R.row × (second.seat.monitor ≡ monitor.now) × (waker.monitor ≡ monitor.now) × (second.env_seat.env ≡ env.now) }
             ensures { result.1.monitor ≡ monitor.entry.now }
         { wait_and_broadcast(rt, monitor, env, second, waker) },
-    )
+    );
+    (one, other, seat)
 }
 
 /// One broadcast wakes both who wait.
 #[test]
-fn broadcast_wakes_both(rt: HostRuntime) -> Result<(), Fail> {
-    let Some(((monitor, env), first, second, waker)) = two_and_one(rt.alloc(), None) else {
-        panic!(rt; "no monitor")
-    };
-    let (one, (other, seat)) = wait_twice_and_broadcast(&rt, &monitor, &env, first, second, waker);
-    assert_eq!(rt; (one, other), (Answer::Met, Answer::Met));
-    let closed = monitor.close(seat);
-    assert!(rt; closed.free);
-    assert_eq!(rt; closed.row, [2, 2]);
-    Ok(())
+fn broadcast_wakes_both(rt: HostRuntime) {
+    let (monitor, env, comers, waker) = two_and_one(&rt, rt.alloc());
+    let (one, other, seat) = wait_twice_and_broadcast(&rt, &monitor, &env, comers, waker);
+    let came = (one, other, row_at_end(monitor, seat));
+    assert_eq!(rt; came, (Answer::Met, Answer::Met, Some([2, 2])));
 }
 
 /// What a caller has in hand as it signals.
@@ -304,71 +307,64 @@ fn wait_and_signal<R: Abort + Threads + Wait + Sync>(
     )
 }
 
-/// One waits for a variable, with a deadline that doesn't come and without one, until it is signaled by
-/// one who has this in hand: it is woken, and finds what leads to this value of the second cell.
-fn check_signal<R: Abort + AllocGlobal + Threads + Wait + Sync>(
-    rt: &R,
-    holding: Holding,
-    value: u64,
-) {
+/// A signal from a seat, while nobody holds the lock, wakes the waiter, also where that minds a deadline.
+#[test]
+fn signal_with_the_lock_free(rt: HostRuntime) {
     for deadline in [None, Some(TICK)] {
-        let Some(((monitor, env), comer, _, waker)) = two_and_one(rt.alloc(), deadline) else {
-            panic!(rt; "no monitor")
-        };
-        let (answer, seat) = wait_and_signal(rt, &monitor, &env, comer, waker, holding, value);
-        assert_eq!(rt; answer, Answer::Met);
-        let closed = monitor.close(seat);
-        assert!(rt; closed.free);
-        assert_eq!(rt; closed.row, [1, value]);
+        let (monitor, env, comer, waker) = one_and_one(&rt, rt.alloc(), deadline);
+        let (answer, seat) = wait_and_signal(
+            &rt,
+            &monitor,
+            &env,
+            comer,
+            waker,
+            Holding::Nothing,
+            1,
+        );
+        assert_eq!(rt;
+            (answer, row_at_end(monitor, seat)),
+            (Answer::Met, Some([1, 1]))
+        );
     }
 }
 
-/// A signal from a seat, while nobody holds the lock, wakes the waiter.
-#[test]
-fn signal_with_the_lock_free(rt: HostRuntime) {
-    check_signal(&rt, Holding::Nothing, 1);
-}
-
-/// A signal from a read section wakes the waiter.
-#[test]
-fn signal_from_a_reader(rt: HostRuntime) {
-    check_signal(&rt, Holding::ReadSection, 1);
-}
-
-/// A signal from a write section wakes the waiter behind it: it finds what the section has set after the
-/// signal.
-#[test]
-fn signal_moves_under_the_lock(rt: HostRuntime) {
-    check_signal(&rt, Holding::WriteSection, LEFT + 1);
+/// Begins to read.
+fn begin_to_read<R: Wait>(rt: &R, monitor: &Monitor<AtLeast, 2>, comer: Comer) -> Reader
+    requires { comer.seat.monitor ≡ monitor.now }
+    ensures { (result.held.monitor ≡ monitor.now) × (result.env_seat ≡ comer.env_seat) }
+{
+    let held = monitor.rlock(rt, comer.seat);
+    Reader {
+        held,
+        env_seat: comer.env_seat,
+    }
 }
 
 /// A monitor and an environment, two callers that read, one that may come to wait, and one that may wake
 /// them.
-fn two_that_read<R: AllocGlobal + Wait>(
+fn two_that_read<R: Abort + Wait>(
     rt: &R,
-) -> Option<(Shared, (Reader, Reader), Comer, Seat<AtLeast, 2>)>
-    ensures monitor { IfSome result (λ r. (r.1.0.held.monitor ≡ r.0.0) × (r.1.1.held.monitor ≡ r.0.0) × (r.2.seat.monitor ≡ r.0.0) × (r.3.monitor ≡ r.0.0)) }
-    ensures env { IfSome result (λ r. (r.1.0.env_seat.env ≡ r.0.1) × (r.1.1.env_seat.env ≡ r.0.1) × (r.2.env_seat.env ≡ r.0.1)) }
+    alloc: Global,
+) -> (
+    Monitor<AtLeast, 2>,
+    Env,
+    (Reader, Reader),
+    Comer,
+    Seat<AtLeast, 2>,
+)
+    ensures readers { (result.2.0.held.monitor ≡ result.0) × (result.2.1.held.monitor ≡ result.0) }
+    ensures others { (result.3.seat.monitor ≡ result.0) × (result.4.monitor ≡ result.0) }
+    ensures env { (result.2.0.env_seat.env ≡ result.1) × (result.2.1.env_seat.env ≡ result.1) × (result.3.env_seat.env ≡ result.1) }
 {
-    let (monitor, mut seats) = Monitor::<AtLeast, 2>::new(rt.alloc(), 4).ok()?;
-    let (env, mut env_seats) = Env::new(rt.alloc(), 3).ok()?;
-    let waker = take_seat(&monitor, &mut seats)?;
-    let comer = Comer {
-        seat: take_seat(&monitor, &mut seats)?,
-        env_seat: env_seats.pop()?,
-        deadline: None,
-    };
-    let second_seat = take_seat(&monitor, &mut seats)?;
-    let second = Reader {
-        held: monitor.rlock(rt, second_seat),
-        env_seat: env_seats.pop()?,
-    };
-    let first_seat = take_seat(&monitor, &mut seats)?;
-    let first = Reader {
-        held: monitor.rlock(rt, first_seat),
-        env_seat: env_seats.pop()?,
-    };
-    Some(((monitor, env), (first, second), comer, waker))
+    let (monitor, mut seats) = new_monitor(rt, alloc, 4);
+    let (env, mut env_seats) = new_env(rt, alloc, 3);
+    let waker = take_seat(rt, &monitor, &mut seats);
+    let comer = take_comer(rt, &monitor, &env, &mut seats, &mut env_seats);
+    let second = take_comer(rt, &monitor, &env, &mut seats, &mut env_seats);
+    let first = take_comer(rt, &monitor, &env, &mut seats, &mut env_seats);
+    let second = begin_to_read(rt, &monitor, second);
+    let first = begin_to_read(rt, &monitor, first);
+    (monitor, env, (first, second), comer, waker)
 }
 
 /// Waits for the first variable in the read section in hand, and counts itself in the second cell, in a
@@ -402,12 +398,12 @@ fn read_and_wait_twice<R: Threads + Wait + Sync>(
     rt: &R,
     monitor: &Monitor<AtLeast, 2>,
     env: &Env,
-    first: Reader,
-    second: Reader,
+    readers: (Reader, Reader),
 ) -> (Answer, Answer)
-    requires monitor { (first.held.monitor ≡ monitor.now) × (second.held.monitor ≡ monitor.now) }
-    requires env { (first.env_seat.env ≡ env.now) × (second.env_seat.env ≡ env.now) }
+    requires monitor { (readers.0.held.monitor ≡ monitor.now) × (readers.1.held.monitor ≡ monitor.now) }
+    requires env { (readers.0.env_seat.env ≡ env.now) × (readers.1.env_seat.env ≡ env.now) }
 {
+    let (first, second) = readers;
     join(
         rt,
         move || -> Answer
@@ -430,23 +426,23 @@ fn all_wait_and_signal<R: Abort + Threads + Wait + Sync>(
     waker: Seat<AtLeast, 2>,
     holding: Holding,
     value: u64,
-) -> ((Answer, Answer), (Answer, Seat<AtLeast, 2>))
+) -> ([Answer; 3], Seat<AtLeast, 2>)
     requires readers { (readers.0.held.monitor ≡ monitor.now) × (readers.1.held.monitor ≡ monitor.now) }
     requires others { (comer.seat.monitor ≡ monitor.now) × (waker.monitor ≡ monitor.now) }
     requires env { (readers.0.env_seat.env ≡ env.now) × (readers.1.env_seat.env ≡ env.now) × (comer.env_seat.env ≡ env.now) }
-    ensures { result.1.1.monitor ≡ monitor.now }
+    ensures { result.1.monitor ≡ monitor.now }
 {
-    let (first, second) = readers;
-    join(
+    let ((one, two), (three, seat)) = join(
         rt,
         move || -> (Answer, Answer)
-            requires { IsSync R.row × (first.held.monitor ≡ monitor.now) × (second.held.monitor ≡ monitor.now) × (first.env_seat.env ≡ env.now) × (second.env_seat.env ≡ env.now) }
-        { read_and_wait_twice(rt, monitor, env, first, second) },
+            requires { IsSync R.row × (readers.0.held.monitor ≡ monitor.now) × (readers.1.held.monitor ≡ monitor.now) × (readers.0.env_seat.env ≡ env.now) × (readers.1.env_seat.env ≡ env.now) }
+        { read_and_wait_twice(rt, monitor, env, readers) },
         move || -> (Answer, Seat<AtLeast, 2>)
             requires { IsSync R.row × (comer.seat.monitor ≡ monitor.now) × (waker.monitor ≡ monitor.now) × (comer.env_seat.env ≡ env.now) }
             ensures { result.1.monitor ≡ monitor.entry.now }
         { wait_and_signal(rt, monitor, env, comer, waker, holding, value) },
-    )
+    );
+    ([one, two, three], seat)
 }
 
 /// One signal wakes two readers, of whom one is first, and the writer behind them, whatever its caller
@@ -459,198 +455,13 @@ fn signal_takes_readers_together(rt: HostRuntime) {
         (Holding::WriteSection, LEFT + 3),
     ];
     for (holding, value) in table {
-        let Some(((monitor, env), readers, comer, waker)) = two_that_read(&rt) else {
-            panic!(rt; "no monitor")
-        };
-        let (both, (answer, seat)) = all_wait_and_signal(
+        let (monitor, env, readers, comer, waker) = two_that_read(&rt, rt.alloc());
+        let (all, seat) = all_wait_and_signal(
             &rt, &monitor, &env, readers, comer, waker, holding, value,
         );
-        assert_eq!(rt; (both, answer), ((Answer::Met, Answer::Met), Answer::Met));
-        let closed = monitor.close(seat);
-        assert!(rt; closed.free);
-        assert_eq!(rt; closed.row, [1, value]);
+        assert_eq!(rt;
+            (all, row_at_end(monitor, seat)),
+            ([Answer::Met; 3], Some([1, value]))
+        );
     }
-}
-
-/// Waits for the first variable in the section in hand, at most until the tick, and adds 1 to the second
-/// cell once it is back. Answers what the wait did, and whether the section that it is back with has
-/// changed nothing before that.
-fn wait_to_tick<R: Wait>(
-    rt: &R,
-    monitor: &Monitor<AtLeast, 2>,
-    held: WriteHeld<AtLeast, 2>,
-    env: &Env,
-    env_seat: &mut EnvSeat,
-) -> (Seat<AtLeast, 2>, Answer, bool)
-    requires { (held.monitor ≡ monitor.now) × (env_seat.old.env ≡ env.now) }
-    ensures { result.0.monitor ≡ monitor.now }
-{
-    let (mut held, answer) = monitor.cv_wait_with_deadline(
-        rt,
-        held,
-        0,
-        Some(TICK),
-        None,
-        env,
-        env_seat,
-    );
-    let fresh = monitor.is_quiet(&mut held);
-    count(monitor, &mut held, 1);
-    (monitor.unlock(rt, held), answer, fresh)
-}
-
-/// One thread waits for a variable that nobody wakes, and the other moves the clock meanwhile.
-fn wait_and_advance<R: Threads + Wait + Sync>(
-    rt: &R,
-    monitor: &Monitor<AtLeast, 2>,
-    held: WriteHeld<AtLeast, 2>,
-    second: Seat<AtLeast, 2>,
-    env: &Env,
-    mut mine: EnvSeat,
-    mut theirs: EnvSeat,
-) -> ((Seat<AtLeast, 2>, Answer, bool), Seat<AtLeast, 2>)
-    requires monitor { (held.monitor ≡ monitor.now) × (second.monitor ≡ monitor.now) }
-    requires env { (mine.env ≡ env.now) × (theirs.env ≡ env.now) }
-    ensures { result.0.0.monitor ≡ monitor.now }
-{
-    join(
-        rt,
-        move || -> (Seat<AtLeast, 2>, Answer, bool)
-            requires { IsSync R.row × (held.monitor ≡ monitor.now) × (mine.env ≡ env.now) }
-            ensures { result.0.monitor ≡ monitor.entry.now }
-        { wait_to_tick(rt, monitor, held, env, &mut mine) },
-        move || -> Seat<AtLeast, 2>
-            requires { IsSync R.row × (second.monitor ≡ monitor.now) × (theirs.env ≡ env.now) }
-        { advance_behind(rt, monitor, second, env, &mut theirs) },
-    )
-}
-
-/// A wait for a variable that nobody wakes is over at its deadline, in a write section of its own.
-#[test]
-fn variable_wait_times_out(rt: HostRuntime) -> Result<(), Fail> {
-    let Some((monitor, first, second)) = two_seats(rt.alloc()) else {
-        panic!(rt; "no monitor")
-    };
-    let Some((env, mine, theirs)) = two_env_seats(rt.alloc()) else {
-        panic!(rt; "no environment")
-    };
-    let mut held = monitor.lock(&rt, first);
-    monitor.set(&mut held, 0, 3);
-    assert!(rt; !monitor.is_quiet(&mut held));
-    let ((seat, answer, fresh), _) = wait_and_advance(
-        &rt, &monitor, held, second, &env, mine, theirs,
-    );
-    assert_eq!(rt; answer, Answer::TimedOut);
-    assert!(rt; fresh);
-    let closed = monitor.close(seat);
-    assert!(rt; closed.free);
-    assert_eq!(rt; closed.row, [3, 1]);
-    Ok(())
-}
-
-/// A wait for a variable leaves its section though its deadline has passed: it comes back with one that
-/// began at 3.
-#[test]
-fn variable_wait_has_passed(rt: HostRuntime) -> Result<(), Fail> {
-    let Some((monitor, first, _)) = two_seats(rt.alloc()) else {
-        panic!(rt; "no monitor")
-    };
-    let Some((env, mut env_seat, _)) = two_env_seats(rt.alloc()) else {
-        panic!(rt; "no environment")
-    };
-    env.advance(&mut env_seat, TICK);
-    let mut held = monitor.lock(&rt, first);
-    monitor.set(&mut held, 0, 3);
-    let (seat, answer, fresh) = wait_to_tick(&rt, &monitor, held, &env, &mut env_seat);
-    assert_eq!(rt; answer, Answer::TimedOut);
-    assert!(rt; fresh);
-    let closed = monitor.close(seat);
-    assert!(rt; closed.free);
-    assert_eq!(rt; closed.row, [3, 1]);
-    Ok(())
-}
-
-/// Waits for the first variable in the read section in hand, until the note is notified, where the
-/// caller knows it.
-fn read_for_note<R: Wait>(
-    rt: &R,
-    monitor: &Monitor<AtLeast, 2>,
-    env: &Env,
-    mut reader: Reader,
-    note: Note,
-) -> (ReadHeld<AtLeast, 2>, Option<Answer>)
-    requires { (reader.held.monitor ≡ monitor.now) × (reader.env_seat.env ≡ env.now) }
-    ensures { result.0.monitor ≡ monitor.now }
-{
-    if !env.knows(&mut reader.env_seat, note) {
-        return (reader.held, None);
-    }
-    let (held, answer) = monitor.cv_wait_with_deadline(
-        rt,
-        reader.held,
-        0,
-        None,
-        Some(note),
-        env,
-        &mut reader.env_seat,
-    );
-    (held, Some(answer))
-}
-
-/// One thread waits in its read section, with a note, and the other notifies it meanwhile.
-fn read_and_notify<R: Threads + Wait + Sync>(
-    rt: &R,
-    monitor: &Monitor<AtLeast, 2>,
-    env: &Env,
-    reader: Reader,
-    second: Seat<AtLeast, 2>,
-    mut theirs: EnvSeat,
-    note: Note,
-) -> ((ReadHeld<AtLeast, 2>, Option<Answer>), Seat<AtLeast, 2>)
-    requires monitor { (reader.held.monitor ≡ monitor.now) × (second.monitor ≡ monitor.now) }
-    requires env { (reader.env_seat.env ≡ env.now) × (theirs.env ≡ env.now) }
-    ensures { (result.0.0.monitor ≡ monitor.now) × (result.1.monitor ≡ monitor.now) }
-{
-    join(
-        rt,
-        move || -> (ReadHeld<AtLeast, 2>, Option<Answer>)
-            requires { IsSync R.row × (reader.held.monitor ≡ monitor.now) × (reader.env_seat.env ≡ env.now) }
-            ensures { result.0.monitor ≡ monitor.entry.now }
-        { read_for_note(rt, monitor, env, reader, note) },
-        move || -> Seat<AtLeast, 2>
-            requires { IsSync R.row × (second.monitor ≡ monitor.now) × (theirs.env ≡ env.now) }
-            ensures { result.monitor ≡ monitor.entry.now }
-        { notify_behind(rt, monitor, second, env, &mut theirs, note) },
-    )
-}
-
-/// A reader's wait for a variable that nobody wakes is over once its note is notified, in a section that
-/// reads: beside it another reads and nobody writes.
-#[test]
-fn variable_wait_is_canceled(rt: HostRuntime) -> Result<(), Fail> {
-    let Some((monitor, first, second)) = two_seats(rt.alloc()) else {
-        panic!(rt; "no monitor")
-    };
-    let Some((env, mut mine, theirs)) = two_env_seats(rt.alloc()) else {
-        panic!(rt; "no environment")
-    };
-    let note = env.note_new(&mut mine, None, None)?;
-    let reader = Reader {
-        held: monitor.rlock(&rt, first),
-        env_seat: mine,
-    };
-    let ((held, answer), second) = read_and_notify(
-        &rt, &monitor, &env, reader, second, theirs, note,
-    );
-    assert_eq!(rt; answer, Some(Answer::Canceled));
-    let Err(second) = monitor.try_lock(second) else {
-        panic!(rt; "a writer beside a reader")
-    };
-    let Ok(other) = monitor.try_rlock(second) else {
-        panic!(rt; "busy beside a reader")
-    };
-    monitor.runlock(&rt, other);
-    let first = monitor.runlock(&rt, held);
-    assert!(rt; monitor.close(first).free);
-    Ok(())
 }

@@ -1,20 +1,22 @@
 //! What no clause says of a wait for a condition: that it comes back, and that threads wake one another
 //! by it.
 
-ghost use Rattle.std.specs.Prelude.{◌≡◌, ◌==◌, nat_le, slice_index, IfSome};
+ghost use Rattle.std.specs.Prelude.{◌≡◌, ◌==◌, ◌<◌, All, nat_le, slice_index, true, IfSome};
 ghost use Rattle.std.specs.Thread.{IsSync};
+ghost use Rattle.ns_model.specs.Environments.{IsMade};
 ghost use Rattle.ns_model.specs.Truths.{truths};
 
+use crate::note::{lineage, notify, two_env_seats};
 use ns_model::condition::Condition;
 use ns_model::event::Answer;
-use ns_monitor::caller::{ReadHeld, Seat, WriteHeld};
+use ns_monitor::caller::{Seat, WriteHeld};
 use ns_monitor::monitor::Monitor;
 use ns_note::env::Env;
 use ns_note::note::Note;
 use ns_note::seat::EnvSeat;
 use std::alloc::Global;
+use std::process::Abort;
 use std::sync::Wait;
-use std::test::Fail;
 use std::thread::{Threads, join, yield_now};
 
 /// The first cell is at least this. A change is quiet where that cell has not risen.
@@ -59,24 +61,61 @@ pub const TICK: u64 = 10;
 /// How often each of two threads hands the first cell to the other.
 const TURNS: u64 = 1_000;
 
-/// A monitor and its two seats.
-pub fn two_seats(alloc: Global) -> Option<(Monitor<AtLeast, 2>, Seat<AtLeast, 2>, Seat<AtLeast, 2>)>
-    ensures { IfSome result (λ r. (r.1.monitor ≡ r.0) × (r.2.monitor ≡ r.0)) }
+/// A monitor and so many seats.
+pub fn new_monitor<R: Abort>(
+    rt: &R,
+    alloc: Global,
+    seats: usize,
+) -> (Monitor<AtLeast, 2>, Vec<Seat<AtLeast, 2>>)
+    requires { 0 < seats }
+    ensures { All (λ seat. seat.monitor ≡ result.0) result.1.items }
 {
-    let (monitor, mut seats) = Monitor::<AtLeast, 2>::new(alloc, 2).ok()?;
-    let second = seats.pop()?;
-    let first = seats.pop()?;
-    Some((monitor, first, second))
+    Monitor::<AtLeast, 2>::new(alloc, seats)
+        .ok()
+        .expect(rt, "a monitor")
 }
 
-/// An environment and its two seats.
-pub fn two_env_seats(alloc: Global) -> Option<(Env, EnvSeat, EnvSeat)>
-    ensures { IfSome result (λ r. (r.1.env ≡ r.0) × (r.2.env ≡ r.0)) }
+/// The last seat that is left of a monitor's.
+pub fn take_seat<R: Abort>(
+    rt: &R,
+    monitor: &Monitor<AtLeast, 2>,
+    seats: &mut Vec<Seat<AtLeast, 2>>,
+) -> Seat<AtLeast, 2>
+    requires { All (λ seat. seat.monitor ≡ monitor.now) seats.old.items }
+    ensures taken { result.monitor ≡ monitor.now }
+    ensures left { All (λ seat. seat.monitor ≡ monitor.now) seats.new.items }
 {
-    let (env, mut seats) = Env::new(alloc, 2).ok()?;
-    let second = seats.pop()?;
-    let first = seats.pop()?;
-    Some((env, first, second))
+    seats.pop().expect(rt, "a seat")
+}
+
+/// A monitor and its two seats.
+pub fn two_seats<R: Abort>(
+    rt: &R,
+    alloc: Global,
+) -> (Monitor<AtLeast, 2>, Seat<AtLeast, 2>, Seat<AtLeast, 2>)
+    ensures { (result.1.monitor ≡ result.0) × (result.2.monitor ≡ result.0) }
+{
+    let (monitor, mut seats) = new_monitor(rt, alloc, 2);
+    let second = take_seat(rt, &monitor, &mut seats);
+    let first = take_seat(rt, &monitor, &mut seats);
+    (monitor, first, second)
+}
+
+/// Ends a monitor, and tells its cells where the lock is free.
+pub fn row_at_end(monitor: Monitor<AtLeast, 2>, seat: Seat<AtLeast, 2>) -> Option<[u64; 2]>
+    requires { seat.monitor ≡ monitor }
+{
+    let closed = monitor.close(seat);
+    if closed.free { Some(closed.row) } else { None }
+}
+
+/// Adds 1 to a cell of the section in hand.
+pub fn count(monitor: &Monitor<AtLeast, 2>, held: &mut WriteHeld<AtLeast, 2>, cell: usize)
+    requires { (held.old.monitor ≡ monitor.now) × (cell < 2) }
+    ensures { held.new.monitor ≡ held.old.monitor }
+{
+    let value = monitor.get(held, cell);
+    monitor.set(held, cell, value.wrapping_add(1));
 }
 
 /// Sets the first cell in a section of its own.
@@ -108,17 +147,20 @@ fn wait_for_one<R: Wait>(
     (monitor.unlock(rt, held), value)
 }
 
-/// One thread waits in its section, and the other, which can't lock before, sets the first cell to 1.
+/// One thread has set the second cell to 5 and waits in that section, and the other, which can't lock before,
+/// sets the first cell to 1. Answers what the first finds there.
 fn wait_and_set<R: Threads + Wait + Sync>(
     rt: &R,
     monitor: &Monitor<AtLeast, 2>,
-    held: WriteHeld<AtLeast, 2>,
+    first: Seat<AtLeast, 2>,
     second: Seat<AtLeast, 2>,
-) -> ((Seat<AtLeast, 2>, u64), Seat<AtLeast, 2>)
-    requires { (held.monitor ≡ monitor.now) × (second.monitor ≡ monitor.now) }
-    ensures { result.0.0.monitor ≡ monitor.now }
+) -> (Seat<AtLeast, 2>, u64)
+    requires { (first.monitor ≡ monitor.now) × (second.monitor ≡ monitor.now) }
+    ensures { result.0.monitor ≡ monitor.now }
 {
-    join(
+    let mut held = monitor.lock(rt, first);
+    monitor.set(&mut held, 1, 5);
+    let (came, _) = join(
         rt,
         move || -> (Seat<AtLeast, 2>, u64)
             requires { IsSync R.row × (held.monitor ≡ monitor.now) }
@@ -127,247 +169,185 @@ fn wait_and_set<R: Threads + Wait + Sync>(
         move || -> Seat<AtLeast, 2>
             requires { IsSync R.row × (second.monitor ≡ monitor.now) }
         { set(rt, monitor, second, 1) },
-    )
+    );
+    came
 }
 
 /// A wait comes back once another has made its condition true.
 #[test]
-fn wait_meets(rt: HostRuntime) -> Result<(), Fail> {
-    let Some((monitor, first, second)) = two_seats(rt.alloc()) else {
-        panic!(rt; "no monitor")
-    };
-    let mut held = monitor.lock(&rt, first);
-    monitor.set(&mut held, 1, 5);
-    let ((seat, value), _) = wait_and_set(&rt, &monitor, held, second);
-    assert_eq!(rt; value, 1);
-    let closed = monitor.close(seat);
-    assert!(rt; closed.free);
-    assert_eq!(rt; closed.row, [1, 5]);
-    Ok(())
+fn wait_meets(rt: HostRuntime) {
+    let (monitor, first, second) = two_seats(&rt, rt.alloc());
+    let (seat, value) = wait_and_set(&rt, &monitor, first, second);
+    assert_eq!(rt; (value, row_at_end(monitor, seat)), (1, Some([1, 5])));
 }
 
-/// Waits in the section in hand until the first cell is at least 1, at most until the tick. Adds 1 to
-/// the second cell when it is back.
-fn wait_to_tick<R: Wait>(
+/// Whether the seat knows the note, if one is given.
+fn knows_it(env: &Env, env_seat: &mut EnvSeat, note: Option<Note>) -> bool
+    requires { env_seat.old.env ≡ env.now }
+    ensures env { env_seat.new.env ≡ env_seat.old.env }
+    ensures made { result ≡ true → IfSome note (λ n. IsMade env_seat.new.seen n.index) }
+{
+    match note {
+        None => true,
+        Some(note) => env.knows(env_seat, note),
+    }
+}
+
+/// Waits in the section in hand for the first variable, where that is asked, else until the first cell is at
+/// least 1; for the note, if one is given, else at most until the tick.
+fn wait_in<R: Wait>(
     rt: &R,
     monitor: &Monitor<AtLeast, 2>,
     held: WriteHeld<AtLeast, 2>,
+    for_variable: bool,
+    note: Option<Note>,
     env: &Env,
     env_seat: &mut EnvSeat,
-) -> (Seat<AtLeast, 2>, Answer)
-    requires { (held.monitor ≡ monitor.now) × (env_seat.old.env ≡ env.now) }
+) -> (WriteHeld<AtLeast, 2>, Answer)
+    requires of { (held.monitor ≡ monitor.now) × (env_seat.old.env ≡ env.now) }
+    requires made { IfSome note (λ n. IsMade env_seat.old.seen n.index) }
     ensures { (result.0.monitor ≡ monitor.now) × (env_seat.new.env ≡ env_seat.old.env) }
 {
-    let (mut held, answer) = monitor.wait_with_deadline(
-        rt,
-        held,
-        AtLeast { least: 1 },
-        Some(TICK),
-        None,
-        env,
-        env_seat,
-    );
-    let value = monitor.get(&mut held, 1);
-    monitor.set(&mut held, 1, value.wrapping_add(1));
-    (monitor.unlock(rt, held), answer)
+    let deadline = if note.is_some() { None } else { Some(TICK) };
+    if for_variable {
+        monitor.cv_wait_with_deadline(rt, held, 0, deadline, note, env, env_seat)
+    } else {
+        let one = AtLeast { least: 1 };
+        monitor.wait_with_deadline(rt, held, one, deadline, note, env, env_seat)
+    }
 }
 
-/// Has a section, which begins only when a wait has left its own, and then moves the clock to the tick.
-pub fn advance_behind<R: Wait>(
-    rt: &R,
-    monitor: &Monitor<AtLeast, 2>,
-    seat: Seat<AtLeast, 2>,
-    env: &Env,
-    env_seat: &mut EnvSeat,
-) -> Seat<AtLeast, 2>
-    requires { (seat.monitor ≡ monitor.now) × (env_seat.old.env ≡ env.now) }
-    ensures { (result.monitor ≡ monitor.now) × (env_seat.new.env ≡ env_seat.old.env) }
-{
-    let held = monitor.lock(rt, seat);
-    let seat = monitor.unlock(rt, held);
-    env.advance(env_seat, TICK);
-    seat
-}
-
-/// One thread waits for what nobody does, and the other moves the clock meanwhile.
-fn wait_and_advance<R: Threads + Wait + Sync>(
+/// Waits so, where the seat knows the note, and adds 1 to the second cell once it is back.
+fn wait_and_count<R: Wait>(
     rt: &R,
     monitor: &Monitor<AtLeast, 2>,
     held: WriteHeld<AtLeast, 2>,
-    second: Seat<AtLeast, 2>,
-    env: &Env,
-    mut mine: EnvSeat,
-    mut theirs: EnvSeat,
-) -> ((Seat<AtLeast, 2>, Answer), Seat<AtLeast, 2>)
-    requires monitor { (held.monitor ≡ monitor.now) × (second.monitor ≡ monitor.now) }
-    requires env { (mine.env ≡ env.now) × (theirs.env ≡ env.now) }
-    ensures { result.0.0.monitor ≡ monitor.now }
-{
-    join(
-        rt,
-        move || -> (Seat<AtLeast, 2>, Answer)
-            requires { IsSync R.row × (held.monitor ≡ monitor.now) × (mine.env ≡ env.now) }
-            ensures { result.0.monitor ≡ monitor.entry.now }
-        { wait_to_tick(rt, monitor, held, env, &mut mine) },
-        move || -> Seat<AtLeast, 2>
-            requires { IsSync R.row × (second.monitor ≡ monitor.now) × (theirs.env ≡ env.now) }
-        { advance_behind(rt, monitor, second, env, &mut theirs) },
-    )
-}
-
-/// A wait whose condition stays false is over at its deadline, in a section of its own.
-#[test]
-fn wait_times_out(rt: HostRuntime) -> Result<(), Fail> {
-    let Some((monitor, first, second)) = two_seats(rt.alloc()) else {
-        panic!(rt; "no monitor")
-    };
-    let Some((env, mine, theirs)) = two_env_seats(rt.alloc()) else {
-        panic!(rt; "no environment")
-    };
-    let held = monitor.lock(&rt, first);
-    let ((seat, answer), _) = wait_and_advance(&rt, &monitor, held, second, &env, mine, theirs);
-    assert_eq!(rt; answer, Answer::TimedOut);
-    let closed = monitor.close(seat);
-    assert!(rt; closed.free);
-    assert_eq!(rt; closed.row, [0, 1]);
-    Ok(())
-}
-
-/// Waits in the section in hand until the first cell is at least 1, or the note is notified, where the
-/// seat knows it.
-fn wait_for_note<R: Wait>(
-    rt: &R,
-    monitor: &Monitor<AtLeast, 2>,
-    held: WriteHeld<AtLeast, 2>,
+    for_variable: bool,
+    note: Option<Note>,
     env: &Env,
     env_seat: &mut EnvSeat,
-    note: Note,
 ) -> (Seat<AtLeast, 2>, Option<Answer>)
     requires { (held.monitor ≡ monitor.now) × (env_seat.old.env ≡ env.now) }
     ensures { (result.0.monitor ≡ monitor.now) × (env_seat.new.env ≡ env_seat.old.env) }
 {
-    if !env.knows(env_seat, note) {
+    if !knows_it(env, env_seat, note) {
         return (monitor.unlock(rt, held), None);
     }
-    let one = AtLeast { least: 1 };
-    let (held, answer) = monitor.wait_with_deadline(rt, held, one, None, Some(note), env, env_seat);
+    let (mut held, answer) = wait_in(rt, monitor, held, for_variable, note, env, env_seat);
+    count(monitor, &mut held, 1);
     (monitor.unlock(rt, held), Some(answer))
 }
 
-/// Has a section, which begins only when a wait has left its own, and then notifies the note, once the
-/// seat has seen that it is made.
-pub fn notify_behind<R: Wait>(
+/// Has a section, which begins only when a wait has left its own, and then notifies the note, if one is given,
+/// else moves the clock to the tick.
+fn end_behind<R: Wait>(
     rt: &R,
     monitor: &Monitor<AtLeast, 2>,
     seat: Seat<AtLeast, 2>,
+    note: Option<Note>,
     env: &Env,
     env_seat: &mut EnvSeat,
-    note: Note,
-) -> Seat<AtLeast, 2>
+)
     requires { (seat.monitor ≡ monitor.now) × (env_seat.old.env ≡ env.now) }
-    ensures { (result.monitor ≡ monitor.now) × (env_seat.new.env ≡ env_seat.old.env) }
 {
     let held = monitor.lock(rt, seat);
-    let seat = monitor.unlock(rt, held);
-    for _ in rt.forever() {
-        if env.knows(env_seat, note) {
-            env.notify(env_seat, note);
-            break;
+    monitor.unlock(rt, held);
+    match note {
+        None => env.advance(env_seat, TICK),
+        Some(note) => {
+            let _ = notify(env, env_seat, note);
         }
     }
-    seat
 }
 
-/// One thread waits for what nobody does, with a note, and the other notifies one above that meanwhile.
-fn wait_and_notify<R: Threads + Wait + Sync>(
+/// One thread waits for what nobody does, in the section in hand, with the first note or up to the tick; the
+/// other notifies the second note meanwhile, or moves the clock.
+fn wait_and_end<R: Threads + Wait + Sync>(
     rt: &R,
     monitor: &Monitor<AtLeast, 2>,
     held: WriteHeld<AtLeast, 2>,
     second: Seat<AtLeast, 2>,
+    for_variable: bool,
+    notes: (Option<Note>, Option<Note>),
     env: &Env,
     mut mine: EnvSeat,
     mut theirs: EnvSeat,
-    note: Note,
-    above: Note,
-) -> ((Seat<AtLeast, 2>, Option<Answer>), Seat<AtLeast, 2>)
+) -> (Seat<AtLeast, 2>, Option<Answer>)
     requires monitor { (held.monitor ≡ monitor.now) × (second.monitor ≡ monitor.now) }
     requires env { (mine.env ≡ env.now) × (theirs.env ≡ env.now) }
-    ensures { result.0.0.monitor ≡ monitor.now }
+    ensures { result.0.monitor ≡ monitor.now }
 {
-    join(
+    let (note, above) = notes;
+    let (came, ()) = join(
         rt,
         move || -> (Seat<AtLeast, 2>, Option<Answer>)
             requires { IsSync R.row × (held.monitor ≡ monitor.now) × (mine.env ≡ env.now) }
             ensures { result.0.monitor ≡ monitor.entry.now }
-        { wait_for_note(rt, monitor, held, env, &mut mine, note) },
-        move || -> Seat<AtLeast, 2>
+        { wait_and_count(rt, monitor, held, for_variable, note, env, &mut mine) },
+        move || -> ()
             requires { IsSync R.row × (second.monitor ≡ monitor.now) × (theirs.env ≡ env.now) }
-        { notify_behind(rt, monitor, second, env, &mut theirs, above) },
-    )
-}
-
-/// A wait whose condition stays false is over once the note two above its own is notified.
-#[test]
-fn wait_is_canceled(rt: HostRuntime) -> Result<(), Fail> {
-    let Some((monitor, first, second)) = two_seats(rt.alloc()) else {
-        panic!(rt; "no monitor")
-    };
-    let Some((env, mut mine, theirs)) = two_env_seats(rt.alloc()) else {
-        panic!(rt; "no environment")
-    };
-    let above = env.note_new(&mut mine, None, None)?;
-    let between = env.note_new(&mut mine, Some(above), None)?;
-    let note = env.note_new(&mut mine, Some(between), None)?;
-    let held = monitor.lock(&rt, first);
-    let ((seat, answer), _) = wait_and_notify(
-        &rt, &monitor, held, second, &env, mine, theirs, note, above,
+        { end_behind(rt, monitor, second, above, env, &mut theirs) },
     );
-    assert_eq!(rt; answer, Some(Answer::Canceled));
-    let closed = monitor.close(seat);
-    assert!(rt; closed.free);
-    assert_eq!(rt; closed.row, [0, 0]);
-    Ok(())
+    came
 }
 
-/// Sets the first cell in a section of its own, which wakes nobody where it is quiet; answers whether it
-/// was.
-fn set_quietly<R: Wait>(
-    rt: &R,
-    monitor: &Monitor<AtLeast, 2>,
-    seat: Seat<AtLeast, 2>,
-    value: u64,
-) -> (Seat<AtLeast, 2>, bool)
-    requires { seat.monitor ≡ monitor.now }
-    ensures { result.0.monitor ≡ monitor.now }
+/// A note and one two above it, where that is asked.
+fn note_and_above(env: &Env, seat: &mut EnvSeat, asked: bool) -> (Option<Note>, Option<Note>)
+    requires { seat.old.env ≡ env.now }
+    ensures { seat.new.env ≡ seat.old.env }
 {
-    let mut held = monitor.lock(rt, seat);
-    monitor.set(&mut held, 0, value);
-    if monitor.is_quiet(&mut held) {
-        (monitor.unlock_without_wakeup(rt, held), true)
-    } else {
-        (monitor.unlock(rt, held), false)
+    if !asked {
+        return (None, None);
+    }
+    match lineage(env, seat) {
+        Some((above, note)) => (Some(note), Some(above)),
+        None => (None, None),
     }
 }
 
-/// 2 for 3 is quiet and 4 for 2 is not, and each release leaves what it has set.
+/// A wait in a section of its own, for a variable or for a condition, and how it is ended: what it answers, and
+/// the cells at the end.
+fn end_wait<R: Abort + Threads + Wait + Sync>(
+    rt: &R,
+    alloc: Global,
+    for_variable: bool,
+    by_note: bool,
+) -> (Option<Answer>, Option<[u64; 2]>) {
+    let (monitor, first, second) = two_seats(rt, alloc);
+    let (env, mut mine, theirs) = two_env_seats(rt, alloc);
+    let notes = note_and_above(&env, &mut mine, by_note);
+    let held = monitor.lock(rt, first);
+    let (seat, answer) = wait_and_end(
+        rt,
+        &monitor,
+        held,
+        second,
+        for_variable,
+        notes,
+        &env,
+        mine,
+        theirs,
+    );
+    (answer, row_at_end(monitor, seat))
+}
+
+/// A wait whose condition stays false, and one for a variable that nobody wakes, are over at their deadline,
+/// each in a section of its own.
 #[test]
-fn quiet_releases(rt: HostRuntime) -> Result<(), Fail> {
-    let Some((monitor, first, second)) = two_seats(rt.alloc()) else {
-        panic!(rt; "no monitor")
-    };
-    let (first, quiet) = set_quietly(&rt, &monitor, first, 3);
-    assert!(rt; !quiet);
-    let (first, quiet) = set_quietly(&rt, &monitor, first, 2);
-    assert!(rt; quiet);
-    let mut held = monitor.rlock(&rt, second);
-    assert_eq!(rt; monitor.get(&mut held, 0), 2);
-    monitor.runlock(&rt, held);
-    let (first, quiet) = set_quietly(&rt, &monitor, first, 4);
-    assert!(rt; !quiet);
-    let closed = monitor.close(first);
-    assert!(rt; closed.free);
-    assert_eq!(rt; closed.row, [4, 0]);
-    Ok(())
+fn wait_times_out(rt: HostRuntime) {
+    for for_variable in [false, true] {
+        let came = end_wait(&rt, rt.alloc(), for_variable, false);
+        assert_eq!(rt; came, (Some(Answer::TimedOut), Some([0, 1])));
+    }
+}
+
+/// They are over once the note two above their own is notified.
+#[test]
+fn wait_is_canceled(rt: HostRuntime) {
+    for for_variable in [false, true] {
+        let came = end_wait(&rt, rt.alloc(), for_variable, true);
+        assert_eq!(rt; came, (Some(Answer::Canceled), Some([0, 1])));
+    }
 }
 
 /// Tries to lock, and sets the first cell to 1 where it succeeds. Else it moves the clock to the tick.
@@ -377,22 +357,22 @@ fn set_by_tries<R: Wait>(
     mut seat: Seat<AtLeast, 2>,
     env: &Env,
     env_seat: &mut EnvSeat,
-) -> (Seat<AtLeast, 2>, bool)
+) -> bool
     requires { (seat.monitor ≡ monitor.now) × (env_seat.old.env ≡ env.now) }
-    ensures { (result.0.monitor ≡ monitor.now) × (env_seat.new.env ≡ env_seat.old.env) }
 {
     for _ in 0..MANY_TRIES {
         match monitor.try_lock(seat) {
             Ok(mut held) => {
                 monitor.set(&mut held, 0, 1);
-                return (monitor.unlock(rt, held), true);
+                monitor.unlock(rt, held);
+                return true;
             }
             Err(back) => seat = back,
         }
         yield_now();
     }
     env.advance(env_seat, TICK);
-    (seat, false)
+    false
 }
 
 /// One thread waits in its section, at most until the tick, and the other tries to lock meanwhile.
@@ -404,155 +384,33 @@ fn wait_and_try<R: Threads + Wait + Sync>(
     env: &Env,
     mut mine: EnvSeat,
     mut theirs: EnvSeat,
-) -> ((Seat<AtLeast, 2>, Answer), (Seat<AtLeast, 2>, bool))
+) -> (Seat<AtLeast, 2>, Option<Answer>, bool)
     requires monitor { (held.monitor ≡ monitor.now) × (second.monitor ≡ monitor.now) }
     requires env { (mine.env ≡ env.now) × (theirs.env ≡ env.now) }
-    ensures { result.0.0.monitor ≡ monitor.now }
+    ensures { result.0.monitor ≡ monitor.now }
 {
-    join(
+    let ((seat, answer), succeeded) = join(
         rt,
-        move || -> (Seat<AtLeast, 2>, Answer)
+        move || -> (Seat<AtLeast, 2>, Option<Answer>)
             requires { IsSync R.row × (held.monitor ≡ monitor.now) × (mine.env ≡ env.now) }
             ensures { result.0.monitor ≡ monitor.entry.now }
-        { wait_to_tick(rt, monitor, held, env, &mut mine) },
-        move || -> (Seat<AtLeast, 2>, bool)
+        { wait_and_count(rt, monitor, held, false, None, env, &mut mine) },
+        move || -> bool
             requires { IsSync R.row × (second.monitor ≡ monitor.now) × (theirs.env ≡ env.now) }
         { set_by_tries(rt, monitor, second, env, &mut theirs) },
-    )
+    );
+    (seat, answer, succeeded)
 }
 
 /// A wait leaves its section: another, which only tries, gets the lock, and makes the condition true.
 #[test]
-fn released(rt: HostRuntime) -> Result<(), Fail> {
-    let Some((monitor, first, second)) = two_seats(rt.alloc()) else {
-        panic!(rt; "no monitor")
-    };
-    let Some((env, mine, theirs)) = two_env_seats(rt.alloc()) else {
-        panic!(rt; "no environment")
-    };
+fn released(rt: HostRuntime) {
+    let (monitor, first, second) = two_seats(&rt, rt.alloc());
+    let (env, mine, theirs) = two_env_seats(&rt, rt.alloc());
     let held = monitor.lock(&rt, first);
-    let ((seat, answer), (_, succeeded)) = wait_and_try(
-        &rt, &monitor, held, second, &env, mine, theirs,
-    );
-    assert!(rt; succeeded);
-    assert_eq!(rt; answer, Answer::Met);
-    let closed = monitor.close(seat);
-    assert!(rt; closed.free);
-    assert_eq!(rt; closed.row, [1, 1]);
-    Ok(())
-}
-
-/// One thread waits in its section, which reads, and the other, which can't lock before, sets the first
-/// cell to 1.
-fn read_and_set<R: Threads + Wait + Sync>(
-    rt: &R,
-    monitor: &Monitor<AtLeast, 2>,
-    held: ReadHeld<AtLeast, 2>,
-    second: Seat<AtLeast, 2>,
-) -> (ReadHeld<AtLeast, 2>, Seat<AtLeast, 2>)
-    requires { (held.monitor ≡ monitor.now) × (second.monitor ≡ monitor.now) }
-    ensures { (result.0.monitor ≡ monitor.now) × (result.1.monitor ≡ monitor.now) }
-{
-    join(
-        rt,
-        move || -> ReadHeld<AtLeast, 2>
-            requires { IsSync R.row × (held.monitor ≡ monitor.now) }
-            ensures { result.monitor ≡ monitor.entry.now }
-        { monitor.wait(rt, held, AtLeast { least: 1 }) },
-        move || -> Seat<AtLeast, 2>
-            requires { IsSync R.row × (second.monitor ≡ monitor.now) }
-            ensures { result.monitor ≡ monitor.entry.now }
-        { set(rt, monitor, second, 1) },
-    )
-}
-
-/// A reader's wait comes back as a section that reads, beside which another reads and nobody writes.
-#[test]
-fn reader_waits(rt: HostRuntime) -> Result<(), Fail> {
-    let Some((monitor, first, second)) = two_seats(rt.alloc()) else {
-        panic!(rt; "no monitor")
-    };
-    let held = monitor.rlock(&rt, first);
-    let (mut held, second) = read_and_set(&rt, &monitor, held, second);
-    assert_eq!(rt; monitor.get(&mut held, 0), 1);
-    let Err(second) = monitor.try_lock(second) else {
-        panic!(rt; "a writer beside a reader")
-    };
-    let Ok(other) = monitor.try_rlock(second) else {
-        panic!(rt; "busy beside a reader")
-    };
-    monitor.runlock(&rt, other);
-    let first = monitor.runlock(&rt, held);
-    let closed = monitor.close(first);
-    assert!(rt; closed.free);
-    assert_eq!(rt; closed.row, [1, 0]);
-    Ok(())
-}
-
-/// A wait whose deadline had passed before its call releases nothing: the section is still the one that
-/// began at 0, and nobody else gets the lock.
-#[test]
-fn deadline_has_passed(rt: HostRuntime) -> Result<(), Fail> {
-    let Some((monitor, first, second)) = two_seats(rt.alloc()) else {
-        panic!(rt; "no monitor")
-    };
-    let Some((env, mut env_seat, _)) = two_env_seats(rt.alloc()) else {
-        panic!(rt; "no environment")
-    };
-    env.advance(&mut env_seat, TICK);
-    let mut held = monitor.lock(&rt, first);
-    monitor.set(&mut held, 0, 3);
-    let four = AtLeast { least: 4 };
-    let (mut held, answer) = monitor.wait_with_deadline(
-        &rt,
-        held,
-        four,
-        Some(TICK),
-        None,
-        &env,
-        &mut env_seat,
-    );
-    assert_eq!(rt; answer, Answer::TimedOut);
-    assert!(rt; monitor.try_lock(second).is_err());
-    assert_eq!(rt; monitor.get(&mut held, 0), 3);
-    assert!(rt; !monitor.is_quiet(&mut held)); // one that began at 3 would be quiet
-    let first = monitor.unlock(&rt, held);
-    let closed = monitor.close(first);
-    assert!(rt; closed.free);
-    assert_eq!(rt; closed.row, [3, 0]);
-    Ok(())
-}
-
-/// A wait whose condition is true at its call releases nothing, though its deadline has passed.
-#[test]
-fn condition_is_true(rt: HostRuntime) -> Result<(), Fail> {
-    let Some((monitor, first, _)) = two_seats(rt.alloc()) else {
-        panic!(rt; "no monitor")
-    };
-    let Some((env, mut env_seat, _)) = two_env_seats(rt.alloc()) else {
-        panic!(rt; "no environment")
-    };
-    env.advance(&mut env_seat, TICK);
-    let mut held = monitor.lock(&rt, first);
-    monitor.set(&mut held, 0, 3);
-    let three = AtLeast { least: 3 };
-    let held = monitor.wait(&rt, held, three);
-    let (mut held, answer) = monitor.wait_with_deadline(
-        &rt,
-        held,
-        three,
-        Some(TICK),
-        None,
-        &env,
-        &mut env_seat,
-    );
-    assert_eq!(rt; answer, Answer::Met);
-    assert!(rt; !monitor.is_quiet(&mut held)); // one that began at 3 would be quiet
-    let first = monitor.unlock(&rt, held);
-    let closed = monitor.close(first);
-    assert!(rt; closed.free);
-    assert_eq!(rt; closed.row, [3, 0]);
-    Ok(())
+    let (seat, answer, succeeded) = wait_and_try(&rt, &monitor, held, second, &env, mine, theirs);
+    let came = (succeeded, answer, row_at_end(monitor, seat));
+    assert_eq!(rt; came, (true, Some(Answer::Met), Some([1, 1])));
 }
 
 /// Waits until the first cell is the number of its next turn, and adds 1 to it. Its turns are every
@@ -588,11 +446,11 @@ fn take_turns_twice<R: Threads + Wait + Sync>(
     monitor: &Monitor<AtLeast, 2>,
     first: Seat<AtLeast, 2>,
     second: Seat<AtLeast, 2>,
-) -> ((Seat<AtLeast, 2>, u64), (Seat<AtLeast, 2>, u64))
+) -> (Seat<AtLeast, 2>, u64, u64)
     requires { (first.monitor ≡ monitor.now) × (second.monitor ≡ monitor.now) }
-    ensures { result.0.0.monitor ≡ monitor.now }
+    ensures { result.0.monitor ≡ monitor.now }
 {
-    join(
+    let ((seat, wrong), (_, others)) = join(
         rt,
         move || -> (Seat<AtLeast, 2>, u64)
             requires { IsSync R.row × (first.monitor ≡ monitor.now) }
@@ -601,19 +459,15 @@ fn take_turns_twice<R: Threads + Wait + Sync>(
         move || -> (Seat<AtLeast, 2>, u64)
             requires { IsSync R.row × (second.monitor ≡ monitor.now) }
         { take_turns(rt, monitor, second, 1) },
-    )
+    );
+    (seat, wrong, others)
 }
 
 /// Two threads hand the first cell to and fro, and neither ever waits in vain.
 #[test]
-fn handed_to_and_fro(rt: HostRuntime) -> Result<(), Fail> {
-    let Some((monitor, first, second)) = two_seats(rt.alloc()) else {
-        panic!(rt; "no monitor")
-    };
-    let ((seat, wrong), (_, others)) = take_turns_twice(&rt, &monitor, first, second);
-    assert_eq!(rt; (wrong, others), (0, 0));
-    let closed = monitor.close(seat);
-    assert!(rt; closed.free);
-    assert_eq!(rt; closed.row, [2_000, 0]);
-    Ok(())
+fn handed_to_and_fro(rt: HostRuntime) {
+    let (monitor, first, second) = two_seats(&rt, rt.alloc());
+    let (seat, wrong, others) = take_turns_twice(&rt, &monitor, first, second);
+    let came = (wrong, others, row_at_end(monitor, seat));
+    assert_eq!(rt; came, (0, 0, Some([2_000, 0])));
 }
