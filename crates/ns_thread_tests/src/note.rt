@@ -186,6 +186,14 @@ fn makes_all(env: &Env, seat: &mut EnvSeat) -> bool
     true
 }
 
+/// Whether a note that the seat knows expires at no tick.
+fn is_endless(env: &Env, seat: &mut EnvSeat, note: Note) -> bool
+    requires { seat.old.env ≡ env.now }
+    ensures { seat.new.env ≡ seat.old.env }
+{
+    env.knows(seat, note) && env.expiry(seat, note).is_none()
+}
+
 /// Whether 64 notes are made and no more, the last of which is then notified, and no other.
 fn fills(env: &Env, seat: &mut EnvSeat) -> bool
     requires { seat.old.env ≡ env.now }
@@ -195,7 +203,8 @@ fn fills(env: &Env, seat: &mut EnvSeat) -> bool
     let known = notify(env, seat, Note { index: 63 });
     let last = is_notified(env, seat, Note { index: 63 });
     let other = is_notified(env, seat, Note { index: 62 });
-    all && refused && known && last == Some(true) && other == Some(false)
+    let endless = is_endless(env, seat, Note { index: 62 });
+    all && refused && known && last == Some(true) && other == Some(false) && endless
 }
 
 /// There are 64 notes and no more, and the last of them answers still.
@@ -372,7 +381,7 @@ fn wait_for_one_of_two<R: Threads + Wait + Clock + Sync>(
 ) -> Option<(bool, bool, Option<bool>)>
     requires { (first.env ≡ env.now) × (second.env ≡ env.now) }
 {
-    let mut maker = first;
+    let (mut maker, second) = env.meet(first, second);
     let (root, other) = two_roots(env, &mut maker)?;
     let ((early, in_time), answer) = wait_and_advance(rt, env, maker, second, root, other);
     Some((early, in_time, answer))
