@@ -189,12 +189,13 @@ fn refused_memory(rt: HostRuntime) {
 fn look_inside<R: Wait>(
     rt: &R,
     objects: &Objects,
-    mut first: ObjSeat,
-    mut second: ObjSeat,
+    first: ObjSeat,
+    second: ObjSeat,
 ) -> (Once<bool>, Once<bool>)
     requires objects { (first.objects ≡ objects.now) × (second.objects ≡ objects.now) }
     requires once { (0 < first.setup.cells) × (0 < second.setup.cells) }
 {
+    let (mut first, mut second) = objects.meet(first, second);
     let came = objects.run_once(rt, &mut first, 0, move || objects.once_done(&mut second, 0));
     (came, objects.run_once(rt, &mut first, 0, || true))
 }
