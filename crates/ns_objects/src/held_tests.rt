@@ -18,7 +18,7 @@ use ns_note::seat::EnvSeat;
 use std::alloc::Global;
 use std::process::Abort;
 use std::sync::Wait;
-use std::thread::{Threads, join};
+use std::thread::{Threads, join, yield_now};
 
 /// A condition that is never true, of rows of one cell: nobody waits for one here.
 #[derive(Clone, Copy)]
@@ -49,6 +49,9 @@ impl Condition<1> for Never {
 
     ghost has_room = { Prim.search rules };
 }
+
+/// How often a thread signals that has to end a wait.
+const MANY_TRIES: u32 = 1_000_000;
 
 /// What ends a wait.
 #[derive(Clone, Copy)]
@@ -119,8 +122,8 @@ fn two<R: Abort>(rt: &R, alloc: Global) -> (Commons, Kit, Kit)
     (commons, first, second)
 }
 
-/// Waits in the section in hand for variables 0 and 1, of which the second stands there twice, the counter, and
-/// the note, where the seat knows it, up to tick 5. Then tells in the cell that it is over.
+/// Waits in the section in hand for variables 0 and 1, of which the second stands there twice, the note, where the
+/// seat knows it, and the counter, up to tick 5. Then tells in the cell that it is over.
 fn wait_and_tell<R: Wait>(
     rt: &R,
     commons: &Commons,
@@ -138,8 +141,8 @@ fn wait_and_tell<R: Wait>(
     let items = [
         AnyItem::Cv(0),
         AnyItem::Cv(1),
-        AnyItem::Counter(0),
         AnyItem::Note(note),
+        AnyItem::Counter(0),
         AnyItem::Cv(1),
     ];
     let (mut held, place) = commons.objects.wait_any_held(
@@ -171,6 +174,21 @@ fn is_told<R: Wait>(
     (monitor.unlock(rt, held), told)
 }
 
+/// Signals variable 1 until the wait tells that it is over, or often enough.
+fn signal_until_told<R: Wait>(rt: &R, monitor: &Monitor<Never, 1>, mut seat: Seat<Never, 1>)
+    requires { seat.monitor ≡ monitor.now }
+{
+    for _ in 0..MANY_TRIES {
+        monitor.signal(rt, &mut seat, 1);
+        let (back, told) = is_told(rt, monitor, seat);
+        if told {
+            return;
+        }
+        seat = back;
+        yield_now();
+    }
+}
+
 /// Notifies the note, where the seat knows it.
 fn notify(env: &Env, watch: &mut EnvSeat, note: Note)
     requires { watch.old.env ≡ env.now }
@@ -180,7 +198,8 @@ fn notify(env: &Env, watch: &mut EnvSeat, note: Note)
     }
 }
 
-/// Comes inside, and then does what ends the wait. Whether that had told before that it is over.
+/// Comes inside, and then does what ends the wait: behind its signals the note is notified too, which ends a wait
+/// that no signal has. Whether that had told before that it is over.
 fn end_behind<R: Wait>(rt: &R, commons: &Commons, kit: Kit, note: Note, ender: Ender) -> bool
     requires of { (kit.seat.monitor ≡ commons.now.monitor) × (kit.objects.objects ≡ commons.now.objects) × (kit.watch.env ≡ commons.now.env) }
     requires counter { kit.objects.setup.counters ≡ 1 }
@@ -190,9 +209,12 @@ fn end_behind<R: Wait>(rt: &R, commons: &Commons, kit: Kit, note: Note, ender: E
         mut objects,
         mut watch,
     } = kit;
-    let (mut seat, told) = is_told(rt, &commons.monitor, seat);
+    let (seat, told) = is_told(rt, &commons.monitor, seat);
     match ender {
-        Ender::Signal => commons.monitor.signal(rt, &mut seat, 1),
+        Ender::Signal => {
+            signal_until_told(rt, &commons.monitor, seat);
+            notify(&commons.env, &mut watch, note);
+        }
         Ender::Counter => {
             let _ = commons.objects.counter_add(rt, &mut objects, 0, -1);
         }
@@ -244,15 +266,15 @@ fn ended_by<R: Abort + Threads + Wait + Sync>(
     wait_and_end(rt, &commons, first, second, note, ender)
 }
 
-/// A signal, a counter, a note and the deadline end it: the answer is the first place of the variable, that of the
+/// A signal, a note, a counter and the deadline end it: the answer is the first place of the variable, that of the
 /// other, and at the deadline the number of items. Who comes inside meanwhile finds that it has left its section,
 /// and waits.
 #[test]
 fn each_of_them_ends_it(rt: HostRuntime) {
     let table = [
         (Ender::Signal, 1),
-        (Ender::Counter, 2),
-        (Ender::Note, 3),
+        (Ender::Note, 2),
+        (Ender::Counter, 3),
         (Ender::Clock, 5),
     ];
     for (ender, place) in table {

@@ -1,8 +1,9 @@
 //! What no clause says: worked trees of notes, that calls can succeed, and that threads see one
 //! another's steps.
 
-ghost use Rattle.std.specs.Prelude.{◌≡◌, ◌<◌, All};
+ghost use Rattle.std.specs.Prelude.{◌≡◌, ◌<◌, All, IfSome};
 ghost use Rattle.std.specs.Thread.{IsSync};
+ghost use Rattle.ns_model.specs.Environments.{IsMade};
 
 use ns_env::note::NoteState;
 use ns_model::event::Answer;
@@ -170,6 +171,46 @@ fn note_tree(rt: HostRuntime) {
     let before = (Some(false), Some(None));
     let behind = (Some(true), Some(Some(Answer::Canceled)));
     assert_eq!(rt; came, Some([before, behind]));
+}
+
+/// A note with a deadline, where the seat knows its parent and then the note.
+fn make_timed(env: &Env, seat: &mut EnvSeat, parent: Option<Note>, deadline: u64) -> Option<Note>
+    requires env { seat.old.env ≡ env.now }
+    requires parent { IfSome parent (λ p. IsMade seat.old.seen p.index) }
+    requires deadline { deadline < 100 }
+    ensures env { seat.new.env ≡ seat.old.env }
+    ensures made { IfSome result (λ n. IsMade seat.new.seen n.index) }
+{
+    let note = env.note_new(seat, parent, Some(deadline)).ok()?;
+    if env.knows(seat, note) {
+        Some(note)
+    } else {
+        None
+    }
+}
+
+/// Makes a note with the deadline 5 below one with 3. When the first expires; whether it is notified at 2 and
+/// at 3; and the clock, behind a call that would turn it back.
+fn expire(env: &Env, seat: &mut EnvSeat) -> Option<(Option<u64>, [Option<bool>; 2], u64)>
+    requires { seat.old.env ≡ env.now }
+{
+    let root = make_timed(env, seat, None, 3)?;
+    let child = make_timed(env, seat, Some(root), 5)?;
+    let expiry = env.expiry(seat, child);
+    env.advance(seat, 2);
+    let before = is_notified(env, seat, child);
+    env.advance(seat, 3);
+    let behind = is_notified(env, seat, child);
+    env.advance(seat, 1);
+    Some((expiry, [before, behind], env.now(seat)))
+}
+
+/// A deadline of 5 below one of 3: both have come at 3, and not at 2. The clock doesn't go back.
+#[test]
+fn note_tree_by_deadline(rt: HostRuntime) {
+    let (env, mut seat) = one_env_seat(&rt, rt.alloc());
+    let came = expire(&env, &mut seat);
+    assert_eq!(rt; came, Some((Some(3), [Some(false), Some(true)], 3)));
 }
 
 /// Makes 64 notes, and answers whether they came in order.

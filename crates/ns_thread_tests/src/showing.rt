@@ -199,64 +199,67 @@ fn conditional_reader_is_shown(rt: HostRuntime) {
     assert_eq!(rt; came, (Some(true), 1, Some([1, 0])));
 }
 
-/// Looks from one write section while somebody waits for the third variable, and behind a signal of it. Then looks
+/// Looks from one write section while somebody waits for the variable, and behind a signal of it. Then looks
 /// for the waiter to be back. Answers both words that are shown with that waiter alone, where it stands.
 fn look_and_signal<R: Abort + Wait>(
     rt: &R,
     monitor: &Monitor<AtLeast, 2>,
     seat: Seat<AtLeast, 2>,
+    k: usize,
 ) -> (Seat<AtLeast, 2>, Option<Word>, Option<Word>)
-    requires { seat.monitor ≡ monitor.now }
+    requires { (seat.monitor ≡ monitor.now) × (k < 4) }
     ensures { result.0.monitor ≡ monitor.now }
 {
     let mut held = lock_at(rt, monitor, seat, 0, 1);
     let before = monitor.debug_state_and_waiters(rt, &mut held);
-    monitor.signal(rt, &mut held, 2);
+    monitor.signal(rt, &mut held, k);
     let behind = monitor.debug_state_and_waiters(rt, &mut held);
     let seat = monitor.unlock(rt, held);
     let held = lock_at(rt, monitor, seat, 1, 1);
     let seat = monitor.unlock(rt, held);
-    let before = word_with(&before, &[], 2, &[WAITER]);
-    (seat, before, word_with(&behind, &[WAITER], 2, &[]))
+    let before = word_with(&before, &[], k, &[WAITER]);
+    (seat, before, word_with(&behind, &[WAITER], k, &[]))
 }
 
-/// One thread waits for the third variable, and the other looks and signals.
+/// One thread waits for the variable, and the other looks and signals.
 fn wait_and_be_shown<R: Abort + Threads + Wait + Sync>(
     rt: &R,
     monitor: &Monitor<AtLeast, 2>,
     env: &Env,
     comer: Comer,
     waker: Seat<AtLeast, 2>,
+    k: usize,
 ) -> (Seat<AtLeast, 2>, Answer, [Option<Word>; 2])
-    requires { (comer.seat.monitor ≡ monitor.now) × (waker.monitor ≡ monitor.now) × (comer.env_seat.env ≡ env.now) }
+    requires of { (comer.seat.monitor ≡ monitor.now) × (waker.monitor ≡ monitor.now) × (comer.env_seat.env ≡ env.now) }
+    requires variable { k < 4 }
     ensures { result.0.monitor ≡ monitor.now }
 {
     let (answer, (seat, before, behind)) = join(
         rt,
         move || -> Answer
-            requires { IsSync R.row × (comer.seat.monitor ≡ monitor.now) × (comer.env_seat.env ≡ env.now) }
-        { come_and_wait(rt, monitor, env, comer, 2) },
+            requires { IsSync R.row × (comer.seat.monitor ≡ monitor.now) × (comer.env_seat.env ≡ env.now) × (k < 4) }
+        { come_and_wait(rt, monitor, env, comer, k) },
         move || -> (Seat<AtLeast, 2>, Option<Word>, Option<Word>)
-            requires { IsSync R.row × (waker.monitor ≡ monitor.now) }
+            requires { IsSync R.row × (waker.monitor ≡ monitor.now) × (k < 4) }
             ensures { result.0.monitor ≡ monitor.entry.now }
-        { look_and_signal(rt, monitor, waker) },
+        { look_and_signal(rt, monitor, waker, k) },
     );
     (seat, answer, [before, behind])
 }
 
-/// A waiter is shown at its variable, and behind a signal under the lock in the lock list.
+/// A waiter is shown at its variable, whichever that is, and behind a signal under the lock in the lock list.
 #[test]
 fn moved_waiter_is_shown(rt: HostRuntime) {
-    let (monitor, env, comer, waker) = one_and_one(&rt, rt.alloc(), None);
-    let (seat, answer, shown) = wait_and_be_shown(&rt, &monitor, &env, comer, waker);
     let mut held = Word::FREE;
     held.write = true;
     let mut waited_for = held;
     waited_for.waiting = true;
     waited_for.writer_waits = true;
-    let came = (answer, shown, row_at_end(monitor, seat));
-    assert_eq!(rt;
-        came,
-        (Answer::Met, [Some(held), Some(waited_for)], Some([1, 1]))
-    );
+    let wanted = [Some(held), Some(waited_for)];
+    for k in 0..4 {
+        let (monitor, env, comer, waker) = one_and_one(&rt, rt.alloc(), None);
+        let (seat, answer, shown) = wait_and_be_shown(&rt, &monitor, &env, comer, waker, k);
+        let came = (answer, shown, row_at_end(monitor, seat));
+        assert_eq!(rt; came, (Answer::Met, wanted, Some([1, 1])));
+    }
 }

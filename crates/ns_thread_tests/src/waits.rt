@@ -350,6 +350,37 @@ fn wait_is_canceled(rt: HostRuntime) {
     }
 }
 
+/// Sets the first cell in a section of its own, which wakes nobody where it is quiet; answers whether it
+/// was.
+fn set_quietly<R: Wait>(
+    rt: &R,
+    monitor: &Monitor<AtLeast, 2>,
+    seat: Seat<AtLeast, 2>,
+    value: u64,
+) -> (Seat<AtLeast, 2>, bool)
+    requires { seat.monitor ≡ monitor.now }
+    ensures { result.0.monitor ≡ monitor.now }
+{
+    let mut held = monitor.lock(rt, seat);
+    monitor.set(&mut held, 0, value);
+    if monitor.is_quiet(&mut held) {
+        (monitor.unlock_without_wakeup(rt, held), true)
+    } else {
+        (monitor.unlock(rt, held), false)
+    }
+}
+
+/// 2 for 3 is quiet and 4 for 2 is not, and each release leaves what it has set.
+#[test]
+fn quiet_releases(rt: HostRuntime) {
+    let (monitor, seat, _) = two_seats(&rt, rt.alloc());
+    let (seat, three) = set_quietly(&rt, &monitor, seat, 3);
+    let (seat, two) = set_quietly(&rt, &monitor, seat, 2);
+    let (seat, four) = set_quietly(&rt, &monitor, seat, 4);
+    let came = ([three, two, four], row_at_end(monitor, seat));
+    assert_eq!(rt; came, ([false, true, false], Some([4, 0])));
+}
+
 /// Tries to lock, and sets the first cell to 1 where it succeeds. Else it moves the clock to the tick.
 fn set_by_tries<R: Wait>(
     rt: &R,
