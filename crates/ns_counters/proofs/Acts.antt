@@ -14,7 +14,7 @@ use Rattle.ns_counters.specs.Lawful.{IsWordOf, AreWordsOf, PlaceFits, ViewFits, 
 use Rattle.ns_counters.specs.Objects.{ObjectStanding, first_objects, IsLegalObjectEvent, object_next, objects_from, objects_after, IsLegalObjects, object_who, objects_own, AreObjectsBySeats}
 use Rattle.ns_counters.specs.Steps.{word_of_once, word_at, Outcome, outcome, CanAct}
 use Rattle.ns_counters.specs.Words.{stage, stage_word}
-use Rattle.ns_counters.proofs.Courses.{legal_append}
+use Rattle.ns_model.proofs.Courses.{legal_append}
 use Rattle.ns_counters.proofs.Keeps.{StepKeeps, step_keeps, places_still}
 use Rattle.ns_counters.proofs.Objects.{own-append, own_all, own_none}
 

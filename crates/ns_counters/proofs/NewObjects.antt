@@ -1,7 +1,7 @@
 -- New objects are lawful.
 use Rattle.std.proofs.Common.{◌≡◌, ℕ, zero, suc, ◌+◌, ◌-◌, ◌<◌, ◌≤◌, List, [], ◌∷◌, ◌++◌, length, length-append, get_or, replicate, refl, ap, subst, arith, ◌∙◌}
 use Rattle.std.proofs.lemmas.List.{length-replicate}
-use Rattle.ns_counters.specs.Counters.{most}
+use Rattle.ns_model.specs.Counters.{most}
 use Rattle.ns_counters.specs.Lawful.{AreWordsOf, IsLawful}
 use Rattle.ns_counters.specs.Made.{padded, setup_of, first_words}
 use Rattle.ns_counters.specs.Objects.{first_objects}

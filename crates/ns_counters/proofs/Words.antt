@@ -1,10 +1,10 @@
 -- The words of counters and once cells: each tells of what it was made for, and what a mark leaves of a counter's.
 use Rattle.std.proofs.Common.{◌≡◌, ℕ, ◌+◌, ◌*◌, ◌/◌, ◌%◌, ◌^◌, ◌≤◌, Bool, true, false, eqb, refl, ap, ◌∙◌, arith, bit_or, if◌then◌else◌}
 use Rattle.std.proofs.lemmas.Nat.{or_block, or_disjoint, and_le_r}
-use Rattle.ns_counters.specs.declared.counter.CounterState.{CounterState}
+use Rattle.ns_model.specs.declared.counter.CounterState.{CounterState}
 use Rattle.ns_counters.specs.declared.word.Stage.{Stage}
 use Rattle.ns_counters.specs.declared.word.Stage.TheVariants.{Unused, Running, Done}
-use Rattle.ns_counters.specs.Counters.{most}
+use Rattle.ns_model.specs.Counters.{most}
 use Rattle.ns_counters.specs.Words.{counter_word, counter_of, stage_word, stage_of}
 
 by_mark : (value : ℕ) (waited : Bool) → value ≤ most → counter_of (counter_word (record { value = value; waited = waited })) ≡ record { value = value; waited = waited }

@@ -1,10 +1,6 @@
 pub mod Acted
-pub mod Counters
-pub mod Courses
 pub mod Lawful
 pub mod Made
-pub mod Meanings
 pub mod Objects
-pub mod Onces
 pub mod Steps
 pub mod Words

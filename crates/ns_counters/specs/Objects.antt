@@ -3,19 +3,19 @@ use Rattle.std.specs.Prelude.{ℕ, ◌<◌, ◌==◌, if◌then◌else◌, List,
 use Rattle.std.specs.List.{fold}
 use Rattle.ns_model.specs.Environments.{but_at}
 use Rattle.ns_model.specs.Tallies.{Every}
-use Rattle.ns_counters.specs.declared.counter.CounterEvent.{CounterEvent}
-use Rattle.ns_counters.specs.declared.counter.CounterEvent.TheVariants.{Add, Begun}
-use Rattle.ns_counters.specs.declared.counter.CounterState.{CounterState}
-use Rattle.ns_counters.specs.declared.once.OnceEvent.{OnceEvent}
-use Rattle.ns_counters.specs.declared.once.OnceEvent.TheVariants.{Began, Ran}
-use Rattle.ns_counters.specs.declared.once.OnceState.{OnceState}
-use Rattle.ns_counters.specs.declared.once.OnceState.TheVariants.{Unused}
+use Rattle.ns_model.specs.declared.counter.CounterEvent.{CounterEvent}
+use Rattle.ns_model.specs.declared.counter.CounterEvent.TheVariants.{Add, Begun}
+use Rattle.ns_model.specs.declared.counter.CounterState.{CounterState}
+use Rattle.ns_model.specs.declared.once.OnceEvent.{OnceEvent}
+use Rattle.ns_model.specs.declared.once.OnceEvent.TheVariants.{Began, Ran}
+use Rattle.ns_model.specs.declared.once.OnceState.{OnceState}
+use Rattle.ns_model.specs.declared.once.OnceState.TheVariants.{Unused}
 use Rattle.ns_counters.specs.declared.object.ObjectEvent.{ObjectEvent}
 use Rattle.ns_counters.specs.declared.object.ObjectEvent.TheVariants.{OnCounter, OnOnce}
 use Rattle.ns_counters.specs.declared.object.Setup.{Setup}
-use Rattle.ns_counters.specs.Courses.{IsLegalFrom}
-use Rattle.ns_counters.specs.Counters.{first_counter, IsLegalCounterEvent, counter_next}
-use Rattle.ns_counters.specs.Onces.{IsLegalOnceEvent, once_next}
+use Rattle.ns_model.specs.Courses.{IsLegalFrom}
+use Rattle.ns_model.specs.Counters.{first_counter, IsLegalCounterEvent, counter_next}
+use Rattle.ns_model.specs.Onces.{IsLegalOnceEvent, once_next}
 
 -- what a history leaves of each object, by its number
 pub record ObjectStanding : Type 0 where

@@ -1,8 +1,8 @@
 -- The words that a table keeps of counters and of once cells.
 use Rattle.std.specs.Prelude.{ℕ, ◌+◌, ◌/◌, ◌%◌, ◌^◌, ◌==◌, if◌then◌else◌}
-use Rattle.ns_counters.specs.declared.counter.CounterState.{CounterState}
-use Rattle.ns_counters.specs.declared.once.OnceState.{OnceState}
-use Rattle.ns_counters.specs.declared.once.OnceState.TheVariants as TheOnce
+use Rattle.ns_model.specs.declared.counter.CounterState.{CounterState}
+use Rattle.ns_model.specs.declared.once.OnceState.{OnceState}
+use Rattle.ns_model.specs.declared.once.OnceState.TheVariants as TheOnce
 use Rattle.ns_counters.specs.declared.word.Stage.{Stage}
 use Rattle.ns_counters.specs.declared.word.Stage.TheVariants.{Unused, Running, Done}
 

@@ -1,6 +1,6 @@
 //! The steps that calls on counters and once cells are made of. Each is one step on one word.
 
-use crate::counter::CounterState;
+use ns_model::counter::CounterState;
 
 /// One step.
 #[derive(Clone, Copy, Debug)]

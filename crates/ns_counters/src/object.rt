@@ -2,8 +2,8 @@
 //!
 //! These types are of the proof, but for [`Setup`]: no value of them is made.
 
-use crate::counter::CounterEvent;
-use crate::once::OnceEvent;
+use ns_model::counter::CounterEvent;
+use ns_model::once::OnceEvent;
 use std::collections::LinkedList;
 
 /// One event of one of several objects.

@@ -6,7 +6,7 @@
 ghost use Rattle.std.specs.Prelude.{◌≡◌};
 ghost use Rattle.ns_counters.specs.Words.{counter_word, counter_of, stage_word, stage_of};
 
-use crate::counter::CounterState;
+use ns_model::counter::CounterState;
 
 /// The bit of a counter's word that is set once a wait for 0 has begun.
 pub const WAITED: u64 = 1 << 32;

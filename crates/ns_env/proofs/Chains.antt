@@ -9,7 +9,7 @@ use Rattle.ns_model.proofs.Lines.{line_starts, line_stops, line_goes_on}
 use Rattle.ns_env.specs.declared.limits.Limits.{Limits}
 use Rattle.ns_env.specs.declared.limits.Cause.{Cause}
 use Rattle.ns_env.specs.declared.limits.Cause.TheVariants.{Expired, Notified}
-use Rattle.ns_env.specs.declared.note.NoteState.{NoteState}
+use Rattle.ns_env.specs.declared.note.NoteWord.{NoteWord}
 use Rattle.ns_env.specs.declared.act.EnvFound.TheVariants.{Clock, Note}
 use Rattle.ns_env.specs.declared.walk.Chain.{Chain}
 use Rattle.ns_env.specs.declared.walk.Chain.TheVariants.{ForLook, ForIsNotified, ForNoteWait}
@@ -83,7 +83,7 @@ module _ (point now : List EnvEvent) where
 
   module _ (legal : IsLegalEnv now) (begins : BeginsWith now point) where
     -- with a note of the line loaded, it stops or goes on
-    note_fits : (chain : Chain) (clock asked at : ℕ) (note : NoteState) (b : Bool) → clock ≡ clock_of point → chain_note chain ≡ Some asked → IsLeftAt point asked (Some at) → standing_of note ≡ (env_after now).notes at →
+    note_fits : (chain : Chain) (clock asked at : ℕ) (note : NoteWord) (b : Bool) → clock ≡ clock_of point → chain_note chain ≡ Some asked → IsLeftAt point asked (Some at) → standing_of note ≡ (env_after now).notes at →
         is_over (clock_of point) ((env_after now).notes at) ≡ b → ChainFits point now chain (cond b (stopped chain) (up_to chain clock note.parent))
     note_fits chain clock asked at note true is named left same over = stopped_fits chain asked named (line_stops point now legal begins asked at left over)
     note_fits chain clock asked at note false is named left same over =
@@ -94,7 +94,7 @@ pub chain_begins : (now : List EnvEvent) (state : EnvState) (seat : ℕ) (chain 
 chain_begins now state seat chain lawful walks = begins_fits now now chain state.plain.clock (chain_note chain) lawful.lawful.meets.clock refl (lawful.each seat (ClockLoad chain) walks)
 
 -- And it answers of the events before that, or of all until now.
-pub chain_answers : (point now : List EnvEvent) (state : EnvState) (chain : Chain) (clock at : ℕ) (note : NoteState) → IsLawfulEnv now state → BeginsWith now point →
+pub chain_answers : (point now : List EnvEvent) (state : EnvState) (chain : Chain) (clock at : ℕ) (note : NoteWord) → IsLawfulEnv now state → BeginsWith now point →
     ChainFits point now chain (Go (NoteLoad chain clock at)) → standing_of note ≡ state.plain.notes at → ChainFits point now chain (env_got_of (NoteLoad chain clock at) (Note note))
 chain_answers point now state chain clock at note lawful begins fits is =
     let on = fits_on point now chain clock at fits in

@@ -6,7 +6,7 @@ use Rattle.ns_model.proofs.Beginnings.{begins_itself}
 use Rattle.ns_model.proofs.Lines.{IsExpiryAt, expiry_goes_on}
 use Rattle.ns_model.proofs.Environments.{sound_after, notified_in-up, notified_in-root}
 use Rattle.ns_env.specs.declared.limits.Cause.TheVariants.{Expired}
-use Rattle.ns_env.specs.declared.note.NoteState.{NoteState}
+use Rattle.ns_env.specs.declared.note.NoteWord.{NoteWord}
 use Rattle.ns_env.specs.declared.act.EnvFound.TheVariants.{Note}
 use Rattle.ns_env.specs.declared.walk.Chain.{Chain}
 use Rattle.ns_env.specs.declared.walk.Chain.TheVariants.{ForLook, ForIsNotified, ForNoteWait}
@@ -92,7 +92,7 @@ goes_up chain chain' clock clock' next true parent e = absurd (stopped_not chain
 goes_up chain chain' clock clock' next false None e = absurd (passed_not chain chain' clock clock' next e)
 goes_up chain chain' clock clock' next false (Some p) e = cc
 
-pub chain_up : (h : List EnvEvent) (plain : EnvPlain) (chain chain' : Chain) (clock clock' at next : ℕ) (note : NoteState) → Meets h plain → standing_of note ≡ plain.notes at →
+pub chain_up : (h : List EnvEvent) (plain : EnvPlain) (chain chain' : Chain) (clock clock' at next : ℕ) (note : NoteWord) → Meets h plain → standing_of note ≡ plain.notes at →
     env_got_of (NoteLoad chain clock at) (Note note) ≡ Go (NoteLoad chain' clock' next) → (next < at) × IsMade h next
 chain_up h plain chain chain' clock clock' at next note m is e =
     (sound_after h m.legal).above at next (ap (λ (s : NoteStanding). s.parent) (sym (is ∙ note_is h plain m at)) ∙ goes_up chain chain' clock clock' next (is_over clock (standing_of note)) note.parent e)
@@ -103,7 +103,7 @@ lowered_is : (asked : ℕ) (parent least answer : Option ℕ) → lowered_to ask
 lowered_is asked None least answer e = (refl, cc)
 lowered_is asked (Some p) least answer e = absurd (cc)
 
-pub expiry_is : (h : List EnvEvent) (state : EnvState) (seat asked at : ℕ) (least answer : Option ℕ) (note : NoteState) → IsLawfulEnv h state → slice_get state.askings seat ≡ Some (Some (ExpiryLoad asked at least)) →
+pub expiry_is : (h : List EnvEvent) (state : EnvState) (seat asked at : ℕ) (least answer : Option ℕ) (note : NoteWord) → IsLawfulEnv h state → slice_get state.askings seat ≡ Some (Some (ExpiryLoad asked at least)) →
     standing_of note ≡ state.plain.notes at → env_got_of (ExpiryLoad asked at least) (Note note) ≡ Over (Expiry answer) → answer ≡ expiry_of h asked
 expiry_is h state seat asked at least answer note lawful walks is e =
     let p = lowered_is asked note.parent (earlier least note.deadline) answer e in

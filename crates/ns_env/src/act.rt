@@ -1,6 +1,6 @@
 //! What one atomic step on the clock and the notes does, and what it finds.
 
-use crate::note::NoteState;
+use crate::note::NoteWord;
 
 /// One atomic step on the clock or the notes. A moment is in ticks.
 #[derive(Clone, Copy)]
@@ -33,5 +33,5 @@ pub enum EnvFound {
     /// The clock.
     Clock(u64),
     /// A note.
-    Note(NoteState),
+    Note(NoteWord),
 }

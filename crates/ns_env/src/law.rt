@@ -5,7 +5,7 @@ ghost use Rattle.std.specs.Prelude.{◌≡◌, ◌≢◌, ℕ, ◌+◌, ◌<◌,
 ghost use Rattle.ns_model.specs.declared.environment.EnvEvent.{EnvEvent};
 ghost use Rattle.ns_model.specs.Beginnings.{BeginsWith};
 ghost use Rattle.ns_model.specs.Environments.{NoteStanding, IsMade, env_after, is_notified, expiry_of};
-ghost use Rattle.ns_env.specs.declared.note.NoteState.{NoteState};
+ghost use Rattle.ns_env.specs.declared.note.NoteWord.{NoteWord};
 ghost use Rattle.ns_env.specs.declared.act.EnvAct.{EnvAct};
 ghost use Rattle.ns_env.specs.declared.act.EnvFound.{EnvFound};
 ghost use Rattle.ns_env.specs.declared.act.EnvFound.TheVariants.{Clock, Note};
@@ -80,7 +80,7 @@ pub fn a_chain_finds_the_notified()
 
 /// A chain goes on to a note that is made and has a smaller number, so it ends.
 pub fn a_chain_goes_up()
-    ensures { (events : List EnvEvent) (plain : EnvPlain) (chain chain' : Chain) (clock clock' at next : ℕ) (note : NoteState) →
+    ensures { (events : List EnvEvent) (plain : EnvPlain) (chain chain' : Chain) (clock clock' at next : ℕ) (note : NoteWord) →
         Meets events plain → standing_of note ≡ plain.notes at →
         env_got_of (NoteLoad chain clock at) (Note note) ≡ Go (NoteLoad chain' clock' next) →
         (next < at) × IsMade events next }
@@ -97,14 +97,14 @@ pub fn a_chain_begins_at_its_clock()
 /// on: that its note is notified is so by now, and that it wasn't was so when the clock was
 /// loaded, with a deadline that had or hadn't come by then.
 pub fn a_chain_answers_rightly()
-    ensures { (point now : List EnvEvent) (state : EnvState) (chain : Chain) (clock at : ℕ) (note : NoteState) →
+    ensures { (point now : List EnvEvent) (state : EnvState) (chain : Chain) (clock at : ℕ) (note : NoteWord) →
         IsLawfulEnv now state → BeginsWith now point → ChainFits point now chain (Go (NoteLoad chain clock at)) → standing_of note ≡ state.plain.notes at →
         ChainFits point now chain (env_got_of (NoteLoad chain clock at) (Note note)) }
 {}
 
 /// What an expiry answers is the earliest deadline from its note up to the root, as it stands.
 pub fn an_expiry_is_the_earliest()
-    ensures { (events : List EnvEvent) (state : EnvState) (seat asked at : ℕ) (least answer : Option ℕ) (note : NoteState) →
+    ensures { (events : List EnvEvent) (state : EnvState) (seat asked at : ℕ) (least answer : Option ℕ) (note : NoteWord) →
         IsLawfulEnv events state → slice_get state.askings seat ≡ Some (Some (ExpiryLoad asked at least)) → standing_of note ≡ state.plain.notes at →
         env_got_of (ExpiryLoad asked at least) (Note note) ≡ Over (Expiry answer) → answer ≡ expiry_of events asked }
 {}

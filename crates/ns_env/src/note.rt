@@ -6,10 +6,10 @@ ghost use Rattle.ns_env.specs.Notes.{standing_of};
 
 /// A note as it stands.
 #[derive(Clone, Copy, Debug, PartialEq, Eq)]
-pub struct NoteState {
+pub struct NoteWord {
     /// Whether it was notified by a call. A note whose deadline has come, or whose parent is
     /// notified, need not be.
-    pub called: bool,
+    pub notified: bool,
     /// Whether the note is made. A number that is only taken, or not even that, has no note yet.
     pub made: bool,
     /// The number of its parent, if it has one.
@@ -18,12 +18,12 @@ pub struct NoteState {
     pub deadline: Option<u64>,
 }
 
-impl NoteState {
+impl NoteWord {
     /// Whether the note itself is notified, by a call or by its deadline. Needs the clock, in ticks.
     pub fn is_over(self, clock: u64) -> bool
         ensures { result ≡ is_over_of clock (standing_of self) }
     {
-        self.called || is_due(self.deadline, clock)
+        self.notified || is_due(self.deadline, clock)
     }
 }
 

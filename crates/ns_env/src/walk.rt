@@ -22,7 +22,7 @@ ghost use Rattle.ns_env.specs.Walks.{env_want_of, env_got_of, chain_note, stoppe
 
 use crate::act::{EnvAct, EnvFound};
 use crate::limits::{Cause, Limits};
-use crate::note::{NoteState, earlier, is_due};
+use crate::note::{NoteWord, earlier, is_due};
 use crate::reply::EnvReply;
 
 /// What a chain of notes, from one up to its root, is loaded for.
@@ -225,7 +225,7 @@ impl EnvWalk {
     }
 
     /// Where the walk goes with a note.
-    fn got_note(self, note: NoteState) -> EnvNext
+    fn got_note(self, note: NoteWord) -> EnvNext
         ensures { result ≡ env_got_of self (EnvFound.Note note) }
     {
         match self {

@@ -1,9 +1,13 @@
 pub mod Beginnings
 pub mod Counted
+pub mod Counters
+pub mod Courses
 pub mod Cvs
 pub mod Environments
 pub mod Histories
 pub mod Lines
+pub mod Meanings
+pub mod Onces
 pub mod Phases
 pub mod Room
 pub mod Seats

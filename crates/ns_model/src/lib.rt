@@ -39,10 +39,12 @@
 #![tactic(auto)]
 
 pub mod condition;
+pub mod counter;
 pub mod cvs;
 pub mod environment;
 pub mod event;
 pub mod history;
+pub mod once;
 pub mod phase;
 pub mod seats;
 pub mod sections;

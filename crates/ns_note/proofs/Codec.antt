@@ -2,7 +2,7 @@
 use Rattle.std.proofs.Common.{◌≡◌, ℕ, suc, ◌+◌, ◌-◌, ◌*◌, ◌/◌, ◌%◌, ◌^◌, ◌<◌, ◌≤◌, Bool, true, false, eqb, Option, None, Some, IfSome, refl, ap, ◌∙◌, arith, ne_eqb, le-ltb, bit_and, bit_or, if◌then◌else◌}
 use Rattle.std.specs.Int.Bits.{or_add_and}
 use Rattle.std.proofs.lemmas.Nat.{and_mask}
-use Rattle.ns_env.specs.declared.note.NoteState.{NoteState}
+use Rattle.ns_env.specs.declared.note.NoteWord.{NoteWord}
 use Rattle.ns_note.specs.Words.{flag, parent_code, deadline_code, WordFits, word_of, parent_at, deadline_at, note_of}
 
 flag_most : (b : Bool) → flag b ≤ 1
@@ -29,15 +29,15 @@ parts : (n m k d : ℕ) → n ≤ 1 → m ≤ 1 → k ≤ 64 → let w = n + 2 *
 parts n m k d a b c = (omega arith, omega arith, omega arith, omega arith)
 
 -- a word tells of the note that it was made for
-pub note_of-word_of : (note : NoteState) → WordFits note → note_of (word_of note) ≡ note
+pub note_of-word_of : (note : NoteWord) → WordFits note → note_of (word_of note) ≡ note
 note_of-word_of note fits =
-    let p = parts (flag note.called) (flag note.made) (parent_code note.parent) (deadline_code note.deadline) (flag_most note.called) (flag_most note.made) (parent_most note.parent fits.0) in λ i.
-    record { called = (ap (λ (k : ℕ). eqb k 1) p.0 ∙ flag_is note.called) i; made = (ap (λ (k : ℕ). eqb k 1) p.1 ∙ flag_is note.made) i; parent = (ap parent_at p.2 ∙ parent_is note.parent) i; deadline = (ap deadline_at p.3 ∙ deadline_is note.deadline) i }
+    let p = parts (flag note.notified) (flag note.made) (parent_code note.parent) (deadline_code note.deadline) (flag_most note.notified) (flag_most note.made) (parent_most note.parent fits.0) in λ i.
+    record { notified = (ap (λ (k : ℕ). eqb k 1) p.0 ∙ flag_is note.notified) i; made = (ap (λ (k : ℕ). eqb k 1) p.1 ∙ flag_is note.made) i; parent = (ap parent_at p.2 ∙ parent_is note.parent) i; deadline = (ap deadline_at p.3 ∙ deadline_is note.deadline) i }
 
 -- setting the first bit
 or_one : (n rest : ℕ) → n ≤ 1 → bit_or (n + 2 * rest) 1 ≡ 1 + 2 * rest
 or_one n rest h = let sum = or_add_and (n + 2 * rest) 1 in let mask : bit_and (n + 2 * rest) 1 ≡ (n + 2 * rest) % 2 = and_mask (n + 2 * rest) 1 in let m : (n + 2 * rest) % 2 ≡ n = omega arith in omega arith
 
-pub marked : (note : NoteState) → bit_or (word_of note) 1 ≡ word_of (record { called = true; made = note.made; parent = note.parent; deadline = note.deadline })
+pub marked : (note : NoteWord) → bit_or (word_of note) 1 ≡ word_of (record { notified = true; made = note.made; parent = note.parent; deadline = note.deadline })
 marked note = let rest = flag note.made + 2 * parent_code note.parent + 256 * deadline_code note.deadline in
-    let is : word_of note ≡ flag note.called + 2 * rest = omega arith in ap (λ (k : ℕ). bit_or k 1) is ∙ (or_one (flag note.called) rest (flag_most note.called) ∙ (let same : 1 + 2 * rest ≡ 1 + 2 * flag note.made + 4 * parent_code note.parent + 512 * deadline_code note.deadline = omega arith in same))
+    let is : word_of note ≡ flag note.notified + 2 * rest = omega arith in ap (λ (k : ℕ). bit_or k 1) is ∙ (or_one (flag note.notified) rest (flag_most note.notified) ∙ (let same : 1 + 2 * rest ≡ 1 + 2 * flag note.made + 4 * parent_code note.parent + 512 * deadline_code note.deadline = omega arith in same))

@@ -10,7 +10,7 @@ use Rattle.ns_model.specs.Environments.{NoteStanding, EnvStanding, ParentFits, m
 use Rattle.ns_model.proofs.Environments.{sound_after, grown_begins, made_begins, but-here}
 use Rattle.ns_env.specs.declared.act.EnvAct.{EnvAct}
 use Rattle.ns_env.specs.declared.act.EnvAct.TheVariants.{LoadNext, TakeNext, StoreNote, LoadClock, LoadNote}
-use Rattle.ns_env.specs.declared.note.NoteState.{NoteState}
+use Rattle.ns_env.specs.declared.note.NoteWord.{NoteWord}
 use Rattle.ns_env.specs.declared.view.EnvView.{EnvView}
 use Rattle.ns_env.specs.declared.view.Making.TheVariants.{Nothing, Adding, Taken}
 use Rattle.ns_env.specs.Acted.{events_of}
@@ -133,10 +133,10 @@ note_made note word parent deadline v w found =
     ap (λ (h : List EnvEvent). ((env_after h).notes note).made) a.seen ∙ (ap (λ (s : EnvStanding). (s.notes note).made) (after_one a.point (New v.seat note parent deadline)) ∙ ap (λ (s : NoteStanding). s.made) (but-here note (made_note parent deadline) (env_after a.point).notes))
 
 -- a number is taken, and then its note is made
-pub adds_note : (number place : ℕ) (word : ℕ) (note : NoteState) (v u w : EnvView) → Adds (Take v.seat number ∷ []) v u → Adds (New u.seat place (note_of word).parent (note_of word).deadline ∷ []) u w → place ≡ number → note_of word ≡ note
+pub adds_note : (number place : ℕ) (word : ℕ) (note : NoteWord) (v u w : EnvView) → Adds (Take v.seat number ∷ []) v u → Adds (New u.seat place (note_of word).parent (note_of word).deadline ∷ []) u w → place ≡ number → note_of word ≡ note
     → Adds (Take v.seat number ∷ New v.seat number note.parent note.deadline ∷ []) v w
 adds_note number place word note v u w a b is told = let seat : u.seat ≡ v.seat = (a.grows nowhere).seat in
-    adds_through (Take v.seat number ∷ []) (New v.seat number note.parent note.deadline ∷ []) v u w a (subst (λ (z : ℕ × ℕ × NoteState). Adds (New z.0 z.1 z.2.parent z.2.deadline ∷ []) u w) (λ i. (seat i, is i, told i)) b)
+    adds_through (Take v.seat number ∷ []) (New v.seat number note.parent note.deadline ∷ []) v u w a (subst (λ (z : ℕ × ℕ × NoteWord). Adds (New z.0 z.1 z.2.parent z.2.deadline ∷ []) u w) (λ i. (seat i, is i, told i)) b)
 
 -- the numbers of notes have room in a word
 pub numbers_fit : (o : Option Note) → IfSome (option_map (λ n. n.index) o) (λ p. p < 64)

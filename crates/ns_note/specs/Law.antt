@@ -5,7 +5,7 @@ use Rattle.ns_model.specs.declared.environment.EnvEvent.{EnvEvent}
 use Rattle.ns_model.specs.Tallies.{Every}
 use Rattle.ns_env.specs.declared.act.EnvAct.{EnvAct}
 use Rattle.ns_env.specs.declared.act.EnvAct.TheVariants.{LoadNext, TakeNext, StoreNote, NotifyNote, MoveClock, LoadClock, LoadNote}
-use Rattle.ns_env.specs.declared.note.NoteState.{NoteState}
+use Rattle.ns_env.specs.declared.note.NoteWord.{NoteWord}
 use Rattle.ns_env.specs.declared.view.EnvView.{EnvView}
 use Rattle.ns_env.specs.declared.view.Making.TheVariants.{Nothing}
 use Rattle.ns_env.specs.Lawful.{adds, IsLawful, ViewFits}
@@ -22,7 +22,7 @@ abbrev pub IsClockWord : ℕ → ℕ → Type 0
 IsClockWord word clock = (word ≡ clock) × (clock < 2 ^ 54)
 
 -- a word is that of a note, which has room in it
-abbrev pub IsNoteWord : ℕ → NoteState → Type 0
+abbrev pub IsNoteWord : ℕ → NoteWord → Type 0
 IsNoteWord word note = (word ≡ word_of note) × WordFits note
 
 -- The words are those of the clock, of the next note's number and of the notes. Each bell is rung or set back, and nothing more is said of it.

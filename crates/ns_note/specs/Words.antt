@@ -1,6 +1,6 @@
 -- The word of a note.
 use Rattle.std.specs.Prelude.{ℕ, ◌+◌, ◌-◌, ◌*◌, ◌/◌, ◌%◌, ◌^◌, ◌<◌, ◌==◌, nat_lt, if◌then◌else◌, Bool, true, false, Option, None, Some, IfSome}
-use Rattle.ns_env.specs.declared.note.NoteState.{NoteState}
+use Rattle.ns_env.specs.declared.note.NoteWord.{NoteWord}
 
 -- a mark as a bit
 abbrev pub flag : Bool → ℕ
@@ -18,12 +18,12 @@ deadline_code None = 0
 deadline_code (Some deadline) = 2 ^ 54 + deadline
 
 -- what has room in a word
-abbrev pub WordFits : NoteState → Type 0
+abbrev pub WordFits : NoteWord → Type 0
 WordFits note = IfSome note.parent (λ p. p < 64) × IfSome note.deadline (λ d. d < 2 ^ 54)
 
 -- The word of a note: from the lowest bit up, whether it is notified, whether it is made, seven bits for its parent, and the rest for its deadline.
-abbrev pub word_of : NoteState → ℕ
-word_of note = flag note.called + 2 * flag note.made + 4 * parent_code note.parent + 512 * deadline_code note.deadline
+abbrev pub word_of : NoteWord → ℕ
+word_of note = flag note.notified + 2 * flag note.made + 4 * parent_code note.parent + 512 * deadline_code note.deadline
 
 -- the parent that the bits tell of
 abbrev pub parent_at : ℕ → Option ℕ
@@ -34,5 +34,5 @@ abbrev pub deadline_at : ℕ → Option ℕ
 deadline_at bits = if nat_lt bits (2 ^ 54) then None else Some (bits - 2 ^ 54)
 
 -- the note that a word tells of
-abbrev pub note_of : ℕ → NoteState
-note_of word = record { called = word % 2 == 1; made = (word / 2) % 2 == 1; parent = parent_at ((word / 4) % 128); deadline = deadline_at (word / 512) }
+abbrev pub note_of : ℕ → NoteWord
+note_of word = record { notified = word % 2 == 1; made = (word / 2) % 2 == 1; parent = parent_at ((word / 4) % 128); deadline = deadline_at (word / 512) }

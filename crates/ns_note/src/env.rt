@@ -21,7 +21,7 @@ use crate::seat::{EnvSeat, TableSeat};
 use crate::table_words::{BELLS, CLOCK, NEXT, NOTES, WORDS};
 use crate::view::View;
 use atomic_table::Table;
-use ns_env::note::{NoteState, earlier, is_due};
+use ns_env::note::{NoteWord, earlier, is_due};
 use ns_model::environment::EnvEvent;
 use ns_model::event::Answer;
 use std::alloc::{AllocError, Global};
@@ -159,8 +159,8 @@ impl Env {
         ensures full { IfErr result (λ _. (seat.new.mine ≡ seat.old.mine) × (takes_in seat.new.seen ≡ 64)) }
     {
         let index = self.take_number(&mut seat.seat)?;
-        let word = encode_note(NoteState {
-            called: false,
+        let word = encode_note(NoteWord {
+            notified: false,
             made: true,
             parent: index_of(parent),
             deadline,
@@ -257,7 +257,7 @@ impl Env {
     }
 
     /// What the word of a number tells now.
-    fn word(&self, seat: &mut EnvSeat, number: u8) -> NoteState
+    fn word(&self, seat: &mut EnvSeat, number: u8) -> NoteWord
         requires env { seat.old.env ≡ self.now }
         requires number { number < 64 }
         ensures grows { Grows seat.old seat.new }

@@ -1,10 +1,10 @@
 //! A note, and the word that a table keeps of it.
 
 ghost use Rattle.std.specs.Prelude.{◌≡◌, ◌<◌, ◌^◌, IfSome, option_map};
-ghost use Rattle.ns_env.specs.declared.note.NoteState.{NoteState};
+ghost use Rattle.ns_env.specs.declared.note.NoteWord.{NoteWord};
 ghost use Rattle.ns_note.specs.Words.{WordFits, deadline_at, deadline_code, note_of, parent_at, parent_code, word_of};
 
-use ns_env::note::NoteState;
+use ns_env::note::NoteWord;
 
 /// A note of an environment, by its number, from 0 to 63.
 #[derive(Clone, Copy, Debug, PartialEq, Eq)]
@@ -75,11 +75,11 @@ const DEADLINE: u64 = 1 << 54;
 /// is set where there is one.
 ///
 /// Needs a parent below 64 and a deadline below 2^54, where there are any.
-pub fn encode_note(note: NoteState) -> u64
+pub fn encode_note(note: NoteWord) -> u64
     requires { WordFits note }
     ensures { result ≡ word_of note }
 {
-    u64::from(note.called)
+    u64::from(note.notified)
         + 2 * u64::from(note.made)
         + 4 * parent_bits(note.parent)
         + 512 * deadline_bits(note.deadline)
@@ -87,12 +87,12 @@ pub fn encode_note(note: NoteState) -> u64
 
 /// The note that a word tells of: from the word that [`encode_note`] gives for a note, that very
 /// note.
-pub fn decode_note(word: u64) -> NoteState
+pub fn decode_note(word: u64) -> NoteWord
     ensures decoded { result ≡ note_of word }
-    ensures undoes { (note : NoteState) → WordFits note → word ≡ word_of note → result ≡ note }
+    ensures undoes { (note : NoteWord) → WordFits note → word ≡ word_of note → result ≡ note }
 {
-    NoteState {
-        called: word % 2 == 1,
+    NoteWord {
+        notified: word % 2 == 1,
         made: word / 2 % 2 == 1,
         parent: parent_of_bits((word / 4 % 128) as u8),
         deadline: deadline_of_bits(word / 512),

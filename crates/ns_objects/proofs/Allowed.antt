@@ -9,22 +9,22 @@ use Rattle.ns_model.specs.Tallies.{total, Every, one_if}
 use Rattle.ns_model.proofs.Tallies.{total_set, total_none, Others, every_at, others_of, others_both, others_map, others_none, every_put}
 use Rattle.ns_counters.specs.declared.act.ObjectAct.{ObjectAct}
 use Rattle.ns_counters.specs.declared.act.ObjectAct.TheVariants.{LoadToAdd, ExchangeToAdd, MarkWait, LookOnce, BeginOnce, EndOnce}
-use Rattle.ns_counters.specs.declared.counter.CounterEvent.TheVariants.{Add}
-use Rattle.ns_counters.specs.declared.counter.CounterFault.{CounterFault}
-use Rattle.ns_counters.specs.declared.counter.CounterState.{CounterState}
+use Rattle.ns_model.specs.declared.counter.CounterEvent.TheVariants.{Add}
+use Rattle.ns_model.specs.declared.counter.CounterFault.{CounterFault}
+use Rattle.ns_model.specs.declared.counter.CounterState.{CounterState}
 use Rattle.ns_counters.specs.declared.object.ObjectEvent.{ObjectEvent}
 use Rattle.ns_counters.specs.declared.object.ObjectEvent.TheVariants.{OnCounter, OnOnce}
-use Rattle.ns_counters.specs.declared.once.OnceEvent.TheVariants.{Began}
+use Rattle.ns_model.specs.declared.once.OnceEvent.TheVariants.{Began}
 use Rattle.ns_counters.specs.declared.object.ObjectView.{ObjectView}
 use Rattle.ns_counters.specs.declared.object.Place.TheVariants.{Free, Adding, Running}
 use Rattle.ns_counters.specs.declared.object.Setup.{Setup}
 use Rattle.ns_counters.specs.Acted.{acted, events_of, HasActed}
-use Rattle.ns_counters.specs.Counters.{most, judged}
+use Rattle.ns_model.specs.Counters.{most, judged}
 use Rattle.ns_counters.specs.Lawful.{ViewFits}
 use Rattle.ns_counters.specs.Steps.{word_at, looked, tried, outcome, CanAct}
 use Rattle.ns_counters.specs.Words.{counter_word, counter_of}
 use Rattle.ns_counters.proofs.Acts.{acted_lawful, acted_fits, others_fit, has_acted}
-use Rattle.ns_counters.proofs.Counters.{accepted}
+use Rattle.ns_model.proofs.Counters.{accepted}
 use Rattle.ns_counters.proofs.Words.{counter_of-counter_word}
 use Rattle.ns_objects.specs.Known.{the}
 use Rattle.ns_objects.specs.Law.{Views, is_seat, IsRuled, Holds}

@@ -2,13 +2,13 @@
 use Rattle.std.proofs.Common.{◌≡◌, ◌≢◌, ℕ, ℤ, ◌≤◌, List, [], ◌∷◌, Bool, eqb, cond, Result, Ok, Err, sym, ap, ◌∙◌, subst, eq-eqb, ne_eqb}
 use Rattle.atomic_table.specs.Table.{Me}
 use Rattle.ns_counters.specs.declared.act.ObjectAct.TheVariants.{ExchangeToAdd}
-use Rattle.ns_counters.specs.declared.counter.CounterEvent.TheVariants.{Add}
-use Rattle.ns_counters.specs.declared.counter.CounterFault.{CounterFault}
-use Rattle.ns_counters.specs.declared.counter.CounterState.{CounterState}
+use Rattle.ns_model.specs.declared.counter.CounterEvent.TheVariants.{Add}
+use Rattle.ns_model.specs.declared.counter.CounterFault.{CounterFault}
+use Rattle.ns_model.specs.declared.counter.CounterState.{CounterState}
 use Rattle.ns_counters.specs.declared.object.ObjectEvent.TheVariants.{OnCounter}
 use Rattle.ns_counters.specs.declared.object.ObjectView.{ObjectView}
 use Rattle.ns_counters.specs.declared.object.Place.TheVariants.{Free, Adding}
-use Rattle.ns_counters.specs.Counters.{most, judged}
+use Rattle.ns_model.specs.Counters.{most, judged}
 use Rattle.ns_counters.specs.Steps.{Outcome, tried, outcome}
 use Rattle.ns_counters.specs.Words.{counter_word, counter_of}
 use Rattle.ns_counters.proofs.Words.{counter_of-counter_word}

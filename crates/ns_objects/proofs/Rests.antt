@@ -5,7 +5,7 @@ use Rattle.atomic_table.specs.Table.{Me}
 use Rattle.ns_model.proofs.Beginnings.{begins_itself, begins_through}
 use Rattle.ns_counters.specs.declared.act.ObjectAct.{ObjectAct}
 use Rattle.ns_counters.specs.declared.act.ObjectAct.TheVariants.{LoadToAdd, ExchangeToAdd}
-use Rattle.ns_counters.specs.declared.counter.CounterState.{CounterState}
+use Rattle.ns_model.specs.declared.counter.CounterState.{CounterState}
 use Rattle.ns_counters.specs.declared.object.ObjectEvent.{ObjectEvent}
 use Rattle.ns_counters.specs.declared.object.ObjectView.{ObjectView}
 use Rattle.ns_counters.specs.declared.object.Place.{Place}

@@ -5,7 +5,7 @@ use Rattle.ns_model.specs.Tallies.{Every}
 use Rattle.ns_model.proofs.Beginnings.{begins_itself, begins_through}
 use Rattle.ns_model.proofs.Tallies.{every_map}
 use Rattle.ns_counters.specs.declared.object.Setup.{Setup}
-use Rattle.ns_counters.specs.Counters.{is_ready}
+use Rattle.ns_model.specs.Counters.{is_ready}
 use Rattle.ns_counters.specs.Objects.{objects_after}
 use Rattle.ns_note.specs.Known.{Grows as EnvGrows}
 use Rattle.ns_note.proofs.Rests.{made_grows}

@@ -5,7 +5,7 @@ use Rattle.ns_model.specs.Beginnings.{IsBetween}
 use Rattle.ns_model.specs.Environments.{IsMade, is_notified, clock_of}
 use Rattle.ns_model.specs.Tallies.{Every}
 use Rattle.ns_counters.specs.declared.object.ObjectEvent.{ObjectEvent}
-use Rattle.ns_counters.specs.Counters.{is_ready}
+use Rattle.ns_model.specs.Counters.{is_ready}
 use Rattle.ns_counters.specs.Objects.{objects_after}
 use Rattle.ns_note.specs.Known.{EnvKnown}
 use Rattle.ns_objects.specs.declared.any.Item.{Item}

@@ -4,13 +4,13 @@ use Rattle.atomic_table.specs.Seated.{TableId}
 use Rattle.atomic_table.specs.Table.{Me}
 use Rattle.ns_counters.specs.declared.act.ObjectAct.{ObjectAct}
 use Rattle.ns_counters.specs.declared.act.ObjectAct.TheVariants.{EndOnce}
-use Rattle.ns_counters.specs.declared.counter.CounterState.{CounterState}
+use Rattle.ns_model.specs.declared.counter.CounterState.{CounterState}
 use Rattle.ns_counters.specs.declared.object.ObjectEvent.{ObjectEvent}
 use Rattle.ns_counters.specs.declared.object.ObjectView.{ObjectView}
 use Rattle.ns_counters.specs.declared.object.Place.{Place}
 use Rattle.ns_counters.specs.declared.object.Place.TheVariants.{Free, Adding, Running}
 use Rattle.ns_counters.specs.Acted.{HasActed}
-use Rattle.ns_counters.specs.Counters.{judged}
+use Rattle.ns_model.specs.Counters.{judged}
 use Rattle.ns_counters.specs.Lawful.{IsWordOf}
 use Rattle.ns_counters.specs.Objects.{IsLegalObjects, objects_own, AreObjectsBySeats}
 use Rattle.ns_counters.specs.Steps.{Outcome, tried}

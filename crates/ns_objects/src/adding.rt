@@ -1,7 +1,7 @@
 //! Changes of a counter.
 
 ghost use Rattle.std.specs.Prelude.{◌≡◌, ◌<◌, ◌≤◌, ◌++◌, [], ◌∷◌, Ok};
-ghost use Rattle.ns_counters.specs.Counters.{judged};
+ghost use Rattle.ns_model.specs.Counters.{judged};
 ghost use Rattle.ns_counters.specs.Lawful.{HasWords};
 ghost use Rattle.ns_objects.specs.Known.{Grows, the};
 ghost use Rattle.ns_objects.specs.Told.{HasJudged, IsCounterWord, OneActs, OneComes, change_in_hand, word_seen};
@@ -12,9 +12,9 @@ use crate::plays::{Change, Law, LoadToChange};
 use crate::seat::{ObjSeat, TableSeat};
 use crate::view::View;
 use ns_counters::act::ObjectAct;
-use ns_counters::counter::{CounterEvent, CounterFault, CounterState};
 use ns_counters::object::{ObjectEvent, Place, Setup};
 use ns_counters::word::{decode_counter, encode_counter};
+use ns_model::counter::{CounterEvent, CounterFault, CounterState};
 use ns_seats::saying::load_saying;
 use std::sync::Wait;
 

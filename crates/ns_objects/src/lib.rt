@@ -27,7 +27,7 @@
 //! [`Env`](ns_note::env::Env), which only callers move.
 //!
 //! What is promised: there is one history of all objects of a table, legal by the definitions of
-//! `ns_counters`, that begins with what each [`seat::ObjSeat`] has seen, and in which each seat's own
+//! `ns_model`, that begins with what each [`seat::ObjSeat`] has seen, and in which each seat's own
 //! events are just those that its calls have added. Each call says which events it adds, and at
 //! which point of the history its answer is right. Two callers compare their histories by
 //! [`objects::Objects::meet`]; between callers that never met, nothing is said of the order.
@@ -47,3 +47,5 @@ mod sleeping;
 mod tests;
 mod view;
 mod waiting;
+
+pub use ns_model::counter::CounterFault;

@@ -2,7 +2,7 @@
 
 ghost use Rattle.std.specs.Prelude.{◌≡◌, ◌≢◌, ◌<◌, [], ◌∷◌, true, false};
 ghost use Rattle.ns_counters.specs.Lawful.{HasWords};
-ghost use Rattle.ns_counters.specs.Onces.{is_done};
+ghost use Rattle.ns_model.specs.Onces.{is_done};
 ghost use Rattle.ns_counters.specs.Words.{stage};
 ghost use Rattle.ns_objects.specs.Known.{Grows, standing_in, the};
 ghost use Rattle.ns_objects.specs.Told.{OneComes};
@@ -14,8 +14,8 @@ use crate::plays::{Begin, End, LoadOnce};
 use crate::seat::{ObjSeat, TableSeat};
 use ns_counters::made::MOST;
 use ns_counters::object::{ObjectEvent, Place};
-use ns_counters::once::OnceEvent;
 use ns_counters::word::{Stage, decode_once, encode_once};
+use ns_model::once::OnceEvent;
 use std::sync::Wait;
 
 /// What came of a call that would have a function run once.

@@ -7,7 +7,7 @@ use crate::any::Item;
 use crate::objects::Objects;
 use crate::running::Once;
 use crate::seat::ObjSeat;
-use ns_counters::counter::CounterFault;
+use ns_model::counter::CounterFault;
 use ns_note::env::Env;
 use ns_note::fault::Fault;
 use ns_note::note::Note;

@@ -17,8 +17,8 @@ use Rattle.ns_model.specs.declared.seats.Seats.{Seats}
 use Rattle.ns_model.specs.Seats.{is_in}
 use Rattle.ns_queue.specs.declared.waiter.Shown.{Shown}
 use Rattle.ns_word.specs.declared.word.Word.{Word}
-use Rattle.ns_counters.specs.declared.counter.CounterFault.{CounterFault}
-use Rattle.ns_counters.specs.declared.counter.CounterFault.TheVariants.{Under, Over, AfterWait}
+use Rattle.ns_model.specs.declared.counter.CounterFault.{CounterFault}
+use Rattle.ns_model.specs.declared.counter.CounterFault.TheVariants.{Under, Over, AfterWait}
 use Rattle.ns_world.specs.declared.reply.Reply.{Reply}
 use Rattle.ns_world.specs.declared.reply.Reply.TheVariants.{Succeeded, Busy, Noisy, Number, NotesFull, Is, Expiry, Answered, WokenBy, Misuse, Refused, Ran, Already}
 use Rattle.ns_world.specs.declared.call.Call.{Call}

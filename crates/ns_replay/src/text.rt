@@ -9,7 +9,7 @@ ghost use Rattle.ns_replay.specs.Text.{truth_text, expiry_text, refusal_text, re
 
 use crate::condition::ScriptCondition;
 use arrayvec::ArrayVec;
-use ns_counters::counter::CounterFault;
+use ns_model::counter::CounterFault;
 use ns_model::cvs::Cvs;
 use ns_model::event::{Answer, Entry, Event, Exit, Mode};
 use ns_model::seats::Seats;

@@ -5,7 +5,7 @@ ghost use Rattle.std.specs.Prelude.{◌≡◌, ◌<◌, All, IfSome};
 ghost use Rattle.std.specs.Thread.{IsSync};
 ghost use Rattle.ns_model.specs.Environments.{IsMade};
 
-use ns_env::note::NoteState;
+use ns_env::note::NoteWord;
 use ns_model::event::Answer;
 use ns_note::env::Env;
 use ns_note::fault::Fault;
@@ -280,14 +280,14 @@ fn refused_memory(rt: HostRuntime) {
 /// The word of note 1 under note 0 with deadline 5, and of a notified note with neither.
 #[test]
 fn words(rt: HostRuntime) {
-    let below = NoteState {
-        called: false,
+    let below = NoteWord {
+        notified: false,
         made: true,
         parent: Some(0),
         deadline: Some(5),
     };
-    let alone = NoteState {
-        called: true,
+    let alone = NoteWord {
+        notified: true,
         made: true,
         parent: None,
         deadline: None,

@@ -10,22 +10,22 @@ use Rattle.ns_model.specs.Lines.{IsLeftAt}
 use Rattle.ns_model.proofs.Beginnings.{begins_itself, begins_through}
 use Rattle.ns_model.proofs.Environments.{legal_begins, made_begins}
 use Rattle.ns_model.proofs.Lines.{line_starts}
-use Rattle.ns_counters.specs.declared.counter.CounterEvent.TheVariants as TheCounter
-use Rattle.ns_counters.specs.declared.counter.CounterFault.{CounterFault}
-use Rattle.ns_counters.specs.declared.counter.CounterState.{CounterState}
+use Rattle.ns_model.specs.declared.counter.CounterEvent.TheVariants as TheCounter
+use Rattle.ns_model.specs.declared.counter.CounterFault.{CounterFault}
+use Rattle.ns_model.specs.declared.counter.CounterState.{CounterState}
 use Rattle.ns_counters.specs.declared.object.ObjectEvent.{ObjectEvent}
 use Rattle.ns_counters.specs.declared.object.ObjectEvent.TheVariants.{OnCounter, OnOnce}
 use Rattle.ns_counters.specs.declared.object.Place.TheVariants.{Free, Running}
 use Rattle.ns_counters.specs.declared.object.Setup.{Setup}
-use Rattle.ns_counters.specs.declared.once.OnceEvent.TheVariants as TheOnce
-use Rattle.ns_counters.specs.declared.once.OnceState.{OnceState}
-use Rattle.ns_counters.specs.declared.once.OnceState.TheVariants as TheState
+use Rattle.ns_model.specs.declared.once.OnceEvent.TheVariants as TheOnce
+use Rattle.ns_model.specs.declared.once.OnceState.{OnceState}
+use Rattle.ns_model.specs.declared.once.OnceState.TheVariants as TheState
 use Rattle.ns_counters.specs.declared.word.Stage.{Stage}
 use Rattle.ns_counters.specs.declared.word.Stage.TheVariants as TheStage
-use Rattle.ns_counters.specs.Counters.{is_ready, judged}
+use Rattle.ns_model.specs.Counters.{is_ready, judged}
 use Rattle.ns_counters.specs.Lawful.{IsLawful}
 use Rattle.ns_counters.specs.Objects.{ObjectStanding, first_objects, object_next, objects_after, objects_own}
-use Rattle.ns_counters.specs.Onces.{is_done}
+use Rattle.ns_model.specs.Onces.{is_done}
 use Rattle.ns_counters.specs.Steps.{Outcome, tried, word_of_once}
 use Rattle.ns_counters.specs.Words.{counter_word, counter_of, stage, stage_of}
 use Rattle.ns_counters.proofs.Objects.{own-append}

@@ -8,20 +8,20 @@ use Rattle.ns_model.specs.declared.environment.EnvEvent.{EnvEvent}
 use Rattle.ns_model.specs.Tallies.{Every}
 use Rattle.ns_counters.specs.declared.act.ObjectAct.{ObjectAct}
 use Rattle.ns_counters.specs.declared.act.ObjectAct.TheVariants.{LookCounter, LoadToAdd, ExchangeToAdd, MarkWait, LookOnce, BeginOnce, EndOnce}
-use Rattle.ns_counters.specs.declared.counter.CounterFault.{CounterFault}
-use Rattle.ns_counters.specs.declared.counter.CounterState.{CounterState}
-use Rattle.ns_counters.specs.declared.counter.CounterEvent.TheVariants.{Add}
-use Rattle.ns_counters.specs.declared.once.OnceEvent.TheVariants.{Began}
+use Rattle.ns_model.specs.declared.counter.CounterFault.{CounterFault}
+use Rattle.ns_model.specs.declared.counter.CounterState.{CounterState}
+use Rattle.ns_model.specs.declared.counter.CounterEvent.TheVariants.{Add}
+use Rattle.ns_model.specs.declared.once.OnceEvent.TheVariants.{Began}
 use Rattle.ns_counters.specs.declared.object.ObjectEvent.{ObjectEvent}
 use Rattle.ns_counters.specs.declared.object.ObjectEvent.TheVariants as TheEvent
 use Rattle.ns_counters.specs.declared.object.ObjectView.{ObjectView}
 use Rattle.ns_counters.specs.declared.object.Place.{Place}
 use Rattle.ns_counters.specs.declared.object.Place.TheVariants.{Free, Running}
 use Rattle.ns_counters.specs.declared.object.Setup.{Setup}
-use Rattle.ns_counters.specs.declared.once.OnceState.TheVariants as TheOnce
+use Rattle.ns_model.specs.declared.once.OnceState.TheVariants as TheOnce
 use Rattle.ns_counters.specs.declared.word.Stage.{Stage}
 use Rattle.ns_counters.specs.declared.word.Stage.TheVariants as TheStage
-use Rattle.ns_counters.specs.Counters.{most, judged}
+use Rattle.ns_model.specs.Counters.{most, judged}
 use Rattle.ns_counters.specs.Lawful.{ViewFits, PlaceFits}
 use Rattle.ns_counters.specs.Objects.{ObjectStanding, objects_after, object_who, objects_own}
 use Rattle.ns_counters.specs.Steps.{CanAct, Outcome, outcome, tried, word_at}
@@ -31,7 +31,7 @@ use Rattle.ns_counters.proofs.Keeps.{step_keeps}
 use Rattle.ns_model.proofs.Beginnings.{begins_itself}
 use Rattle.ns_env.specs.declared.act.EnvFound.{EnvFound}
 use Rattle.ns_env.specs.declared.act.EnvFound.TheVariants.{Clock, Note}
-use Rattle.ns_env.specs.declared.note.NoteState.{NoteState}
+use Rattle.ns_env.specs.declared.note.NoteWord.{NoteWord}
 use Rattle.ns_env.specs.declared.walk.Chain.TheVariants.{ForIsNotified}
 use Rattle.ns_env.specs.declared.walk.EnvNext.{EnvNext}
 use Rattle.ns_env.specs.declared.walk.EnvNext.TheVariants as TheEnv
@@ -194,7 +194,7 @@ module _ (setup : Setup) (now : ObjectStanding) (notes : ℕ → NoteStanding) (
     by false = from_stands setup notes round clock (suc at) fits.0
 
 -- what a load finds
-pub note_found : (state : NoteState) (note : NoteStanding) → Note state ≡ Note (state_of note) → standing_of state ≡ note
+pub note_found : (state : NoteWord) (note : NoteStanding) → Note state ≡ Note (state_of note) → standing_of state ≡ note
 note_found state note is = let same : state ≡ state_of note = cc in ap standing_of same
 
 pub clock_found : (clock now : ℕ) → Clock clock ≡ Clock now → clock ≡ now
@@ -202,7 +202,7 @@ clock_found clock now is = cc
 
 -- where a load of the clock or of a note leads
 module _ (setup : Setup) (now : ObjectStanding) (env : EnvPlain) (happened : List EnvEvent) (meets : Meets happened env) (seat : ℕ) where
-  note_leads : (round : Round) (at clock asked note : ℕ) (next : EnvNext) (state : NoteState) → AreThere setup env.notes round.items → standing_of state ≡ env.notes note → env_got_of (chain_from asked clock note) (Note state) ≡ next → (item_at round.items at ≡ Some (OnNote asked)) → RoundStands setup env.notes round (by_chain round at clock asked next)
+  note_leads : (round : Round) (at clock asked note : ℕ) (next : EnvNext) (state : NoteWord) → AreThere setup env.notes round.items → standing_of state ≡ env.notes note → env_got_of (chain_from asked clock note) (Note state) ≡ next → (item_at round.items at ≡ Some (OnNote asked)) → RoundStands setup env.notes round (by_chain round at clock asked next)
   note_leads round at clock asked note (TheEnv.Go (NoteLoad chain moment above)) state there same is here =
       let up = chain_up happened env (ForIsNotified asked) chain clock moment note above state meets same is in
       (here, ap (λ (notes : ℕ → NoteStanding). (notes above).made) meets.notes ∙ up.1)

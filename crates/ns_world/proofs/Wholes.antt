@@ -12,7 +12,7 @@ use Rattle.ns_model.proofs.Environments.{made_below}
 use Rattle.ns_counters.specs.declared.act.ObjectAct.{ObjectAct}
 use Rattle.ns_counters.specs.declared.object.ObjectEvent.{ObjectEvent}
 use Rattle.ns_counters.specs.declared.object.Setup.{Setup}
-use Rattle.ns_counters.specs.Counters.{judged, most}
+use Rattle.ns_model.specs.Counters.{judged, most}
 use Rattle.ns_counters.specs.Objects.{ObjectStanding, objects_after}
 use Rattle.ns_counters.proofs.NewObjects.{new_lawful}
 use Rattle.ns_word.specs.declared.view.Held.{Held}
@@ -49,8 +49,8 @@ use Rattle.ns_world.specs.Begins.{BeginAnswers, Starts, begun_at}
 use Rattle.ns_world.specs.Calls.{CallFits, start_of, object_start, mode_of, mode_waited}
 use Rattle.ns_world.specs.Items.{items_of}
 use Rattle.ns_world.specs.Objects.{AreLedTo, AreThere, HasOperated, RoundFits, StepFits, WalkFits, WantFits, is_there, object_step_of, objects_begun, put_at, stood_at, wait_in, walk_in}
-use Rattle.ns_counters.specs.declared.counter.CounterFault.{CounterFault}
-use Rattle.ns_counters.specs.declared.counter.CounterState.{CounterState}
+use Rattle.ns_model.specs.declared.counter.CounterFault.{CounterFault}
+use Rattle.ns_model.specs.declared.counter.CounterState.{CounterState}
 use Rattle.ns_counters.specs.declared.word.Stage.{Stage}
 use Rattle.ns_counters.specs.declared.word.Stage.TheVariants as TheStage
 use Rattle.ns_counters.specs.Words.{counter_of, counter_word, stage_of}

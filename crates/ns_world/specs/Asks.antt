@@ -1,7 +1,7 @@
 -- The clock and the notes of a world, and one step on them.
 use Rattle.std.specs.Prelude.{◌≡◌, ℕ, List, Option, get_or}
 use Rattle.ns_model.specs.Environments.{NoteStanding, no_note}
-use Rattle.ns_env.specs.declared.note.NoteState.{NoteState}
+use Rattle.ns_env.specs.declared.note.NoteWord.{NoteWord}
 use Rattle.ns_env.specs.declared.act.EnvAct.{EnvAct}
 use Rattle.ns_env.specs.declared.act.EnvAct.TheVariants.{LoadClock, LoadNote}
 use Rattle.ns_env.specs.declared.act.EnvFound.{EnvFound}
@@ -19,7 +19,7 @@ use Rattle.ns_world.specs.declared.step.Step.TheVariants.{Went, Idle, Finished}
 use Rattle.ns_world.specs.Replies.{env_told}
 
 -- the notes of a list
-abbrev pub note_at : List NoteState → ℕ → NoteStanding
+abbrev pub note_at : List NoteWord → ℕ → NoteStanding
 note_at notes note = standing_of (get_or notes note (state_of no_note))
 
 -- a world's clock and notes as the machine sees them

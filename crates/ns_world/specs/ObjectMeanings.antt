@@ -4,14 +4,14 @@ use Rattle.ns_model.specs.declared.environment.EnvEvent.{EnvEvent}
 use Rattle.ns_model.specs.Beginnings.{IsBetween}
 use Rattle.ns_model.specs.Environments.{env_after, is_due, is_notified, clock_of}
 use Rattle.ns_model.specs.Lines.{IsLeftAt}
-use Rattle.ns_counters.specs.declared.counter.CounterEvent.TheVariants as TheCounter
+use Rattle.ns_model.specs.declared.counter.CounterEvent.TheVariants as TheCounter
 use Rattle.ns_counters.specs.declared.object.ObjectEvent.{ObjectEvent}
 use Rattle.ns_counters.specs.declared.object.ObjectEvent.TheVariants.{OnCounter, OnOnce}
 use Rattle.ns_counters.specs.declared.object.Setup.{Setup}
-use Rattle.ns_counters.specs.declared.once.OnceEvent.TheVariants as TheOnce
-use Rattle.ns_counters.specs.Counters.{is_ready}
+use Rattle.ns_model.specs.declared.once.OnceEvent.TheVariants as TheOnce
+use Rattle.ns_model.specs.Counters.{is_ready}
 use Rattle.ns_counters.specs.Objects.{ObjectStanding, objects_after, objects_own}
-use Rattle.ns_counters.specs.Onces.{is_done}
+use Rattle.ns_model.specs.Onces.{is_done}
 use Rattle.ns_env.specs.Meanings.{AtSomePoint}
 use Rattle.ns_world.specs.declared.items.Item.{Item}
 use Rattle.ns_world.specs.declared.items.Item.TheVariants as TheItem

@@ -1,13 +1,13 @@
 -- The walks of the calls on counters and once cells: what each place wants, and where each answer leads.
 use Rattle.std.specs.Prelude.{ℕ, nat_lt, ◌==◌, ℤ, Bool, true, false, if◌then◌else◌, Option, None, Some, Result, Ok, Err}
 use Rattle.ns_counters.specs.declared.act.ObjectAct.TheVariants.{LookCounter, LoadToAdd, ExchangeToAdd, MarkWait, LookOnce, BeginOnce, EndOnce}
-use Rattle.ns_counters.specs.declared.counter.CounterFault.{CounterFault}
-use Rattle.ns_counters.specs.declared.counter.CounterState.{CounterState}
+use Rattle.ns_model.specs.declared.counter.CounterFault.{CounterFault}
+use Rattle.ns_model.specs.declared.counter.CounterState.{CounterState}
 use Rattle.ns_counters.specs.declared.object.Place.{Place}
 use Rattle.ns_counters.specs.declared.object.Place.TheVariants.{Free, Adding, Running}
 use Rattle.ns_counters.specs.declared.word.Stage.{Stage}
 use Rattle.ns_counters.specs.declared.word.Stage.TheVariants as TheStage
-use Rattle.ns_counters.specs.Counters.{judged}
+use Rattle.ns_model.specs.Counters.{judged}
 use Rattle.ns_counters.specs.Words.{counter_word, counter_of, stage_of}
 use Rattle.ns_env.specs.declared.act.EnvAct.TheVariants.{LoadClock}
 use Rattle.ns_env.specs.declared.act.EnvFound.TheVariants.{Clock}

@@ -7,8 +7,8 @@ use Rattle.ns_counters.specs.declared.act.ObjectAct.TheVariants.{ExchangeToAdd, 
 use Rattle.ns_counters.specs.declared.object.ObjectEvent.{ObjectEvent}
 use Rattle.ns_counters.specs.declared.object.Place.{Place}
 use Rattle.ns_counters.specs.declared.object.Setup.{Setup}
-use Rattle.ns_counters.specs.declared.once.OnceState.TheVariants as TheOnce
-use Rattle.ns_counters.specs.Counters.{most, judged}
+use Rattle.ns_model.specs.declared.once.OnceState.TheVariants as TheOnce
+use Rattle.ns_model.specs.Counters.{most, judged}
 use Rattle.ns_counters.specs.Lawful.{IsLawful}
 use Rattle.ns_counters.specs.Made.{padded, setup_of, first_words}
 use Rattle.ns_counters.specs.Objects.{ObjectStanding, objects_after}

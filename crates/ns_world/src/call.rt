@@ -15,7 +15,7 @@ use crate::object_walk::ObjectWalk;
 use crate::round::{Round, RoundPlace};
 use ns_counters::object::Setup;
 use ns_env::limits::Limits;
-use ns_env::note::NoteState;
+use ns_env::note::NoteWord;
 use ns_env::request::EnvRequest;
 use ns_env::walk::{Chain, EnvWalk};
 use ns_model::cvs::Variables;
@@ -162,7 +162,7 @@ fn ask<C: Copy>(met: bool, walk: EnvWalk) -> Option<Start<C>>
 }
 
 /// Whether there is an object: a note that is made, a counter, or a condition variable.
-fn is_there(item: Item, notes: &[NoteState; 64], setup: &Setup) -> bool
+fn is_there(item: Item, notes: &[NoteWord; 64], setup: &Setup) -> bool
     ensures { result ≡ is_there_in setup.now (note_at notes.now) item }
 {
     match item {
@@ -173,7 +173,7 @@ fn is_there(item: Item, notes: &[NoteState; 64], setup: &Setup) -> bool
 }
 
 /// Whether there is each of several objects.
-fn are_there(items: &Items, notes: &[NoteState; 64], setup: &Setup) -> bool
+fn are_there(items: &Items, notes: &[NoteWord; 64], setup: &Setup) -> bool
     requires { items.now.count ≤ 16 }
     ensures { result ≡ list_all (is_there_in setup.now (note_at notes.now)) (items_of items.now) }
 {
@@ -223,7 +223,7 @@ impl<C: Copy> Call<C> {
     pub(crate) fn start<const N: usize>(
         self,
         mode: Option<Mode>,
-        notes: &[NoteState; 64],
+        notes: &[NoteWord; 64],
         setup: &Setup,
     ) -> Option<Start<C>>
         requires row { N ≤ 16 }
@@ -259,7 +259,7 @@ impl<C: Copy> Call<C> {
     fn finds<const N: usize>(
         &self,
         mode: Option<Mode>,
-        notes: &[NoteState; 64],
+        notes: &[NoteWord; 64],
         setup: &Setup,
     ) -> bool
         requires { CallInRange N self.now }
@@ -282,7 +282,7 @@ impl<C: Copy> Call<C> {
     fn start_others<const N: usize>(
         self,
         mode: Option<Mode>,
-        notes: &[NoteState; 64],
+        notes: &[NoteWord; 64],
     ) -> Option<Start<C>>
         requires row { N ≤ 16 }
         requires others { object_start self ≡ None }

@@ -7,12 +7,12 @@ ghost use Rattle.ns_env.specs.Steps.{fresh_plain, outcome};
 ghost use Rattle.ns_world.specs.Asks.{plain_of, note_at, IsLoad};
 
 use ns_env::act::{EnvAct, EnvFound};
-use ns_env::note::NoteState;
+use ns_env::note::NoteWord;
 
 /// A number without a note.
-const NO_NOTE: NoteState = NoteState {
+const NO_NOTE: NoteWord = NoteWord {
     made: false,
-    called: false,
+    notified: false,
     parent: None,
     deadline: None,
 };
@@ -22,7 +22,7 @@ const NO_NOTE: NoteState = NoteState {
 pub(crate) struct Environment {
     pub(crate) clock: u64,
     pub(crate) next: u8,
-    pub(crate) notes: [NoteState; 64],
+    pub(crate) notes: [NoteWord; 64],
 }
 
 impl Environment {
@@ -78,9 +78,9 @@ impl Environment {
         requires { note < 64 }
         ensures { (seat : ℕ) → EnvEffect seat (EnvAct.StoreNote note parent deadline) (plain_of self.old) result (plain_of self.new) (outcome seat (EnvAct.StoreNote note parent deadline) (plain_of self.old)).events }
     {
-        self.notes[note as usize] = NoteState {
+        self.notes[note as usize] = NoteWord {
             made: true,
-            called: false,
+            notified: false,
             parent,
             deadline,
         };
@@ -92,13 +92,13 @@ impl Environment {
         requires { note < 64 }
         ensures { (seat : ℕ) → EnvEffect seat (EnvAct.NotifyNote note) (plain_of self.old) result (plain_of self.new) (outcome seat (EnvAct.NotifyNote note) (plain_of self.old)).events }
     {
-        self.notes[note as usize].called = true;
+        self.notes[note as usize].notified = true;
         EnvFound::Stored
     }
 }
 
 /// Whether the note is made.
-pub(crate) fn is_made(notes: &[NoteState; 64], note: u8) -> bool
+pub(crate) fn is_made(notes: &[NoteWord; 64], note: u8) -> bool
     ensures { result ≡ (note_at notes.now note).made }
 {
     match notes.get(note as usize) {
@@ -108,7 +108,7 @@ pub(crate) fn is_made(notes: &[NoteState; 64], note: u8) -> bool
 }
 
 /// Whether the note is made, where one is given.
-pub(crate) fn is_made_or_none(notes: &[NoteState; 64], note: Option<u8>) -> bool
+pub(crate) fn is_made_or_none(notes: &[NoteWord; 64], note: Option<u8>) -> bool
     ensures { result ≡ option_map_or (λ given. (note_at notes.now given).made) note true }
 {
     match note {

@@ -23,9 +23,9 @@ ghost use Rattle.ns_world.specs.ObjectWalks.{by_begun, by_judging, by_round, by_
 use crate::reply::Reply;
 use crate::round::{ObjectFound, ObjectWant, Round, RoundNext, RoundPlace};
 use ns_counters::act::ObjectAct;
-use ns_counters::counter::CounterState;
 use ns_counters::word::{Stage, decode_counter, decode_once, encode_counter};
 use ns_env::act::{EnvAct, EnvFound};
+use ns_model::counter::CounterState;
 
 /// A place in a call on counters and once cells. Each names the number of its object; a moment is in
 /// ticks.

@@ -11,10 +11,10 @@ use crate::reply::Reply;
 use crate::round::Round;
 use crate::step::Step;
 use ns_counters::act::ObjectAct;
-use ns_counters::counter::CounterState;
 use ns_counters::made::MOST;
 use ns_counters::object::Setup;
 use ns_counters::word::{WAITED, encode_counter};
+use ns_model::counter::CounterState;
 
 /// A wait for condition variables among notes and counters whose first round has found nothing: on the lock it
 /// waits for the variables, and whenever it looks, it looks at the others by a round.

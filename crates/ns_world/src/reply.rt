@@ -3,8 +3,8 @@
 ghost use Rattle.std.specs.Prelude.{◌≡◌};
 ghost use Rattle.ns_world.specs.Replies.{env_told, told};
 
-use ns_counters::counter::CounterFault;
 use ns_env::reply::EnvReply;
+use ns_model::counter::CounterFault;
 use ns_model::event::Answer;
 
 /// The answer of a call.

@@ -2,7 +2,7 @@ use Rattle.std.proofs.Common.{ℕ, Option, None, sym, ap, ◌∙◌, subst}
 use Rattle.ns_model.specs.Environments.{env_after, earlier}
 use Rattle.ns_model.proofs.Environments.{made_below, legal_begins, expiry_begins}
 use Rattle.ns_model.proofs.Lines.{IsExpiryAt, expiry_starts, expiry_goes_on, line_falls, nearer}
-use Rattle.ns_env.specs.declared.note.NoteState.{NoteState}
+use Rattle.ns_env.specs.declared.note.NoteWord.{NoteWord}
 use Rattle.ns_note.proofs.Rests.{grows_through}
 use Rattle.ns_note.proofs.env.Env.expiry.Goals as goal
 
@@ -10,7 +10,7 @@ pub loop-next-init : goal.loop-next-init
 loop-next-init c = let seen = c.args.seat.now.seen in let note = c.args.note.index in let e = c.word-word.ensures in (
   e.grows,
   e.mine,
-  subst (λ (z : NoteState). IsExpiryAt seen note z.deadline z.parent) (sym e.word) (expiry_goes_on seen c.word-word.new.seat.seen note note None e.grows.true_to.legal e.grows.begins (expiry_starts seen note c.requires.made)),
+  subst (λ (z : NoteWord). IsExpiryAt seen note z.deadline z.parent) (sym e.word) (expiry_goes_on seen c.word-word.new.seat.seen note note None e.grows.true_to.legal e.grows.begins (expiry_starts seen note c.requires.made)),
 )
 
 pub word-word-requires-in-Some-clause-number : goal.word-word-requires-in-Some-clause-number
@@ -19,7 +19,7 @@ word-word-requires-in-Some-clause-number c = let seen = c.args.seat.now.seen in 
 
 pub loop-next-smaller : goal.loop-next-smaller
 loop-next-smaller c = let now = c.word-word-in-Some.new.seat in let e = c.word-word-in-Some.ensures in
-    nearer c.loop-next.next c.word-word-in-Some.result.parent c.in-Some.number ((env_after now.seen).notes c.in-Some.number).parent c.in-Some.is (ap (λ (z : NoteState). z.parent) e.word) (line_falls now.seen c.in-Some.number e.grows.true_to.legal)
+    nearer c.loop-next.next c.word-word-in-Some.result.parent c.in-Some.number ((env_after now.seen).notes c.in-Some.number).parent c.in-Some.is (ap (λ (z : NoteWord). z.parent) e.word) (line_falls now.seen c.in-Some.number e.grows.true_to.legal)
 
 pub loop-next-preserved : goal.loop-next-preserved
 loop-next-preserved c = let seen = c.args.seat.now.seen in let note = c.args.note.index in let now = c.word-word-in-Some.new.seat in let e = c.word-word-in-Some.ensures in
@@ -27,7 +27,7 @@ loop-next-preserved c = let seen = c.args.seat.now.seen in let note = c.args.not
       g,
       e.mine ∙ c.loop-next.invariant.1,
       subst (λ (k : Option ℕ). IsExpiryAt seen note k c.word-word-in-Some.result.parent) (sym c.earlier-earliest.ensures)
-          (subst (λ (z : NoteState). IsExpiryAt seen note (earlier c.loop-next.earliest z.deadline) z.parent) (sym e.word) (expiry_goes_on seen now.seen note c.in-Some.number c.loop-next.earliest g.true_to.legal g.begins at)),
+          (subst (λ (z : NoteWord). IsExpiryAt seen note (earlier c.loop-next.earliest z.deadline) z.parent) (sym e.word) (expiry_goes_on seen now.seen note c.in-Some.number c.loop-next.earliest g.true_to.legal g.begins at)),
     )
 
 pub returns-clause-expiry : goal.returns-clause-expiry

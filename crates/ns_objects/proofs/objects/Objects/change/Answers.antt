@@ -1,7 +1,7 @@
 use Rattle.std.proofs.Common.{rules, arith, ap, ◌∙◌}
-use Rattle.ns_counters.specs.declared.counter.CounterState.{CounterState}
+use Rattle.ns_model.specs.declared.counter.CounterState.{CounterState}
 use Rattle.ns_counters.specs.Words.{counter_of, counter_word}
-use Rattle.ns_counters.proofs.Counters.{accepted}
+use Rattle.ns_model.proofs.Counters.{accepted}
 use Rattle.ns_objects.specs.Known.{the}
 use Rattle.ns_objects.specs.Told.{change_in_hand}
 use Rattle.ns_objects.proofs.Allowed.{exchanges_word, value_made}

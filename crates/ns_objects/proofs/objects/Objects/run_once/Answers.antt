@@ -1,7 +1,7 @@
 use Rattle.std.proofs.Common.{◌≡◌, ◌∙◌, ◌++◌, [], ◌∷◌, subst}
 use Rattle.ns_counters.specs.declared.object.ObjectEvent.TheVariants.{OnOnce}
 use Rattle.ns_counters.specs.declared.object.Place.TheVariants.{Free, Running}
-use Rattle.ns_counters.specs.declared.once.OnceEvent.TheVariants.{Began, Ran}
+use Rattle.ns_model.specs.declared.once.OnceEvent.TheVariants.{Began, Ran}
 use Rattle.ns_objects.specs.Known.{ObjectsKnown, known_of, the}
 use Rattle.ns_objects.proofs.Rests.{grew, come_grows, comes_through, comes_with}
 use Rattle.ns_objects.proofs.objects.Objects.run_once.Goals as goal

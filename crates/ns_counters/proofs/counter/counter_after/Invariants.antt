@@ -1,6 +1,0 @@
-use Rattle.std.proofs.Common.{◌≡◌, take, fold}
-use Rattle.ns_counters.specs.Counters.{counter_next, first_counter}
-use Rattle.ns_counters.proofs.counter.counter_after.Given as goal
-
-abbrev pub invariant-loop-event : goal.invariant-loop-event
-invariant-loop-event l = l.state ≡ fold counter_next (first_counter l.start) (take l.event-index l.history)
