@@ -3,6 +3,7 @@ pub mod Answers
 pub mod Asked
 pub mod Called
 pub mod Calls
+pub mod Causes
 pub mod Codes
 pub mod CountsIn
 pub mod Courses
@@ -16,9 +17,9 @@ pub mod Homes
 pub mod Keeps
 pub mod Kept
 pub mod Knows
-pub mod Leaving
 pub mod Leads
 pub mod Leavers
+pub mod Leaving
 pub mod Longs
 pub mod Made
 pub mod Mapped
@@ -41,3 +42,4 @@ pub mod Variables
 pub mod Views
 pub mod Waits
 pub mod Wakings
+pub mod WordTells

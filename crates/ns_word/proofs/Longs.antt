@@ -1,5 +1,5 @@
 -- While one waits long, only those acquire who were woken.
-use Rattle.std.proofs.Common.{◌≡◌, ℕ, Bool, true, false, not, eqb, inl, inr, refl, List, Option, None, Some, ap, sym, ◌∙◌}
+use Rattle.std.proofs.Common.{◌≡◌, ℕ, Bool, true, false, not, eqb, inl, inr, refl, List, Option, None, Some, ap, sym, subst, ◌∙◌}
 use Rattle.std.proofs.lemmas.Bool.{and_parts, both_ways, or_cases, not-true}
 use Rattle.ns_model.specs.declared.event.Mode.{Mode}
 use Rattle.ns_model.specs.declared.event.Mode.TheVariants.{Write, Read}
@@ -41,7 +41,7 @@ use Rattle.ns_env.specs.declared.limits.Cause.{Cause}
 use Rattle.ns_word.specs.Words.{is_woken, may_acquire}
 use Rattle.ns_word.specs.Waits.{mode_for}
 use Rattle.ns_word.specs.Walks.{want_of, judge_of, want_releasing, want_in_cells, want_queuing, want_leaving, want_waiting, want_signaling, want_showing, was_woken}
-use Rattle.ns_word.specs.Steps.{LockState, Part, Effect, Step, part_of, held_after}
+use Rattle.ns_word.specs.Steps.{LockState, Part, Effect, Step, part_of, held_after, newly_held}
 
 -- such a word is acquired by one that was woken alone
 long_shuts : (mode : Mode) (arrival : Arrival) (word : Word) → word.long ≡ true → may_acquire mode arrival word ≡ true → is_woken arrival ≡ true
@@ -51,10 +51,20 @@ long_shuts Write arrival word long e =
 long_shuts Read arrival word long e =
     elim (or_cases (is_woken arrival) _ (and_parts (not word.write) _ e).1) [ inl woken ↦ woken | inr short ↦ absurd (both_ways word.long (not-true word.long (and_parts (not word.writer_waits) _ short).1) long) ]
 
+-- nor does a fresh reader acquire such a word that says that a writer waits
+writer_shuts : (arrival : Arrival) (word : Word) → word.writer_waits ≡ true → may_acquire Read arrival word ≡ true → is_woken arrival ≡ true
+writer_shuts arrival word waits e =
+    elim (or_cases (is_woken arrival) _ (and_parts (not word.write) _ e).1) [ inl woken ↦ woken | inr fresh ↦ absurd (both_ways word.writer_waits (not-true word.writer_waits (and_parts (not word.writer_waits) _ fresh).0) waits) ]
+
 -- the act acquires a lock with this word
 abbrev Gains : {C : Type 0} → Act C → Word → Type 0
 Gains (Acquire aim arrival last) word = (last ≡ word) × (may_acquire (mode_for aim) arrival last ≡ true)
 Gains act word = ⊥
+
+-- the act acquires to read
+abbrev Reads : {C : Type 0} → Act C → Type 0
+Reads (Acquire aim arrival last) = mode_for aim ≡ Read
+Reads act = ⊥
 
 module _ {C : Type 0} {N : ℕ} where
   -- where nothing is in hand, and the section stays what it was, nothing is
@@ -164,6 +174,36 @@ module _ (C : Type 0) where
   passes (InSignal waking k place) word long g = absurd (signal_gains_not waking k place word g)
   passes (InShow place) word long g = absurd (show_gains_not place word g)
 
+  -- a reader passes a waiting writer only where it was woken
+  reads_past : (walk : Walk C) (word : Word) → word.writer_waits ≡ true → Gains (want_of walk) word → Reads (want_of walk) → was_woken (Some walk) ≡ true
+  reads_past (InTry mode TryLoad) word waits g reads = absurd g
+  reads_past (InTry mode (TryAcquire last)) word waits g reads = absurd (both_ways false refl (writer_shuts AsFresh last (ap (λ w. w.writer_waits) g.0 ∙ waits) (subst (λ m. may_acquire m AsFresh last ≡ true) reads g.1)))
+  reads_past (InAcquire aim (AcquireLoad arrival)) word waits g reads = absurd g
+  reads_past (InAcquire aim (AcquireExchange arrival last)) word waits g reads = writer_shuts arrival last (ap (λ w. w.writer_waits) g.0 ∙ waits) (subst (λ m. may_acquire m arrival last ≡ true) reads g.1)
+  reads_past (InAcquire aim (TakeToQueue arrival last)) word waits g reads = absurd g
+  reads_past (InAcquire aim (Arm arrival last)) word waits g reads = absurd g
+  reads_past (InAcquire aim (Queue arrival last)) word waits g reads = absurd g
+  reads_past (InAcquire aim (AwaitWake tries)) word waits g reads = absurd g
+  reads_past (InRelease releasing place) word waits g reads = absurd (release_gains_not releasing place word g)
+  reads_past (InCells place) word waits g reads = absurd (cell_gains_not place word g)
+  reads_past (InWait wait place) word waits g reads = absurd (wait_gains_not wait place word g)
+  reads_past (InSignal waking k place) word waits g reads = absurd (signal_gains_not waking k place word g)
+  reads_past (InShow place) word waits g reads = absurd (show_gains_not place word g)
+
 pub woken_pass : {C : Type 0} {N : ℕ} (truths : Truths C) (old : LockState C N) (view : SeatView C N) (found : Found) (new : LockState C N) (commits : List (Event C N)) (held : Held C N) → (step : Step truths old view found new commits) → old.word.long ≡ true → view.held ≡ None → step.held ≡ Some held → was_woken (Some step.walk) ≡ true
 woken_pass truths old view found new commits held step long none some =
     passes _ step.walk old.word long (gained truths view.seat (want_of step.walk) (part_of old view.held view.owed) found (part_of new step.held step.owed) commits held step.effect none some)
+
+-- what an acquire brings to hand is in the mode that it acquires in
+reads_by : {C : Type 0} {N : ℕ} (truths : Truths C) (seat : ℕ) (act : Act C) (old : Part C N) (found : Found) (new : Part C N) (commits : List (Event C N)) (held : Held C N) → Effect truths seat act old found new commits → Gains act old.word → old.held ≡ None → new.held ≡ Some held → held.mode ≡ Read → Reads act
+reads_by truths seat (Acquire aim arrival last) old Made new commits held e gains none some reads = let same : newly_held aim old.row ≡ held = let is = sym (ap (λ p. p.held) e.3) ∙ some in cc in ap (λ h. h.mode) same ∙ reads
+reads_by truths seat (Acquire aim arrival last) old (Saw word) new commits held e gains none some reads = absurd (none_yet old.held new.held held (ap (λ p. p.held) e.2) none some)
+reads_by truths seat (Acquire aim arrival last) old found new commits held e gains none some reads = absurd e
+reads_by truths seat act old found new commits held e gains none some reads = absurd gains
+
+pub readers_stand_behind : {C : Type 0} {N : ℕ} (truths : Truths C) (old : LockState C N) (view : SeatView C N) (found : Found) (new : LockState C N) (commits : List (Event C N)) (held : Held C N) → (step : Step truths old view found new commits) → old.word.writer_waits ≡ true → view.held ≡ None → step.held ≡ Some held → held.mode ≡ Read → was_woken (Some step.walk) ≡ true
+readers_stand_behind truths old view found new commits held step waits none some reads =
+    let before = part_of old view.held view.owed in
+    let after = part_of new step.held step.owed in
+    let gains = gained truths view.seat (want_of step.walk) before found after commits held step.effect none some in
+    reads_past _ step.walk old.word waits gains (reads_by truths view.seat (want_of step.walk) before found after commits held step.effect gains none some reads)

@@ -1,7 +1,8 @@
 -- The lock list, lists of seats, and how often a seat counts in the lists.
-use Rattle.std.specs.Prelude.{ℕ, ◌+◌, nat_lt, sum_by, Bool, true, false, not, ◌&&◌, ◌||◌, if◌then◌else◌, List, [], ◌∷◌, ◌++◌, Option, None}
+use Rattle.std.specs.Prelude.{◌≡◌, ◌⊎◌, ℕ, ◌+◌, nat_lt, sum_by, Bool, true, false, not, ◌&&◌, ◌||◌, if◌then◌else◌, List, [], ◌∷◌, ◌++◌, Option, None}
 use Rattle.std.specs.List.{list_any}
 use Rattle.ns_model.specs.declared.event.Mode.{Mode}
+use Rattle.ns_model.specs.declared.event.Mode.TheVariants.{Write}
 use Rattle.ns_queue.specs.declared.waiter.Waiter.{Waiter}
 use Rattle.ns_queue.specs.Queues.{Lists}
 use Rattle.ns_queue.specs.Waiters.{has_condition, is_long, times_in, writes}
@@ -14,6 +15,15 @@ use Rattle.ns_word.specs.declared.word.Bits.{Bits}
 abbrev pub has_some : {A : Type 0} → List A → Bool
 has_some [] = false
 has_some (x ∷ xs) = true
+
+-- somebody stands in the list of whom this holds
+abbrev pub HasOne : {A : Type 0} → (A → Type 0) → List A → Type 0
+HasOne P [] = ⊥
+HasOne P (x ∷ xs) = P x ⊎ HasOne P xs
+
+-- the waiter waits to write, without condition
+abbrev pub IsPlainWriter : {C : Type 0} → Waiter C → Type 0
+IsPlainWriter w = (w.mode ≡ Write) × (w.cond ≡ None)
 
 -- what the word tells of a lock list
 abbrev pub bits_of : {C : Type 0} → List (Waiter C) → Bits

@@ -1,6 +1,7 @@
 //! The laws by call: what a call has done at each of its places, and what its answer means.
 
 ghost use Rattle.std.specs.Prelude.{◌≡◌, ◌≢◌, ◌<◌, ◌⊎◌, ◌||◌, ◌==◌, nat_lt, Bool, ℕ, true, false, if◌then◌else◌, List, [], ◌∷◌, ◌++◌, Option, None, Some, slice_get};
+ghost use Rattle.ns_model.specs.declared.event.Answer.TheVariants.{Met};
 ghost use Rattle.ns_model.specs.declared.event.Event.{Event};
 ghost use Rattle.ns_model.specs.Histories.{row_after, standing_after};
 ghost use Rattle.ns_model.specs.Tallies.{Every};
@@ -22,6 +23,7 @@ ghost use Rattle.ns_word.specs.declared.try_walk.TryPlace.TheVariants.{TryAcquir
 ghost use Rattle.ns_word.specs.declared.view.Held.{Held};
 ghost use Rattle.ns_word.specs.declared.view.SeatView.{SeatView};
 ghost use Rattle.ns_word.specs.declared.wait.Aim.{Aim};
+ghost use Rattle.ns_word.specs.declared.wait.Subject.TheVariants.{OnCondition};
 ghost use Rattle.ns_word.specs.declared.wait.Wait.{Wait};
 ghost use Rattle.ns_word.specs.declared.wait.WaitPlace.TheVariants.{AwaitWakeInWait};
 ghost use Rattle.ns_word.specs.declared.walk.Walk.{Walk};
@@ -153,6 +155,17 @@ pub fn a_shown_cause_ends_the_wait<C: Condition<N>, const N: usize>()
     ensures { (walk : Walk C) (limits : Limits) (again : Bool) (cause : Cause) → want_of walk ≡ Look limits again →
         (got_of N walk (Looked (Some cause)) ≡ Done (Answered (answer_of cause)))
         ⊎ ((next : Walk C) × (walk_after (got_of N walk (Looked (Some cause))) ≡ Some next) × (cause_kept next ≡ Some cause)) }
+{}
+
+/// What a look has shown isn't forgotten: a wait for a condition that keeps a cause is over with its next
+/// step, by what that cause answers or because its condition is met; or it goes on at a place that keeps
+/// the cause.
+pub fn a_kept_cause_is_answered<C: Condition<N>, const N: usize>()
+    ensures { (walk : Walk C) (found : Found) (cause : Cause) (wait : Wait C) (c : C) →
+        asked_of walk ≡ Await wait → wait.on ≡ OnCondition c → cause_kept walk ≡ Some cause →
+        (got_of N walk found ≡ Done (Answered Met))
+        ⊎ ((got_of N walk found ≡ Done (Answered (answer_of cause)))
+        ⊎ ((next : Walk C) × (walk_after (got_of N walk found) ≡ Some next) × (cause_kept next ≡ Some cause))) }
 {}
 
 /// Readers join readers where nobody waits who keeps them out; and while a writer waits, a fresh

@@ -1,14 +1,16 @@
 //! The law of the steps.
 
-ghost use Rattle.std.specs.Prelude.{◌≡◌, ◌≢◌, ◌⊎◌, ℕ, ◌<◌, ◌≤◌, true, false, List, [], ◌∷◌, ◌++◌, Option, None, Some, slice_get};
+ghost use Rattle.std.specs.Prelude.{◌≡◌, ◌≢◌, ◌⊎◌, ◌↔◌, ℕ, ◌<◌, ◌≤◌, true, false, List, [], ◌∷◌, ◌++◌, Option, None, Some, IsSome, IsSomeAnd, slice_get};
 ghost use Rattle.std.specs.List.{list_any};
 ghost use Rattle.ns_model.specs.declared.event.Answer.{Answer};
 ghost use Rattle.ns_model.specs.declared.cvs.Variables.{Variables};
 ghost use Rattle.ns_model.specs.declared.event.Entry.TheVariants.{Waited};
 ghost use Rattle.ns_model.specs.declared.event.Event.{Event};
+ghost use Rattle.ns_model.specs.declared.event.Mode.TheVariants.{Read};
 ghost use Rattle.ns_model.specs.declared.phase.Phase.TheVariants.{Cond};
 ghost use Rattle.ns_model.specs.Beginnings.{BeginsWith};
-ghost use Rattle.ns_model.specs.Histories.{phase_of};
+ghost use Rattle.ns_model.specs.Histories.{phase_of, row_after};
+ghost use Rattle.ns_model.specs.Tallies.{Every};
 ghost use Rattle.ns_model.specs.Sections.{is_met};
 ghost use Rattle.ns_queue.specs.declared.waiter.Waiter.{Waiter};
 ghost use Rattle.ns_queue.specs.Queues.{beside};
@@ -35,6 +37,7 @@ ghost use Rattle.ns_word.specs.Begins.{Begins, SeatStep, IsFirst, fresh_state};
 ghost use Rattle.ns_word.specs.Steps.{LockState, Step, entry_of};
 ghost use Rattle.ns_word.specs.Finds.{found_of, content_at, IsLook};
 ghost use Rattle.ns_word.specs.Lawful.{IsLawful};
+ghost use Rattle.ns_word.specs.Lists.{HasOne, IsPlainWriter};
 ghost use Rattle.ns_word.specs.Told.{Told, IsTold, nothing_told, told_after, calls_of};
 ghost use Rattle.ns_word.specs.Waits.{answer_of};
 ghost use Rattle.ns_word.specs.Walks.{want_of, got_of, walk_after, was_woken};
@@ -94,6 +97,30 @@ pub fn the_word_tells_of_a_long_wait<C: Condition<N>, const N: usize>()
         IsLawful C.means seats history s →
         (s.word.spin ≡ false → s.word.long ≡ list_any is_long s.lists.lock)
         × ((at : ℕ) (w : Waiter C) → slice_get s.lists.lock at ≡ Some w → w.tries ≤ 30) }
+{}
+
+/// While nobody has the queues, the word tells who stands in the lock list: its waiting bit that somebody
+/// does, its condition bit that somebody with a condition does, and its writer bit that a writer without
+/// condition does. Where it says that all conditions are false, each waiter has one, and it is false of the
+/// row that the history has left.
+pub fn the_word_tells_who_waits<C: Condition<N>, const N: usize>()
+    ensures somebody { (seats : ℕ) (history : List (Event C N)) (s : LockState C N) → IsLawful C.means seats history s → s.word.spin ≡ false →
+        (s.word.waiting ≡ false ↔ s.lists.lock ≡ []) }
+    ensures condition { (seats : ℕ) (history : List (Event C N)) (s : LockState C N) → IsLawful C.means seats history s → s.word.spin ≡ false →
+        (s.word.cond ≡ true ↔ HasOne (λ w. IsSome w.cond) s.lists.lock) }
+    ensures writer { (seats : ℕ) (history : List (Event C N)) (s : LockState C N) → IsLawful C.means seats history s → s.word.spin ≡ false →
+        (s.word.writer_waits ≡ true ↔ HasOne IsPlainWriter s.lists.lock) }
+    ensures all_false { (seats : ℕ) (history : List (Event C N)) (s : LockState C N) → IsLawful C.means seats history s → s.word.all_false ≡ true →
+        Every (λ w. IsSomeAnd w.cond (λ c. C.means.holds c (row_after history) ≡ false)) s.lists.lock }
+{}
+
+/// While a writer without condition stands in the lock list and nobody has the queues, no fresh reader
+/// acquires: who does was woken.
+pub fn no_fresh_reader_passes_a_writer<C: Condition<N>, const N: usize>()
+    ensures { (seats : ℕ) (history : List (Event C N)) (old new : LockState C N) (view : SeatView C N) (found : Found) (commits : List (Event C N)) (held : Held C N) →
+        (step : Step C.means old view found new commits) →
+        IsLawful C.means seats history old → old.word.spin ≡ false → HasOne IsPlainWriter old.lists.lock →
+        view.held ≡ None → step.held ≡ Some held → held.mode ≡ Read → was_woken (Some step.walk) ≡ true }
 {}
 
 /// While the word says that somebody waits long, only waiters that were woken acquire.
