@@ -52,6 +52,22 @@ module _ {A : Type 0} (IsSo : Bool → Past → A → Type 0) (things : List A) 
   pub answers_until : (from to on : Past) (place : ℕ) → AnswersByRounds IsSo things deadline from to place → IsLater to on → AnswersByRounds IsSo things deadline from on place
   answers_until from to on place a later = record { rounds = a.rounds; mid = a.mid; nothing = a.nothing; last = shows_until a.mid to on (Some place) a.last later }
 
+  -- a round that has begun later has begun since before
+  pub none_since : (come : Bool) (since from to : Past) → IsLater since from → HasShownNone IsSo things deadline come from to → HasShownNone IsSo things deadline come since to
+  none_since come since from to later r = record { clock = r.clock; begins = later_through since from r.clock later r.begins; come_then = r.come_then; unready = r.unready }
+
+  -- rounds end no earlier than they begin
+  pub none_later : (come : Bool) (from to : Past) → HasShownNone IsSo things deadline come from to → IsLater from to
+  none_later come from to r = later_through from r.clock to r.begins (turn_later (IsSo false) r.clock to things r.unready)
+
+  pub nothing_later : (n : ℕ) (from to : Past) → HaveShownNothing IsSo things deadline n from to → IsLater from to
+  nothing_later zero from to nothing = nothing
+  nothing_later (suc n) from to nothing = later_through from nothing.0 to (nothing_later n from nothing.0 nothing.1) (none_later false nothing.0 to nothing.2)
+
+  -- of rounds that have shown nothing the last has
+  pub last_nothing : (n : ℕ) (from to : Past) → HaveShownNothing IsSo things deadline (suc n) from to → RoundShows IsSo things deadline from to None
+  last_nothing n from to nothing = none_since false from nothing.0 to (nothing_later n from nothing.0 nothing.1) nothing.2
+
   -- one round alone
   pub by_one_round : (from to : Past) (place : ℕ) → RoundShows IsSo things deadline from to (Some place) → AnswersByRounds IsSo things deadline from to place
   by_one_round from to place shows = record { rounds = 0; mid = from; nothing = later_itself from; last = shows }

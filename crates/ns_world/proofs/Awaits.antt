@@ -32,7 +32,7 @@ use Rattle.ns_world.specs.Calls.{mode_of, mode_waited}
 use Rattle.ns_world.specs.Items.{AreAmong, items_of}
 use Rattle.ns_world.specs.Looks.{look_of, looks_at}
 use Rattle.ns_world.specs.Meanings.{HasLedTo}
-use Rattle.ns_world.specs.ObjectMeanings.{Past}
+use Rattle.ns_counters.specs.Rounds.{Past}
 use Rattle.ns_world.specs.Objects.{AreThere, HasOperated, stood_at, wait_in, walk_in}
 use Rattle.ns_world.specs.ObjectWalks.{object_after, object_got}
 use Rattle.ns_world.specs.Whole.{Whole, BeginsToWait, EndsLook, HaveLedTo, IsLawfulWhole, LooksWhere, StandsBy, WaitSteps, WaitsOnLock, is_alone}

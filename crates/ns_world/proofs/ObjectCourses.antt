@@ -1,12 +1,11 @@
 -- How far a call on counters and once cells has come: whatever others do leaves that as it is, and each step of its own takes it on to an answer that means what it says.
-use Rattle.std.specs.Prelude.{nat_lt, nat_le, IsSomeAnd}
+use Rattle.std.specs.Prelude.{nat_lt, take}
 use Rattle.std.proofs.Common.{◌≡◌, ℕ, zero, suc, ◌<◌, ◌≤◌, ℤ, Bool, true, false, cond, eqb, List, [], ◌∷◌, ◌++◌, Option, None, Some, drop, slice_get, slice_index, Result, Ok, Err, refl, ap, sym, ◌∙◌, subst, arith, inl, inr, append-nil, eq-eqb}
-use Rattle.std.proofs.lemmas.Bool.{cases_eq, ltb-true, ltb-false, leb-true, leb-false, eqb-true}
+use Rattle.std.proofs.lemmas.Bool.{ltb-false, eqb-true}
 use Rattle.std.proofs.lemmas.List.Sums.{fold-append}
 use Rattle.ns_model.specs.declared.environment.EnvEvent.{EnvEvent}
 use Rattle.ns_model.specs.Beginnings.{BeginsWith, IsBetween}
-use Rattle.ns_model.specs.Environments.{IsLegalEnv, clock_of, env_after, is_due, is_notified}
-use Rattle.ns_model.specs.Lines.{IsLeftAt}
+use Rattle.ns_model.specs.Environments.{IsLegalEnv, clock_of, env_after, is_due}
 use Rattle.ns_model.proofs.Beginnings.{begins_itself, begins_through}
 use Rattle.ns_model.proofs.Environments.{legal_begins, made_begins}
 use Rattle.ns_model.proofs.Lines.{line_starts}
@@ -26,9 +25,11 @@ use Rattle.ns_model.specs.Counters.{is_ready, judged}
 use Rattle.ns_counters.specs.Lawful.{IsLawful}
 use Rattle.ns_counters.specs.Objects.{ObjectStanding, first_objects, object_next, objects_after, objects_own}
 use Rattle.ns_model.specs.Onces.{is_done}
+use Rattle.ns_counters.specs.Rounds.{HasShownNone, HaveShownNothing, InTurn, IsLater, Past}
 use Rattle.ns_counters.specs.Steps.{Outcome, tried, word_of_once}
 use Rattle.ns_counters.specs.Words.{counter_word, counter_of, stage, stage_of}
 use Rattle.ns_counters.proofs.Objects.{own-append}
+use Rattle.ns_counters.proofs.Rounds.{answers_until, later_itself, later_through, nothing_later, nothing_until, turn_more, turn_until}
 use Rattle.ns_counters.proofs.Words.{counter_of-counter_word, stage_of-stage_word}
 use Rattle.ns_env.specs.declared.act.EnvFound.{EnvFound}
 use Rattle.ns_env.specs.declared.act.EnvFound.TheVariants.{Clock, Note}
@@ -58,13 +59,16 @@ use Rattle.ns_world.specs.declared.round.RoundPlace.{RoundPlace}
 use Rattle.ns_world.specs.declared.round.RoundPlace.TheVariants.{FirstClock, AtNote, AtCounter}
 use Rattle.ns_world.specs.Items.{item_at, items_of}
 use Rattle.ns_world.specs.Objects.{ObjectEffect, WalkFits}
-use Rattle.ns_world.specs.ObjectMeanings.{Past, past_and, object_asked, AnyAnswers, AtSomeMoment, HadValue, ObjectGoes, ObjectSoFar, RoundSoFar, WasDue, WasEarly, WasReady, WereThere, WereUnready}
+use Rattle.ns_world.specs.ObjectMeanings.{past_and, object_asked, AnyAnswers, AtSomeMoment, HadValue, HasLookedUpTo, IsReady, ObjectGoes, ObjectSoFar, RoundSoFar, WereThere}
 use Rattle.ns_world.specs.ObjectWalks.{by_answer, by_begun, by_deadline, by_judging, by_round, by_stage, has_run, object_got, object_place, object_want, waited_next}
 use Rattle.ns_world.specs.Rounds.{by_chain, chain_from, from_items, from_place, round_got, round_want}
 use Rattle.ns_world.proofs.ObjectLaw.{clock_found, counter_there, note_found, note_there}
-use Rattle.ns_world.proofs.Listed.{listed, nothing_at}
+use Rattle.ns_world.proofs.Listed.{left_at, listed}
 
 -- ---- more that has happened
+
+pub later_and : (now more : Past) → IsLater now (past_and now more)
+later_and now more = record { notes = (more.notes, refl); objects = (more.objects, refl) }
 
 -- what lay between these lies between them when more has happened
 between_on : {A : Type 0} (earlier point now more : List A) → IsBetween earlier point now → IsBetween earlier point (now ++ more)
@@ -74,45 +78,38 @@ between_on earlier point now more between = (between.0, begins_through (now ++ m
 between_now : {A : Type 0} (earlier now : List A) → BeginsWith now earlier → IsBetween earlier now now
 between_now earlier now since = (since, begins_itself now)
 
-module _ (setup : Setup) (earlier : Past) (seat : ℕ) (now more : Past) where
-  pub point_on : (P : List EnvEvent → Type 0) → AtSomePoint earlier.notes now.notes P → AtSomePoint earlier.notes (now.notes ++ more.notes) P
-  point_on P so = (so.0, between_on earlier.notes so.0 now.notes more.notes so.1, so.2)
+-- how far a round had looked it has looked still
+looked_until : (setup : Setup) (earlier now on : Past) (round : Round) (start : Past) (clock at : ℕ) → HasLookedUpTo setup earlier now round start clock at → IsLater now on → HasLookedUpTo setup earlier on round start clock at
+looked_until setup earlier now on round start clock at looked later = record {
+  rounds = looked.rounds;
+  mid = looked.mid;
+  nothing = looked.nothing;
+  begins = looked.begins;
+  loaded = looked.loaded;
+  unready = turn_until (IsReady setup false) start (record { notes = start.notes; objects = now.objects }) (record { notes = start.notes; objects = on.objects }) (take at (items_of round.items)) looked.unready (record { notes = begins_itself start.notes; objects = later.objects });
+  since = later_through start now on looked.since later;
+}
 
-  moment_on : (P : ObjectStanding → Type 0) → AtSomeMoment setup earlier.objects now.objects P → AtSomeMoment setup earlier.objects (now.objects ++ more.objects) P
-  moment_on P so = (so.0, between_on earlier.objects so.0 now.objects more.objects so.1, so.2)
-
-  ready_on : (so : Bool) (item : Item) → WasReady setup so earlier now item → WasReady setup so earlier (past_and now more) item
-  ready_on so (OnNote note) was = point_on (λ point. is_notified point note ≡ so) was
-  ready_on so (OnCounterItem counter) was = moment_on (λ standing. is_ready (standing.counters counter) ≡ so) was
-  ready_on true (OnVariable k) was = absurd was
-  ready_on false (OnVariable k) was = tt
-
-  pub unready_on : (items : Items) (place : ℕ) → WereUnready setup earlier now items place → WereUnready setup earlier (past_and now more) items place
-  unready_on items place were = λ i item low at. ready_on false item (were i item low at)
-
-  had_on : (counter value : ℕ) → HadValue setup earlier now seat counter value → HadValue setup earlier (past_and now more) seat counter value
-  had_on counter value had = (had.0, between_on earlier.objects had.0 now.objects more.objects had.1, had.2, had.3)
-
-  due_on : (deadline : Option ℕ) → WasDue deadline earlier now → WasDue deadline earlier (past_and now more)
-  due_on None due = absurd due
-  due_on (Some d) due = point_on (λ point. d ≤ clock_of point) due
-
-  pub early_on : (deadline : Option ℕ) → WasEarly deadline earlier now → WasEarly deadline earlier (past_and now more)
-  early_on deadline early = point_on (λ point. is_due (clock_of point) deadline ≡ false) early
-
+module _ (setup : Setup) (earlier now more : Past) where
   pub any_on : (items : Items) (deadline : Option ℕ) (place : ℕ) → AnyAnswers setup earlier now items deadline place → AnyAnswers setup earlier (past_and now more) items deadline place
-  any_on items deadline place (unready, inl ready) = (unready_on items place unready, inl (ready.0, ready.1, ready_on true ready.0 ready.2))
-  any_on items deadline place (unready, inr due) = (unready_on items place unready, inr (due.0, due_on deadline due.1))
+  any_on items deadline place answers = answers_until (IsReady setup) (items_of items) deadline earlier now (past_and now more) place answers (later_and now more)
+
+  pub nothing_on : (round : Round) (rounds : ℕ) → HaveShownNothing (IsReady setup) (items_of round.items) round.deadline rounds earlier now → HaveShownNothing (IsReady setup) (items_of round.items) round.deadline rounds earlier (past_and now more)
+  nothing_on round rounds nothing = nothing_until (IsReady setup) (items_of round.items) round.deadline rounds earlier now (past_and now more) nothing (later_and now more)
 
   pub round_on : (round : Round) (place : RoundPlace) → RoundSoFar setup earlier now round place → RoundSoFar setup earlier (past_and now more) round place
-  round_on round FirstClock so = tt
-  round_on round (AtNote at clock asked note) so = (unready_on round.items at so.0, point_on (λ point. (clock ≡ clock_of point) × IsLeftAt point asked (Some note)) so.1)
-  round_on round (AtCounter at clock counter) so = (unready_on round.items at so.0, point_on (λ point. clock ≡ clock_of point) so.1)
+  round_on round FirstClock so = (so.0, nothing_on round so.0 so.1)
+  round_on round (AtNote at clock asked note) so = (so.0, looked_until setup earlier now (past_and now more) round so.0 clock at so.1 (later_and now more), so.2)
+  round_on round (AtCounter at clock counter) so = (so.0, looked_until setup earlier now (past_and now more) round so.0 clock at so.1 (later_and now more))
+
+module _ (setup : Setup) (earlier : Past) (seat : ℕ) (now more : Past) where
+  had_on : (counter value : ℕ) → HadValue setup earlier now seat counter value → HadValue setup earlier (past_and now more) seat counter value
+  had_on counter value had = (had.0, between_on earlier.objects had.0 now.objects more.objects had.1, had.2, had.3)
 
   -- What others do leaves a call where it is.
   pub so_far_on : (events : List ObjectEvent) (walk : ObjectWalk) → ObjectSoFar setup earlier now seat events walk → ObjectSoFar setup earlier (past_and now more) seat events walk
   so_far_on events (WaitClock counter moment value) so = (so.0, had_on counter value so.1)
-  so_far_on events (InRound round place) so = (so.0, so.1, round_on round place so.2)
+  so_far_on events (InRound round place) so = (so.0, so.1, round_on setup earlier now more round place so.2)
   so_far_on events (WaitLoad counter deadline) so = so
   so_far_on events (OnceEnd once) so = so
   so_far_on events (AddLoad counter delta) so = so
@@ -150,28 +147,118 @@ done_is TheState.Unused e = absurd (cc)
 done_is (TheState.Running who) e = absurd (cc)
 done_is TheState.Done e = refl
 
--- a deadline that has come
-due_is : (clock : ℕ) (deadline : Option ℕ) → is_due clock deadline ≡ true → IsSomeAnd deadline (λ d. d ≤ clock)
-due_is clock None e = absurd (cc)
-due_is clock (Some d) e = leb-true d clock e
+-- ---- what is left of a list from a place on, and what stands before it
 
--- behind the end of a list there is nothing
-gone_on : {A : Type 0} (xs : List A) (i j : ℕ) (x : A) → i ≤ j → slice_get xs i ≡ None → slice_get xs j ≡ Some x → ⊥
-gone_on [] i j x le none some = absurd (cc)
-gone_on (y ∷ xs) zero j x le none some = absurd (cc)
-gone_on (y ∷ xs) (suc i) zero x le none some = absurd (omega (arith, le))
-gone_on (y ∷ xs) (suc i) (suc j) x le none some = gone_on xs i j x (omega (arith, le)) none some
+take_all : {A : Type 0} (at : ℕ) (xs : List A) → drop at xs ≡ [] → take at xs ≡ xs
+take_all zero xs none = sym none
+take_all (suc at) [] none = refl
+take_all (suc at) (x ∷ xs) none = ap (λ ys. x ∷ ys) (take_all at xs none)
 
-none_behind : (items : Items) (at i : ℕ) (item : Item) → item_at items at ≡ None → item_at items i ≡ Some item → i < at
-none_behind items at i item none some = by (nat_le at i) refl where
-  behind : (b c : Bool) → nat_lt at items.count ≡ b → nat_lt i items.count ≡ c → at ≤ i → cond b (slice_get items.all at) None ≡ None → cond c (slice_get items.all i) None ≡ Some item → ⊥
-  behind true true p q le n s = gone_on items.all at i item le n s
-  behind false true p q le n s = let past = ltb-false at items.count p in let low = ltb-true i items.count q in omega (arith, past, low, le)
-  behind b false p q le n s = absurd (cc)
+take_next : {A : Type 0} (at : ℕ) (xs : List A) (x : A) (more : List A) → drop at xs ≡ x ∷ more → take (suc at) xs ≡ take at xs ++ x ∷ []
+take_next zero [] x more is = absurd (cc)
+take_next zero (y ∷ xs) x more is = let same : y ≡ x = cc in ap (λ z. z ∷ []) same
+take_next (suc at) [] x more is = absurd (cc)
+take_next (suc at) (y ∷ xs) x more is = ap (λ ys. y ∷ ys) (take_next at xs x more is)
 
-  by : (b : Bool) → nat_le at i ≡ b → i < at
-  by true le = absurd (behind (nat_lt at items.count) (nat_lt i items.count) refl refl (leb-true at i le) none some)
-  by false low = leb-false at i low
+got_first : {A : Type 0} (at : ℕ) (xs : List A) (x : A) (more : List A) → drop at xs ≡ x ∷ more → slice_get xs at ≡ Some x
+got_first zero [] x more is = absurd (cc)
+got_first zero (y ∷ xs) x more is = let same : y ≡ x = cc in ap Some same
+got_first (suc at) [] x more is = absurd (cc)
+got_first (suc at) (y ∷ xs) x more is = got_first at xs x more is
+
+-- ---- rounds
+
+-- where a round's step has led
+abbrev pub RoundGoes : Setup → Past → Past → Round → RoundNext → Type 0
+RoundGoes setup earlier now round (RoundGo place) = RoundSoFar setup earlier now round place
+RoundGoes setup earlier now round (RoundOver None) = (rounds : ℕ) × HaveShownNothing (IsReady setup) (items_of round.items) round.deadline (suc rounds) earlier now
+RoundGoes setup earlier now round (RoundOver (Some answer)) = AnyAnswers setup earlier now round.items round.deadline answer
+
+goes_on : (setup : Setup) (earlier now more : Past) (round : Round) (next : RoundNext) → RoundGoes setup earlier now round next → RoundGoes setup earlier (past_and now more) round next
+goes_on setup earlier now more round (RoundGo place) goes = round_on setup earlier now more round place goes
+goes_on setup earlier now more round (RoundOver None) goes = (goes.0, nothing_on setup earlier now more round (suc goes.0) goes.1)
+goes_on setup earlier now more round (RoundOver (Some answer)) goes = any_on setup earlier now more round.items round.deadline answer goes
+
+module _ (setup : Setup) (earlier now : Past) (round : Round) (start : Past) (clock : ℕ) where
+  abbrev HasLooked : ℕ → Type 0
+  HasLooked at = HasLookedUpTo setup earlier now round start clock at
+
+  -- the notes as of the clock that was loaded, and the objects as they are
+  abbrev here : Past
+  here = record { notes = start.notes; objects = now.objects }
+
+  -- one more item was unready
+  looked_more : (at : ℕ) (item : Item) (more : List Item) → drop at (items_of round.items) ≡ item ∷ more → HasLooked at → IsReady setup false here item → HasLooked (suc at)
+  looked_more at item more is looked unready = record {
+    rounds = looked.rounds;
+    mid = looked.mid;
+    nothing = looked.nothing;
+    begins = looked.begins;
+    loaded = looked.loaded;
+    unready = subst (InTurn (IsReady setup false) start here) (sym (take_next at (items_of round.items) item more is)) (turn_more (IsReady setup false) start here here here (take at (items_of round.items)) item looked.unready (later_itself here) unready (later_itself here));
+    since = looked.since;
+  }
+
+  -- looks until now
+  looks_now : (at : ℕ) → HasLooked at → InTurn (IsReady setup false) start now (take at (items_of round.items))
+  looks_now at looked = turn_until (IsReady setup false) start here now (take at (items_of round.items)) looked.unready (record { notes = looked.since.notes; objects = begins_itself now.objects })
+
+  -- behind the last item
+  shows_none : (come : Bool) (at : ℕ) → drop at (items_of round.items) ≡ [] → is_due clock round.deadline ≡ come → (looked : HasLooked at) → HasShownNone (IsReady setup) (items_of round.items) round.deadline come looked.mid now
+  shows_none come at none due looked = record {
+    clock = start;
+    begins = looked.begins;
+    come_then = subst (λ c. is_due c round.deadline ≡ come) looked.loaded due;
+    unready = subst (InTurn (IsReady setup false) start now) (take_all at (items_of round.items) none) (looks_now at looked);
+  }
+
+  -- at an item that is ready
+  shows_one : (at : ℕ) (item : Item) → item_at round.items at ≡ Some item → HasLooked at → IsReady setup true now item → AnyAnswers setup earlier now round.items round.deadline at
+  shows_one at item is looked ready = record {
+    rounds = looked.rounds;
+    mid = looked.mid;
+    nothing = looked.nothing;
+    last = inl (record {
+      clock = start;
+      begins = looked.begins;
+      point = now;
+      unready = looks_now at looked;
+      thing = item;
+      is = got_first at (items_of round.items) item (drop (suc at) (items_of round.items)) (left_at round.items at item is);
+      ready = ready;
+      ends = later_itself now;
+    });
+  }
+
+  module _ (legal : IsLegalEnv now.notes) (there : WereThere setup earlier round.items) where
+    from_goes : (at : ℕ) → HasLooked at → RoundGoes setup earlier now round (from_place round clock at)
+    from_goes at looked = by (drop at (items_of round.items)) at refl looked where
+      ends : (b : Bool) (at : ℕ) → drop at (items_of round.items) ≡ [] → is_due clock round.deadline ≡ b → HasLooked at → RoundGoes setup earlier now round (cond b (RoundOver (Some round.items.count)) (RoundOver None))
+      ends true at none due looked = record { rounds = looked.rounds; mid = looked.mid; nothing = looked.nothing; last = inr (sym there.2, shows_none true at none due looked) }
+      ends false at none due looked = (looked.rounds, (looked.mid, looked.nothing, shows_none false at none due looked))
+
+      -- a note was made as the clock was loaded
+      was_made : (at note : ℕ) → item_at round.items at ≡ Some (OnNote note) → (looked : HasLooked at) → ((env_after start.notes).notes note).made ≡ true
+      was_made at note is looked =
+          let begun = nothing_later (IsReady setup) (items_of round.items) round.deadline looked.rounds earlier looked.mid looked.nothing in
+          made_begins start.notes earlier.notes note (legal_begins now.notes start.notes legal looked.since.notes) (later_through earlier looked.mid start begun looked.begins).notes (note_there setup (env_after earlier.notes).notes round.items at note there is)
+
+      by : (items : List Item) (at : ℕ) → drop at (items_of round.items) ≡ items → HasLooked at → RoundGoes setup earlier now round (from_items round clock at items)
+      by [] at is looked = ends (is_due clock round.deadline) at is refl looked
+      by (OnNote note ∷ items) at is looked = (start, looked, line_starts start.notes note (was_made at note (listed round.items at (OnNote note) items is).0 looked))
+      by (OnCounterItem counter ∷ items) at is looked = (start, looked)
+      by (OnVariable k ∷ items) at is looked = by items (suc at) (listed round.items at (OnVariable k) items is).1 (looked_more at (OnVariable k) items is looked tt)
+
+    -- behind an item that was unready
+    past_goes : (at : ℕ) (item : Item) → item_at round.items at ≡ Some item → HasLooked at → IsReady setup false here item → RoundGoes setup earlier now round (from_place round clock (suc at))
+    past_goes at item is looked unready = from_goes (suc at) (looked_more at item (drop (suc at) (items_of round.items)) (left_at round.items at item is) looked unready)
+
+    -- by the chain of a note
+    chain_goes : (at asked : ℕ) (next : EnvNext) → HasLooked at → item_at round.items at ≡ Some (OnNote asked) → ChainFits start.notes now.notes (ForIsNotified asked) next → RoundGoes setup earlier now round (by_chain round at clock asked next)
+    chain_goes at asked (TheEnv.Go (NoteLoad chain moment above)) looked is fits = (start, looked, fits.2)
+    chain_goes at asked (TheEnv.Over (IsSo true)) looked is fits = shows_one at (OnNote asked) is looked fits
+    chain_goes at asked (TheEnv.Over (IsSo false)) looked is fits = past_goes at (OnNote asked) is looked fits
+    chain_goes at asked next looked is fits = absurd fits
 
 -- ---- a step of the call's own
 
@@ -180,64 +267,14 @@ module _ (setup : Setup) (earlier : Past) (seat : ℕ) (now : Past) (more : List
   abbrev later : Past
   later = past_and now (record { notes = []; objects = more })
 
-  module _ (since : BeginsWith now.notes earlier.notes) (legal : IsLegalEnv now.notes) where
-    legal_later : IsLegalEnv later.notes
-    legal_later = subst IsLegalEnv (sym (append-nil now.notes)) legal
+  -- so it is now
+  point_now : (P : List EnvEvent → Type 0) → BeginsWith now.notes earlier.notes → P now.notes → AtSomePoint earlier.notes later.notes P
+  point_now P since so = (now.notes, between_on earlier.notes now.notes now.notes [] (between_now earlier.notes now.notes since), so)
 
-    -- so it is now
-    point_now : (P : List EnvEvent → Type 0) → P now.notes → AtSomePoint earlier.notes later.notes P
-    point_now P so = (now.notes, between_on earlier.notes now.notes now.notes [] (between_now earlier.notes now.notes since), so)
-
-    -- ---- rounds
-
-    abbrev pub RoundGoes : Round → RoundNext → Type 0
-    RoundGoes round (RoundGo place) = RoundSoFar setup earlier later round place
-    RoundGoes round (RoundOver None) = WereUnready setup earlier later round.items round.items.count × WasEarly round.deadline earlier later
-    RoundGoes round (RoundOver (Some answer)) = AnyAnswers setup earlier later round.items round.deadline answer
-
-    due_at : (deadline : Option ℕ) (clock : ℕ) → AtSomePoint earlier.notes later.notes (λ point. clock ≡ clock_of point) → IsSomeAnd deadline (λ d. d ≤ clock) → WasDue deadline earlier later
-    due_at None clock seen due = absurd due
-    due_at (Some d) clock seen due = (seen.0, seen.1, subst (λ c. d ≤ c) seen.2 due)
-
-    -- one more object was unready
-    unready_more : (items : Items) (at : ℕ) (item : Item) → WereUnready setup earlier later items at → item_at items at ≡ Some item → WasReady setup false earlier later item → WereUnready setup earlier later items (suc at)
-    unready_more items at item unready here was = λ i other low is. elim (cases_eq i at) [
-      | inl e ↦ let same : Some item ≡ Some other = sym here ∙ ap (item_at items) (sym e) ∙ is in let is_other : item ≡ other = cc in subst (WasReady setup false earlier later) is_other was
-      | inr ne ↦ unready i other (omega (arith, low, ne)) is
-    ]
-
-    from_goes : (round : Round) (clock at : ℕ) → WereThere setup earlier round.items → WereUnready setup earlier later round.items at → AtSomePoint earlier.notes later.notes (λ point. clock ≡ clock_of point) → RoundGoes round (from_place round clock at)
-    from_goes round clock at there unready seen = by (drop at (items_of round.items)) at refl unready where
-      before_end : (at : ℕ) → item_at round.items at ≡ None → WereUnready setup earlier later round.items at → WereUnready setup earlier later round.items round.items.count
-      before_end at none unready = λ i item low here. unready i item (none_behind round.items at i item none here) here
-
-      ends : (b : Bool) (at : ℕ) → is_due clock round.deadline ≡ b → item_at round.items at ≡ None → WereUnready setup earlier later round.items at → RoundGoes round (cond b (RoundOver (Some round.items.count)) (RoundOver None))
-      ends true at due none unready = (before_end at none unready, inr (refl, due_at round.deadline clock seen (due_is clock round.deadline due)))
-      ends false at due none unready = (before_end at none unready, (seen.0, seen.1, subst (λ c. is_due c round.deadline ≡ false) seen.2 due))
-
-      by : (items : List Item) (at : ℕ) → drop at (items_of round.items) ≡ items → WereUnready setup earlier later round.items at → RoundGoes round (from_items round clock at items)
-      by [] at is unready = ends (is_due clock round.deadline) at refl (nothing_at round.items at is) unready
-      by (OnNote note ∷ items) at is unready =
-          let here = (listed round.items at (OnNote note) items is).0 in
-          let made = made_begins seen.0 earlier.notes note (legal_begins later.notes seen.0 legal_later seen.1.1) seen.1.0 (note_there setup (env_after earlier.notes).notes round.items at note there here) in
-          (unready, (seen.0, seen.1, (seen.2, line_starts seen.0 note made)))
-      by (OnCounterItem counter ∷ items) at is unready = (unready, seen)
-      by (OnVariable k ∷ items) at is unready = let here = listed round.items at (OnVariable k) items is in by items (suc at) here.1 (unready_more round.items at (OnVariable k) unready here.0 tt)
-
-    round_goes : (round : Round) (next : RoundNext) (done : List ObjectEvent) → done ≡ [] → WereThere setup earlier round.items → RoundGoes round next → ObjectGoes setup earlier later seat (InRound round FirstClock) done (by_round round next)
-    round_goes round (RoundGo place) done none there goes = (refl, (none, there, goes))
-    round_goes round (RoundOver None) done none there goes = (refl, (none, there, tt))
-    round_goes round (RoundOver (Some answer)) done none there goes = (none, goes)
-
-    -- by the chain of a note
-    chain_goes : (round : Round) (at clock asked : ℕ) (next : EnvNext) (point : List EnvEvent) → WereThere setup earlier round.items → WereUnready setup earlier later round.items at → item_at round.items at ≡ Some (OnNote asked) →
-        IsBetween earlier.notes point now.notes → clock ≡ clock_of point → ChainFits point now.notes (ForIsNotified asked) next → RoundGoes round (by_chain round at clock asked next)
-    chain_goes round at clock asked (TheEnv.Go (NoteLoad chain moment above)) point there unready here between is fits = (unready, (point, between_on earlier.notes point now.notes [] between, (is, fits.2)))
-    chain_goes round at clock asked (TheEnv.Over (IsSo true)) point there unready here between is fits = (unready, inl (OnNote asked, here, point_now (λ p. is_notified p asked ≡ true) fits))
-    chain_goes round at clock asked (TheEnv.Over (IsSo false)) point there unready here between is fits =
-        let seen = between_on earlier.notes point now.notes [] between in
-        from_goes round clock (suc at) there (unready_more round.items at (OnNote asked) unready here (point, seen, fits)) (point, seen, is)
-    chain_goes round at clock asked next point there unready here between is fits = absurd fits
+  round_goes : (round : Round) (next : RoundNext) (done : List ObjectEvent) → done ≡ [] → WereThere setup earlier round.items → RoundGoes setup earlier later round next → ObjectGoes setup earlier later seat (InRound round FirstClock) done (by_round round next)
+  round_goes round (RoundGo place) done none there goes = (refl, (none, there, goes))
+  round_goes round (RoundOver None) done none there goes = (refl, (none, there, (suc goes.0, goes.1)))
+  round_goes round (RoundOver (Some answer)) done none there goes = (none, goes)
 
 -- ---- by what the step found
 
@@ -251,6 +288,50 @@ marked_value setup history seat counter value is =
 
 own_one : (seat counter : ℕ) → objects_own (OnCounter counter (TheCounter.Begun seat) ∷ []) seat ≡ OnCounter counter (TheCounter.Begun seat) ∷ []
 own_one seat counter = rw (eq-eqb seat seat refl) refl
+
+-- ---- a round's step
+
+module _ (setup : Setup) (earlier : Past) (seat : ℕ) (now : Past) (words : List ℕ) (law : IsLawful setup words now.objects) (state : EnvState) (led : IsLawfulEnv now.notes state) (more : List ObjectEvent) where
+  -- it is no event
+  pub round_makes_none : (place : RoundPlace) (found : ObjectFound) (words' : List ℕ) → ObjectEffect seat Free (round_want place) words state.plain found words' more → more ≡ []
+  round_makes_none FirstClock (Env found) words' effect = effect.2
+  round_makes_none (AtNote at clock asked note) (Env found) words' effect = effect.2
+  round_makes_none (AtCounter at clock counter) (Word word) words' effect = effect.2
+  round_makes_none FirstClock (Word word) words' effect = absurd effect
+  round_makes_none (AtNote at clock asked note) (Word word) words' effect = absurd effect
+  round_makes_none (AtCounter at clock counter) (Env found) words' effect = absurd effect
+
+  shows_now : (round : Round) (place : RoundPlace) (found : ObjectFound) (words' : List ℕ) → WalkFits setup (objects_after setup now.objects) state.plain.notes seat (InRound round place) → WereThere setup earlier round.items → RoundSoFar setup earlier now round place → ObjectEffect seat Free (round_want place) words state.plain found words' more →
+      RoundGoes setup earlier now round (round_got round place found)
+  shows_now round FirstClock (Env (Clock clock)) words' fits there so effect = from_goes setup earlier now round now clock led.lawful.meets.legal there 0 (record {
+    rounds = so.0;
+    mid = now;
+    nothing = so.1;
+    begins = later_itself now;
+    loaded = clock_found clock state.plain.clock effect.0.found_is ∙ led.lawful.meets.clock;
+    unready = later_itself now;
+    since = later_itself now;
+  })
+  shows_now round (AtNote at clock asked note) (Env (Note found)) words' fits there so effect =
+      let answers = chain_answers so.0.notes now.notes state (ForIsNotified asked) clock note found led so.1.since.notes (refl, so.1.loaded, so.2) (note_found found (state.plain.notes note) effect.0.found_is) in
+      chain_goes setup earlier now round so.0 clock led.lawful.meets.legal there at asked (env_got_of (chain_from asked clock note) (Note found)) so.1 fits.1.0 answers
+  shows_now round (AtCounter at clock counter) (Word word) words' fits there so effect = by (eqb (counter_of word).value 0) refl where
+    is_so : (b : Bool) → eqb (counter_of word).value 0 ≡ b → IsReady setup b now (OnCounterItem counter)
+    is_so b is = sym (ap (λ w. is_ready (counter_of w)) effect.0 ∙ ap is_ready (counter_is setup words now.objects law counter (counter_there setup state.plain.notes round.items at counter fits.0 fits.1))) ∙ is
+
+    by : (b : Bool) → eqb (counter_of word).value 0 ≡ b → RoundGoes setup earlier now round (cond b (RoundOver (Some at)) (from_place round clock (suc at)))
+    by true is = shows_one setup earlier now round so.0 clock at (OnCounterItem counter) fits.1 so.1 (is_so true is)
+    by false is = past_goes setup earlier now round so.0 clock led.lawful.meets.legal there at (OnCounterItem counter) fits.1 so.1 (is_so false is)
+  shows_now round FirstClock (Word word) words' fits there so effect = absurd effect
+  shows_now round FirstClock (Env found) words' fits there so effect = let no = effect.0.found_is in absurd (cc)
+  shows_now round (AtNote at clock asked note) (Word word) words' fits there so effect = absurd effect
+  shows_now round (AtNote at clock asked note) (Env found) words' fits there so effect = let no = effect.0.found_is in absurd (cc)
+  shows_now round (AtCounter at clock counter) (Env found) words' fits there so effect = absurd effect
+
+  -- What it shows is so.
+  pub round_by : (round : Round) (place : RoundPlace) (found : ObjectFound) (words' : List ℕ) → WalkFits setup (objects_after setup now.objects) state.plain.notes seat (InRound round place) → WereThere setup earlier round.items → RoundSoFar setup earlier now round place → ObjectEffect seat Free (round_want place) words state.plain found words' more →
+      RoundGoes setup earlier (past_and now (record { notes = []; objects = more })) round (round_got round place found)
+  round_by round place found words' fits there so effect = goes_on setup earlier now (record { notes = []; objects = more }) round (round_got round place found) (shows_now round place found words' fits there so effect)
 
 module _ (setup : Setup) (earlier : Past) (seat : ℕ) (now : Past) (words : List ℕ) (law : IsLawful setup words now.objects) (state : EnvState) (led : IsLawfulEnv now.notes state) (since : BeginsWith now.notes earlier.notes) (since_objects : BeginsWith now.objects earlier.objects) where
   abbrev stands : ObjectStanding
@@ -280,44 +361,6 @@ module _ (setup : Setup) (earlier : Past) (seat : ℕ) (now : Past) (words : Lis
     stage_goes once TheStage.Unused done none is = (refl, none)
     stage_goes once TheStage.Running done none is = (refl, none)
     stage_goes once TheStage.Done done none is = (none, moment_now (λ standing. is_done (standing.onces once) ≡ true) (done_is (stands.onces once) is))
-
-    -- a round's step is no event
-    pub round_makes_none : (place : RoundPlace) (found : ObjectFound) (words' : List ℕ) → ObjectEffect seat Free (round_want place) words state.plain found words' more → more ≡ []
-    round_makes_none FirstClock (Env found) words' effect = effect.2
-    round_makes_none (AtNote at clock asked note) (Env found) words' effect = effect.2
-    round_makes_none (AtCounter at clock counter) (Word word) words' effect = effect.2
-    round_makes_none FirstClock (Word word) words' effect = absurd effect
-    round_makes_none (AtNote at clock asked note) (Word word) words' effect = absurd effect
-    round_makes_none (AtCounter at clock counter) (Env found) words' effect = absurd effect
-
-    -- What a round's step shows is so.
-    pub round_by : (round : Round) (place : RoundPlace) (found : ObjectFound) (words' : List ℕ) → WalkFits setup stands state.plain.notes seat (InRound round place) → ObjectSoFar setup earlier now seat events (InRound round place) → ObjectEffect seat Free (round_want place) words state.plain found words' more →
-        RoundGoes setup earlier seat now more since led.lawful.meets.legal round (round_got round place found)
-    round_by round FirstClock (Env (Clock clock)) words' fits so effect =
-        from_goes setup earlier seat now more since led.lawful.meets.legal round clock 0 so.1 (λ i item low here. absurd (omega (arith, low))) (point_now setup earlier seat now more since led.lawful.meets.legal (λ point. clock ≡ clock_of point) (clock_found clock state.plain.clock effect.0.found_is ∙ led.lawful.meets.clock))
-    round_by round (AtNote at clock asked note) (Env (Note found)) words' fits so effect =
-        let point = so.2.1 in
-        let answers = chain_answers point.0 now.notes state (ForIsNotified asked) clock note found led point.1.1 (refl, point.2.0, point.2.1) (note_found found (state.plain.notes note) effect.0.found_is) in
-        chain_goes setup earlier seat now more since led.lawful.meets.legal round at clock asked (env_got_of (chain_from asked clock note) (Note found)) point.0 so.1
-        (λ i item low here. ready_on setup earlier seat now (record { notes = []; objects = more }) false item (so.2.0 i item low here)) fits.1.0 point.1 point.2.0 answers
-    round_by round (AtCounter at clock counter) (Word word) words' fits so effect = by (eqb (counter_of word).value 0) refl where
-      ready : (b : Bool) → eqb (counter_of word).value 0 ≡ b → AtSomeMoment setup earlier.objects so_far.objects (λ standing. is_ready (standing.counters counter) ≡ b)
-      ready b is = moment_now (λ standing. is_ready (standing.counters counter) ≡ b) (sym (ap (λ w. is_ready (counter_of w)) effect.0 ∙ ap is_ready (counter_is setup words now.objects law counter (counter_there setup state.plain.notes round.items at counter fits.0 fits.1))) ∙ is)
-
-      clock_seen : AtSomePoint earlier.notes so_far.notes (λ point. clock ≡ clock_of point)
-      clock_seen = (so.2.1.0, between_on earlier.notes so.2.1.0 now.notes [] so.2.1.1, so.2.1.2)
-
-      unready : WereUnready setup earlier so_far round.items at
-      unready = λ i item low here. ready_on setup earlier seat now (record { notes = []; objects = more }) false item (so.2.0 i item low here)
-
-      by : (b : Bool) → eqb (counter_of word).value 0 ≡ b → RoundGoes setup earlier seat now more since led.lawful.meets.legal round (cond b (RoundOver (Some at)) (from_place round clock (suc at)))
-      by true is = (unready, inl (OnCounterItem counter, fits.1, ready true is))
-      by false is = from_goes setup earlier seat now more since led.lawful.meets.legal round clock (suc at) so.1 (unready_more setup earlier seat now more since led.lawful.meets.legal round.items at (OnCounterItem counter) unready fits.1 (ready false is)) clock_seen
-    round_by round FirstClock (Word word) words' fits so effect = absurd effect
-    round_by round FirstClock (Env found) words' fits so effect = let no = effect.0.found_is in absurd (cc)
-    round_by round (AtNote at clock asked note) (Word word) words' fits so effect = absurd effect
-    round_by round (AtNote at clock asked note) (Env found) words' fits so effect = let no = effect.0.found_is in absurd (cc)
-    round_by round (AtCounter at clock counter) (Env found) words' fits so effect = absurd effect
 
     -- A step on a word takes the call on.
     pub word_takes_on : (walk : ObjectWalk) (word : ℕ) (words' : List ℕ) → WalkFits setup stands state.plain.notes seat walk → ObjectSoFar setup earlier now seat events walk → ObjectEffect seat (object_place (Some walk)) (object_want walk) words state.plain (Word word) words' more →
@@ -360,7 +403,7 @@ module _ (setup : Setup) (earlier : Past) (seat : ℕ) (now : Past) (words : Lis
     word_takes_on (DoneLoad once) word words' fits so effect =
         (joined events more [] so effect.2, moment_now (λ standing. is_done (standing.onces once) ≡ has_run (stage_of word)) (sym (ap (λ w. has_run (stage_of w)) effect.0 ∙ ap has_run (stage_is setup words now.objects law once fits) ∙ has_run_is (stands.onces once))))
     word_takes_on (InRound round place) word words' fits so effect =
-        round_goes setup earlier seat now more since led.lawful.meets.legal round (round_got round place (Word word)) (events ++ more) (joined events more [] so.0 (round_makes_none place (Word word) words' effect)) so.1 (round_by round place (Word word) words' fits so effect)
+        round_goes setup earlier seat now more round (round_got round place (Word word)) (events ++ more) (joined events more [] so.0 (round_makes_none setup earlier seat now words law state led more place (Word word) words' effect)) so.1 (round_by setup earlier seat now words law state led more round place (Word word) words' fits so.1 so.2 effect)
 
     -- And so does a load of the clock or of a note.
     pub env_takes_on : (walk : ObjectWalk) (found : EnvFound) (words' : List ℕ) → WalkFits setup stands state.plain.notes seat walk → ObjectSoFar setup earlier now seat events walk → ObjectEffect seat (object_place (Some walk)) (object_want walk) words state.plain (Env found) words' more →
@@ -377,9 +420,9 @@ module _ (setup : Setup) (earlier : Past) (seat : ℕ) (now : Past) (words : Lis
 
       by : (b : Bool) → nat_lt clock moment ≡ b → ObjectGoes setup earlier so_far seat (WaitMark counter (Some moment)) (events ++ more) (cond b (Repeat (WaitLoad counter (Some moment))) (Over (Number value)))
       by true early = (refl, done)
-      by false due = (done, had_on setup earlier seat now (record { notes = []; objects = more }) counter value so.1, λ ne. point_now setup earlier seat now more since led.lawful.meets.legal (λ point. moment ≤ clock_of point) (subst (λ c. moment ≤ c) clock_is (ltb-false clock moment due)))
+      by false due = (done, had_on setup earlier seat now (record { notes = []; objects = more }) counter value so.1, λ ne. point_now setup earlier seat now more (λ point. moment ≤ clock_of point) since (subst (λ c. moment ≤ c) clock_is (ltb-false clock moment due)))
     env_takes_on (InRound round place) found words' fits so effect =
-        round_goes setup earlier seat now more since led.lawful.meets.legal round (round_got round place (Env found)) (events ++ more) (joined events more [] so.0 (round_makes_none place (Env found) words' effect)) so.1 (round_by round place (Env found) words' fits so effect)
+        round_goes setup earlier seat now more round (round_got round place (Env found)) (events ++ more) (joined events more [] so.0 (round_makes_none setup earlier seat now words law state led more place (Env found) words' effect)) so.1 (round_by setup earlier seat now words law state led more round place (Env found) words' fits so.1 so.2 effect)
     env_takes_on (AddLoad counter delta) found words' fits so effect = absurd effect
     env_takes_on (AddExchange counter delta seen value) found words' fits so effect = absurd effect
     env_takes_on (ValueLoad counter) found words' fits so effect = absurd effect

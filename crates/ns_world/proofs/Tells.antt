@@ -241,6 +241,7 @@ module _ {C : Type 0} {N : ℕ} (truths : Truths C) (some : 0 < N) (quiet : Quie
             idle = over;
             unasked = ask_at ∙ ap Some unasked;
             cvs = p.0;
+            low = p.2.1;
             among = p.1;
             begins = ap (λ (s : Seat C N). now_with truths word row queues flags env (slice_set seats i s) history) p.3 ∙ begun_here truths word row queues flags env seats history i d within start;
             becomes = p.4;

@@ -9,13 +9,16 @@ use Rattle.ns_world.specs.declared.object_walk.ObjectWalk.TheVariants.{InRound}
 use Rattle.ns_world.specs.declared.objects.AnyWait.{AnyWait}
 use Rattle.ns_world.specs.Among.{round_due, shown_by, waited_after, at_will, cause_of, is_for_lock, place_told, reply_told, step_told, waits_for_any}
 use Rattle.ns_model.proofs.Beginnings.{begins_itself}
+use Rattle.ns_model.proofs.Environments.{made_begins}
 use Rattle.ns_model.specs.Beginnings.{BeginsWith}
 use Rattle.ns_model.specs.Environments.{env_after}
 use Rattle.ns_model.specs.declared.environment.EnvEvent.{EnvEvent}
 use Rattle.ns_counters.specs.declared.object.ObjectEvent.{ObjectEvent}
 use Rattle.ns_counters.specs.Lawful.{IsLawful}
 use Rattle.ns_counters.specs.Objects.{objects_after, objects_own}
+use Rattle.ns_counters.specs.Rounds.{HaveShownNothing, IsLater, Past, RoundShows}
 use Rattle.ns_counters.proofs.Objects.{own-append, own_all, own_none}
+use Rattle.ns_counters.proofs.Rounds.{last_nothing, later_itself, later_through}
 use Rattle.ns_world.specs.declared.call.Asked.{Asked}
 use Rattle.ns_world.specs.declared.call.Asked.TheVariants.{OfLock, OfNotes, OfObjects}
 use Rattle.ns_world.specs.declared.call.Call.{Call}
@@ -32,12 +35,12 @@ use Rattle.ns_world.specs.declared.step.Step.TheVariants.{Went, Idle, Finished, 
 use Rattle.ns_world.specs.Asks.{env_state}
 use Rattle.ns_world.specs.Calls.{CallFits, object_start, mode_of, mode_waited}
 use Rattle.ns_world.specs.Meanings.{AnswersCall, AnswersTo, Happens, HasLedTo, IsUnfinished, Meanwhile, asks_of, done_by, done_in, happened, held_at, held_in, nothing_done, AnswersOfLock, PlaceBy}
-use Rattle.ns_world.specs.ObjectMeanings.{Past, past_and, object_asked, ObjectGoes, ObjectSoFar, AnyAnswers, RoundSoFar, WasEarly, WereThere, WereUnready}
+use Rattle.ns_world.specs.ObjectMeanings.{past_and, object_asked, ObjectGoes, ObjectSoFar, AnyAnswers, IsReady, RoundSoFar, WereThere}
 use Rattle.ns_world.specs.Objects.{AreThere, HasOperated, WalkFits, object_step_of, objects_begun, stood_at, walk_in, wait_in}
 use Rattle.ns_world.specs.ObjectWalks.{object_after, object_got, by_round}
 use Rattle.ns_world.specs.Whole.{Whole, AreObjectsBy, BeginsToWait, EndsLook, HaveLedTo, IsLawfulWhole, LockSteps, Operates, WaitSteps, WholeBegins, WholeMoves, WholeStarts, WholeStep, notes_done, objects_done, LooksWhere}
 use Rattle.ns_world.specs.World.{Now, IsIdle, env_done, Acts}
-use Rattle.ns_world.proofs.ObjectCourses.{operates_on, so_far_on, RoundGoes, any_on, early_on, round_by, round_makes_none, round_on, unready_on}
+use Rattle.ns_world.proofs.ObjectCourses.{operates_on, so_far_on, RoundGoes, any_on, later_and, nothing_on, round_by, round_makes_none, round_on}
 use Rattle.ns_world.proofs.Underway.{IsOfLock, IsUnderway, Outcome, Underway, Untouched, begin_away, begins_on, begins_underway, moves_away, moves_on, no_more as no_more_notes, not_idle, rests, stays_underway, HasLooked, LockUnderway, acts_on, acts_show_not, goes_to_lock, looks_any, rests_look}
 use Rattle.ns_world.proofs.Walks.{put_here, put_there, stands_within, wait_there}
 use Rattle.ns_world.proofs.WholeLed.{lock_led, operated_led, begins_to_wait_led, ends_look_led, wait_steps_led, starts_led}
@@ -74,7 +77,7 @@ use Rattle.ns_world.specs.Performs.{step_of}
 use Rattle.ns_world.specs.Replies.{told as reply_of_lock}
 use Rattle.ns_world.specs.Rounds.{round_got}
 use Rattle.ns_world.proofs.Awaits.{becomes_over, leads, low_if, low_over, many_over, others_over, same_walk, setup_same, stands_here, there_as, waits_here}
-use Rattle.ns_world.proofs.Wholes.{begun_waits_not}
+use Rattle.ns_world.proofs.Wholes.{begun_waits_not, there_more}
 
 -- ---- a call that is under way
 
@@ -143,27 +146,29 @@ module _ (C : Type 0) (N : ℕ) (before : Whole C N) (earlier : Past) (seat : �
     waits_not : wait_in world.objects.waits seat ≡ None
     untouched : objects_own past.objects seat ≡ objects_own earlier.objects seat
 
-  -- a round has come so far, by which a wait looks
-  abbrev RoundOn : Round → Past → Option ObjectWalk → Type 0
-  RoundOn round past None = Unit {0}
-  RoundOn round past (Some (InRound by place)) = (by ≡ round) × RoundSoFar before.objects.setup earlier past round place
-  RoundOn round past (Some walk) = ⊥
+  -- a round has come so far since this point, by which a wait looks
+  abbrev RoundOn : Round → Past → Past → Option ObjectWalk → Type 0
+  RoundOn round mid past None = Unit {0}
+  RoundOn round mid past (Some (InRound by place)) = (by ≡ round) × RoundSoFar before.objects.setup mid past round place
+  RoundOn round mid past (Some walk) = ⊥
 
-  -- what a round has shown is so
-  abbrev ShownOn : Round → Past → Option ℕ → Type 0
-  ShownOn round past None = Unit {0}
-  ShownOn round past (Some place) = AnyAnswers before.objects.setup earlier past round.items round.deadline place
+  -- what rounds have shown since this point is so
+  abbrev ShownOn : Round → Past → Past → Option ℕ → Type 0
+  ShownOn round mid past None = (rounds : ℕ) × HaveShownNothing (IsReady before.objects.setup) (items_of round.items) round.deadline rounds mid past
+  ShownOn round mid past (Some place) = AnyAnswers before.objects.setup mid past round.items round.deadline place
 
   -- a wait on the lock has come so far on the objects, at which it looks
   record Awaiting (w : Waiting) (past : Past) (world : Whole C N) : Type 0 where
     waits : wait_in world.objects.waits seat ≡ Some (record { round = w.round; shown = w.shown })
     some : (k : ℕ) × (is_among k (items_of w.round.items) ≡ true)
+    low : w.cvs.0 < 16
     among : AreAmong w.cvs (items_of w.round.items)
-    were_there : WereThere before.objects.setup earlier w.round.items
-    unready : WereUnready before.objects.setup earlier past w.round.items w.round.items.count
-    early : WasEarly w.round.deadline earlier past
-    shown : ShownOn w.round past w.shown
-    round : RoundOn w.round past (walk_in world.objects.walks seat)
+    mid : Past
+    first : RoundShows (IsReady before.objects.setup) (items_of w.round.items) w.round.deadline earlier mid None
+    until : IsLater mid past
+    were_there : WereThere before.objects.setup mid w.round.items
+    shown : ShownOn w.round mid past w.shown
+    round : RoundOn w.round mid past (walk_in world.objects.walks seat)
     untouched : objects_own past.objects seat ≡ objects_own earlier.objects seat
 
   abbrev OnObjects : Phase → Past → Whole C N → Type 0
@@ -182,14 +187,17 @@ module _ (C : Type 0) (N : ℕ) (before : Whole C N) (earlier : Past) (seat : �
 
   -- ---- what others do
 
-  round_rests : (round : Round) (past more : Past) (walk : Option ObjectWalk) → RoundOn round past walk → RoundOn round (past_and past more) walk
-  round_rests round past more None on = tt
-  round_rests round past more (Some (InRound by place)) on = (on.0, round_on before.objects.setup earlier seat past more round place on.1)
-  round_rests round past more (Some walk) on = absurd on
+  round_rests : (round : Round) (mid past more : Past) (walk : Option ObjectWalk) → RoundOn round mid past walk → RoundOn round mid (past_and past more) walk
+  round_rests round mid past more None on = tt
+  round_rests round mid past more (Some (InRound by place)) on = (on.0, round_on before.objects.setup mid past more round place on.1)
+  round_rests round mid past more (Some walk) on = absurd on
 
-  shown_rests : (round : Round) (past more : Past) (shown : Option ℕ) → ShownOn round past shown → ShownOn round (past_and past more) shown
-  shown_rests round past more None on = tt
-  shown_rests round past more (Some place) on = any_on before.objects.setup earlier seat past more round.items round.deadline place on
+  shown_rests : (round : Round) (mid past more : Past) (shown : Option ℕ) → ShownOn round mid past shown → ShownOn round mid (past_and past more) shown
+  shown_rests round mid past more None on = (on.0, nothing_on before.objects.setup mid past more round on.0 on.1)
+  shown_rests round mid past more (Some place) on = any_on before.objects.setup mid past more round.items round.deadline place on
+
+  until_rests : (mid past more : Past) → IsLater mid past → IsLater mid (past_and past more)
+  until_rests mid past more until = later_through mid past (past_and past more) until (later_and past more)
 
   -- nothing of the seat has changed of counters and once cells
   objects_rest : (phase : Phase) (past more : Past) (old new : Whole C N) → walk_in new.objects.walks seat ≡ walk_in old.objects.walks seat → wait_in new.objects.waits seat ≡ wait_in old.objects.waits seat → objects_own (past.objects ++ more.objects) seat ≡ objects_own past.objects seat → OnObjects phase past old →
@@ -208,12 +216,14 @@ module _ (C : Type 0) (N : ℕ) (before : Whole C N) (earlier : Past) (seat : �
   objects_rest (inr w) past more old new same waits own_same u = record {
     waits = waits ∙ u.waits;
     some = u.some;
+    low = u.low;
     among = u.among;
+    mid = u.mid;
+    first = u.first;
+    until = until_rests u.mid past more u.until;
     were_there = u.were_there;
-    unready = unready_on before.objects.setup earlier seat past more w.round.items w.round.items.count u.unready;
-    early = early_on before.objects.setup earlier seat past more w.round.deadline u.early;
-    shown = shown_rests w.round past more w.shown u.shown;
-    round = subst (RoundOn w.round (past_and past more)) (sym same) (round_rests w.round past more (walk_in old.objects.walks seat) u.round);
+    shown = shown_rests w.round u.mid past more w.shown u.shown;
+    round = subst (RoundOn w.round u.mid (past_and past more)) (sym same) (round_rests w.round u.mid past more (walk_in old.objects.walks seat) u.round);
     untouched = own_same ∙ u.untouched;
   }
 
@@ -441,16 +451,16 @@ module _ (C : Type 0) (N : ℕ) (before : Whole C N) (earlier : Past) (seat : �
 
   -- ---- a round of a call that waits on the lock, or goes on to
 
-  -- what a round's step shows is so
-  module _ (phase : Phase) (past : Past) (old : Whole C N) (u : UnderwayIn phase past old) (events : List ObjectEvent) (added : objects_own past.objects seat ≡ objects_own earlier.objects seat ++ events) (round : Round) (place : RoundPlace) (stands : walk_in old.objects.walks seat ≡ Some (InRound round place)) where
-    round_shows : (then : Objects) (told : Step) (q : HasOperated old.lock.env seat (InRound round place) old.objects then told) → ObjectSoFar before.objects.setup earlier past seat events (InRound round place) →
-        RoundGoes before.objects.setup earlier seat past q.events u.lock.since u.lock.led.lawful.meets.legal round (round_got round place q.found) × (q.events ≡ [])
-    round_shows then told q so_far =
+  -- what a round's step shows is so, of rounds since this point
+  module _ (phase : Phase) (past : Past) (old : Whole C N) (u : UnderwayIn phase past old) (from : Past) (round : Round) (place : RoundPlace) (stands : walk_in old.objects.walks seat ≡ Some (InRound round place)) where
+    round_shows : (then : Objects) (told : Step) (q : HasOperated old.lock.env seat (InRound round place) old.objects then told) → WereThere before.objects.setup from round.items → RoundSoFar before.objects.setup from past round place →
+        RoundGoes before.objects.setup from (past_and past (record { notes = []; objects = q.events })) round (round_got round place q.found) × (q.events ≡ [])
+    round_shows then told q there so_far =
         let state = env_state old.lock.env old.lock.asking in
         let law = subst (λ s. IsLawful s old.objects.words past.objects) u.setup u.led.lawful in
         let fits = subst (λ s. WalkFits s (objects_after s past.objects) old.lock.env.notes seat (InRound round place)) u.setup (u.led.each seat (InRound round place) stands) in (
-          round_by before.objects.setup earlier seat past old.objects.words law state u.lock.led u.lock.since u.since events added q.events round place q.found q.words fits so_far q.effect,
-          round_makes_none before.objects.setup earlier seat past old.objects.words law state u.lock.led u.lock.since u.since events added q.events place q.found q.words q.effect,
+          round_by before.objects.setup from seat past old.objects.words law state u.lock.led q.events round place q.found q.words fits there so_far q.effect,
+          round_makes_none before.objects.setup from seat past old.objects.words law state u.lock.led q.events place q.found q.words q.effect,
         )
 
   -- Where a round has found nothing the call goes on to wait.
@@ -462,7 +472,7 @@ module _ (C : Type 0) (N : ℕ) (before : Whole C N) (earlier : Past) (seat : �
       let stands : Some o.walk ≡ Some (InRound p.round p.place) = sym o.walks ∙ p.walks in
       let walk_is : o.walk ≡ InRound p.round p.place = cc in
       let so_far : ObjectSoFar before.objects.setup earlier past seat o.events (InRound p.round p.place) = subst (λ w. ObjectSoFar before.objects.setup earlier past seat o.events w) walk_is o.so_far in
-      let shows = round_shows (inl (OfObjects asked)) past old u o.events o.added p.round p.place p.walks p.then Idle q so_far in
+      let shows = round_shows (inl (OfObjects asked)) past old u earlier p.round p.place p.walks p.then Idle q so_far.1 so_far.2 in
       let asked_is : InRound p.round FirstClock ≡ asked = ap object_asked (sym walk_is) ∙ o.is_asked in
       let untouched : objects_own (past.objects ++ q.events) seat ≡ objects_own earlier.objects seat = ap (λ es. objects_own (past.objects ++ es) seat) shows.1 ∙ no_own past.objects ∙ o.added ∙ ap (λ es. objects_own earlier.objects seat ++ es) so_far.0 ∙ append-nil (objects_own earlier.objects seat) in (
         led.1,
@@ -489,7 +499,13 @@ module _ (C : Type 0) (N : ℕ) (before : Whole C N) (earlier : Past) (seat : �
             let goes = goes_to_lock C N before.lock earlier.notes seat (wait_for p.cvs) past.notes old.lock new.lock p.view (wait_first N waits) asks (wait_is_first N waits) p.at p.unasked p.begins e in
             record { since = begins_on earlier.notes past.notes [] u.lock.since; led = led.0; underway = goes.0; looks = subst (AsShown None) (sym goes.1) tt }
 
-        by : (next : RoundNext) → Idle ≡ object_step_of (by_round p.round next) → RoundGoes before.objects.setup earlier seat past p.operated.events u.lock.since u.lock.led.lawful.meets.legal p.round next → WereThere before.objects.setup earlier p.round.items → objects_own (past.objects ++ p.operated.events) seat ≡ objects_own earlier.objects seat → HasLedTo now new → UnderwayIn (inr w) now new
+        -- what was there as the call began is there still
+        there_now : WereThere before.objects.setup earlier p.round.items → HasLedTo now new → WereThere before.objects.setup now p.round.items
+        there_now there led =
+            let since = begins_on earlier.notes past.notes [] u.lock.since in
+            there_more before.objects.setup (env_after earlier.notes).notes (env_after now.notes).notes (λ note made. made_begins now.notes earlier.notes note led.0.lawful.meets.legal since made) p.round.items there
+
+        by : (next : RoundNext) → Idle ≡ object_step_of (by_round p.round next) → RoundGoes before.objects.setup earlier now p.round next → WereThere before.objects.setup earlier p.round.items → objects_own (past.objects ++ p.operated.events) seat ≡ objects_own earlier.objects seat → HasLedTo now new → UnderwayIn (inr w) now new
         by (RoundGo place) answers goes there untouched led = absurd (cc)
         by (RoundOver (Some at)) answers goes there untouched led = absurd (cc)
         by (RoundOver None) answers goes there untouched led =
@@ -505,12 +521,14 @@ module _ (C : Type 0) (N : ℕ) (before : Whole C N) (earlier : Past) (seat : �
               objects = record {
                 waits = waits_here old new seat lawful low p.operated.words _ None wait many others over;
                 some = some_among (items_of p.round.items) p.named;
+                low = p.low;
                 among = p.among;
-                were_there = there;
-                unready = goes.0;
-                early = goes.1;
-                shown = tt;
-                round = subst (RoundOn p.round now) (sym (stands_here old new seat lawful low p.operated.words _ None wait many others over)) tt;
+                mid = now;
+                first = last_nothing (IsReady before.objects.setup) (items_of p.round.items) p.round.deadline goes.0 earlier now goes.1;
+                until = later_itself now;
+                were_there = there_now there led;
+                shown = (0, later_itself now);
+                round = subst (RoundOn p.round now now) (sym (stands_here old new seat lawful low p.operated.words _ None wait many others over)) tt;
                 untouched = untouched;
               };
             }
@@ -521,9 +539,6 @@ module _ (C : Type 0) (N : ℕ) (before : Whole C N) (earlier : Past) (seat : �
     abbrev waiting : AnyWait
     waiting = record { round = w.round; shown = w.shown }
 
-    none_added : objects_own past.objects seat ≡ objects_own earlier.objects seat ++ []
-    none_added = u.objects.untouched ∙ sym (append-nil (objects_own earlier.objects seat))
-
     none_done : (more : List ObjectEvent) → more ≡ [] → objects_own (past.objects ++ more) seat ≡ objects_own earlier.objects seat
     none_done more is = ap (λ es. objects_own (past.objects ++ es) seat) is ∙ no_own past.objects ∙ u.objects.untouched
 
@@ -533,7 +548,7 @@ module _ (C : Type 0) (N : ℕ) (before : Whole C N) (earlier : Past) (seat : �
       abbrev round_now : Past
       round_now = past_and past (record { notes = []; objects = events })
 
-      round_leads : (next : RoundNext) → step ≡ object_step_of (by_round by next) → new.objects.walks ≡ slice_set old.objects.walks seat (object_after (by_round by next)) → RoundGoes before.objects.setup earlier seat past events u.lock.since u.lock.led.lawful.meets.legal by next →
+      round_leads : (next : RoundNext) → step ≡ object_step_of (by_round by next) → new.objects.walks ≡ slice_set old.objects.walks seat (object_after (by_round by next)) → RoundGoes before.objects.setup u.objects.mid round_now by next →
           OutcomeIn (OfObjects (InRound w.round FirstClock)) step round_now new
       round_leads (RoundOver None) answers walks goes = let no : true ≡ false = ap (is_for_lock (Some waiting) at) (sym answers) ∙ not in absurd (cc)
       round_leads (RoundOver (Some place)) answers walks goes = let no : true ≡ false = ap (is_for_lock (Some waiting) at) (sym answers) ∙ not in absurd (cc)
@@ -551,30 +566,35 @@ module _ (C : Type 0) (N : ℕ) (before : Whole C N) (earlier : Past) (seat : �
               objects = record {
                 waits = ap (λ ws. wait_in ws seat) waits ∙ u.objects.waits;
                 some = u.objects.some;
+                low = u.objects.low;
                 among = u.objects.among;
+                mid = u.objects.mid;
+                first = u.objects.first;
+                until = until_rests u.objects.mid past more u.objects.until;
                 were_there = u.objects.were_there;
-                unready = unready_on before.objects.setup earlier seat past more w.round.items w.round.items.count u.objects.unready;
-                early = early_on before.objects.setup earlier seat past more w.round.deadline u.objects.early;
-                shown = shown_rests w.round past more w.shown u.objects.shown;
-                round = subst (RoundOn w.round round_now) (sym here) (is, subst (λ (r : Round). RoundSoFar before.objects.setup earlier round_now r place) is goes);
+                shown = shown_rests w.round u.objects.mid past more w.shown u.objects.shown;
+                round = subst (RoundOn w.round u.objects.mid round_now) (sym here) (is, subst (λ (r : Round). RoundSoFar before.objects.setup u.objects.mid round_now r place) is goes);
                 untouched = none_done events none;
               };
             },
           )
 
     -- what a round's step shows is so, by which the wait looks
-    looks_by : (by : Round) (place : RoundPlace) → RoundOn w.round past (Some (InRound by place)) → ObjectSoFar before.objects.setup earlier past seat [] (InRound by place)
-    looks_by by place on = (refl, subst (λ (r : Round). WereThere before.objects.setup earlier r.items) (sym on.0) u.objects.were_there, subst (λ (r : Round). RoundSoFar before.objects.setup earlier past r place) (sym on.0) on.1)
+    looks_there : (by : Round) (place : RoundPlace) → RoundOn w.round u.objects.mid past (Some (InRound by place)) → WereThere before.objects.setup u.objects.mid by.items
+    looks_there by place on = subst (λ (r : Round). WereThere before.objects.setup u.objects.mid r.items) (sym on.0) u.objects.were_there
+
+    looks_by : (by : Round) (place : RoundPlace) → RoundOn w.round u.objects.mid past (Some (InRound by place)) → RoundSoFar before.objects.setup u.objects.mid past by place
+    looks_by by place on = subst (λ (r : Round). RoundSoFar before.objects.setup u.objects.mid past r place) (sym on.0) on.1
 
     round_goes_on : (step : Step) (p : Operates old new seat step) → LedToOutcome (OfObjects (InRound w.round FirstClock)) step (past_and past (record { notes = []; objects = p.operated.events })) new
     round_goes_on step p =
         let led = operated_led past old new seat step lawful (u.lock.led, u.led) p in
         let not : is_for_lock (Some waiting) p.walk step ≡ false = ap (λ x. is_for_lock x p.walk step) (sym u.objects.waits) ∙ p.not_for_lock in
-        (led.1, by p.walk (subst (RoundOn w.round past) p.walks u.objects.round) p.walks p.operated not led.1) where
-          by : (walk : ObjectWalk) → RoundOn w.round past (Some walk) → walk_in old.objects.walks seat ≡ Some walk → (q : HasOperated old.lock.env seat walk old.objects new.objects step) → is_for_lock (Some waiting) walk step ≡ false → HasLedTo (past_and past (record { notes = []; objects = q.events })) new →
+        (led.1, by p.walk (subst (RoundOn w.round u.objects.mid past) p.walks u.objects.round) p.walks p.operated not led.1) where
+          by : (walk : ObjectWalk) → RoundOn w.round u.objects.mid past (Some walk) → walk_in old.objects.walks seat ≡ Some walk → (q : HasOperated old.lock.env seat walk old.objects new.objects step) → is_for_lock (Some waiting) walk step ≡ false → HasLedTo (past_and past (record { notes = []; objects = q.events })) new →
               OutcomeIn (OfObjects (InRound w.round FirstClock)) step (past_and past (record { notes = []; objects = q.events })) new
           by (InRound round place) on stands q not led =
-              let shows = round_shows (inr w) past old u [] none_added round place stands new.objects step q (looks_by round place on) in
+              let shows = round_shows (inr w) past old u u.objects.mid round place stands new.objects step q (looks_there round place on) (looks_by round place on) in
               round_leads round on.0 step q.events shows.1 p.same (ap (λ (o : Objects). o.setup) q.becomes) (ap (λ (o : Objects). o.waits) q.becomes) (InRound round place) stands not led (round_got round place q.found) q.answers (ap (λ (o : Objects). o.walks) q.becomes) shows.0
           by walk on stands q not led = absurd on
 
@@ -617,7 +637,7 @@ module _ (C : Type 0) (N : ℕ) (before : Whole C N) (earlier : Past) (seat : �
         let at = leads old new seat lawful step p in
         let unfinished : IsUnfinished step = subst IsUnfinished (sym (p.acts.goes.answers ∙ ap (λ (f : Found). step_of (got_of N p.acts.goes.makes.walk f)) p.looked)) at.unfinished in
         let looked : looked_after p.acts.goes.found u.lock.underway.course.looked ≡ Some (cause_of (shown_by p.told)) = ap (λ (f : Found). looked_after f u.lock.underway.course.looked) p.looked in
-        let shows = by p.walk (subst (RoundOn w.round past) p.walks u.objects.round) p.walks p.then p.told p.operated in
+        let shows = by p.walk (subst (RoundOn w.round u.objects.mid past) p.walks u.objects.round) p.walks p.then p.told p.operated in
         let wait : Option AnyWait = Some (record { round = p.wait.round; shown = shown_by p.told }) in
         let over = becomes_over old new seat lawful p.walk p.walks p.then p.told p.operated wait p.becomes in
         let many = many_over old new seat lawful p.walk p.walks p.then p.told p.operated wait p.becomes in
@@ -629,38 +649,56 @@ module _ (C : Type 0) (N : ℕ) (before : Whole C N) (earlier : Past) (seat : �
               (record {
                 waits = waits_here old new seat lawful low p.operated.words _ None wait many others over ∙ ap (λ (x : AnyWait). Some (record { round = x.round; shown = shown_by p.told })) (same_wait p.wait p.waits);
                 some = u.objects.some;
+                low = u.objects.low;
                 among = u.objects.among;
+                mid = u.objects.mid;
+                first = u.objects.first;
+                until = until_rests u.objects.mid past more u.objects.until;
                 were_there = u.objects.were_there;
-                unready = unready_on before.objects.setup earlier seat past more w.round.items w.round.items.count u.objects.unready;
-                early = early_on before.objects.setup earlier seat past more w.round.deadline u.objects.early;
                 shown = shows.0;
-                round = subst (RoundOn w.round (past_and past more)) (sym (stands_here old new seat lawful low p.operated.words _ None wait many others over)) tt;
+                round = subst (RoundOn w.round u.objects.mid (past_and past more)) (sym (stands_here old new seat lawful low p.operated.words _ None wait many others over)) tt;
                 untouched = none_done p.operated.events shows.1;
               })
               step unfinished o.0 o.1,
         ) where
-          shown : (by : Round) → by ≡ w.round → (told : Step) (events : List ObjectEvent) (next : RoundNext) → told ≡ object_step_of (by_round by next) → RoundGoes before.objects.setup earlier seat past events u.lock.since u.lock.led.lawful.meets.legal by next → ShownOn w.round (past_and past (record { notes = []; objects = events })) (shown_by told)
-          shown by is told events (RoundGo place) answers goes = subst (λ s. ShownOn w.round (past_and past (record { notes = []; objects = events })) (shown_by s)) (sym answers) tt
-          shown by is told events (RoundOver None) answers goes = subst (λ s. ShownOn w.round (past_and past (record { notes = []; objects = events })) (shown_by s)) (sym answers) tt
-          shown by is told events (RoundOver (Some place)) answers goes =
-              subst (λ s. ShownOn w.round (past_and past (record { notes = []; objects = events })) (shown_by s)) (sym answers) (subst (λ (r : Round). AnyAnswers before.objects.setup earlier (past_and past (record { notes = []; objects = events })) r.items r.deadline place) is goes)
+          shown : (by : Round) → by ≡ w.round → (told : Step) (events : List ObjectEvent) (next : RoundNext) → told ≡ object_step_of (by_round by next) → RoundGoes before.objects.setup u.objects.mid (past_and past (record { notes = []; objects = events })) by next →
+              ShownOn w.round u.objects.mid (past_and past (record { notes = []; objects = events })) (shown_by told)
+          shown by is told events next answers goes = subst (λ s. ShownOn w.round u.objects.mid on (shown_by s)) (sym answers) (subst (λ (r : Round). ShownOn r u.objects.mid on (shown_by (object_step_of (by_round by next)))) is (so next goes)) where
+            on : Past
+            on = past_and past (record { notes = []; objects = events })
 
-          by : (walk : ObjectWalk) → RoundOn w.round past (Some walk) → walk_in old.objects.walks seat ≡ Some walk → (then : Objects) (told : Step) (q : HasOperated old.lock.env seat walk old.objects then told) → ShownOn w.round (past_and past (record { notes = []; objects = q.events })) (shown_by told) × (q.events ≡ [])
+            so : (next : RoundNext) → RoundGoes before.objects.setup u.objects.mid on by next → ShownOn by u.objects.mid on (shown_by (object_step_of (by_round by next)))
+            so (RoundGo place) goes = (0, until_rests u.objects.mid past (record { notes = []; objects = events }) u.objects.until)
+            so (RoundOver None) goes = (suc goes.0, goes.1)
+            so (RoundOver (Some place)) goes = goes
+
+          by : (walk : ObjectWalk) → RoundOn w.round u.objects.mid past (Some walk) → walk_in old.objects.walks seat ≡ Some walk → (then : Objects) (told : Step) (q : HasOperated old.lock.env seat walk old.objects then told) → ShownOn w.round u.objects.mid (past_and past (record { notes = []; objects = q.events })) (shown_by told) × (q.events ≡ [])
           by (InRound round place) on stands then told q =
-              let shows = round_shows (inr w) past old u [] none_added round place stands then told q (looks_by round place on) in
+              let shows = round_shows (inr w) past old u u.objects.mid round place stands then told q (looks_there round place on) (looks_by round place on) in
               (shown round on.0 told q.events (round_got round place q.found) q.answers shows.0, shows.1)
           by walk on stands then told q = absurd on
 
     -- ---- it makes a step of its own on the lock
 
     -- what a round has shown to the lock that ends the wait
-    ended_by : (shown : Option ℕ) (looked : Option (Option Cause)) (cause : Cause) → AsShown shown looked → looked ≡ Some (Some cause) → (past : Past) → ShownOn w.round past shown → AnyAnswers before.objects.setup earlier past w.round.items w.round.deadline (unwrap_or shown 0)
-    ended_by (Some place) looked cause so is past on = on
-    ended_by None looked cause so is past on = let no : Some cause ≡ None = subst (AsShown None) is so in absurd (cc)
+    ended_by : (shown : Option ℕ) (looked : Option (Option Cause)) (cause : Cause) → AsShown shown looked → looked ≡ Some (Some cause) → (mid past : Past) → ShownOn w.round mid past shown → AnyAnswers before.objects.setup mid past w.round.items w.round.deadline (unwrap_or shown 0)
+    ended_by (Some place) looked cause so is mid past on = on
+    ended_by None looked cause so is mid past on = let no : Some cause ≡ None = subst (AsShown None) is so in absurd (cc)
+
+    -- the rounds before a new one
+    rounds_before : (shown : Option ℕ) (mid past : Past) → IsLater mid past → ShownOn w.round mid past shown → ShownOn w.round mid past None
+    rounds_before None mid past until on = on
+    rounds_before (Some place) mid past until on = (0, until)
 
     module _ (wait : AnyWait) (waits : wait_in old.objects.waits seat ≡ Some wait) (elsewhere : walk_in old.objects.walks seat ≡ None) where
       abbrev here_now : Past
       here_now = past_and past (record { notes = []; objects = [] })
+
+      still_until : IsLater u.objects.mid here_now
+      still_until = until_rests u.objects.mid past (record { notes = []; objects = [] }) u.objects.until
+
+      still_shown : ShownOn w.round u.objects.mid here_now w.shown
+      still_shown = shown_rests w.round u.objects.mid past (record { notes = []; objects = [] }) w.shown u.objects.shown
 
       low_here : seat < 64
       low_here = let s = there_as old new seat lawful wait waits in low_if old new seat lawful s.view s.at
@@ -682,26 +720,28 @@ module _ (C : Type 0) (N : ℕ) (before : Whole C N) (earlier : Past) (seat : �
           (record {
             waits = waits_here old new seat lawful low_here old.objects.words old.objects.walks at (Some wait) lawful.places (λ other ne. refl) stood ∙ ap Some (same_wait wait waits);
             some = u.objects.some;
+            low = u.objects.low;
             among = u.objects.among;
+            mid = u.objects.mid;
+            first = u.objects.first;
+            until = still_until;
             were_there = u.objects.were_there;
-            unready = unready_on before.objects.setup earlier seat past (record { notes = []; objects = [] }) w.round.items w.round.items.count u.objects.unready;
-            early = early_on before.objects.setup earlier seat past (record { notes = []; objects = [] }) w.round.deadline u.objects.early;
-            shown = shown_rests w.round past (record { notes = []; objects = [] }) w.shown u.objects.shown;
-            round = subst (RoundOn w.round here_now) (sym (stands_here old new seat lawful low_here old.objects.words old.objects.walks at (Some wait) lawful.places (λ other ne. refl) stood)) (due (is_some (looks_at (want_of after.0))));
+            shown = still_shown;
+            round = subst (RoundOn w.round u.objects.mid here_now) (sym (stands_here old new seat lawful low_here old.objects.words old.objects.walks at (Some wait) lawful.places (λ other ne. refl) stood)) (due (is_some (looks_at (want_of after.0))));
             untouched = none_done [] refl;
           })
           told unfinished o.0 o.1 where
-            due : (b : Bool) → RoundOn w.round here_now (cond b (Some (InRound wait.round FirstClock)) None)
-            due true = (ap (λ (x : AnyWait). x.round) (same_wait wait waits), tt)
+            due : (b : Bool) → RoundOn w.round u.objects.mid here_now (cond b (Some (InRound wait.round FirstClock)) None)
+            due true = (ap (λ (x : AnyWait). x.round) (same_wait wait waits), rounds_before w.shown u.objects.mid here_now still_until still_shown)
             due false = tt
 
       -- what it answers
       module _ (reply : Reply) (a : AnswersOfLock before.lock earlier.notes seat (wait_for w.cvs) reply new.lock (past.notes ++ [])) (looks : AsShown w.shown a.course.looked) where
-        placed : (by : Option ℕ) → MayEnd w.cvs at_will a.course.looked by → PlaceBy before.objects.setup earlier here_now w.round by (place_told wait by)
-        placed (Some k) may = subst (λ (x : AnyWait). PlaceBy before.objects.setup earlier here_now w.round (Some k) (place_in k (items_of x.round.items))) (sym (same_wait wait waits)) (first_place w.round.items k (sym (u.objects.among k) ∙ may))
+        placed : (by : Option ℕ) → MayEnd w.cvs at_will a.course.looked by → PlaceBy before.objects.setup u.objects.mid here_now w.round by (place_told wait by)
+        placed (Some k) may = subst (λ (x : AnyWait). PlaceBy before.objects.setup u.objects.mid here_now w.round (Some k) (place_in k (items_of x.round.items))) (sym (same_wait wait waits)) (first_place w.round.items k (sym (u.objects.among k) ∙ may))
         placed None may =
-            subst (λ (x : AnyWait). AnyAnswers before.objects.setup earlier here_now w.round.items w.round.deadline (unwrap_or x.shown 0)) (sym (same_wait wait waits))
-            (ended_by w.shown a.course.looked may.0 looks may.2 here_now (shown_rests w.round past (record { notes = []; objects = [] }) w.shown u.objects.shown))
+            subst (λ (x : AnyWait). AnyAnswers before.objects.setup u.objects.mid here_now w.round.items w.round.deadline (unwrap_or x.shown 0)) (sym (same_wait wait waits))
+            (ended_by w.shown a.course.looked may.0 looks may.2 u.objects.mid here_now still_shown)
 
         may_end : (by : Option ℕ) (held : Option (Held C N)) → InHand held (λ back. AnyMeans new.lock.truths seat (row_after new.lock.history) (mode_waited (mode_of (held_at before.lock seat))) (OnVariables (Any w.cvs)) at_will a.course by back) → MayEnd w.cvs at_will a.course.looked by
         may_end by None means = absurd means
@@ -715,10 +755,12 @@ module _ (C : Type 0) (N : ℕ) (before : Whole C N) (earlier : Past) (seat : �
         answered (TheWalk.WokenBy by) tells means = inr (record {
           round = w.round;
           is = refl;
-          unready = unready_on before.objects.setup earlier seat past (record { notes = []; objects = [] }) w.round.items w.round.items.count u.objects.unready;
-          early = early_on before.objects.setup earlier seat past (record { notes = []; objects = [] }) w.round.deadline u.objects.early;
+          mid = u.objects.mid;
+          first = u.objects.first;
+          until = still_until;
           some = u.objects.some;
           cvs = w.cvs;
+          low = u.objects.low;
           among = u.objects.among;
           by = by;
           waited = subst (λ r. AnswersOfLock before.lock earlier.notes seat (wait_for w.cvs) r new.lock (past.notes ++ [])) tells a;
@@ -834,7 +876,7 @@ module _ (C : Type 0) (N : ℕ) (before : Whole C N) (earlier : Past) (seat : �
     is_asked = refl;
     events = [];
     added = sym (append-nil (objects_own earlier.objects seat));
-    so_far = (refl, subst (λ now. AreThere before.objects.setup now items) notes fits.0, tt);
+    so_far = (refl, subst (λ now. AreThere before.objects.setup now items) notes fits.0, (0, later_itself earlier));
   }
 
   begins_in : (begun : Whole C N) (call : Call C) → IsLawfulWhole before → IsLawfulWhole begun → HasLedTo earlier before → WholeStarts before begun seat call → UnderwayIn (inl (asks_of (mode_of (held_at before.lock seat)) call)) earlier begun

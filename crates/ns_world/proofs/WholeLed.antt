@@ -19,7 +19,8 @@ use Rattle.ns_world.specs.declared.step.Step.{Step}
 use Rattle.ns_world.specs.declared.step.Step.TheVariants.{Went, Idle, Finished, Nothing}
 use Rattle.ns_world.specs.Calls.{object_start}
 use Rattle.ns_world.specs.Meanings.{HasLedTo, done_in, nothing_done}
-use Rattle.ns_world.specs.ObjectMeanings.{Past, past_and}
+use Rattle.ns_counters.specs.Rounds.{Past}
+use Rattle.ns_world.specs.ObjectMeanings.{past_and}
 use Rattle.ns_world.specs.Objects.{AreLedTo, AreThere, HasOperated, stood_at, walk_in}
 use Rattle.ns_world.specs.Whole.{Whole, AreObjectsBy, BeginsToWait, EndsLook, HaveLedTo, IsLawfulWhole, LockSteps, Operates, StandsBy, WaitSteps, WaitsOnLock, WholeMoves, WholeStarts, WholeStep, notes_done, objects_done}
 use Rattle.ns_world.specs.World.{Now, AreEnvBy, LedTo, env_done}

@@ -112,8 +112,8 @@ all_more p q (x ∷ xs) more all = rw (more x (first_of_all (p x) (list_all p xs
 
 -- a seat stands where it stood when more notes are made
 module _ (setup : Setup) (notes later : ℕ → NoteStanding) (more : (n : ℕ) → (notes n).made ≡ true → (later n).made ≡ true) where
-  there_more : (items : Items) → AreThere setup notes items → AreThere setup later items
-  there_more items there = (there.0, all_more (is_there setup notes) (is_there setup later) (items_of items) each there.1) where
+  pub there_more : (items : Items) → AreThere setup notes items → AreThere setup later items
+  there_more items there = (there.0, all_more (is_there setup notes) (is_there setup later) (items_of items) each there.1, there.2) where
     each : (item : Item) → is_there setup notes item ≡ true → is_there setup later item ≡ true
     each (OnNote note) is = more note is
     each (OnCounter counter) is = is

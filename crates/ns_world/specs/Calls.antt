@@ -1,5 +1,5 @@
 -- Where a call begins, and the section that it needs.
-use Rattle.std.specs.Prelude.{◌≡◌, ℕ, nat_lt, ◌<◌, ◌≤◌, ◌^◌, Bool, true, not, ◌&&◌, ◌||◌, Option, Some, None, IsSome, IfSome, is_some}
+use Rattle.std.specs.Prelude.{◌≡◌, ℕ, nat_lt, ◌<◌, ◌≤◌, ◌^◌, Bool, true, not, ◌&&◌, ◌||◌, Option, Some, None, IsSome, IfSome, is_some, length}
 use Rattle.std.specs.List.{list_all}
 use Rattle.ns_counters.specs.declared.object.Setup.{Setup}
 use Rattle.ns_model.specs.declared.event.Mode.{Mode}
@@ -37,6 +37,11 @@ use Rattle.ns_world.specs.declared.call.Call.TheVariants.{Lock, RLock, TryLock, 
 abbrev pub mode_waited : Option Mode → Mode
 mode_waited None = Write
 mode_waited (Some mode) = mode
+
+-- of the objects that a call names there are as many as it says
+abbrev pub NamesAll : {C : Type 0} → Call C → Type 0
+NamesAll (WaitAny items deadline) = length (items_of items) ≡ items.count
+NamesAll call = Unit {0}
 
 -- the first place of the call's walk, over a row of N cells, with a section in hand of this mode, or with none
 abbrev pub start_of : {C : Type 0} → ℕ → Option Mode → Call C → Start C

@@ -4,6 +4,7 @@ use Rattle.std.proofs.Common.{inl, inr, []}
 use Rattle.ns_counters.specs.declared.object.ObjectEvent.{ObjectEvent}
 use Rattle.ns_counters.specs.declared.object.Setup.{Setup}
 use Rattle.ns_counters.specs.Objects.{objects_own}
+use Rattle.ns_counters.specs.Rounds.{IsLater, Past, RoundShows}
 use Rattle.ns_model.specs.declared.environment.EnvEvent.{EnvEvent}
 use Rattle.ns_model.specs.declared.event.Mode.{Mode}
 use Rattle.ns_model.specs.declared.event.Mode.TheVariants.{Write, Read}
@@ -44,7 +45,7 @@ use Rattle.ns_world.specs.declared.round.RoundPlace.TheVariants.{FirstClock}
 use Rattle.ns_world.specs.Among.{waits_for_any}
 use Rattle.ns_world.specs.declared.items.Item.TheVariants.{OnVariable}
 use Rattle.ns_world.specs.Items.{AreAmong, is_among, item_at, items_of}
-use Rattle.ns_world.specs.ObjectMeanings.{AnyAnswers, Past, past_and, ObjectMeans, WasEarly, WereUnready}
+use Rattle.ns_world.specs.ObjectMeanings.{AnyAnswers, IsReady, ObjectMeans, past_and}
 use Rattle.ns_world.specs.Replies.{told, env_told}
 use Rattle.ns_world.specs.Whole.{Whole, HaveLedTo, IsLawfulWhole, WholeBegins, WholeStep, notes_by, objects_by}
 use Rattle.ns_world.specs.World.{Now, LedTo}
@@ -137,24 +138,26 @@ pub record AnswersOfObjects {C : Type 0} {N : ℕ} (before : Now C N) (earlier :
   pub same : held_at after seat ≡ held_at before seat
   pub silent : own after.history seat ≡ own before.history seat
 
--- The place that is answered, where the section was left: where a variable has woken the call, one at which this variable stands, and before which it stands nowhere; else what a wait for the notes and counters alone answers.
+-- The place that is answered, where the section was left after the first of these: where a variable has woken the call, one at which this variable stands, and before which it stands nowhere; else what a wait for the notes and counters alone answers, of rounds from then on.
 abbrev pub PlaceBy : Setup → Past → Past → Round → Option ℕ → ℕ → Type 0
-PlaceBy setup earlier now round (Some k) place = (item_at round.items place ≡ Some (OnVariable k)) × ((i : ℕ) → i < place → item_at round.items i ≡ Some (OnVariable k) → ⊥)
-PlaceBy setup earlier now round None place = AnyAnswers setup earlier now round.items round.deadline place
+PlaceBy setup mid now round (Some k) place = (item_at round.items place ≡ Some (OnVariable k)) × ((i : ℕ) → i < place → item_at round.items i ≡ Some (OnVariable k) → ⊥)
+PlaceBy setup mid now round None place = AnyAnswers setup mid now round.items round.deadline place
 
--- A wait for condition variables among notes and counters has this answer, and has left its section: there is one among its items. None of the notes and counters was ready at some point since the call began, each at its own, and the deadline had not come at another; the section was left to wait for just the variables, and another has come back, as a wait on the lock for these means it; and the call has done nothing to the counters and once cells.
+-- A wait for condition variables among notes and counters has this answer, and has left its section: there is one among its items. A first round has shown nothing up to a point since the call began; the section was left to wait for just the variables, told by one number below 16, and another has come back, as a wait on the lock for these means it; what rounds have shown of the notes and counters meanwhile, they have from that point on; and the call has done nothing to the counters and once cells.
 pub record AnswersOfWaiting {C : Type 0} {N : ℕ} (before : Now C N) (earlier : Past) (setup : Setup) (seat : ℕ) (asked : ObjectWalk) (reply : Reply) (after : Now C N) (later : Past) : Type 0 where
   pub round : Round
   pub is : asked ≡ InRound round FirstClock
-  pub unready : WereUnready setup earlier later round.items round.items.count
-  pub early : WasEarly round.deadline earlier later
+  pub mid : Past
+  pub first : RoundShows (IsReady setup) (items_of round.items) round.deadline earlier mid None
+  pub until : IsLater mid later
   pub some : (k : ℕ) × (is_among k (items_of round.items) ≡ true)
   pub cvs : Cvs
+  pub low : cvs.0 < 16
   pub among : AreAmong cvs (items_of round.items)
   pub by : Option ℕ
   pub waited : AnswersOfLock before earlier.notes seat (TheRequest.Await (waits_for_any (mode_waited (mode_of (held_at before seat))) cvs)) (WokenBy by) after later.notes
   pub place : ℕ
-  pub placed : PlaceBy setup earlier later round by place
+  pub placed : PlaceBy setup mid later round by place
   pub tells : reply ≡ Number place
   pub untouched : objects_own later.objects seat ≡ objects_own earlier.objects seat
 

@@ -1,8 +1,7 @@
 -- What the answer of a call on counters and once cells means, whatever others do while it is in progress, and how far such a call has come at each of its places.
-use Rattle.std.specs.Prelude.{◌≡◌, ◌≢◌, ◌⊎◌, ℕ, ◌<◌, ◌≤◌, Bool, true, false, List, [], ◌∷◌, ◌++◌, Option, Some, IsSomeAnd, Ok, Err}
-use Rattle.ns_model.specs.declared.environment.EnvEvent.{EnvEvent}
+use Rattle.std.specs.Prelude.{◌≡◌, ◌≢◌, ℕ, ◌≤◌, Bool, true, false, List, [], ◌∷◌, ◌++◌, take, Option, Some, IsSomeAnd, Ok, Err}
 use Rattle.ns_model.specs.Beginnings.{IsBetween}
-use Rattle.ns_model.specs.Environments.{env_after, is_due, is_notified, clock_of}
+use Rattle.ns_model.specs.Environments.{env_after, is_notified, clock_of}
 use Rattle.ns_model.specs.Lines.{IsLeftAt}
 use Rattle.ns_model.specs.declared.counter.CounterEvent.TheVariants as TheCounter
 use Rattle.ns_counters.specs.declared.object.ObjectEvent.{ObjectEvent}
@@ -11,6 +10,7 @@ use Rattle.ns_counters.specs.declared.object.Setup.{Setup}
 use Rattle.ns_model.specs.declared.once.OnceEvent.TheVariants as TheOnce
 use Rattle.ns_model.specs.Counters.{is_ready}
 use Rattle.ns_counters.specs.Objects.{ObjectStanding, objects_after, objects_own}
+use Rattle.ns_counters.specs.Rounds.{AnswersByRounds, HaveShownNothing, InTurn, IsLater, Past}
 use Rattle.ns_model.specs.Onces.{is_done}
 use Rattle.ns_env.specs.Meanings.{AtSomePoint}
 use Rattle.ns_world.specs.declared.items.Item.{Item}
@@ -25,15 +25,10 @@ use Rattle.ns_world.specs.declared.round.Round.{Round}
 use Rattle.ns_world.specs.declared.round.RoundPlace.{RoundPlace}
 use Rattle.ns_world.specs.declared.round.RoundPlace.TheVariants.{FirstClock, AtNote, AtCounter}
 use Rattle.ns_world.specs.declared.items.Items.{Items}
-use Rattle.ns_world.specs.Items.{item_at}
+use Rattle.ns_world.specs.Items.{items_of}
 use Rattle.ns_world.specs.Objects.{AreThere}
 
--- what has happened to the clock and the notes, and to the counters and once cells
-pub record Past : Type 0 where
-  pub notes : List EnvEvent
-  pub objects : List ObjectEvent
-
--- both, with more behind
+-- what has happened to the clock and the notes, and to the counters and once cells, with more behind each
 abbrev pub past_and : Past → Past → Past
 past_and past more = record { notes = past.notes ++ more.notes; objects = past.objects ++ more.objects }
 
@@ -59,29 +54,20 @@ object_asked (InRound round place) = InRound round FirstClock
 abbrev pub AtSomeMoment : Setup → List ObjectEvent → List ObjectEvent → (ObjectStanding → Type 0) → Type 0
 AtSomeMoment setup earlier now P = (point : List ObjectEvent) × IsBetween earlier point now × P (objects_after setup point)
 
--- At some point between these an object was ready, or wasn't: a note that is notified, and a counter whose value is 0. A condition variable never is.
-abbrev pub WasReady : Setup → Bool → Past → Past → Item → Type 0
-WasReady setup so earlier now (TheItem.OnNote note) = AtSomePoint earlier.notes now.notes (λ point. is_notified point note ≡ so)
-WasReady setup so earlier now (TheItem.OnCounter counter) = AtSomeMoment setup earlier.objects now.objects (λ standing. is_ready (standing.counters counter) ≡ so)
-WasReady setup true earlier now (TheItem.OnVariable k) = ⊥
-WasReady setup false earlier now (TheItem.OnVariable k) = Unit {0}
+-- At this point an item is ready, or isn't: a note that is notified, and a counter whose value is 0. A condition variable never is.
+abbrev pub IsReady : Setup → Bool → Past → Item → Type 0
+IsReady setup so point (TheItem.OnNote note) = is_notified point.notes note ≡ so
+IsReady setup so point (TheItem.OnCounter counter) = is_ready ((objects_after setup point.objects).counters counter) ≡ so
+IsReady setup true point (TheItem.OnVariable k) = ⊥
+IsReady setup false point (TheItem.OnVariable k) = Unit {0}
 
 -- at some point between these the clock had come to the deadline
 abbrev pub WasDue : Option ℕ → Past → Past → Type 0
 WasDue deadline earlier now = IsSomeAnd deadline (λ d. AtSomePoint earlier.notes now.notes (λ point. d ≤ clock_of point))
 
--- at some point between these the clock hadn't come to the deadline
-abbrev pub WasEarly : Option ℕ → Past → Past → Type 0
-WasEarly deadline earlier now = AtSomePoint earlier.notes now.notes (λ point. is_due (clock_of point) deadline ≡ false)
-
--- each object before this place of the list was unready at some point between these
-abbrev pub WereUnready : Setup → Past → Past → Items → ℕ → Type 0
-WereUnready setup earlier now items place = (i : ℕ) (item : Item) → i < place → item_at items i ≡ Some item → WasReady setup false earlier now item
-
--- What a wait for any of these answers: the place of the first that was ready, and each before it was not; or how many there are, where none was and the deadline had come.
+-- What a wait for any of these answers: rounds of looks at the clock and then at each in order have shown nothing, and the last has shown this.
 abbrev pub AnyAnswers : Setup → Past → Past → Items → Option ℕ → ℕ → Type 0
-AnyAnswers setup earlier now items deadline place = WereUnready setup earlier now items place
-    × (((item : Item) × (item_at items place ≡ Some item) × WasReady setup true earlier now item) ⊎ ((place ≡ items.count) × WasDue deadline earlier now))
+AnyAnswers setup earlier now items deadline place = AnswersByRounds (IsReady setup) (items_of items) deadline earlier now place
 
 -- the wait for 0 that this seat began has begun at a point between these, and from there on the counter had this value at some
 abbrev pub HadValue : Setup → Past → Past → ℕ → ℕ → ℕ → Type 0
@@ -103,13 +89,21 @@ ObjectMeans setup earlier now seat asked events reply = ⊥
 
 -- ---- how far a call has come
 
--- A round has found unready each object before the one at which it stands, and has loaded the clock; a walk up from a note that is under way has found nobody notified so far, of what had happened as the clock was loaded.
+-- Behind so many whole rounds that have shown nothing a round has loaded the clock, at this point, and from there on each item before this place was unready, in turn. A walk up from a note is judged by the clock that was loaded, so each note was unready as of then.
+pub record HasLookedUpTo (setup : Setup) (earlier now : Past) (round : Round) (start : Past) (clock at : ℕ) : Type 0 where
+  pub rounds : ℕ
+  pub mid : Past
+  pub nothing : HaveShownNothing (IsReady setup) (items_of round.items) round.deadline rounds earlier mid
+  pub begins : IsLater mid start
+  pub loaded : clock ≡ clock_of start.notes
+  pub unready : InTurn (IsReady setup false) start (record { notes = start.notes; objects = now.objects }) (take at (items_of round.items))
+  pub since : IsLater start now
+
+-- How far a round has come: before it loads the clock only whole rounds have been; then it has looked at each item before the one at which it stands; and a walk up from a note that is under way has found nobody notified so far, of what had happened as the clock was loaded.
 abbrev pub RoundSoFar : Setup → Past → Past → Round → RoundPlace → Type 0
-RoundSoFar setup earlier now round FirstClock = Unit {0}
-RoundSoFar setup earlier now round (AtNote at clock asked note) = WereUnready setup earlier now round.items at
-    × AtSomePoint earlier.notes now.notes (λ point. (clock ≡ clock_of point) × IsLeftAt point asked (Some note))
-RoundSoFar setup earlier now round (AtCounter at clock counter) = WereUnready setup earlier now round.items at
-    × AtSomePoint earlier.notes now.notes (λ point. clock ≡ clock_of point)
+RoundSoFar setup earlier now round FirstClock = (rounds : ℕ) × HaveShownNothing (IsReady setup) (items_of round.items) round.deadline rounds earlier now
+RoundSoFar setup earlier now round (AtNote at clock asked note) = (start : Past) × HasLookedUpTo setup earlier now round start clock at × IsLeftAt start.notes asked (Some note)
+RoundSoFar setup earlier now round (AtCounter at clock counter) = (start : Past) × HasLookedUpTo setup earlier now round start clock at
 
 -- there was each of these objects as the call began
 abbrev pub WereThere : Setup → Past → Items → Type 0

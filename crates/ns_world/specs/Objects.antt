@@ -1,5 +1,5 @@
 -- The counters and once cells of a world, and one step of a seat in a call on them.
-use Rattle.std.specs.Prelude.{◌≡◌, ℕ, nat_lt, ◌<◌, ◌≤◌, ◌^◌, ◌==◌, Bool, true, bit_or, if◌then◌else◌, List, [], replicate, Option, None, Some, slice_get, slice_index, slice_set, unwrap_or, Ok}
+use Rattle.std.specs.Prelude.{◌≡◌, ℕ, nat_lt, ◌<◌, ◌≤◌, ◌^◌, ◌==◌, Bool, true, bit_or, if◌then◌else◌, List, [], replicate, Option, None, Some, length, slice_get, slice_index, slice_set, unwrap_or, Ok}
 use Rattle.std.specs.List.{list_all}
 use Rattle.ns_model.specs.Environments.{NoteStanding}
 use Rattle.ns_counters.specs.declared.act.ObjectAct.{ObjectAct}
@@ -110,9 +110,9 @@ is_there setup notes (OnNote note) = (notes note).made
 is_there setup notes (OnCounter counter) = nat_lt counter setup.counters
 is_there setup notes (OnVariable k) = nat_lt k 4
 
--- there is each of these objects, of which there are at most 16
+-- there is each of these objects, which are as many as their list says, and at most 16
 abbrev pub AreThere : Setup → (ℕ → NoteStanding) → Items → Type 0
-AreThere setup notes items = (items.count ≤ 16) × (list_all (is_there setup notes) (items_of items) ≡ true)
+AreThere setup notes items = (items.count ≤ 16) × (list_all (is_there setup notes) (items_of items) ≡ true) × (length (items_of items) ≡ items.count)
 
 -- a round stands at an object of its list, and a note that it is to load is made
 abbrev pub RoundFits : (ℕ → NoteStanding) → Round → RoundPlace → Type 0

@@ -1,5 +1,5 @@
 -- A world as a contract sees it: the lock with its row, the clock and the notes, and beside them counters and once cells; and a seat's step in it.
-use Rattle.std.specs.Prelude.{◌≡◌, ℕ, ◌⊎◌, Bool, true, false, not, ◌||◌, ◌≤◌, List, [], Option, Some, None, IsSome, is_some, length, slice_get}
+use Rattle.std.specs.Prelude.{◌≡◌, ℕ, ◌⊎◌, Bool, true, false, not, ◌||◌, ◌<◌, ◌≤◌, List, [], Option, Some, None, IsSome, is_some, length, slice_get}
 use Rattle.std.proofs.Common.{inl, inr}
 use Rattle.ns_counters.specs.declared.object.ObjectEvent.{ObjectEvent}
 use Rattle.ns_counters.specs.Objects.{object_who}
@@ -171,7 +171,7 @@ pub record Operates {C : Type 0} {N : ℕ} (old new : Whole C N) (seat : ℕ) (s
   pub not_for_lock : is_for_lock (wait_in old.objects.waits seat) walk step ≡ false
   pub same : new.lock ≡ old.lock
 
--- The seat makes the last step of a round, whose call is in no wait on the lock. The round has found nothing, and condition variables are among its objects: the call goes on as a wait on the lock for just these, from the section in hand.
+-- The seat makes the last step of a round, whose call is in no wait on the lock. The round has found nothing, and condition variables are among its objects: the call goes on as a wait on the lock for just these, told by one number below 16, from the section in hand.
 pub record BeginsToWait {C : Type 0} {N : ℕ} (old new : Whole C N) (seat : ℕ) (step : Step) : Type 0 where
   pub round : Round
   pub place : RoundPlace
@@ -185,6 +185,7 @@ pub record BeginsToWait {C : Type 0} {N : ℕ} (old new : Whole C N) (seat : ℕ
   pub idle : view.walk ≡ None
   pub unasked : slice_get old.lock.asking seat ≡ Some None
   pub cvs : Cvs
+  pub low : cvs.0 < 16
   pub among : AreAmong cvs (items_of round.items)
   pub begins : new.lock ≡ begun_at old.lock seat view (OnLock (wait_first N (waits_for_any (mode_waited (mode_of view.held)) cvs)))
   pub becomes : new.objects ≡ stood_at then seat None (Some (record { round = round; shown = None }))

@@ -1,9 +1,9 @@
 //! The calls of a world.
 
-ghost use Rattle.std.specs.Prelude.{◌≡◌, ◌≤◌, ⊤, MatchOption, Some, None, ◌&&◌, is_some, if◌then◌else◌};
+ghost use Rattle.std.specs.Prelude.{◌≡◌, ◌≤◌, ⊤, MatchOption, Some, None, ◌&&◌, is_some, length, if◌then◌else◌};
 ghost use Rattle.ns_world.specs.Asks.{note_at};
 ghost use Rattle.ns_word.specs.Walks.{wait_first};
-ghost use Rattle.ns_world.specs.Calls.{finds, mode_waited, object_start, start_of, CallFits, CallInRange, SectionFits};
+ghost use Rattle.ns_world.specs.Calls.{finds, mode_waited, object_start, start_of, CallFits, CallInRange, NamesAll, SectionFits};
 ghost use Rattle.ns_world.specs.Items.{items_of};
 ghost use Rattle.ns_world.specs.Objects.{is_there as is_there_in};
 ghost use Rattle.ns_counters.specs.declared.object.Setup.{Setup as SetupOf};
@@ -175,7 +175,8 @@ fn is_there(item: Item, notes: &[NoteWord; 64], setup: &Setup) -> bool
 /// Whether there is each of several objects.
 fn are_there(items: &Items, notes: &[NoteWord; 64], setup: &Setup) -> bool
     requires { items.now.count ≤ 16 }
-    ensures { result ≡ list_all (is_there_in setup.now (note_at notes.now)) (items_of items.now) }
+    ensures all { result ≡ list_all (is_there_in setup.now (note_at notes.now)) (items_of items.now) }
+    ensures many { length (items_of items.now) ≡ items.now.count }
 {
     for item in &items.all[..items.count as usize] {
         if !is_there(*item, notes, setup) {
@@ -263,7 +264,8 @@ impl<C: Copy> Call<C> {
         setup: &Setup,
     ) -> bool
         requires { CallInRange N self.now }
-        ensures { result ≡ finds setup.now (note_at notes.now) mode self.now }
+        ensures found { result ≡ finds setup.now (note_at notes.now) mode self.now }
+        ensures many { NamesAll self.now }
     {
         match self {
             Call::Add(counter, _) => *counter < setup.counters,

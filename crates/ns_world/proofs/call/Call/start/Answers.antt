@@ -6,7 +6,7 @@ use Rattle.ns_counters.specs.declared.object.Setup.{Setup}
 use Rattle.ns_model.specs.declared.event.Mode.{Mode}
 use Rattle.ns_model.specs.Environments.{NoteStanding}
 use Rattle.ns_world.specs.Asks.{note_at}
-use Rattle.ns_world.specs.Calls.{CallFits, CallInRange, finds, object_start, start_of}
+use Rattle.ns_world.specs.Calls.{CallFits, CallInRange, NamesAll, finds, object_start, start_of}
 use Rattle.ns_world.specs.Items.{have_variable, is_among, items_of}
 use Rattle.ns_world.specs.Objects.{is_there}
 use Rattle.ns_world.specs.declared.call.Call.{Call}
@@ -51,18 +51,18 @@ module _ {C : Type 0} (n : ℕ) (setup : Setup) (notes : ℕ → NoteStanding) (
     begins = begins;
   }
 
-  judges : (call : Call C) (walk : ObjectWalk) → CallInRange n call → object_start call ≡ Some walk → Judges n setup notes mode call walk
-  judges (Add counter delta) walk range is = counted (Add counter delta) walk counter setup.counters refl refl (let same : Some _ ≡ Some walk = is in ap OnObjects (cc))
-  judges (Value counter) walk range is = counted (Value counter) walk counter setup.counters refl refl (cc)
-  judges (CounterWait counter deadline) walk range is = counted (CounterWait counter deadline) walk counter setup.counters refl refl (cc)
-  judges (Once once) walk range is = counted (Once once) walk once setup.cells refl refl (cc)
-  judges (Done once) walk range is = counted (Done once) walk once setup.cells refl refl (cc)
-  judges (WaitAny items deadline) walk range is = record {
-    fits = λ e. ((range.0, first_of_all (list_all (is_there setup notes) (items_of items)) (is_some mode || not (have_variable items)) e), named_from mode items (rest_of_all (list_all (is_there setup notes) (items_of items)) (is_some mode || not (have_variable items)) e));
+  judges : (call : Call C) (walk : ObjectWalk) → CallInRange n call → NamesAll call → object_start call ≡ Some walk → Judges n setup notes mode call walk
+  judges (Add counter delta) walk range all is = counted (Add counter delta) walk counter setup.counters refl refl (let same : Some _ ≡ Some walk = is in ap OnObjects (cc))
+  judges (Value counter) walk range all is = counted (Value counter) walk counter setup.counters refl refl (cc)
+  judges (CounterWait counter deadline) walk range all is = counted (CounterWait counter deadline) walk counter setup.counters refl refl (cc)
+  judges (Once once) walk range all is = counted (Once once) walk once setup.cells refl refl (cc)
+  judges (Done once) walk range all is = counted (Done once) walk once setup.cells refl refl (cc)
+  judges (WaitAny items deadline) walk range all is = record {
+    fits = λ e. ((range.0, first_of_all (list_all (is_there setup notes) (items_of items)) (is_some mode || not (have_variable items)) e, all), named_from mode items (rest_of_all (list_all (is_there setup notes) (items_of items)) (is_some mode || not (have_variable items)) e));
     needs = λ p. both (list_all (is_there setup notes) (items_of items)) (is_some mode || not (have_variable items)) p.0.1 (named_to mode items p.1);
     begins = cc;
   }
-  judges call walk range is = absurd (cc)
+  judges call walk range all is = absurd (cc)
 
 started : {C : Type 0} (n : ℕ) (setup : Setup) (notes : ℕ → NoteStanding) (mode : Option Mode) (call : Call C) (walk : ObjectWalk) (met : Bool) (r : Option (Start C)) → met ≡ finds setup notes mode call → r ≡ cond met (Some (OnObjects walk)) None → Judges n setup notes mode call walk →
     MatchOption r (CallFits setup notes call mode → ⊥) (λ s. (s ≡ start_of n mode call) × CallFits setup notes call mode)
@@ -71,5 +71,5 @@ started n setup notes mode call walk false r test e judge = subst (λ o. MatchOp
 
 pub returns-in-Some : goal.returns-in-Some
 returns-in-Some g c =
-    started g.row.N c.args.setup.now (note_at c.args.notes.now) c.args.mode c.args.self c.in-Some.walk c.finds.result c.operate.result c.finds.ensures c.operate.ensures
-    (judges g.row.N c.args.setup.now (note_at c.args.notes.now) c.args.mode c.args.self c.in-Some.walk c.requires.range (sym c.on_objects.ensures ∙ c.in-Some.is))
+    started g.row.N c.args.setup.now (note_at c.args.notes.now) c.args.mode c.args.self c.in-Some.walk c.finds.result c.operate.result c.finds.ensures.found c.operate.ensures
+    (judges g.row.N c.args.setup.now (note_at c.args.notes.now) c.args.mode c.args.self c.in-Some.walk c.requires.range c.finds.ensures.many (sym c.on_objects.ensures ∙ c.in-Some.is))
