@@ -20,7 +20,7 @@ use Rattle.ns_word.specs.declared.word.Word.{Word}
 use Rattle.ns_model.specs.declared.counter.CounterFault.{CounterFault}
 use Rattle.ns_model.specs.declared.counter.CounterFault.TheVariants.{Under, Over, AfterWait}
 use Rattle.ns_world.specs.declared.reply.Reply.{Reply}
-use Rattle.ns_world.specs.declared.reply.Reply.TheVariants.{Succeeded, Busy, Noisy, Number, NotesFull, Is, Expiry, Answered, WokenBy, Misuse, Refused, Ran, Already}
+use Rattle.ns_world.specs.declared.reply.Reply.TheVariants.{Succeeded, Busy, Noisy, Number, NotesFull, Is, Expiry, Answered, Misuse, Refused, Ran, Already}
 use Rattle.ns_world.specs.declared.call.Call.{Call}
 use Rattle.ns_world.specs.declared.call.Call.TheVariants.{Unlock, RUnlock, UnlockQuiet}
 use Rattle.ns_world.specs.declared.schedule.Line.{Line}
@@ -65,8 +65,6 @@ reply_text NotesFull = codes "notesfull"
 reply_text (Is truth) = truth_text truth
 reply_text (Expiry moment) = expiry_text moment
 reply_text (Answered answer) = answer_text answer
-reply_text (WokenBy (Some k)) = decimal k
-reply_text (WokenBy None) = codes "-"
 reply_text Misuse = codes "misuse"
 reply_text (Refused fault) = refusal_text fault
 reply_text Ran = codes "ran"

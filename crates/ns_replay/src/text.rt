@@ -77,8 +77,6 @@ pub fn push_reply(out: &mut String, reply: Reply) -> Result<(), AllocError>
         Reply::Is(truth) => push_truth(out, truth),
         Reply::Expiry(expiry) => push_expiry(out, expiry),
         Reply::Answered(answer) => push_answer(out, answer),
-        Reply::WokenBy(Some(k)) => write!(out, "{k}"),
-        Reply::WokenBy(None) => out.push_str("-"),
         Reply::Misuse => out.push_str("misuse"),
         Reply::Refused(fault) => push_refusal(out, fault),
         Reply::Ran => out.push_str("ran"),

@@ -7,7 +7,7 @@ use Rattle.ns_word.specs.declared.walk.Walk.{Walk}
 use Rattle.ns_word.specs.Walks.{got_of, walk_after, wait_first, want_of}
 use Rattle.ns_world.specs.declared.object_walk.ObjectWalk.TheVariants.{InRound}
 use Rattle.ns_world.specs.declared.objects.AnyWait.{AnyWait}
-use Rattle.ns_world.specs.Among.{round_due, shown_by, waited_after, at_will, cause_of, is_for_lock, place_told, reply_told, step_told, waits_for_any}
+use Rattle.ns_world.specs.Among.{round_due, shown_by, waited_after, at_will, cause_of, is_for_lock, place_told, reply_told, step_told, waits_for_any, woken_by}
 use Rattle.ns_model.proofs.Beginnings.{begins_itself}
 use Rattle.ns_model.proofs.Environments.{made_begins}
 use Rattle.ns_model.specs.Beginnings.{BeginsWith}
@@ -29,6 +29,7 @@ use Rattle.ns_world.specs.declared.object_walk.ObjectNext.TheVariants.{Go, Repea
 use Rattle.ns_world.specs.declared.object_walk.ObjectWalk.{ObjectWalk}
 use Rattle.ns_world.specs.declared.objects.Objects.{Objects}
 use Rattle.ns_world.specs.declared.reply.Reply.{Reply}
+use Rattle.ns_world.specs.declared.reply.Reply.TheVariants.{Number}
 use Rattle.ns_world.specs.declared.step.Begun.TheVariants.{Started}
 use Rattle.ns_world.specs.declared.step.Step.{Step}
 use Rattle.ns_world.specs.declared.step.Step.TheVariants.{Went, Idle, Finished, Nothing}
@@ -91,6 +92,11 @@ record Waiting : Type 0 where
 abbrev AsShown : Option ℕ → Option (Option Cause) → Type 0
 AsShown shown None = Unit {0}
 AsShown shown (Some cause) = cause ≡ cause_of shown
+
+-- a wait on the lock for any of several tells which variable has woken it
+woken_is : (by : Option ℕ) → woken_by (reply_of_lock (TheWalk.WokenBy by)) ≡ by
+woken_is None = refl
+woken_is (Some k) = refl
 
 -- a place that goes on
 goes_after : {C : Type 0} (next : Next C) → IsUnfinished (step_of next) → (walk : Walk C) × (walk_after next ≡ Some walk)
@@ -763,10 +769,11 @@ module _ (C : Type 0) (N : ℕ) (before : Whole C N) (earlier : Past) (seat : �
           low = u.objects.low;
           among = u.objects.among;
           by = by;
-          waited = subst (λ r. AnswersOfLock before.lock earlier.notes seat (wait_for w.cvs) r new.lock (past.notes ++ [])) tells a;
+          waited = record { course = a.course; began = a.began; added = a.added; shown = a.shown; still = a.still; answer = TheWalk.WokenBy by; tells = refl; means = means };
+          woken = refl;
           place = place_told wait by;
           placed = placed by (may_end by (held_at new.lock seat) means);
-          tells = ap (reply_told wait) tells;
+          tells = ap (λ r. reply_told wait r) tells ∙ ap (λ woken. Number (place_told wait woken)) (woken_is by);
           untouched = none_done [] refl;
         })
         answered (TheWalk.Answered answer) tells means = absurd (no_answer answer (held_at new.lock seat) means)

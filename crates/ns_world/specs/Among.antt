@@ -20,7 +20,7 @@ use Rattle.ns_world.specs.declared.object_walk.ObjectWalk.TheVariants.{InRound}
 use Rattle.ns_world.specs.declared.objects.AnyWait.{AnyWait}
 use Rattle.ns_world.specs.declared.objects.Objects.{Objects}
 use Rattle.ns_world.specs.declared.reply.Reply.{Reply}
-use Rattle.ns_world.specs.declared.reply.Reply.TheVariants.{Number, WokenBy}
+use Rattle.ns_world.specs.declared.reply.Reply.TheVariants.{Number}
 use Rattle.ns_world.specs.declared.round.RoundPlace.TheVariants.{FirstClock}
 use Rattle.ns_world.specs.declared.seat.Seat.{Seat}
 use Rattle.ns_world.specs.declared.step.Step.{Step}
@@ -81,10 +81,14 @@ abbrev pub place_told : AnyWait → Option ℕ → ℕ
 place_told wait (Some k) = place_in k (items_of wait.round.items)
 place_told wait None = unwrap_or wait.shown 0
 
--- the call answers that place
+-- the variable that has woken a wait on the lock for any of several, by what that answers, or none
+abbrev pub woken_by : Reply → Option ℕ
+woken_by (Number k) = Some k
+woken_by reply = None
+
+-- what the call answers, whose wait on the lock answers this
 abbrev pub reply_told : AnyWait → Reply → Reply
-reply_told wait (WokenBy by) = Number (place_told wait by)
-reply_told wait reply = reply
+reply_told wait reply = Number (place_told wait (woken_by reply))
 
 -- what a step on the lock is for the call
 abbrev pub step_told : AnyWait → Step → Step

@@ -24,6 +24,7 @@ use Rattle.ns_model.specs.declared.cvs.Variables.TheVariants.{Any, Only}
 use Rattle.ns_word.specs.declared.wait.Subject.{Subject}
 use Rattle.ns_word.specs.declared.wait.Subject.TheVariants.{OnCondition, OnVariables}
 use Rattle.ns_word.specs.declared.walk.Reply.{Reply as WalkReply}
+use Rattle.ns_word.specs.declared.walk.Reply.TheVariants.{WokenBy}
 use Rattle.ns_word.specs.declared.word.Releasing.TheVariants.{Writer, QuietWriter, Reader}
 use Rattle.ns_env.specs.Meanings.{AtSomePoint, EnvCourse, EnvMeans, Shows}
 use Rattle.ns_word.specs.Meanings.{Course, Means}
@@ -39,7 +40,7 @@ use Rattle.ns_world.specs.Calls.{mode_of, mode_waited}
 use Rattle.ns_world.specs.declared.object_walk.ObjectWalk.{ObjectWalk}
 use Rattle.ns_world.specs.declared.object_walk.ObjectWalk.TheVariants.{AddLoad, ValueLoad, WaitMark, OnceLoad, DoneLoad, InRound}
 use Rattle.ns_world.specs.declared.reply.Reply.{Reply}
-use Rattle.ns_world.specs.declared.reply.Reply.TheVariants.{Number, WokenBy}
+use Rattle.ns_world.specs.declared.reply.Reply.TheVariants.{Number}
 use Rattle.ns_world.specs.declared.round.Round.{Round}
 use Rattle.ns_world.specs.declared.round.RoundPlace.TheVariants.{FirstClock}
 use Rattle.ns_world.specs.Among.{waits_for_any}
@@ -138,12 +139,12 @@ pub record AnswersOfObjects {C : Type 0} {N : ℕ} (before : Now C N) (earlier :
   pub same : held_at after seat ≡ held_at before seat
   pub silent : own after.history seat ≡ own before.history seat
 
--- The place that is answered, where the section was left after the first of these: where a variable has woken the call, one at which this variable stands, and before which it stands nowhere; else what a wait for the notes and counters alone answers, of rounds from then on.
+-- The place that is answered, where a round has shown nothing up to the first of these, and the section was left: where a variable has woken the call, one at which this variable stands, and before which it stands nowhere; else what rounds of looks at the notes and counters answer from then on.
 abbrev pub PlaceBy : Setup → Past → Past → Round → Option ℕ → ℕ → Type 0
 PlaceBy setup mid now round (Some k) place = (item_at round.items place ≡ Some (OnVariable k)) × ((i : ℕ) → i < place → item_at round.items i ≡ Some (OnVariable k) → ⊥)
 PlaceBy setup mid now round None place = AnyAnswers setup mid now round.items round.deadline place
 
--- A wait for condition variables among notes and counters has this answer, and has left its section: there is one among its items. A first round has shown nothing up to a point since the call began; the section was left to wait for just the variables, told by one number below 16, and another has come back, as a wait on the lock for these means it; what rounds have shown of the notes and counters meanwhile, they have from that point on; and the call has done nothing to the counters and once cells.
+-- A wait for condition variables among notes and counters has this answer, and has left its section: there is one among its items. Up to a point since the call began a round has shown nothing; the section was left to wait for just the variables, as the set whose number is below 16, and another has come back, as a wait on the lock for these means it; where no variable has woken the call, rounds from that point on have shown the place; and the call has done nothing to the counters and once cells.
 pub record AnswersOfWaiting {C : Type 0} {N : ℕ} (before : Now C N) (earlier : Past) (setup : Setup) (seat : ℕ) (asked : ObjectWalk) (reply : Reply) (after : Now C N) (later : Past) : Type 0 where
   pub round : Round
   pub is : asked ≡ InRound round FirstClock
@@ -155,7 +156,8 @@ pub record AnswersOfWaiting {C : Type 0} {N : ℕ} (before : Now C N) (earlier :
   pub low : cvs.0 < 16
   pub among : AreAmong cvs (items_of round.items)
   pub by : Option ℕ
-  pub waited : AnswersOfLock before earlier.notes seat (TheRequest.Await (waits_for_any (mode_waited (mode_of (held_at before seat))) cvs)) (WokenBy by) after later.notes
+  pub waited : AnswersOfLock before earlier.notes seat (TheRequest.Await (waits_for_any (mode_waited (mode_of (held_at before seat))) cvs)) (told (WokenBy by)) after later.notes
+  pub woken : waited.answer ≡ WokenBy by
   pub place : ℕ
   pub placed : PlaceBy setup mid later round by place
   pub tells : reply ≡ Number place

@@ -1,12 +1,13 @@
 -- What a call of a world answers, by what its walk does.
+use Rattle.std.specs.Prelude.{Some, None}
 use Rattle.ns_env.specs.declared.reply.EnvReply.{EnvReply}
 use Rattle.ns_env.specs.declared.reply.EnvReply.TheVariants as TheEnv
 use Rattle.ns_word.specs.declared.walk.Reply.{Reply as WalkReply}
 use Rattle.ns_word.specs.declared.walk.Reply.TheVariants as TheWalk
 use Rattle.ns_world.specs.declared.reply.Reply.{Reply}
-use Rattle.ns_world.specs.declared.reply.Reply.TheVariants.{Succeeded, Busy, Noisy, Number, NotesFull, Is, Expiry, Answered, WokenBy}
+use Rattle.ns_world.specs.declared.reply.Reply.TheVariants.{Succeeded, Busy, Noisy, Number, NotesFull, Is, Expiry, Answered}
 
--- what a walk on the lock answers, as the answer of its call
+-- What a walk on the lock answers, as the answer of its call. A wait for any of a set of variables is a part of a call, to which it answers the number of the variable that has woken it, or that it is done where none has.
 abbrev pub told : WalkReply → Reply
 told TheWalk.Succeeded = Succeeded
 told TheWalk.Busy = Busy
@@ -14,7 +15,8 @@ told TheWalk.Noisy = Noisy
 told (TheWalk.Number number) = Number number
 told (TheWalk.Is so) = Is so
 told (TheWalk.Answered answer) = Answered answer
-told (TheWalk.WokenBy by) = WokenBy by
+told (TheWalk.WokenBy (Some k)) = Number k
+told (TheWalk.WokenBy None) = Succeeded
 
 -- what one on the clock and the notes answers, likewise
 abbrev pub env_told : EnvReply → Reply

@@ -171,7 +171,7 @@ pub record Operates {C : Type 0} {N : ℕ} (old new : Whole C N) (seat : ℕ) (s
   pub not_for_lock : is_for_lock (wait_in old.objects.waits seat) walk step ≡ false
   pub same : new.lock ≡ old.lock
 
--- The seat makes the last step of a round, whose call is in no wait on the lock. The round has found nothing, and condition variables are among its objects: the call goes on as a wait on the lock for just these, told by one number below 16, from the section in hand.
+-- The seat makes the last step of a round, whose call is in no wait on the lock. The round has found nothing, and condition variables are among its objects: the call goes on as a wait on the lock for just these, as the set whose number is below 16, from the section in hand.
 pub record BeginsToWait {C : Type 0} {N : ℕ} (old new : Whole C N) (seat : ℕ) (step : Step) : Type 0 where
   pub round : Round
   pub place : RoundPlace

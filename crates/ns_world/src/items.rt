@@ -46,12 +46,12 @@ fn variables_in(items: &[Item]) -> Cvs
 }
 
 /// The place of the first item that is this condition variable, or how many items there are where none is.
-fn place_of(items: &[Item], k: u8) -> usize
+fn place_of(items: &[Item], k: u64) -> usize
     ensures { result ≡ place_in k items.now }
 {
     for (i, item) in items.iter().enumerate() {
         if let Item::OnVariable(j) = *item {
-            if j == k {
+            if j as u64 == k {
                 return i;
             }
         }
@@ -121,7 +121,7 @@ impl Items {
 
     /// The place of the first object that is this condition variable, or how many there are where none is. Needs
     /// that there are at most 16.
-    pub(crate) fn place_of(&self, k: u8) -> u64
+    pub(crate) fn place_of(&self, k: u64) -> u64
         requires { self.now.count ≤ 16 }
         ensures { result ≡ place_in k (items_of self.now) }
     {

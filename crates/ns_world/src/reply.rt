@@ -27,9 +27,6 @@ pub enum Reply {
     Expiry(Option<u64>),
     /// How a wait came back.
     Answered(Answer),
-    /// A wait on the lock for any condition variables of a set came back: the one that woke it, or none. No call
-    /// answers so, since a wait for variables among notes and counters answers a place.
-    WokenBy(Option<u8>),
     /// The call's need was not met as it began. It made no step.
     Misuse,
     /// The change of a counter was refused.
@@ -40,7 +37,9 @@ pub enum Reply {
     Already,
 }
 
-/// What a walk on the lock answers, as the answer of its call.
+/// What a walk on the lock answers, as the answer of its call. A wait for any of a set of condition variables
+/// is a part of a call, to which it answers the number of the variable that has woken it, or that it is done
+/// where none has.
 pub(crate) fn told(reply: ns_word::walk::Reply) -> Reply
     ensures { result ≡ told reply }
 {
@@ -51,7 +50,8 @@ pub(crate) fn told(reply: ns_word::walk::Reply) -> Reply
         ns_word::walk::Reply::Number(number) => Reply::Number(number),
         ns_word::walk::Reply::Is(so) => Reply::Is(so),
         ns_word::walk::Reply::Answered(answer) => Reply::Answered(answer),
-        ns_word::walk::Reply::WokenBy(by) => Reply::WokenBy(by),
+        ns_word::walk::Reply::WokenBy(Some(k)) => Reply::Number(k as u64),
+        ns_word::walk::Reply::WokenBy(None) => Reply::Succeeded,
     }
 }
 
