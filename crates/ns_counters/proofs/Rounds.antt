@@ -1,5 +1,5 @@
 -- Looks behind one another, and rounds of them, when more has happened.
-use Rattle.std.proofs.Common.{◌≡◌, ℕ, zero, suc, Bool, true, false, List, [], ◌∷◌, ◌++◌, inl, inr, ◌⊎◌, Option, None, Some}
+use Rattle.std.proofs.Common.{ℕ, zero, suc, Bool, true, false, List, [], ◌∷◌, ◌++◌, inl, inr, Option, None, Some}
 use Rattle.ns_model.proofs.Beginnings.{begins_itself, begins_through}
 use Rattle.ns_counters.specs.Rounds.{AnswersByRounds, HasShownNone, HasShownOne, HaveShownNothing, InTurn, IsLater, Past, RoundShows}
 
