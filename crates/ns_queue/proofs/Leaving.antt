@@ -2,7 +2,7 @@
 use Rattle.std.proofs.Common.{◌≡◌, ◌≢◌, ℕ, ◌+◌, ◌-◌, ◌≤◌, ◌<◌, inl, inr, Bool, true, false, cond, not, List, [], ◌∷◌, length, drop, filter, get_or, refl, ap, sym, ◌∙◌, arith}
 use Rattle.std.proofs.lemmas.Bool.{cases_Bool, eq-eqb, ne_eqb}
 use Rattle.ns_queue.specs.declared.waiter.Waiter.{Waiter}
-use Rattle.ns_queue.specs.Scans.{foremost_of, is_eligible, is_reader, left_by_writer, left_of, woken_of}
+use Rattle.ns_queue.specs.Scans.{begins_with_reader, is_eligible, left_by_writer, left_of, woken_of}
 use Rattle.ns_queue.specs.Waiters.{seats_of, times_in, without_in, writes}
 use Rattle.ns_queue.proofs.Inside.{times_in-filter}
 use Rattle.ns_queue.proofs.Marking.{drop_step}
@@ -85,4 +85,4 @@ module _ {C : Type 0} where
 
     pub times_left_by_writer : (ws : List (Waiter C)) (seat : ℕ) → times_in seat (left_by_writer meets ws) ≤ times_in seat ws
     times_left_by_writer ws seat =
-        elim (is_reader (foremost_of (woken_of meets ws))) as (λ b. times_in seat (cond b ws (left_of meets ws)) ≤ times_in seat ws) [ true ↦ omega arith | false ↦ times_left ws seat ]
+        elim (begins_with_reader (woken_of meets ws)) as (λ b. times_in seat (cond b ws (left_of meets ws)) ≤ times_in seat ws) [ true ↦ omega arith | false ↦ times_left ws seat ]

@@ -4,8 +4,9 @@ use Rattle.std.specs.Prelude.{unwrap_or}
 use Rattle.std.proofs.lemmas.Bool.{cases_Bool}
 use Rattle.std.proofs.lemmas.List.{append-nil, length-append, length-drop, take-append-drop}
 use Rattle.ns_queue.specs.declared.waiter.Waiter.{Waiter}
-use Rattle.ns_queue.specs.Scans.{foremost_of, is_eligible, is_alike, is_reader, left_by_writer, left_of, tests_of, woken_of}
+use Rattle.ns_queue.specs.Scans.{begins_with_reader, foremost_of, is_eligible, is_alike, left_by_writer, left_of, tests_of, woken_of}
 use Rattle.ns_queue.specs.declared.scan.Foremost.TheVariants.{Nobody, Reader, Writer}
+use Rattle.ns_queue.specs.declared.scan.Sought.{Sought}
 use Rattle.ns_queue.specs.Stages.{asked_for, asking, in_front, needs, stage_next, tests_from, tests_seeking}
 use Rattle.ns_queue.specs.Waiters.{reads, seats_of, without_in, writes}
 use Rattle.ns_queue.proofs.Asking.{Enters, Knows, asking_most, knows_asked, knows_entered, met_entered, taken_asked}
@@ -13,7 +14,7 @@ use Rattle.ns_queue.proofs.RunCounts.{tests_is}
 use Rattle.ns_queue.proofs.Seats.{few}
 use Rattle.ns_queue.proofs.Seeking.{all_sought, few_sought, front_most, goes_along, nobody_taken, tests_found}
 use Rattle.ns_queue.specs.Rings.{behind, from, first_seat, seated, without_all, IsRow}
-use Rattle.ns_queue.specs.Runs.{sought_seat}
+use Rattle.ns_queue.specs.Runs.{sought_of, sought_seat}
 use Rattle.ns_queue.proofs.Leaving.{woken_leave}
 use Rattle.ns_queue.proofs.Places.{cut_at, found, from_none, row_at, stepped}
 
@@ -128,9 +129,9 @@ module _ {C : Type 0} (same : C → C → Bool) (meets : C → Bool) where
     | inr stays ↦ rw stays (ap (λ vs. w ∷ vs) (none_left ws (rw stays at none)))
   ]
 
-  pub nobody_first : (s : ℕ) (ws : List (Waiter C)) → IsRow ws → s ≡ sought_seat meets ws → seated s ws ≡ None → (Nobody ≡ foremost_of (woken_of meets ws)) × (ws ≡ left_by_writer meets ws)
-  nobody_first s ws row is none =
-      let nobody = nobody_taken same meets ws (none_front s ws row is none) in
+  pub nobody_first : (o : Sought) (ws : List (Waiter C)) → IsRow ws → o ≡ sought_of same meets ws → seated o.seat ws ≡ None → (Nobody ≡ foremost_of (sought_of same meets ws) (woken_of meets ws)) × (ws ≡ left_by_writer meets ws)
+  nobody_first o ws row is none =
+      let nobody = nobody_taken same meets ws (none_front o.seat ws row (ap (λ (p : Sought). p.seat) is) none) in
       rw nobody (refl, sym (none_left ws nobody))
 
   first_found : (s : ℕ) (ws : List (Waiter C)) (w : Waiter C) → IsRow ws → s ≡ sought_seat meets ws → seated s ws ≡ Some w → (w.seat ≡ s) × (woken_of meets ws ≡ w ∷ cond (writes w) [] (filter (goes_along meets) (behind s ws)))
@@ -138,19 +139,20 @@ module _ {C : Type 0} (same : C → C → Bool) (meets : C → Bool) where
       let f = found s ws w stands in
       (f.here, (woken_cut ws w (behind s ws) (sought_from s ws row is ∙ f.from_is)).woken)
 
-  pub reader_first : (s : ℕ) (ws : List (Waiter C)) (w : Waiter C) → IsRow ws → s ≡ sought_seat meets ws → seated s ws ≡ Some w → writes w ≡ false → (Reader ≡ foremost_of (woken_of meets ws)) × (ws ≡ left_by_writer meets ws)
-  reader_first s ws w row is stands reader =
-      let f = first_found s ws w row is stands in
-      rw (f.1, reader) (refl, refl)
+  pub reader_first : (o : Sought) (ws : List (Waiter C)) (w : Waiter C) → IsRow ws → o ≡ sought_of same meets ws → seated o.seat ws ≡ Some w → writes w ≡ false → (Reader o ≡ foremost_of (sought_of same meets ws) (woken_of meets ws)) × (ws ≡ left_by_writer meets ws)
+  reader_first o ws w row is stands reader =
+      let f = first_found o.seat ws w row (ap (λ (p : Sought). p.seat) is) stands in
+      rw (f.1, reader) (ap Reader is, refl)
 
-  pub writer_first : (s : ℕ) (via : Option ℕ) (ws left : List (Waiter C)) (w : Waiter C) → IsRow ws → s ≡ sought_seat meets ws → seated s ws ≡ Some w → writes w ≡ true → via ≡ w.via → left ≡ without_in s ws →
-      ((Writer s via) ≡ foremost_of (woken_of meets ws)) × (left ≡ left_by_writer meets ws)
-  writer_first s via ws left w row is stands alone names out =
-      let f = first_found s ws w row is stands in
+  pub writer_first : (o : Sought) (via : Option ℕ) (ws left : List (Waiter C)) (w : Waiter C) → IsRow ws → o ≡ sought_of same meets ws → seated o.seat ws ≡ Some w → writes w ≡ true → via ≡ w.via → left ≡ without_in o.seat ws →
+      ((Writer o.seat via) ≡ foremost_of (sought_of same meets ws) (woken_of meets ws)) × (left ≡ left_by_writer meets ws)
+  writer_first o via ws left w row is stands alone names out =
+      let f = first_found o.seat ws w row (ap (λ (p : Sought). p.seat) is) stands in
       let taken : woken_of meets ws ≡ w ∷ [] = rw alone at f.1 in
-      let first : foremost_of (woken_of meets ws) ≡ Writer w.seat w.via = ap foremost_of taken ∙ ap (λ b. cond b (Writer w.seat w.via) Reader) alone in
-      let stay : left_of meets ws ≡ without_in s ws = sym (woken_leave meets ws row) ∙ ap (λ vs. without_all (seats_of vs) ws) taken ∙ ap (λ n. without_in n ws) f.0 in
-      ((λ i. Writer (sym f.0 i) (names i)) ∙ sym first, out ∙ sym stay ∙ sym (ap (λ o. cond (is_reader o) ws (left_of meets ws)) first))
+      let first : foremost_of (sought_of same meets ws) (woken_of meets ws) ≡ Writer w.seat w.via = ap (foremost_of (sought_of same meets ws)) taken ∙ ap (λ b. cond b (Writer w.seat w.via) (Reader (sought_of same meets ws))) alone in
+      let writer : begins_with_reader (woken_of meets ws) ≡ false = ap begins_with_reader taken ∙ ap not alone in
+      let stay : left_of meets ws ≡ without_in o.seat ws = sym (woken_leave meets ws row) ∙ ap (λ vs. without_all (seats_of vs) ws) taken ∙ ap (λ n. without_in n ws) f.0 in
+      ((λ i. Writer (sym f.0 i) (names i)) ∙ sym first, out ∙ sym stay ∙ sym (ap (λ b. cond b ws (left_of meets ws)) writer))
 
   -- those taken so far, the tests so far, and the rest
   pub record Reads (first : Option C) (truth : Option Bool) (at tests : ℕ) (woken : List ℕ) (ws : List (Waiter C)) : Type 0 where

@@ -9,7 +9,7 @@ use Rattle.ns_queue.specs.Stages.{in_front, tests_seeking}
 use Rattle.ns_queue.proofs.Seats.{few, own_times, times_in-append}
 use Rattle.ns_queue.proofs.Seeking.{Unmet, alike_unmet, at_most_one, front_no, front_yes, seeking_alike, seeking_found, seeking_other, unmet_of}
 use Rattle.ns_queue.specs.Rings.{ahead, behind, from, first_seat, seated, IsRow}
-use Rattle.ns_queue.specs.Runs.{place_of, joins, head_of, RunsOn, sought_seat}
+use Rattle.ns_queue.specs.Runs.{place_of, joins, head_of, RunsOn, sought_of, sought_seat}
 use Rattle.ns_queue.proofs.Hops.{stands_not}
 use Rattle.ns_queue.proofs.Places.{found, from_none, cut_at, own, parted, row_at, row_front, row_own, row_parts}
 use Rattle.ns_queue.proofs.Links.{head_yes, head_no, on_at, on_rest}
@@ -186,23 +186,23 @@ module _ {C : Type 0} (same : C → C → Bool) where
 
     -- somebody is taken
     pub sought_here : (heads lasts : List ℕ) (s tests more : ℕ) (ws : List (Waiter C)) (w : Waiter C) → seated s ws ≡ Some w → is_satisfied meets w.cond ≡ true → more ≡ cond (is_some w.cond) 1 0 → Sought meets heads lasts s tests ws →
-        (s ≡ sought_seat meets ws) × (tests + more ≡ tests_seeking same meets None ws)
+        record { seat = s; tests = tests + more } ≡ sought_of same meets ws
     sought_here heads lasts s tests more ws w is goes counts h =
         let f = found s ws w is in
         let tested = ap (tests_seeking same meets None) f.from_is ∙ seeking_found same meets w (behind s ws) None goes (no_alike w.cond) in
-        let front : from_taken meets (w ∷ behind s ws) ≡ w ∷ behind s ws = rw (front_yes same meets w (behind s ws) goes) refl in (
-          sym (ap (first_seat 64) (sym h.taken ∙ ap (from_taken meets) f.from_is ∙ front) ∙ f.here),
-          omega (arith, counts, tested, h.counted),
-        )
+        let front : from_taken meets (w ∷ behind s ws) ≡ w ∷ behind s ws = rw (front_yes same meets w (behind s ws) goes) refl in
+        let seat : s ≡ sought_seat meets ws = sym (ap (first_seat 64) (sym h.taken ∙ ap (from_taken meets) f.from_is ∙ front) ∙ f.here) in
+        let total : tests + more ≡ tests_seeking same meets None ws = omega (arith, counts, tested, h.counted) in
+        λ i. record { seat = seat i; tests = total i }
 
     -- nobody is taken
-    pub sought_none : (heads lasts : List ℕ) (s tests : ℕ) (ws : List (Waiter C)) → seated s ws ≡ None → Sought meets heads lasts s tests ws → (s ≡ sought_seat meets ws) × (tests ≡ tests_seeking same meets None ws)
+    pub sought_none : (heads lasts : List ℕ) (s tests : ℕ) (ws : List (Waiter C)) → seated s ws ≡ None → Sought meets heads lasts s tests ws → record { seat = s; tests = tests } ≡ sought_of same meets ws
     sought_none heads lasts s tests ws none h =
         let nobody = (from_none s ws none).0 in
-        let over = ap (tests_seeking same meets None) nobody in (
-          h.place ∙ ap (first_seat 64) nobody ∙ sym (ap (first_seat 64) (sym h.taken ∙ ap (from_taken meets) nobody)),
-          omega (arith, over, h.counted),
-        )
+        let over = ap (tests_seeking same meets None) nobody in
+        let seat : s ≡ sought_seat meets ws = h.place ∙ ap (first_seat 64) nobody ∙ sym (ap (first_seat 64) (sym h.taken ∙ ap (from_taken meets) nobody)) in
+        let total : tests ≡ tests_seeking same meets None ws = omega (arith, over, h.counted) in
+        λ i. record { seat = seat i; tests = total i }
 
     pub sought_few : (heads lasts : List ℕ) (s tests : ℕ) (ws : List (Waiter C)) (w : Waiter C) → IsRow ws → seated s ws ≡ Some w → Sought meets heads lasts s tests ws → tests < 64
     sought_few heads lasts s tests ws w row is h =

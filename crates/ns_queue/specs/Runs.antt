@@ -1,9 +1,10 @@
 -- The links of the runs: from each waiter to its run's first, and from that one to the run's last.
 use Rattle.std.specs.Prelude.{◌≡◌, ◌<◌, ℕ, Bool, false, List, [], ◌∷◌, Option, None, Some, if◌then◌else◌, drop, length, slice_index}
+use Rattle.ns_queue.specs.declared.scan.Sought.{Sought}
 use Rattle.ns_queue.specs.declared.waiter.Waiter.{Waiter}
 use Rattle.ns_queue.specs.Waiters.{times_in, without_in}
 use Rattle.ns_queue.specs.Scans.{is_alike}
-use Rattle.ns_queue.specs.Stages.{in_front}
+use Rattle.ns_queue.specs.Stages.{in_front, tests_seeking}
 use Rattle.ns_queue.specs.Rings.{IsRow, ahead, behind, first_seat, from, last_seat}
 
 -- the place of a run's first, or that behind the list where there is no run
@@ -61,6 +62,10 @@ pub record MadeUpTo {C : Type 0} (same : C → C → Bool) (heads lasts : List �
 -- the seat of the first who is taken, or the place behind the list
 abbrev pub sought_seat : {C : Type 0} → (C → Bool) → List (Waiter C) → ℕ
 sought_seat meets ws = first_seat 64 (drop (in_front meets ws) ws)
+
+-- what a search of this list finds: that seat, and how many conditions it has tested then
+abbrev pub sought_of : {C : Type 0} → (C → C → Bool) → (C → Bool) → List (Waiter C) → Sought
+sought_of same meets ws = record { seat = sought_seat meets ws; tests = tests_seeking same meets None ws }
 
 -- a seat was taken out of a list from between two places, and the links of the runs are still those of that list
 pub record WereTaken {C : Type 0} (same : C → C → Bool) (heads lasts : List ℕ) (seat before next : ℕ) (ws : List (Waiter C)) : Type 0 where

@@ -3,6 +3,7 @@ use Rattle.std.specs.Prelude.{ℕ, Bool, true, false, not, ◌&&◌, List, [], �
 use Rattle.std.specs.List.{list_any}
 use Rattle.ns_queue.specs.declared.scan.Foremost.{Foremost}
 use Rattle.ns_queue.specs.declared.scan.Foremost.TheVariants.{Nobody, Reader, Writer}
+use Rattle.ns_queue.specs.declared.scan.Sought.{Sought}
 use Rattle.ns_queue.specs.declared.waiter.Waiter.{Waiter}
 use Rattle.ns_queue.specs.Waiters.{reads, writes}
 
@@ -29,19 +30,19 @@ left_of meets (w ∷ ws) =
     if is_eligible meets w then (if writes w then ws else filter (λ v. not (reads v && is_eligible meets v)) ws)
     else w ∷ left_of meets ws
 
--- Whom a scan takes first, where it takes these: nobody, a writer, whom it takes alone, or a reader, whom others may follow.
-abbrev pub foremost_of : {C : Type 0} → List (Waiter C) → Foremost
-foremost_of [] = Nobody
-foremost_of (w ∷ ws) = if writes w then Writer w.seat w.via else Reader
+-- Whom a scan takes first, where its search finds this and it takes these: nobody, a writer, whom it takes alone, or a reader, whom others may follow.
+abbrev pub foremost_of : {C : Type 0} → Sought → List (Waiter C) → Foremost
+foremost_of sought [] = Nobody
+foremost_of sought (w ∷ ws) = if writes w then Writer w.seat w.via else Reader sought
 
--- whether that is a reader
-abbrev pub is_reader : Foremost → Bool
-is_reader Reader = true
-is_reader _ = false
+-- whether the first of these is a reader
+abbrev pub begins_with_reader : {C : Type 0} → List (Waiter C) → Bool
+begins_with_reader [] = false
+begins_with_reader (w ∷ ws) = reads w
 
 -- Who stays where a scan takes out a writer, and leaves all as they are where it would begin with a reader.
 abbrev pub left_by_writer : {C : Type 0} → (C → Bool) → List (Waiter C) → List (Waiter C)
-left_by_writer meets ws = if is_reader (foremost_of (woken_of meets ws)) then ws else left_of meets ws
+left_by_writer meets ws = if begins_with_reader (woken_of meets ws) then ws else left_of meets ws
 
 -- a waiter, and whether its truth is needed
 pub record Asked (C : Type 0) : Type 0 where

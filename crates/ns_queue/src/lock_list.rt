@@ -3,11 +3,10 @@
 ghost use Rattle.std.specs.Prelude.{◌≡◌, ◌<◌, ◌≤◌, ◌↔◌, ◌&&◌, ◌∷◌, ◌++◌, not, [], IsTrue, None, length, map, slice_index};
 ghost use Rattle.std.specs.Bool.{OnFalse};
 ghost use Rattle.std.specs.List.{list_any};
-ghost use Rattle.ns_queue.specs.Stages.{tests_seeking};
 ghost use Rattle.ns_queue.specs.Scans.{foremost_of, left_by_writer, left_of, runs_of, tests_of, woken_of};
 ghost use Rattle.ns_queue.specs.Waiters.{has_condition, is_long, seats_of, shown_of, times_in, without_in, writes};
 ghost use Rattle.ns_queue.specs.Rings.{IsRow, behind, first_seat, from, without_all};
-ghost use Rattle.ns_queue.specs.Runs.{RunsOn, head_of, last_run, place_of, sought_seat};
+ghost use Rattle.ns_queue.specs.Runs.{RunsOn, head_of, last_run, place_of, sought_of};
 
 use crate::alike::{is_met, joins, tests_for};
 use crate::gather::{gathered, shown_ring, vias_of};
@@ -136,9 +135,7 @@ impl<C: Queueable<N>, const N: usize> LockList<C, N> {
     /// Looks for the first that is taken, from run to run: up to there every condition is false, so
     /// each run's first is tested and its others are passed.
     pub(crate) fn seek(&self, row: &[u64; N]) -> Sought
-        ensures seat { result.seat ≡ sought_seat (λ c. C.means.holds c row.now) self.now }
-        ensures tests { result.tests ≡ tests_seeking C.means.same (λ c. C.means.holds c row.now) None self.now }
-        ensures orderly { IsRow self.now }
+        ensures { result ≡ sought_of C.means.same (λ c. C.means.holds c row.now) self.now }
     {
         let mut seat = self.ring.front();
         let mut tests = 0;
@@ -259,7 +256,7 @@ impl<C: Queueable<N>, const N: usize> LockList<C, N> {
     ///
     /// It tests as a scan does, up to that one.
     pub fn take_writer(&mut self, row: &[u64; N]) -> Foremost
-        ensures told { result ≡ foremost_of (woken_of (λ c. C.means.holds c row.now) self.old) }
+        ensures told { result ≡ foremost_of (sought_of C.means.same (λ c. C.means.holds c row.now) self.old) (woken_of (λ c. C.means.holds c row.now) self.old) }
         ensures left { self.new ≡ left_by_writer (λ c. C.means.holds c row.now) self.old }
     {
         let sought = self.seek(row);
@@ -267,7 +264,7 @@ impl<C: Queueable<N>, const N: usize> LockList<C, N> {
             return Foremost::Nobody;
         };
         if !found.mode.is_write() {
-            return Foremost::Reader;
+            return Foremost::Reader(sought);
         }
         let via = found.via;
         self.remove(sought.seat);
@@ -278,15 +275,18 @@ impl<C: Queueable<N>, const N: usize> LockList<C, N> {
     /// that is true of the row, and if that one reads, every later such reader too. The others stay, in
     /// order.
     ///
-    /// Equivalent conditions of neighbours are tested once, and only where their truth is needed.
-    pub fn scan(&mut self, row: &[u64; N]) -> Scan
+    /// Goes on from the first of them, whom a search found. Equivalent conditions of neighbours are
+    /// tested once, and only where their truth is needed.
+    ///
+    /// Needs what a search of this list finds at this row, as [`LockList::seek`] tells it.
+    pub fn scan_from(&mut self, row: &[u64; N], sought: Sought) -> Scan
+        requires { sought ≡ sought_of C.means.same (λ c. C.means.holds c row.now) self.old }
         ensures woken { result.woken.items ≡ seats_of (woken_of (λ c. C.means.holds c row.now) self.old) }
         ensures vias { result.vias.items ≡ map (λ w. w.via) (woken_of (λ c. C.means.holds c row.now) self.old) }
         ensures left { self.new ≡ left_of (λ c. C.means.holds c row.now) self.old }
         ensures tests { result.tests ≡ tests_of C.means.same (λ c. C.means.holds c row.now) self.old }
         ensures at_most_runs { result.tests ≤ length (runs_of C.means.same (λ w. w.cond) self.old) }
     {
-        let sought = self.seek(row);
         let chosen = choose(&self.ring, sought, row);
         let vias = vias_of(&self.ring, chosen.woken.as_slice());
         // Where nobody is taken, as at most releases, nothing is touched.

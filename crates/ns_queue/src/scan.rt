@@ -3,12 +3,12 @@
 ghost use Rattle.std.specs.Prelude.{◌≡◌, ◌<◌, ◌&&◌, ◌++◌, ◌∷◌, [], None, if◌then◌else◌, true, unwrap_or, ◌≤◌, length, map};
 ghost use Rattle.std.specs.Option.{option_copied};
 ghost use Rattle.arrayvec.specs.ArrayVec.{array_vec_len};
-ghost use Rattle.ns_queue.specs.Stages.{asked_for, asking, tests_seeking};
+ghost use Rattle.ns_queue.specs.Stages.{asked_for, asking};
 ghost use Rattle.ns_queue.specs.Queues.{with_waiters};
 ghost use Rattle.ns_queue.specs.Scans.{foremost_of, left_by_writer, left_of, runs_of, tests_of, woken_of};
 ghost use Rattle.ns_queue.specs.Waiters.{reads, seats_of};
 ghost use Rattle.ns_queue.specs.Rings.{IsRow};
-ghost use Rattle.ns_queue.specs.Runs.{sought_seat};
+ghost use Rattle.ns_queue.specs.Runs.{sought_of};
 
 use crate::alike::{is_alike, is_met, tests_for};
 use crate::queues::Queues;
@@ -36,8 +36,8 @@ pub enum Foremost {
     Nobody,
     /// A writer, of this seat, and the condition variable that it names, if it names one. It goes alone.
     Writer(u8, Option<u8>),
-    /// A reader, whom others may follow.
-    Reader,
+    /// A reader, whom others may follow, and what the search for it found: a scan can go on from there.
+    Reader(Sought),
 }
 
 /// Whom a scan takes, by their seats, in order, and how many conditions were tested to find that out.
@@ -47,10 +47,12 @@ pub(crate) struct Chosen {
     pub(crate) tests: u32,
 }
 
-/// The seat of the first that is taken, or [`crate::ring::END`] where nobody is, and how many
-/// conditions were tested to find that out.
+/// What a search for the first that is taken found: its seat, or [`crate::ring::END`] where nobody is
+/// taken, and how many conditions were tested to find that out.
+///
+/// It is true of the list and the row that were searched, as long as neither changes.
 #[derive(Clone, Copy)]
-pub(crate) struct Sought {
+pub struct Sought {
     pub(crate) seat: u8,
     pub(crate) tests: u32,
 }
@@ -119,8 +121,7 @@ pub(crate) fn choose<C: Queueable<N>, const N: usize>(
     sought: Sought,
     row: &[u64; N],
 ) -> Chosen
-    requires seat { sought.seat ≡ sought_seat (λ c. C.means.holds c row.now) ring.now }
-    requires tests { sought.tests ≡ tests_seeking C.means.same (λ c. C.means.holds c row.now) None ring.now }
+    requires { sought ≡ sought_of C.means.same (λ c. C.means.holds c row.now) ring.now }
     ensures woken { result.woken.items ≡ seats_of (woken_of (λ c. C.means.holds c row.now) ring.now) }
     ensures tests { result.tests ≡ tests_of C.means.same (λ c. C.means.holds c row.now) ring.now }
     ensures orderly { IsRow ring.now }
@@ -154,11 +155,12 @@ pub(crate) fn choose<C: Queueable<N>, const N: usize>(
 
 impl<C: Queueable<N>, const N: usize> Queues<C, N> {
     /// Tells whom a scan at this row takes first, with no list made. A writer, whom a scan takes alone,
-    /// is taken out of the lock list; a reader stays where it stands, and with it all others.
+    /// is taken out of the lock list; a reader stays where it stands, and with it all others, and
+    /// [`Queues::scan_from`] goes on from there.
     ///
     /// It tests as a scan does, up to that one.
     pub fn take_writer(&mut self, row: &[u64; N]) -> Foremost
-        ensures told { result ≡ foremost_of (woken_of (λ c. C.means.holds c row.now) self.old.lock) }
+        ensures told { result ≡ foremost_of (sought_of C.means.same (λ c. C.means.holds c row.now) self.old.lock) (woken_of (λ c. C.means.holds c row.now) self.old.lock) }
         ensures left { self.new ≡ with_waiters self.old Which.Lock (left_by_writer (λ c. C.means.holds c row.now) self.old.lock) }
     {
         self.lock.take_writer(row)
@@ -176,6 +178,23 @@ impl<C: Queueable<N>, const N: usize> Queues<C, N> {
         ensures tests { result.tests ≡ tests_of C.means.same (λ c. C.means.holds c row.now) self.old.lock }
         ensures at_most_runs { result.tests ≤ length (runs_of C.means.same (λ w. w.cond) self.old.lock) }
     {
-        self.lock.scan(row)
+        let sought = self.lock.seek(row);
+        self.scan_from(row, sought)
+    }
+
+    /// The same scan, where its search is done: it goes on from what that found, and tests nothing
+    /// again. The number of tests is still that of the whole scan.
+    ///
+    /// Needs what a search of the lock list as it stands finds at this row, as [`Queues::take_writer`]
+    /// hands it on.
+    pub fn scan_from(&mut self, row: &[u64; N], sought: Sought) -> Scan
+        requires { sought ≡ sought_of C.means.same (λ c. C.means.holds c row.now) self.old.lock }
+        ensures woken { result.woken.items ≡ seats_of (woken_of (λ c. C.means.holds c row.now) self.old.lock) }
+        ensures vias { result.vias.items ≡ map (λ w. w.via) (woken_of (λ c. C.means.holds c row.now) self.old.lock) }
+        ensures left { self.new ≡ with_waiters self.old Which.Lock (left_of (λ c. C.means.holds c row.now) self.old.lock) }
+        ensures tests { result.tests ≡ tests_of C.means.same (λ c. C.means.holds c row.now) self.old.lock }
+        ensures at_most_runs { result.tests ≤ length (runs_of C.means.same (λ w. w.cond) self.old.lock) }
+    {
+        self.lock.scan_from(row, sought)
     }
 }

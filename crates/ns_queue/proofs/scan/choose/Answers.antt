@@ -1,6 +1,7 @@
 use Rattle.std.proofs.Common.{rules, ◌++◌, ◌∷◌, [], inl, inr, ap, sym, ◌∙◌}
 use Rattle.std.specs.Option.{option_copied}
 use Rattle.ns_queue.specs.Waiters.{reads}
+use Rattle.ns_queue.specs.declared.scan.Sought.{Sought}
 use Rattle.ns_queue.proofs.Asking.{Enters}
 use Rattle.ns_queue.proofs.Places.{seated_stands, smaller}
 use Rattle.ns_queue.proofs.Reading.{look_fits, none_taken, reads_end, reads_few, reads_on, reads_start, writer_taken}
@@ -10,26 +11,26 @@ use Rattle.ns_queue.proofs.scan.choose.Goals.{then-not-is_alike, else-not-is_ali
 pub returns-in_default-clause-woken : goal.returns-in_default-clause-woken
 returns-in_default-clause-woken g c =
     let meets = λ (d : g.row.C.Denot). g.C.Condition.means.holds d c.args.row.now in
-    c.new-woken.ensures ∙ (none_taken g.C.Condition.means.same meets c.args.sought.seat c.args.sought.tests c.args.ring.now c.get.ensures.orderly c.requires.seat (sym c.in_default.ensures.waiter) c.requires.tests).0
+    c.new-woken.ensures ∙ (none_taken g.C.Condition.means.same meets c.args.sought.seat c.args.sought.tests c.args.ring.now c.get.ensures.orderly (ap (λ (o : Sought). o.seat) c.requires) (sym c.in_default.ensures.waiter) (ap (λ (o : Sought). o.tests) c.requires)).0
 
 pub returns-in_default-clause-tests : goal.returns-in_default-clause-tests
 returns-in_default-clause-tests g c =
     let meets = λ (d : g.row.C.Denot). g.C.Condition.means.holds d c.args.row.now in
-    (none_taken g.C.Condition.means.same meets c.args.sought.seat c.args.sought.tests c.args.ring.now c.get.ensures.orderly c.requires.seat (sym c.in_default.ensures.waiter) c.requires.tests).1
+    (none_taken g.C.Condition.means.same meets c.args.sought.seat c.args.sought.tests c.args.ring.now c.get.ensures.orderly (ap (λ (o : Sought). o.seat) c.requires) (sym c.in_default.ensures.waiter) (ap (λ (o : Sought). o.tests) c.requires)).1
 
 pub returns-then-is_write-clause-woken : goal.returns-then-is_write-clause-woken
 returns-then-is_write-clause-woken g c =
     let meets = λ (d : g.row.C.Denot). g.C.Condition.means.holds d c.args.row.now in
     let got = c.push.ensures.items ∙ ap (λ vs. vs ++ c.args.sought.seat ∷ []) c.new-woken.ensures in
     (writer_taken g.C.Condition.means.same meets (λ d e is. g.met.C.Condition.same_agrees d e c.args.row.now c.told-row is) c.args.sought.seat c.args.sought.tests _ c.args.ring.now c.in-Some.found.now
-    c.get.ensures.orderly c.requires.seat (sym c.in-Some.ensures.waiter) c.requires.tests (sym c.is_write.ensures ∙ c.if-is_write.true) got).0
+    c.get.ensures.orderly (ap (λ (o : Sought). o.seat) c.requires) (sym c.in-Some.ensures.waiter) (ap (λ (o : Sought). o.tests) c.requires) (sym c.is_write.ensures ∙ c.if-is_write.true) got).0
 
 pub returns-then-is_write-clause-tests : goal.returns-then-is_write-clause-tests
 returns-then-is_write-clause-tests g c =
     let meets = λ (d : g.row.C.Denot). g.C.Condition.means.holds d c.args.row.now in
     let got = c.push.ensures.items ∙ ap (λ vs. vs ++ c.args.sought.seat ∷ []) c.new-woken.ensures in
     (writer_taken g.C.Condition.means.same meets (λ d e is. g.met.C.Condition.same_agrees d e c.args.row.now c.told-row is) c.args.sought.seat c.args.sought.tests _ c.args.ring.now c.in-Some.found.now
-    c.get.ensures.orderly c.requires.seat (sym c.in-Some.ensures.waiter) c.requires.tests (sym c.is_write.ensures ∙ c.if-is_write.true) got).1
+    c.get.ensures.orderly (ap (λ (o : Sought). o.seat) c.requires) (sym c.in-Some.ensures.waiter) (ap (λ (o : Sought). o.tests) c.requires) (sym c.is_write.ensures ∙ c.if-is_write.true) got).1
 
 pub next-at-requires : goal.next-at-requires
 next-at-requires g c = (search rules, seated_stands c.args.sought.seat c.args.ring.now c.in-Some.found.now (sym c.in-Some.ensures.waiter))
@@ -39,7 +40,7 @@ loop-waiter-init g c =
     let meets = λ (d : g.row.C.Denot). g.C.Condition.means.holds d c.args.row.now in
     let got = c.push.ensures.items ∙ ap (λ vs. vs ++ c.args.sought.seat ∷ []) c.new-woken.ensures in
     reads_start g.C.Condition.means.same meets (λ d e is. g.met.C.Condition.same_agrees d e c.args.row.now c.told-row is) c.args.sought.seat c.args.sought.tests c.next-at.result _ (option_copied c.as_ref-first.result) c.args.ring.now c.in-Some.found.now
-    c.get.ensures.orderly c.requires.seat (sym c.in-Some.ensures.waiter) c.requires.tests (sym c.is_write.ensures ∙ c.if-is_write.false) got c.as_ref-first.ensures.value c.next-at.ensures
+    c.get.ensures.orderly (ap (λ (o : Sought). o.seat) c.requires) (sym c.in-Some.ensures.waiter) (ap (λ (o : Sought). o.tests) c.requires) (sym c.is_write.ensures ∙ c.if-is_write.false) got c.as_ref-first.ensures.value c.next-at.ensures
 
 pub overflow_add-tests : goal.overflow_add-tests
 overflow_add-tests g c =

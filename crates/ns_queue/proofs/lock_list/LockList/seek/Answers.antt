@@ -19,21 +19,13 @@ overflow_add-tests g c =
     let low = sought_few g.C.Condition.means.same meets (λ d e is. g.met.C.Condition.same_agrees d e c.args.row.now c.told-row is) _ _ c.loop-waiter.seat c.loop-waiter.tests c.self.inside.ring w c.front-seat.ensures.orderly (sym c.in-Some.ensures.waiter) c.loop-waiter.invariant in
     tests_fit c.loop-waiter.tests c.tests_for-tests.result (has_condition w) low (counted g.C.Condition.means.same meets w.cond (option_copied c.as_ref-cond.result) c.tests_for-tests.result c.as_ref-cond.ensures.value c.tests_for-tests.ensures)
 
-pub returns-then-is_met-clause-seat : goal.returns-then-is_met-clause-seat
-returns-then-is_met-clause-seat g c =
+pub returns-then-is_met : goal.returns-then-is_met
+returns-then-is_met g c =
     let meets = λ (d : g.row.C.Denot). g.C.Condition.means.holds d c.args.row.now in
     let same = g.C.Condition.means.same in
     let w = c.in-Some.waiter.now in
     let met = answered same meets w.cond (option_copied c.as_ref-cond.result) c.is_met.result true c.as_ref-cond.ensures.value c.is_met.ensures c.if-is_met.true in
-    rw (← c.self.view_is) (sought_here same meets (λ d e is. g.met.C.Condition.same_agrees d e c.args.row.now c.told-row is) _ _ c.loop-waiter.seat c.loop-waiter.tests c.tests_for-tests.result c.self.inside.ring w (sym c.in-Some.ensures.waiter) met (counted g.C.Condition.means.same meets w.cond (option_copied c.as_ref-cond.result) c.tests_for-tests.result c.as_ref-cond.ensures.value c.tests_for-tests.ensures) c.loop-waiter.invariant).0
-
-pub returns-then-is_met-clause-tests : goal.returns-then-is_met-clause-tests
-returns-then-is_met-clause-tests g c =
-    let meets = λ (d : g.row.C.Denot). g.C.Condition.means.holds d c.args.row.now in
-    let same = g.C.Condition.means.same in
-    let w = c.in-Some.waiter.now in
-    let met = answered same meets w.cond (option_copied c.as_ref-cond.result) c.is_met.result true c.as_ref-cond.ensures.value c.is_met.ensures c.if-is_met.true in
-    rw (← c.self.view_is) (sought_here same meets (λ d e is. g.met.C.Condition.same_agrees d e c.args.row.now c.told-row is) _ _ c.loop-waiter.seat c.loop-waiter.tests c.tests_for-tests.result c.self.inside.ring w (sym c.in-Some.ensures.waiter) met (counted g.C.Condition.means.same meets w.cond (option_copied c.as_ref-cond.result) c.tests_for-tests.result c.as_ref-cond.ensures.value c.tests_for-tests.ensures) c.loop-waiter.invariant).1
+    rw (← c.self.view_is) (sought_here same meets (λ d e is. g.met.C.Condition.same_agrees d e c.args.row.now c.told-row is) _ _ c.loop-waiter.seat c.loop-waiter.tests c.tests_for-tests.result c.self.inside.ring w (sym c.in-Some.ensures.waiter) met (counted g.C.Condition.means.same meets w.cond (option_copied c.as_ref-cond.result) c.tests_for-tests.result c.as_ref-cond.ensures.value c.tests_for-tests.ensures) c.loop-waiter.invariant)
 
 pub beyond-seat-requires : goal.beyond-seat-requires
 beyond-seat-requires g c =
@@ -55,12 +47,7 @@ loop-waiter-preserved g c =
     sought_on same meets (λ d e is. g.met.C.Condition.same_agrees d e c.args.row.now c.told-row is) c.self.inside.heads c.self.inside.lasts c.loop-waiter.seat c.loop-waiter.tests c.tests_for-tests.result c.beyond-seat.result c.self.inside.ring w
     (start_link same c.self.inside.heads c.self.inside.lasts c.self.inside.ring c.self.invariant.on) r unmet (counted same meets w.cond (option_copied c.as_ref-cond.result) c.tests_for-tests.result c.as_ref-cond.ensures.value c.tests_for-tests.ensures) c.beyond-seat.ensures c.loop-waiter.invariant
 
-pub returns-clause-seat : goal.returns-clause-seat
-returns-clause-seat g c =
+pub returns : goal.returns
+returns g c =
     let meets = λ (d : g.row.C.Denot). g.C.Condition.means.holds d c.args.row.now in
-    rw (← c.self.view_is) (sought_none g.C.Condition.means.same meets (λ d e is. g.met.C.Condition.same_agrees d e c.args.row.now c.told-row is) _ _ c.loop-waiter.seat c.loop-waiter.tests c.self.inside.ring (sym c.in_default.ensures.waiter) c.loop-waiter.invariant).0
-
-pub returns-clause-tests : goal.returns-clause-tests
-returns-clause-tests g c =
-    let meets = λ (d : g.row.C.Denot). g.C.Condition.means.holds d c.args.row.now in
-    rw (← c.self.view_is) (sought_none g.C.Condition.means.same meets (λ d e is. g.met.C.Condition.same_agrees d e c.args.row.now c.told-row is) _ _ c.loop-waiter.seat c.loop-waiter.tests c.self.inside.ring (sym c.in_default.ensures.waiter) c.loop-waiter.invariant).1
+    rw (← c.self.view_is) (sought_none g.C.Condition.means.same meets (λ d e is. g.met.C.Condition.same_agrees d e c.args.row.now c.told-row is) _ _ c.loop-waiter.seat c.loop-waiter.tests c.self.inside.ring (sym c.in_default.ensures.waiter) c.loop-waiter.invariant)

@@ -5,33 +5,33 @@ use Rattle.ns_queue.proofs.lock_list.LockList.take_writer.Goals as goal
 pub returns-in_default-clause-told : goal.returns-in_default-clause-told
 returns-in_default-clause-told g c =
     let meets = λ (d : g.row.C.Denot). g.C.Condition.means.holds d c.args.row.now in
-    rw (← c.self.view_is) (nobody_first g.C.Condition.means.same meets c.seek-sought.result.seat c.self.inside.ring c.get.ensures.orderly (rw (← c.self.view_is) at c.seek-sought.ensures.seat) (sym c.in_default.ensures.waiter)).0
+    rw (← c.self.view_is) (nobody_first g.C.Condition.means.same meets c.seek-sought.result c.self.inside.ring c.get.ensures.orderly (rw (← c.self.view_is) at c.seek-sought.ensures) (sym c.in_default.ensures.waiter)).0
 
 pub returns-in_default-clause-left : goal.returns-in_default-clause-left
 returns-in_default-clause-left g c =
     let meets = λ (d : g.row.C.Denot). g.C.Condition.means.holds d c.args.row.now in
-    rw (← c.self.view_is) (nobody_first g.C.Condition.means.same meets c.seek-sought.result.seat c.self.inside.ring c.get.ensures.orderly (rw (← c.self.view_is) at c.seek-sought.ensures.seat) (sym c.in_default.ensures.waiter)).1
+    rw (← c.self.view_is) (nobody_first g.C.Condition.means.same meets c.seek-sought.result c.self.inside.ring c.get.ensures.orderly (rw (← c.self.view_is) at c.seek-sought.ensures) (sym c.in_default.ensures.waiter)).1
 
 pub returns-then-not-is_write-clause-told : goal.returns-then-not-is_write-clause-told
 returns-then-not-is_write-clause-told g c =
     let meets = λ (d : g.row.C.Denot). g.C.Condition.means.holds d c.args.row.now in
     let reader = sym c.is_write.ensures ∙ c.if-not-is_write.true in
-    rw (← c.self.view_is) (reader_first g.C.Condition.means.same meets c.seek-sought.result.seat c.self.inside.ring c.in-Some.found.now c.get.ensures.orderly (rw (← c.self.view_is) at c.seek-sought.ensures.seat) (sym c.in-Some.ensures.waiter) reader).0
+    rw (← c.self.view_is) (reader_first g.C.Condition.means.same meets c.seek-sought.result c.self.inside.ring c.in-Some.found.now c.get.ensures.orderly (rw (← c.self.view_is) at c.seek-sought.ensures) (sym c.in-Some.ensures.waiter) reader).0
 
 pub returns-then-not-is_write-clause-left : goal.returns-then-not-is_write-clause-left
 returns-then-not-is_write-clause-left g c =
     let meets = λ (d : g.row.C.Denot). g.C.Condition.means.holds d c.args.row.now in
     let reader = sym c.is_write.ensures ∙ c.if-not-is_write.true in
-    rw (← c.self.view_is) (reader_first g.C.Condition.means.same meets c.seek-sought.result.seat c.self.inside.ring c.in-Some.found.now c.get.ensures.orderly (rw (← c.self.view_is) at c.seek-sought.ensures.seat) (sym c.in-Some.ensures.waiter) reader).1
+    rw (← c.self.view_is) (reader_first g.C.Condition.means.same meets c.seek-sought.result c.self.inside.ring c.in-Some.found.now c.get.ensures.orderly (rw (← c.self.view_is) at c.seek-sought.ensures) (sym c.in-Some.ensures.waiter) reader).1
 
 pub returns-clause-told : goal.returns-clause-told
 returns-clause-told g c =
     let meets = λ (d : g.row.C.Denot). g.C.Condition.means.holds d c.args.row.now in
     let alone = sym c.is_write.ensures ∙ c.if-not-is_write.false in
-    rw (← c.self.view_is) (writer_first g.C.Condition.means.same meets c.seek-sought.result.seat c.in-Some.found.now.via c.self.inside.ring _ c.in-Some.found.now c.get.ensures.orderly (rw (← c.self.view_is) at c.seek-sought.ensures.seat) (sym c.in-Some.ensures.waiter) alone refl (rw (← c.self.view_is) at c.remove.ensures.removed)).0
+    rw (← c.self.view_is) (writer_first g.C.Condition.means.same meets c.seek-sought.result c.in-Some.found.now.via c.self.inside.ring _ c.in-Some.found.now c.get.ensures.orderly (rw (← c.self.view_is) at c.seek-sought.ensures) (sym c.in-Some.ensures.waiter) alone refl (rw (← c.self.view_is) at c.remove.ensures.removed)).0
 
 pub returns-clause-left : goal.returns-clause-left
 returns-clause-left g c =
     let meets = λ (d : g.row.C.Denot). g.C.Condition.means.holds d c.args.row.now in
     let alone = sym c.is_write.ensures ∙ c.if-not-is_write.false in
-    rw (← c.self.view_is) (writer_first g.C.Condition.means.same meets c.seek-sought.result.seat c.in-Some.found.now.via c.self.inside.ring _ c.in-Some.found.now c.get.ensures.orderly (rw (← c.self.view_is) at c.seek-sought.ensures.seat) (sym c.in-Some.ensures.waiter) alone refl (rw (← c.self.view_is) at c.remove.ensures.removed)).1
+    rw (← c.self.view_is) (writer_first g.C.Condition.means.same meets c.seek-sought.result c.in-Some.found.now.via c.self.inside.ring _ c.in-Some.found.now c.get.ensures.orderly (rw (← c.self.view_is) at c.seek-sought.ensures) (sym c.in-Some.ensures.waiter) alone refl (rw (← c.self.view_is) at c.remove.ensures.removed)).1

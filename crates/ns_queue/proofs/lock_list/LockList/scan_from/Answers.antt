@@ -1,9 +1,15 @@
-use Rattle.std.proofs.Common.{ap, map, ◌∙◌}
+use Rattle.std.proofs.Common.{rules, ap, map, ◌∙◌}
 use Rattle.ns_queue.proofs.RunCounts.{tests_most}
 use Rattle.ns_queue.specs.Rings.{seated, via_in, without_all}
 use Rattle.ns_queue.proofs.Leaving.{woken_leave}
 use Rattle.ns_queue.proofs.Vias.{vias_woken}
-use Rattle.ns_queue.proofs.lock_list.LockList.scan.Goals as goal
+use Rattle.ns_queue.proofs.lock_list.LockList.scan_from.Goals as goal
+
+pub choose-chosen-requires : goal.choose-chosen-requires
+choose-chosen-requires g c = (search rules, (search rules, rw (← c.self.view_is) at c.requires))
+
+pub returns-clause-woken : goal.returns-clause-woken
+returns-clause-woken g c = rw (← c.self.view_is) c.choose-chosen.ensures.woken
 
 pub returns-clause-left : goal.returns-clause-left
 returns-clause-left g c =

@@ -1,0 +1,25 @@
+use Rattle.std.proofs.Common.{rules, refl}
+use Rattle.ns_queue.proofs.Inside.{lock_lessened}
+use Rattle.ns_queue.proofs.Leaving.{times_left}
+use Rattle.ns_queue.proofs.queues.Queues.scan_from.Goals as goal
+
+pub invariant_of-self : goal.invariant_of-self
+invariant_of-self g c = lock_lessened _ _ _ c.self.invariant (λ seat. rw c.scan_from.ensures.left (times_left (λ d. g.C.Condition.means.holds d c.args.row.now) c.self.inside.lock seat))
+
+pub scan_from-requires : goal.scan_from-requires
+scan_from-requires g c = (search rules, (search rules, rw (← c.self.view_is) at c.requires))
+
+pub returns-clause-woken : goal.returns-clause-woken
+returns-clause-woken g c = rw (← c.self.view_is) c.scan_from.ensures.woken
+
+pub returns-clause-left : goal.returns-clause-left
+returns-clause-left g c = rw (← c.self.view_is, c.scan_from.ensures.left) refl
+
+pub returns-clause-tests : goal.returns-clause-tests
+returns-clause-tests g c = rw (← c.self.view_is) c.scan_from.ensures.tests
+
+pub returns-clause-at_most_runs : goal.returns-clause-at_most_runs
+returns-clause-at_most_runs g c = rw (← c.self.view_is) c.scan_from.ensures.at_most_runs
+
+pub returns-clause-vias : goal.returns-clause-vias
+returns-clause-vias g c = rw (← c.self.view_is) c.scan_from.ensures.vias
