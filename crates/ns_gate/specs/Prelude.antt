@@ -8,7 +8,7 @@ pub use Rattle.ns_gate.specs.Meetings.{HasLearned, HaveLearned, HaveMet, ShareTh
 pub use Rattle.ns_gate.specs.Performing.{IsOnWord, IsTurned, Needs}
 pub use Rattle.ns_gate.specs.Showing.{ShowsLists}
 pub use Rattle.ns_gate.specs.Steps.{CameByGuess, CanStep, Carries, HasGuessed, HasLooked, HasMadeBoth, HasStepped, HasUnchangedQueues, HasUseFor, IsExchange, IsLoad, IsOwedNext, IsPlainExchange, IsStoreOf, MayBegin, MayExchange, MayGuess, MayLoad, MayStore, Performed, PerformedBoth, PerformedWith, WantsNext, act_by, act_of, act_returning, carried_by, content_by, course_by, first_said, found_returned, lists_returned, lists_scanned, made_by, next_owed, some_returned, the, tried, tried_for, walk_by, word_at, word_returning}
-pub use Rattle.ns_gate.specs.Wakes.{lists_left, lists_woken, owed_woken, scanned_writer, taken_from, turned_to, wake_told, without_each, woken_nobody, woken_sole}
+pub use Rattle.ns_gate.specs.Wakes.{lists_left, lists_woken, owed_woken, scanned_writer, sought_at, taken_from, turned_to, wake_told, without_each, woken_nobody, woken_sole}
 pub use Rattle.ns_model.specs.Beginnings.{BeginsWith}
 pub use Rattle.ns_model.specs.Environments.{IsMade}
 pub use Rattle.ns_model.specs.Histories.{IsBySeats, Standing, row_after, standing_after}
@@ -24,7 +24,7 @@ pub use Rattle.ns_model.specs.declared.event.Exit.TheVariants.{CondWait}
 pub use Rattle.ns_model.specs.declared.event.Mode.{Mode}
 pub use Rattle.ns_model.specs.declared.event.Mode.TheVariants.{Read, Write}
 pub use Rattle.ns_queue.specs.Queues.{IsOrderly, Lists, times, waiters_of, with_waiters, without}
-pub use Rattle.ns_queue.specs.Scans.{foremost_of, is_eligible, is_reader, is_satisfied, left_of, tests_of, woken_of}
+pub use Rattle.ns_queue.specs.Scans.{begins_with_reader, foremost_of, is_eligible, is_satisfied, left_of, tests_of, woken_of}
 pub use Rattle.ns_queue.specs.Waiters.{HaveSeats, has_condition, reads, seats_of, times_in, writes}
 pub use Rattle.ns_queue.specs.declared.waiter.Waiter.{Waiter}
 pub use Rattle.ns_word.specs.declared.wait.Home.{Home}

@@ -1,12 +1,14 @@
 -- What a signal or a broadcast makes of the lists in hand, and a scan that takes nobody, or a writer alone.
-use Rattle.std.specs.Prelude.{ℕ, Bool, false, if◌then◌else◌, List, [], ◌∷◌, Option, None, Some}
+use Rattle.std.specs.Prelude.{ℕ, Bool, false, if◌then◌else◌, List, [], ◌∷◌, Option, None, Some, Result, Ok, Err}
 use Rattle.std.specs.Option.{option_map}
 use Rattle.ns_gate.specs.declared.queues.Turned.{Turned}
 use Rattle.ns_model.specs.Truths.{Truths}
+use Rattle.ns_queue.specs.declared.scan.Sought.{Sought}
 use Rattle.ns_queue.specs.declared.waiter.Waiter.{Waiter}
 use Rattle.ns_queue.specs.declared.waiter.Which.TheVariants.{Cv}
 use Rattle.ns_queue.specs.Queues.{Lists, cvs_without, waiters_of, without}
-use Rattle.ns_queue.specs.Scans.{foremost_of, is_reader, left_of, woken_of}
+use Rattle.ns_queue.specs.Runs.{sought_of}
+use Rattle.ns_queue.specs.Scans.{begins_with_reader, left_of, woken_of}
 use Rattle.ns_queue.specs.Signals.{sole_of, taken_set}
 use Rattle.ns_word.specs.Owed.{value_of, wakes_of}
 use Rattle.ns_word.specs.declared.owed.Owed.{Owed}
@@ -35,11 +37,15 @@ abbrev pub wake_told : {C : Type 0} → List (Waiter C) → Option Owed
 wake_told [] = None
 wake_told (w ∷ ws) = Some (record { seat = w.seat; value = value_of w.via })
 
--- What the hand has made of the queues by a scan at this row that takes nobody, or a writer alone, and the wake that is owed then; nothing where a scan takes a reader.
-abbrev pub scanned_writer : {C : Type 0} → Truths C → List ℕ → Lists C → Option (Option Owed × Turned)
+-- what a search of the lock list finds at this row
+abbrev pub sought_at : {C : Type 0} → Truths C → List ℕ → Lists C → Sought
+sought_at truths row lists = sought_of truths.same (meets_at truths row) lists.lock
+
+-- What the hand has made of the queues by a scan at this row that takes nobody, or a writer alone, and the wake that is owed then; where a scan takes a reader, what its search finds.
+abbrev pub scanned_writer : {C : Type 0} → Truths C → List ℕ → Lists C → Result (Option Owed × Turned) Sought
 scanned_writer truths row lists = let woken = woken_of (meets_at truths row) lists.lock in
-    if is_reader (foremost_of woken) then None
-    else Some (wake_told woken, record { some = has_some woken; bits = bits_of (left_of (meets_at truths row) lists.lock) })
+    if begins_with_reader woken then Err (sought_at truths row lists)
+    else Ok (wake_told woken, record { some = has_some woken; bits = bits_of (left_of (meets_at truths row) lists.lock) })
 
 -- what a call that wakes has made of the queues where just one waits for the variable, with that one beside: it takes it, and they are as `lists_woken`. Else it has made nothing of them.
 abbrev pub woken_sole : {C : Type 0} → Waking → ℕ → Bool → Lists C → Option (Waiter C × Turned)

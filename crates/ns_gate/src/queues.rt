@@ -1,14 +1,14 @@
 //! The steps on the waiter queues, and what is done to the queues in a hand between them.
 
-ghost use Rattle.std.specs.Prelude.{◌≡◌, ◌<◌, ⊤, map, IfErr, IfSome, None};
-ghost use Rattle.ns_gate.specs.Prelude.{stands_at, times, woken_of, tests_of, seats_of, IsPackable, row_in, bits_of, IsInRange, changed, meets_at, waited_in, CanStep, Carries, HasUnchangedQueues, Performed, act_returning, found_returned, lists_returned, lists_scanned, scanned_writer, some_returned, the, tried, tried_for, word_returning};
+ghost use Rattle.std.specs.Prelude.{◌≡◌, ◌<◌, ⊤, map, IfErr, IfOk, None};
+ghost use Rattle.ns_gate.specs.Prelude.{stands_at, times, woken_of, tests_of, seats_of, IsPackable, row_in, bits_of, IsInRange, changed, meets_at, waited_in, CanStep, Carries, HasUnchangedQueues, Performed, act_returning, found_returned, lists_returned, lists_scanned, scanned_writer, some_returned, sought_at, the, tried, tried_for, word_returning};
 
 use crate::gate::{Gate, GateSeat};
 use ns_model::condition::Condition;
 use ns_model::event::Mode;
 use ns_queue::queues::Queues;
 use ns_queue::room::Queueable;
-use ns_queue::scan::{Foremost, Scan};
+use ns_queue::scan::{Foremost, Scan, Sought};
 use ns_word::act::{Act, Change};
 use ns_word::hand::{bits, leave_self, queue_self, scan_and_queue};
 use ns_word::number::LockWord;
@@ -168,40 +168,48 @@ impl<C: Condition<N>, const N: usize> Gate<C, N> {
 
     /// Takes out of the lock list in hand the writer whom a scan at this row wakes, if it wakes one, who
     /// then goes alone. Tells the wake that is owed to that one, and what the hand has made of the
-    /// queues; where a scan takes nobody, there is no wake. Where a scan takes readers, answers nothing,
-    /// and the queues stay as they stood.
+    /// queues; where a scan takes nobody, there is no wake. Where a scan takes readers, tells what the
+    /// search for the first of them found, and the queues stay as they stood:
+    /// [`Gate::scan_from_in_hand`] goes on from there.
     ///
     /// Needs a seat of this gate, which has the queues in hand as they stood.
     pub fn scan_writer_in_hand(
         &self,
         seat: &mut GateSeat<C, N>,
         row: &[u64; N],
-    ) -> Option<(Option<Owed>, Turned)>
+    ) -> Result<(Option<Owed>, Turned), Sought>
         requires of { seat.old.table_id ≡ self.now }
         requires has { HasUnchangedQueues seat.old.me }
         ensures seat { (seat.new.table_id ≡ seat.old.table_id) × (seat.new.me.0 ≡ seat.old.me.0) }
         ensures told { result ≡ scanned_writer C.means row.now (the seat.old.me.0).stood }
-        ensures lists { IfSome result (λ _. Carries (lists_scanned C.means row.now (the seat.old.me.0).stood) seat.new.me) }
-        ensures still { result ≡ None → HasUnchangedQueues seat.new.me }
+        ensures lists { IfOk result (λ _. Carries (lists_scanned C.means row.now (the seat.old.me.0).stood) seat.new.me) }
+        ensures still { IfErr result (λ _. HasUnchangedQueues seat.new.me) }
     {
         let queues = seat.slot_mut(&self.table.shared, 0);
         match queues.take_writer(row) {
-            Foremost::Reader => None,
-            Foremost::Nobody => Some((None, turned_with(queues, false))),
+            Foremost::Reader(sought) => Err(sought),
+            Foremost::Nobody => Ok((None, turned_with(queues, false))),
             Foremost::Writer(number, via) => {
                 let wake = called_one(number, via);
-                Some((Some(wake), turned_with(queues, true)))
+                Ok((Some(wake), turned_with(queues, true)))
             }
         }
     }
 
-    /// Takes out of the lock list in hand those whom a scan at this row wakes. Tells whom it took, and
-    /// what the lock list holds then.
+    /// Takes out of the lock list in hand those whom a scan at this row wakes, from the first on, whom a
+    /// search has found. Tells whom it took, and what the lock list holds then.
     ///
-    /// Needs a seat of this gate, which has the queues in hand as they stood.
-    pub fn scan_in_hand(&self, seat: &mut GateSeat<C, N>, row: &[u64; N]) -> (Scan, Bits)
+    /// Needs a seat of this gate, which has the queues in hand as they stood, and what a search of their
+    /// lock list finds at this row, as [`Gate::scan_writer_in_hand`] tells it.
+    pub fn scan_from_in_hand(
+        &self,
+        seat: &mut GateSeat<C, N>,
+        row: &[u64; N],
+        sought: Sought,
+    ) -> (Scan, Bits)
         requires of { seat.old.table_id ≡ self.now }
         requires has { HasUnchangedQueues seat.old.me }
+        requires found { sought ≡ sought_at C.means row.now (the seat.old.me.0).stood }
         ensures seat { (seat.new.table_id ≡ seat.old.table_id) × (seat.new.me.0 ≡ seat.old.me.0) }
         ensures woken { result.0.woken.items ≡ seats_of (woken_of (meets_at C.means row.now) (the seat.old.me.0).stood.lock) }
         ensures vias { result.0.vias.items ≡ map (λ w. w.via) (woken_of (meets_at C.means row.now) (the seat.old.me.0).stood.lock) }
@@ -210,12 +218,13 @@ impl<C: Condition<N>, const N: usize> Gate<C, N> {
         ensures bits { result.1 ≡ bits_of (lists_scanned C.means row.now (the seat.old.me.0).stood).lock }
     {
         let queues = seat.slot_mut(&self.table.shared, 0);
-        let scan = queues.scan(row);
+        let scan = queues.scan_from(row, sought);
         (scan, bits(queues))
     }
 
-    /// The same, and then puts a wait of the seat of this number into its list, or into those of all its
-    /// variables.
+    /// Takes out of the lock list in hand those whom a scan at this row wakes, and then puts a wait of the
+    /// seat of this number into its list, or into those of all its variables. Tells whom it took, and what
+    /// the lock list holds then.
     ///
     /// Needs a seat of this gate, which has the queues in hand as they stood; a wait for variables that there
     /// are, at least one, if it is for any; and a number below 64, whose seat stands in no list.

@@ -1,25 +1,30 @@
-use Rattle.std.proofs.Common.{rules, ap, map, ◌∙◌}
-use Rattle.ns_gate.specs.Prelude.{bits_of, lists_scanned, meets_at, the}
+use Rattle.std.proofs.Common.{rules, ap, map, sym, ◌∙◌}
+use Rattle.ns_gate.specs.Prelude.{bits_of, lists_scanned, meets_at, sought_at, the}
 use Rattle.ns_gate.proofs.Findings.{has_slot, now_in_hand, was_in_hand}
 use Rattle.ns_queue.specs.Scans.{tests_of, woken_of}
 use Rattle.ns_queue.specs.declared.waiter.Waiter.{Waiter}
-use Rattle.ns_gate.proofs.gate.Gate.scan_in_hand.Goals as goal
+use Rattle.ns_gate.proofs.gate.Gate.scan_from_in_hand.Goals as goal
 
 pub slot_mut-queues-requires : goal.slot_mut-queues-requires
 slot_mut-queues-requires g c = (search rules, has_slot _ _ c.requires.has)
 
+pub scan_from-scan-requires : goal.scan_from-scan-requires
+scan_from-scan-requires g c =
+    let was = was_in_hand _ _ c.args.seat.now.me.1 c.requires.has c.slot_mut-queues.ensures.value in
+    (search rules, (search rules, c.requires.found ∙ ap (sought_at g.C.Condition.means c.args.row.now) (sym was)))
+
 pub returns-clause-bits : goal.returns-clause-bits
-returns-clause-bits g c = c.bits.ensures ∙ ap (λ lists. bits_of lists.lock) (c.scan-scan.ensures.left ∙ ap (λ lists. lists_scanned g.C.Condition.means c.args.row.now lists) (was_in_hand _ _ c.args.seat.now.me.1 c.requires.has c.slot_mut-queues.ensures.value))
+returns-clause-bits g c = c.bits.ensures ∙ ap (λ lists. bits_of lists.lock) (c.scan_from-scan.ensures.left ∙ ap (λ lists. lists_scanned g.C.Condition.means c.args.row.now lists) (was_in_hand _ _ c.args.seat.now.me.1 c.requires.has c.slot_mut-queues.ensures.value))
 
 pub returns-clause-tests : goal.returns-clause-tests
 returns-clause-tests g c =
-    c.scan-scan.ensures.tests ∙ ap (λ lists. tests_of g.C.Condition.means.same (meets_at g.C.Condition.means c.args.row.now) lists.lock) (was_in_hand _ _ c.args.seat.now.me.1 c.requires.has c.slot_mut-queues.ensures.value)
+    c.scan_from-scan.ensures.tests ∙ ap (λ lists. tests_of g.C.Condition.means.same (meets_at g.C.Condition.means c.args.row.now) lists.lock) (was_in_hand _ _ c.args.seat.now.me.1 c.requires.has c.slot_mut-queues.ensures.value)
 
 pub returns-clause-lists : goal.returns-clause-lists
 returns-clause-lists g c =
-    now_in_hand (the c.args.seat.now.me.0).stood c.scan-scan.new.self _ c.args.seat.now.me.1 c.requires.has
-    (c.scan-scan.ensures.left ∙ ap (λ lists. lists_scanned g.C.Condition.means c.args.row.now lists) (was_in_hand _ _ c.args.seat.now.me.1 c.requires.has c.slot_mut-queues.ensures.value))
+    now_in_hand (the c.args.seat.now.me.0).stood c.scan_from-scan.new.self _ c.args.seat.now.me.1 c.requires.has
+    (c.scan_from-scan.ensures.left ∙ ap (λ lists. lists_scanned g.C.Condition.means c.args.row.now lists) (was_in_hand _ _ c.args.seat.now.me.1 c.requires.has c.slot_mut-queues.ensures.value))
 
 pub returns-clause-vias : goal.returns-clause-vias
 returns-clause-vias g c =
-    c.scan-scan.ensures.vias ∙ ap (λ lists. map (λ (w : Waiter _). w.via) (woken_of (meets_at g.C.Condition.means c.args.row.now) lists.lock)) (was_in_hand _ _ c.args.seat.now.me.1 c.requires.has c.slot_mut-queues.ensures.value)
+    c.scan_from-scan.ensures.vias ∙ ap (λ lists. map (λ (w : Waiter _). w.via) (woken_of (meets_at g.C.Condition.means c.args.row.now) lists.lock)) (was_in_hand _ _ c.args.seat.now.me.1 c.requires.has c.slot_mut-queues.ensures.value)

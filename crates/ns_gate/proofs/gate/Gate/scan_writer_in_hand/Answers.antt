@@ -1,27 +1,41 @@
-use Rattle.std.proofs.Common.{rules, ap, refl, sym, ◌∙◌, None, Some}
-use Rattle.ns_gate.specs.Prelude.{bits_of, foremost_of, lists_scanned, meets_at, the, woken_of, left_of}
+use Rattle.std.proofs.Common.{rules, ap, refl, sym, ◌∙◌, None, Some, Ok}
+use Rattle.ns_gate.specs.Prelude.{bits_of, foremost_of, lists_scanned, meets_at, sought_at, the, woken_of, left_of}
 use Rattle.ns_gate.specs.declared.queues.Turned.{Turned}
 use Rattle.ns_gate.proofs.Findings.{has_slot, now_in_hand, was_in_hand}
-use Rattle.ns_gate.proofs.Scans.{lists_few, told_nobody, told_writer}
+use Rattle.ns_gate.proofs.Scans.{lists_few, lists_kept, told_nobody, told_reader, told_writer}
 use Rattle.ns_gate.proofs.gate.Gate.scan_writer_in_hand.Goals as goal
 
 pub slot_mut-queues-requires : goal.slot_mut-queues-requires
 slot_mut-queues-requires g c = (search rules, has_slot _ _ c.requires.has)
+
+pub returns-in-Reader-clause-told : goal.returns-in-Reader-clause-told
+returns-in-Reader-clause-told g c =
+    let t = g.C.Condition.means in let meets = meets_at t c.args.row.now in let stood = (the c.args.seat.now.me.0).stood in
+    let was = was_in_hand _ _ c.args.seat.now.me.1 c.requires.has c.slot_mut-queues.ensures.value in
+    let first = sym c.in-Reader.is ∙ c.take_writer.ensures.told in
+    told_reader (sought_at t c.args.row.now stood) c.in-Reader.sought (woken_of meets stood.lock) (left_of meets stood.lock) (first ∙ ap (λ lists. foremost_of (sought_at t c.args.row.now lists) (woken_of meets lists.lock)) was)
+
+pub returns-in-Reader-clause-still : goal.returns-in-Reader-clause-still
+returns-in-Reader-clause-still g c =
+    let t = g.C.Condition.means in let stood = (the c.args.seat.now.me.0).stood in
+    let was = was_in_hand _ _ c.args.seat.now.me.1 c.requires.has c.slot_mut-queues.ensures.value in
+    let first = sym c.in-Reader.is ∙ c.take_writer.ensures.told in
+    now_in_hand stood c.take_writer.new.self _ c.args.seat.now.me.1 c.requires.has (lists_kept _ t c.args.row.now _ _ c.take_writer.new.self first refl c.take_writer.ensures.left ∙ was)
 
 pub returns-in-Nobody-clause-told : goal.returns-in-Nobody-clause-told
 returns-in-Nobody-clause-told g c =
     let t = g.C.Condition.means in let meets = meets_at t c.args.row.now in let stood = (the c.args.seat.now.me.0).stood in
     let was = was_in_hand _ _ c.args.seat.now.me.1 c.requires.has c.slot_mut-queues.ensures.value in
     let first = sym c.in-Nobody.is ∙ c.take_writer.ensures.told in
-    let left = lists_few t c.args.row.now _ _ c.take_writer.new.self first refl c.take_writer.ensures.left ∙ ap (lists_scanned t c.args.row.now) was in
-    ap (λ (made : Turned). Some (None, made)) c.turned_with.ensures ∙ told_nobody (woken_of meets stood.lock) (left_of meets stood.lock) _ (first ∙ ap (λ lists. foremost_of (woken_of meets lists.lock)) was) (ap (λ lists. bits_of lists.lock) left)
+    let left = lists_few _ t c.args.row.now _ _ c.take_writer.new.self first refl c.take_writer.ensures.left ∙ ap (lists_scanned t c.args.row.now) was in
+    ap (λ (made : Turned). Ok (None, made)) c.turned_with.ensures ∙ told_nobody (sought_at t c.args.row.now stood) (woken_of meets stood.lock) (left_of meets stood.lock) _ (first ∙ ap (λ lists. foremost_of (sought_at t c.args.row.now lists) (woken_of meets lists.lock)) was) (ap (λ lists. bits_of lists.lock) left)
 
 pub returns-in-Nobody-clause-lists : goal.returns-in-Nobody-clause-lists
 returns-in-Nobody-clause-lists g c =
     let t = g.C.Condition.means in let meets = meets_at t c.args.row.now in let stood = (the c.args.seat.now.me.0).stood in
     let was = was_in_hand _ _ c.args.seat.now.me.1 c.requires.has c.slot_mut-queues.ensures.value in
     let first = sym c.in-Nobody.is ∙ c.take_writer.ensures.told in
-    let left = lists_few t c.args.row.now _ _ c.take_writer.new.self first refl c.take_writer.ensures.left ∙ ap (lists_scanned t c.args.row.now) was in
+    let left = lists_few _ t c.args.row.now _ _ c.take_writer.new.self first refl c.take_writer.ensures.left ∙ ap (lists_scanned t c.args.row.now) was in
     now_in_hand stood c.take_writer.new.self _ c.args.seat.now.me.1 c.requires.has left
 
 pub returns-in-Writer-clause-told : goal.returns-in-Writer-clause-told
@@ -29,13 +43,13 @@ returns-in-Writer-clause-told g c =
     let t = g.C.Condition.means in let meets = meets_at t c.args.row.now in let stood = (the c.args.seat.now.me.0).stood in
     let was = was_in_hand _ _ c.args.seat.now.me.1 c.requires.has c.slot_mut-queues.ensures.value in
     let first = sym c.in-Writer.is ∙ c.take_writer.ensures.told in
-    let left = lists_few t c.args.row.now _ _ c.take_writer.new.self first refl c.take_writer.ensures.left ∙ ap (lists_scanned t c.args.row.now) was in
-    ap (λ (made : Turned). Some (Some c.called_one-wake.result, made)) c.turned_with-in-Writer.ensures ∙ told_writer (woken_of meets stood.lock) (left_of meets stood.lock) c.in-Writer.number c.in-Writer.via c.called_one-wake.result _ (first ∙ ap (λ lists. foremost_of (woken_of meets lists.lock)) was) c.called_one-wake.ensures (ap (λ lists. bits_of lists.lock) left)
+    let left = lists_few _ t c.args.row.now _ _ c.take_writer.new.self first refl c.take_writer.ensures.left ∙ ap (lists_scanned t c.args.row.now) was in
+    ap (λ (made : Turned). Ok (Some c.called_one-wake.result, made)) c.turned_with-in-Writer.ensures ∙ told_writer (sought_at t c.args.row.now stood) (woken_of meets stood.lock) (left_of meets stood.lock) c.in-Writer.number c.in-Writer.via c.called_one-wake.result _ (first ∙ ap (λ lists. foremost_of (sought_at t c.args.row.now lists) (woken_of meets lists.lock)) was) c.called_one-wake.ensures (ap (λ lists. bits_of lists.lock) left)
 
 pub returns-in-Writer-clause-lists : goal.returns-in-Writer-clause-lists
 returns-in-Writer-clause-lists g c =
     let t = g.C.Condition.means in let meets = meets_at t c.args.row.now in let stood = (the c.args.seat.now.me.0).stood in
     let was = was_in_hand _ _ c.args.seat.now.me.1 c.requires.has c.slot_mut-queues.ensures.value in
     let first = sym c.in-Writer.is ∙ c.take_writer.ensures.told in
-    let left = lists_few t c.args.row.now _ _ c.take_writer.new.self first refl c.take_writer.ensures.left ∙ ap (lists_scanned t c.args.row.now) was in
+    let left = lists_few _ t c.args.row.now _ _ c.take_writer.new.self first refl c.take_writer.ensures.left ∙ ap (lists_scanned t c.args.row.now) was in
     now_in_hand stood c.take_writer.new.self _ c.args.seat.now.me.1 c.requires.has left
