@@ -1,11 +1,12 @@
 -- A scan of the lock list with the queues in hand, by a release or by a wait: what it takes and leaves.
-use Rattle.std.proofs.Common.{◌≡◌, ℕ, ◌==◌, inl, inr, Bool, true, false, not, ◌&&◌, ◌||◌, cond, subst, List, [], ◌∷◌, length, filter, map, Option, None, Some, is_some, refl, ap, sym, ◌∙◌, ne_eqb, arith}
+use Rattle.std.proofs.Common.{◌≡◌, ℕ, ◌==◌, inl, inr, Bool, true, false, not, ◌&&◌, ◌||◌, cond, subst, List, [], ◌∷◌, length, filter, map, Option, None, Some, Ok, Err, is_some, refl, ap, sym, ◌∙◌, ne_eqb, arith}
 use Rattle.std.proofs.lemmas.Bool.{cases_Bool}
 use Rattle.std.specs.List.{list_any}
-use Rattle.ns_gate.specs.Prelude.{SeatOf, the, Carries, GateView, HasUnchangedQueues, has_queues, lists_returned, lists_scanned, scanned_writer, wake_told, Subject, OnCondition, OnVariables, some_returned, Truths, Lists, is_eligible, is_satisfied, foremost_of, is_reader, left_of, woken_of, has_condition, reads, seats_of, writes, Waiter, row_in, bits_of, has_some, meets_at, waits_at, with_lock, Walk, Bits, Word}
+use Rattle.ns_gate.specs.Prelude.{SeatOf, the, Carries, GateView, HasUnchangedQueues, has_queues, lists_returned, lists_scanned, scanned_writer, wake_told, Subject, OnCondition, OnVariables, some_returned, Truths, Lists, is_eligible, is_satisfied, begins_with_reader, left_of, woken_of, has_condition, reads, seats_of, writes, Waiter, row_in, bits_of, has_some, meets_at, waits_at, with_lock, Walk, Bits, Word}
 use Rattle.ns_gate.specs.declared.queues.Returning.{Returning}
 use Rattle.ns_gate.specs.declared.queues.Turned.{Turned}
 use Rattle.ns_gate.proofs.Calls.{works}
+use Rattle.ns_queue.specs.declared.scan.Sought.{Sought}
 use Rattle.ns_word.specs.declared.word.Releasing.{Releasing}
 use Rattle.ns_word.specs.declared.owed.Owed.{Owed}
 use Rattle.ns_word.specs.Owed.{called_by, called_of}
@@ -63,7 +64,7 @@ told_list None = []
 told_list (Some wake) = wake ∷ []
 
 -- where a scan begins with no reader, it takes one at most
-called_alone : {C : Type 0} (meets : C → Bool) (ws : List (Waiter C)) → is_reader (foremost_of (woken_of meets ws)) ≡ false → called_of (woken_of meets ws) ≡ told_list (wake_told (woken_of meets ws))
+called_alone : {C : Type 0} (meets : C → Bool) (ws : List (Waiter C)) → begins_with_reader (woken_of meets ws) ≡ false → called_of (woken_of meets ws) ≡ told_list (wake_told (woken_of meets ws))
 called_alone meets [] none = refl
 called_alone meets (w ∷ ws) none = elim (cases_Bool (is_eligible meets w)) [
   | inl goes ↦ elim (cases_Bool (writes w)) [
@@ -73,10 +74,15 @@ called_alone meets (w ∷ ws) none = elim (cases_Bool (is_eligible meets w)) [
   | inr stays ↦ rw stays (called_alone meets ws (rw stays at none))
 ]
 
+-- what was told of a scan that begins with a reader: what its search finds
+pub found_first : (b : Bool) (made : Option Owed × Turned) (sought found : Sought) → cond b (Err sought) (Ok made) ≡ Err found → found ≡ sought
+found_first true made sought found e = cc
+found_first false made sought found e = absurd (cc)
+
 -- what was told of a scan that begins with no reader
-turned_few : (b : Bool) (made : Option Owed × Turned) (wake : Option Owed) (turned : Turned) → cond b None (Some made) ≡ Some (wake, turned) → (b ≡ false) × (made.0 ≡ wake) × (made.1 ≡ turned)
-turned_few true made wake turned e = absurd (cc)
-turned_few false made wake turned e = let same : made ≡ (wake, turned) = cc in (refl, ap (λ p. p.0) same, ap (λ p. p.1) same)
+turned_few : (b : Bool) (sought : Sought) (made : Option Owed × Turned) (wake : Option Owed) (turned : Turned) → cond b (Err sought) (Ok made) ≡ Ok (wake, turned) → (b ≡ false) × (made.0 ≡ wake) × (made.1 ≡ turned)
+turned_few true sought made wake turned e = absurd (cc)
+turned_few false sought made wake turned e = let same : made ≡ (wake, turned) = cc in (refl, ap (λ p. p.0) same, ap (λ p. p.1) same)
 
 -- ---- in a call
 
@@ -107,18 +113,18 @@ module _ {C : Type 0} {N : ℕ} (truths : Truths C) where
 
   -- where a scan at this row takes a writer alone, or nobody, the queues in hand without that one are what is put back
   pub hand_few : (releasing : Releasing) (walk : Walk C) (row : List ℕ) (wake : Option Owed) (turned : Turned) (me now : SeatOf C N) → IsReady truths walk row me → now.0 ≡ me.0 → Carries (lists_scanned truths row (the me.0).stood) now
-      → scanned_writer truths row (the me.0).stood ≡ Some (wake, turned) → HasInHand truths (Released releasing) turned now
+      → scanned_writer truths row (the me.0).stood ≡ Ok (wake, turned) → HasInHand truths (Released releasing) turned now
   hand_few releasing walk row wake turned me now ready same carries told =
       let woken = woken_of (meets_at truths row) (the me.0).stood.lock in
-      let few = turned_few (is_reader (foremost_of woken)) _ wake turned told in
+      let few = turned_few (begins_with_reader woken) _ _ wake turned told in
       hand_scanned (Released releasing) walk row (the me.0).at.seat turned.some turned.bits me now ready refl same (λ last. carries) (λ last. sym (ap (λ (t : Turned). t.some) few.2)) (λ last. sym (ap (λ (t : Turned). t.bits) few.2))
 
   -- and the wake that was told is all that is owed
-  pub calls_few : (walk : Walk C) (row : List ℕ) (wake : Option Owed) (turned : Turned) (owed : List Owed) (me now : SeatOf C N) → IsReady truths walk row me → now.0 ≡ me.0 → scanned_writer truths row (the me.0).stood ≡ Some (wake, turned)
+  pub calls_few : (walk : Walk C) (row : List ℕ) (wake : Option Owed) (turned : Turned) (owed : List Owed) (me now : SeatOf C N) → IsReady truths walk row me → now.0 ≡ me.0 → scanned_writer truths row (the me.0).stood ≡ Ok (wake, turned)
       → owed ≡ called_of (woken_of (meets_at truths (row_in (the now.0).at.held)) (the now.0).stood.lock) → owed ≡ told_list wake
   calls_few walk row wake turned owed me now ready same told owes =
       let lock = (the me.0).stood.lock in
-      let few = turned_few (is_reader (foremost_of (woken_of (meets_at truths row) lock))) _ wake turned told in
+      let few = turned_few (begins_with_reader (woken_of (meets_at truths row) lock)) _ _ wake turned told in
       owes ∙ sym (ap called_of ready.scans.woken ∙ (λ i. called_of (woken_of (meets_at truths (row_in (the (sym same i)).at.held)) (the (sym same i)).stood.lock))) ∙ called_alone (meets_at truths row) lock few.0 ∙ ap told_list few.1
 
   -- a row stays ready as the queues are looked at

@@ -1,7 +1,7 @@
 //! A release, and the scan of the lock list where somebody may have to be woken.
 
 ghost use Rattle.std.specs.Prelude.{◌≡◌, None};
-ghost use Rattle.ns_gate.specs.Prelude.{IsPackable, bits_of, ScanAndRelease, Succeeded, InRelease, HasAnswered, HasSince, IsAtPlace, HasUnchangedQueues, the};
+ghost use Rattle.ns_gate.specs.Prelude.{IsPackable, bits_of, ScanAndRelease, Succeeded, InRelease, HasAnswered, HasSince, IsAtPlace, HasUnchangedQueues, sought_at, the};
 ghost use Rattle.ns_word.specs.declared.request.Request.TheVariants as TheRequest;
 ghost use Rattle.ns_monitor.specs.Prelude.{IsReady, ReleasesBy, scanning_at};
 
@@ -10,6 +10,7 @@ use crate::monitor::Monitor;
 use ns_gate::gate::GateSeat;
 use ns_gate::queues::{Returning, Turned};
 use ns_model::condition::Condition;
+use ns_queue::scan::Sought;
 use ns_word::number::LockWord;
 use ns_word::owed::called;
 use ns_word::release_walk::ReleasePlace;
@@ -68,9 +69,12 @@ impl<C: Condition<N>, const N: usize> Monitor<C, N> {
         let mut row = [0; N];
         let place = Walk::InRelease(releasing, ReleasePlace::ScanCells(parts, 0));
         self.load_to_scan(seat, parts.cond, place, &mut row);
-        let Some((wake, turned)) = self.gate.scan_writer_in_hand(seat, &row) else {
-            self.scan_and_wake(rt, seat, releasing, word, &row);
-            return;
+        let (wake, turned) = match self.gate.scan_writer_in_hand(seat, &row) {
+            Ok(told) => told,
+            Err(sought) => {
+                self.scan_and_wake(rt, seat, releasing, word, &row, sought);
+                return;
+            }
         };
         let returning = Returning::Released(releasing);
         let place = Walk::InRelease(releasing, ReleasePlace::ScanAndRelease(parts));
@@ -82,7 +86,8 @@ impl<C: Condition<N>, const N: usize> Monitor<C, N> {
         self.pay_one(seat, place, wake);
     }
 
-    /// The same with a row ready for the scan, with lists of those whom that takes.
+    /// The same with a row ready for the scan, and the reader found who is taken first: goes on from
+    /// there, with lists of those whom the scan takes.
     #[cold]
     fn scan_and_wake<R: Wait>(
         &self,
@@ -91,16 +96,18 @@ impl<C: Condition<N>, const N: usize> Monitor<C, N> {
         releasing: Releasing,
         word: LockWord,
         row: &[u64; N],
+        sought: Sought,
     )
         requires of { seat.old.table_id ≡ self.now }
         requires word { IsPackable word }
         requires ready { IsReady C.means (InRelease releasing (ScanAndRelease word)) row.now seat.old.me }
+        requires found { sought ≡ sought_at C.means row.now (the seat.old.me.0).stood }
         ensures seat { seat.new.table_id ≡ self.now }
         ensures since { HasSince None (the seat.old.me.0) (the seat.new.me.0) }
         ensures released { HasAnswered C.means (TheRequest.Release releasing) Succeeded seat.new.me }
     {
         let parts = word.parts();
-        let (scan, bits) = self.gate.scan_in_hand(seat, row);
+        let (scan, bits) = self.gate.scan_from_in_hand(seat, row, sought);
         let some = !scan.woken.is_empty();
         let returning = Returning::Released(releasing);
         let place = Walk::InRelease(releasing, ReleasePlace::ScanAndRelease(parts));

@@ -1,8 +1,8 @@
-use Rattle.std.proofs.Common.{◌∙◌, ap, sym, subst, refl, arith, None}
-use Rattle.ns_gate.specs.Prelude.{TableId, IsAtPlace, HasReached, the, row_in, has_some, pay_releasing, scan_place, ScanAndRelease, InRelease}
+use Rattle.std.proofs.Common.{List, ◌∙◌, ap, sym, subst, refl, arith, None}
+use Rattle.ns_gate.specs.Prelude.{TableId, IsAtPlace, HasReached, the, row_in, has_some, pay_releasing, scan_place, sought_at, GateView, ScanAndRelease, InRelease}
 use Rattle.ns_gate.proofs.Calls.{since_then, works}
 use Rattle.ns_gate.proofs.Room.{queues_fit}
-use Rattle.ns_monitor.proofs.Releases.{calls_few, hand_few, ready_still, scans_plain, told_list}
+use Rattle.ns_monitor.proofs.Releases.{calls_few, found_first, hand_few, ready_still, scans_plain, told_list}
 use Rattle.ns_monitor.proofs.Standing.{still_since}
 use Rattle.ns_word.specs.declared.request.Request.TheVariants as TheRequest
 use Rattle.ns_monitor.proofs.Tests.{moves_in}
@@ -14,10 +14,10 @@ load_to_scan-requires g c = let t = g.C.Condition.means in let word = c.args.wor
 
 pub scan_and_wake-requires : goal.scan_and_wake-requires
 scan_and_wake-requires g c = let t = g.C.Condition.means in let look = c.scan_writer_in_hand in let is = rw c.parts-parts.ensures at c.load_to_scan.ensures.ready in let walk = InRelease c.args.releasing (ScanAndRelease c.args.word) in
-    (omega arith, (queues_fit g.row.C g.row.N g.met.C.Condition.has_room g.C.Condition, (omega arith, (omega (arith, g.met.C.Condition.has_cells), (◌∙◌ {A = TableId} look.ensures.seat.0 c.load_to_scan.ensures.seat, (c.requires.word, ready_still t walk c.load_to_scan.new.row c.load_to_scan.new.seat.me look.new.seat.me refl is look.ensures.seat.1 (look.ensures.still c.in_default.is)))))))
+    (omega arith, (queues_fit g.row.C g.row.N g.met.C.Condition.has_room g.C.Condition, (omega arith, (omega (arith, g.met.C.Condition.has_cells), (◌∙◌ {A = TableId} look.ensures.seat.0 c.load_to_scan.ensures.seat, (c.requires.word, (ready_still t walk c.load_to_scan.new.row c.load_to_scan.new.seat.me look.new.seat.me refl is look.ensures.seat.1 c.in-Err.ensures.still, found_first _ _ (sought_at t c.load_to_scan.new.row (the c.load_to_scan.new.seat.me.0).stood) c.in-Err.sought (sym look.ensures.told ∙ c.in-Err.is) ∙ ap (λ (vs : List (GateView _ g.row.N)). sought_at t c.load_to_scan.new.row (the vs).stood) (sym look.ensures.seat.1))))))))
 
-pub returns-in_default : goal.returns-in_default
-returns-in_default g c = let look = c.scan_writer_in_hand in record {
+pub returns-in-Err : goal.returns-in-Err
+returns-in-Err g c = let look = c.scan_writer_in_hand in record {
   seat = c.scan_and_wake.ensures.seat;
   since = since_then None _ _ _ (still_since g.C.Condition.means None _ c.load_to_scan.new.seat.me look.new.seat.me look.ensures.seat.1 c.load_to_scan.ensures.since) c.scan_and_wake.ensures.since;
   released = c.scan_and_wake.ensures.released;
@@ -40,7 +40,7 @@ put_back-requires g c = let t = g.C.Condition.means in let look = c.scan_writer_
               c.requires.word,
               (
                 works t walk c.load_to_scan.new.seat.me look.new.seat.me is.at refl look.ensures.seat.1,
-                hand_few t c.args.releasing walk c.load_to_scan.new.row c.in-Some.wake c.in-Some.turned c.load_to_scan.new.seat.me look.new.seat.me is look.ensures.seat.1 c.in-Some.ensures.lists (sym look.ensures.told ∙ c.in-Some.is),
+                hand_few t c.args.releasing walk c.load_to_scan.new.row c.in-Ok.told.0 c.in-Ok.told.1 c.load_to_scan.new.seat.me look.new.seat.me is look.ensures.seat.1 c.in-Ok.ensures.lists (sym look.ensures.told ∙ c.in-Ok.is),
               ),
             ),
           ),
@@ -50,16 +50,16 @@ put_back-requires g c = let t = g.C.Condition.means in let look = c.scan_writer_
   ),
 )
 
-pub returns-in_default-wake : goal.returns-in_default-wake
-returns-in_default-wake g c = let t = g.C.Condition.means in let look = c.scan_writer_in_hand in let is = rw c.parts-parts.ensures at c.load_to_scan.ensures.ready in let walk = InRelease c.args.releasing (ScanAndRelease c.args.word) in record {
+pub returns-in_default : goal.returns-in_default
+returns-in_default g c = let t = g.C.Condition.means in let look = c.scan_writer_in_hand in let is = rw c.parts-parts.ensures at c.load_to_scan.ensures.ready in let walk = InRelease c.args.releasing (ScanAndRelease c.args.word) in record {
   seat = c.put_back.ensures.seat;
   since = since_then None _ _ _ (still_since t None _ c.load_to_scan.new.seat.me look.new.seat.me look.ensures.seat.1 c.load_to_scan.ensures.since) c.put_back.ensures.since;
-  released = subst (λ ns. HasReached t (TheRequest.Release c.args.releasing) (pay_releasing c.args.releasing (has_some ns)) c.put_back.new.seat.me) (calls_few t walk c.load_to_scan.new.row c.in-Some.wake c.in-Some.turned _ c.load_to_scan.new.seat.me look.new.seat.me is look.ensures.seat.1 (sym look.ensures.told ∙ c.in-Some.is) refl ∙ ap told_list c.in_default-wake.is) c.put_back.ensures.returned;
+  released = subst (λ ns. HasReached t (TheRequest.Release c.args.releasing) (pay_releasing c.args.releasing (has_some ns)) c.put_back.new.seat.me) (calls_few t walk c.load_to_scan.new.row c.in-Ok.told.0 c.in-Ok.told.1 _ c.load_to_scan.new.seat.me look.new.seat.me is look.ensures.seat.1 (sym look.ensures.told ∙ c.in-Ok.is) refl ∙ ap told_list c.in_default.is) c.put_back.ensures.returned;
 }
 
 pub pay_one-requires : goal.pay_one-requires
 pay_one-requires g c = let t = g.C.Condition.means in let look = c.scan_writer_in_hand in let is = rw c.parts-parts.ensures at c.load_to_scan.ensures.ready in let walk = InRelease c.args.releasing (ScanAndRelease c.args.word) in
-    let owed = calls_few t walk c.load_to_scan.new.row c.in-Some.wake c.in-Some.turned _ c.load_to_scan.new.seat.me look.new.seat.me is look.ensures.seat.1 (sym look.ensures.told ∙ c.in-Some.is) refl ∙ ap told_list c.in-Some-wake.is in
+    let owed = calls_few t walk c.load_to_scan.new.row c.in-Ok.told.0 c.in-Ok.told.1 _ c.load_to_scan.new.seat.me look.new.seat.me is look.ensures.seat.1 (sym look.ensures.told ∙ c.in-Ok.is) refl ∙ ap told_list c.in-Some.is in
     (omega arith, (queues_fit g.row.C g.row.N g.met.C.Condition.has_room g.C.Condition, (omega arith, (c.put_back.ensures.seat, (record { pays = refl; free = refl; more = refl }, (subst (λ ns. HasReached t (TheRequest.Release c.args.releasing) (pay_releasing c.args.releasing (has_some ns)) c.put_back.new.seat.me) owed c.put_back.ensures.returned, c.put_back.ensures.owes ∙ owed))))))
 
 pub returns : goal.returns
