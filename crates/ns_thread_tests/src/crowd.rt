@@ -1,6 +1,7 @@
-//! Many threads that wait for one condition: how often it is tested, and that all of them come back.
+//! Many threads that wait, for one condition or each for its own: how often a release tests them, and that
+//! all of them come back.
 
-ghost use Rattle.std.specs.Prelude.{◌≡◌, All, nat_le, slice_index, true};
+ghost use Rattle.std.specs.Prelude.{◌≡◌, ◌==◌, All, nat_le, slice_index};
 ghost use Rattle.std.specs.Thread.{IsSync};
 ghost use Rattle.ns_model.specs.Truths.{truths};
 
@@ -12,30 +13,31 @@ use std::process::Abort;
 use std::sync::Wait;
 use std::sync::atomic::AtomicU64;
 use std::sync::atomic::Ordering::SeqCst;
-use std::thread::{Threads, join, map_vec};
+use std::thread::{Threads, join, map_vec, yield_now};
 
 /// How many threads wait.
 const CROWD: u64 = 60;
 
-/// The first cell is at least 1. Each test is counted in the word that it refers to, which is never
+/// The first cell is at least so much. Each test is counted in the word that it refers to, which is never
 /// freed, so that the type names no lifetime. A change is quiet where that cell has not risen.
 #[derive(Clone, Copy)]
-struct Opened {
+struct Counted {
+    least: u64,
     tests: &'static AtomicU64,
 }
 
-impl Condition<2> for Opened {
-    ghost use Rattle.std.proofs.Common.{arith, rules, refl};
+impl Condition<2> for Counted {
+    ghost use Rattle.std.proofs.Common.{arith, rules};
 
-    ghost means = { truths (λ c row. nat_le 1 (slice_index row 0)) (λ c d. true) (λ before after. nat_le (slice_index after 0) (slice_index before 0)) };
+    ghost means = { truths (λ c row. nat_le c.least (slice_index row 0)) (λ c d. c.least == d.least) (λ before after. nat_le (slice_index after 0) (slice_index before 0)) };
 
     fn test(&self, row: &[u64; 2]) -> bool {
         self.tests.fetch_add(1, SeqCst);
-        1 <= row[0]
+        self.least <= row[0]
     }
 
-    fn same(&self, _other: &Self) -> bool {
-        true
+    fn same(&self, other: &Self) -> bool {
+        self.least == other.least
     }
 
     fn quiet(before: &[u64; 2], after: &[u64; 2]) -> bool
@@ -44,7 +46,7 @@ impl Condition<2> for Opened {
         after[0] <= before[0]
     }
 
-    ghost same_agrees = { λ c d row n e. refl };
+    ghost same_agrees = { λ c d row n e. Prim.grind arith };
 
     ghost quiet_keeps = { λ c before after n m quiet h. Prim.grind arith };
 
@@ -61,10 +63,10 @@ fn new_count(alloc: Global) -> Result<&'static AtomicU64, AllocError> {
 /// Comes, which the second cell counts, waits until the first is at least 1, and leaves.
 fn wait_in_crowd<R: Wait>(
     rt: &R,
-    monitor: &Monitor<Opened, 2>,
-    seat: Seat<Opened, 2>,
-    opened: Opened,
-) -> Seat<Opened, 2>
+    monitor: &Monitor<Counted, 2>,
+    seat: Seat<Counted, 2>,
+    opened: Counted,
+) -> Seat<Counted, 2>
     requires { seat.monitor ≡ monitor.now }
     ensures { result.monitor ≡ monitor.now }
 {
@@ -80,9 +82,9 @@ fn wait_in_crowd<R: Wait>(
 /// Locks once the whole crowd has come: then each of them has left its section, and waits.
 fn lock_behind_crowd<R: Wait>(
     rt: &R,
-    monitor: &Monitor<Opened, 2>,
-    mut seat: Seat<Opened, 2>,
-) -> WriteHeld<Opened, 2>
+    monitor: &Monitor<Counted, 2>,
+    mut seat: Seat<Counted, 2>,
+) -> WriteHeld<Counted, 2>
     requires { seat.monitor ≡ monitor.now }
     ensures { result.monitor ≡ monitor.now }
 {
@@ -99,9 +101,9 @@ fn lock_behind_crowd<R: Wait>(
 /// Ends a section in which nothing was changed, quietly.
 fn end_quietly<R: Wait>(
     rt: &R,
-    monitor: &Monitor<Opened, 2>,
-    mut held: WriteHeld<Opened, 2>,
-) -> Seat<Opened, 2>
+    monitor: &Monitor<Counted, 2>,
+    mut held: WriteHeld<Counted, 2>,
+) -> Seat<Counted, 2>
     requires { held.monitor ≡ monitor.now }
     ensures { result.monitor ≡ monitor.now }
 {
@@ -116,8 +118,8 @@ fn end_quietly<R: Wait>(
 /// it, which has to find nothing new.
 fn count_tests<R: Wait>(
     rt: &R,
-    monitor: &Monitor<Opened, 2>,
-    seat: Seat<Opened, 2>,
+    monitor: &Monitor<Counted, 2>,
+    seat: Seat<Counted, 2>,
     tests: &'static AtomicU64,
 ) -> (u64, u64)
     requires { seat.monitor ≡ monitor.now }
@@ -138,16 +140,16 @@ fn count_tests<R: Wait>(
 /// Has the crowd wait, each in a thread of its own. Answers how many have come back.
 fn meet_crowd<R: Threads + Wait + Sync>(
     rt: &R,
-    monitor: &Monitor<Opened, 2>,
-    seats: Vec<Seat<Opened, 2>>,
-    opened: Opened,
+    monitor: &Monitor<Counted, 2>,
+    seats: Vec<Seat<Counted, 2>>,
+    opened: Counted,
 ) -> usize
     requires { All (λ seat. seat.monitor ≡ monitor.now) seats.items }
 {
     let back = map_vec(
         rt,
         seats,
-        &|seat: Seat<Opened, 2>| -> Seat<Opened, 2>
+        &|seat: Seat<Counted, 2>| -> Seat<Counted, 2>
             requires { seat.monitor ≡ monitor.now }
         { wait_in_crowd(rt, monitor, seat, opened) },
     );
@@ -160,9 +162,9 @@ fn meet_crowd<R: Threads + Wait + Sync>(
 /// The crowd waits in threads of its own, while the tests of two releases are counted; then it may go on.
 fn crowd_and_count<R: Threads + Wait + Sync>(
     rt: &R,
-    monitor: &Monitor<Opened, 2>,
-    seats: Vec<Seat<Opened, 2>>,
-    seat: Seat<Opened, 2>,
+    monitor: &Monitor<Counted, 2>,
+    seats: Vec<Seat<Counted, 2>>,
+    seat: Seat<Counted, 2>,
     tests: &'static AtomicU64,
 ) -> (usize, u64, u64)
     requires { All (λ seat. seat.monitor ≡ monitor.now) seats.items × (seat.monitor ≡ monitor.now) }
@@ -171,7 +173,7 @@ fn crowd_and_count<R: Threads + Wait + Sync>(
         rt,
         move || -> usize
             requires { IsSync R.row × All (λ seat. seat.monitor ≡ monitor.now) seats.items }
-        { meet_crowd(rt, monitor, seats, Opened { tests }) },
+        { meet_crowd(rt, monitor, seats, Counted { least: 1, tests }) },
         move || -> (u64, u64)
             requires { IsSync R.row × (seat.monitor ≡ monitor.now) }
         { count_tests(rt, monitor, seat, tests) },
@@ -182,9 +184,9 @@ fn crowd_and_count<R: Threads + Wait + Sync>(
 /// The last seat that is left of a monitor's.
 fn take_seat<R: Abort>(
     rt: &R,
-    monitor: &Monitor<Opened, 2>,
-    seats: &mut Vec<Seat<Opened, 2>>,
-) -> Seat<Opened, 2>
+    monitor: &Monitor<Counted, 2>,
+    seats: &mut Vec<Seat<Counted, 2>>,
+) -> Seat<Counted, 2>
     requires { All (λ seat. seat.monitor ≡ monitor.now) seats.old.items }
     ensures taken { result.monitor ≡ monitor.now }
     ensures left { All (λ seat. seat.monitor ≡ monitor.now) seats.new.items }
@@ -193,10 +195,10 @@ fn take_seat<R: Abort>(
 }
 
 /// A monitor and 62 seats.
-fn new_monitor<R: Abort>(rt: &R, alloc: Global) -> (Monitor<Opened, 2>, Vec<Seat<Opened, 2>>)
+fn new_monitor<R: Abort>(rt: &R, alloc: Global) -> (Monitor<Counted, 2>, Vec<Seat<Counted, 2>>)
     ensures { All (λ seat. seat.monitor ≡ result.0) result.1.items }
 {
-    Monitor::<Opened, 2>::new(alloc, 62)
+    Monitor::<Counted, 2>::new(alloc, 62)
         .ok()
         .expect(rt, "a monitor")
 }
@@ -222,4 +224,217 @@ fn count_past_crowd<R: Abort + Threads + Wait + Sync>(
 fn sixty_waiters(rt: HostRuntime) {
     let (came, row) = count_past_crowd(&rt, rt.alloc());
     assert_eq!(rt; (came, row), ((60, 1, 0), Some([1, 0])));
+}
+
+/// Sixty in a line, each with a condition of its own: who stands where, and the words in which they count,
+/// which are never freed.
+#[derive(Clone, Copy)]
+struct Line {
+    /// The place of the one whom the release takes. It reads, and with it every second one does.
+    taken: u64,
+    /// How many have a place.
+    placed: &'static AtomicU64,
+    /// How many have come inside. Once all have, how far the one who is taken is: [`BACK`], then [`COUNTED`].
+    come: &'static AtomicU64,
+    /// How many tests were made.
+    tests: &'static AtomicU64,
+}
+
+/// The one who is taken is back, and stays in its section.
+const BACK: u64 = CROWD + 1;
+
+/// The tests of the release were counted, so it may leave.
+const COUNTED: u64 = CROWD + 2;
+
+/// What the first cell has to be for all to go on.
+const EVERYBODY: u64 = CROWD + 2;
+
+/// A line in which nobody stands yet.
+fn new_line<R: Abort>(rt: &R, alloc: Global, taken: u64) -> Line {
+    Line {
+        taken,
+        placed: new_count(alloc).ok().expect(rt, "a word to count in"),
+        come: new_count(alloc).ok().expect(rt, "a word to count in"),
+        tests: new_count(alloc).ok().expect(rt, "a word to count in"),
+    }
+}
+
+/// Turns until the count is at least so much.
+fn await_count<R: Wait>(rt: &R, count: &AtomicU64, least: u64) {
+    for _ in rt.forever() {
+        if count.load(SeqCst) >= least {
+            return;
+        }
+        yield_now();
+    }
+}
+
+/// What the one at this place waits for: the one who is taken for 1, and each other for a number that nobody
+/// else waits for.
+fn wanted_at(line: Line, place: u64) -> Counted {
+    let least = if place == line.taken {
+        1
+    } else {
+        place.wrapping_add(2)
+    };
+    Counted {
+        least,
+        tests: line.tests,
+    }
+}
+
+/// Waits at its place to write.
+fn write_in_line<R: Wait>(
+    rt: &R,
+    monitor: &Monitor<Counted, 2>,
+    seat: Seat<Counted, 2>,
+    line: Line,
+    place: u64,
+) -> Seat<Counted, 2>
+    requires { seat.monitor ≡ monitor.now }
+    ensures { result.monitor ≡ monitor.now }
+{
+    let held = monitor.lock(rt, seat);
+    line.come.store(place.wrapping_add(1), SeqCst);
+    let held = monitor.wait(rt, held, wanted_at(line, place));
+    monitor.unlock(rt, held)
+}
+
+/// Waits at its place to read. The one who is taken stays in its section until the tests are counted, since its
+/// own release makes some, too.
+fn read_in_line<R: Wait>(
+    rt: &R,
+    monitor: &Monitor<Counted, 2>,
+    seat: Seat<Counted, 2>,
+    line: Line,
+    place: u64,
+) -> Seat<Counted, 2>
+    requires { seat.monitor ≡ monitor.now }
+    ensures { result.monitor ≡ monitor.now }
+{
+    let held = monitor.rlock(rt, seat);
+    line.come.store(place.wrapping_add(1), SeqCst);
+    let held = monitor.wait(rt, held, wanted_at(line, place));
+    if place == line.taken {
+        line.come.store(BACK, SeqCst);
+        await_count(rt, line.come, COUNTED);
+    }
+    monitor.runlock(rt, held)
+}
+
+/// Takes the next place, and waits there. Neighbours never are in a section at once, since one of them writes:
+/// so each comes inside only once the one before stands in the list, and the places are those of the list.
+fn wait_in_line<R: Wait>(
+    rt: &R,
+    monitor: &Monitor<Counted, 2>,
+    seat: Seat<Counted, 2>,
+    line: Line,
+) -> Seat<Counted, 2>
+    requires { seat.monitor ≡ monitor.now }
+    ensures { result.monitor ≡ monitor.now }
+{
+    let place = line.placed.fetch_add(1, SeqCst);
+    await_count(rt, line.come, place);
+    if place % 2 == line.taken % 2 {
+        read_in_line(rt, monitor, seat, line, place)
+    } else {
+        write_in_line(rt, monitor, seat, line, place)
+    }
+}
+
+/// Once the whole line stands in the list, makes true what the one waits for who is to be taken, and then what
+/// all the others do. Answers how many tests the first release makes: all until that one is back, but for the
+/// one test by which it sees that it may go on.
+fn release_to_line<R: Wait>(
+    rt: &R,
+    monitor: &Monitor<Counted, 2>,
+    seat: Seat<Counted, 2>,
+    line: Line,
+) -> u64
+    requires { seat.monitor ≡ monitor.now }
+{
+    await_count(rt, line.come, CROWD);
+    let mut held = monitor.lock(rt, seat);
+    let before = line.tests.load(SeqCst);
+    monitor.set(&mut held, 0, 1);
+    let seat = monitor.unlock(rt, held);
+    await_count(rt, line.come, BACK);
+    let made = line.tests.load(SeqCst).wrapping_sub(before);
+    line.come.store(COUNTED, SeqCst);
+    let mut held = monitor.lock(rt, seat);
+    monitor.set(&mut held, 0, EVERYBODY);
+    monitor.unlock(rt, held);
+    made.wrapping_sub(1)
+}
+
+/// Has the line wait, each in a thread of its own. Answers how many have come back.
+fn meet_line<R: Threads + Wait + Sync>(
+    rt: &R,
+    monitor: &Monitor<Counted, 2>,
+    seats: Vec<Seat<Counted, 2>>,
+    line: Line,
+) -> usize
+    requires { All (λ seat. seat.monitor ≡ monitor.now) seats.items }
+{
+    let back = map_vec(
+        rt,
+        seats,
+        &|seat: Seat<Counted, 2>| -> Seat<Counted, 2>
+            requires { seat.monitor ≡ monitor.now }
+        { wait_in_line(rt, monitor, seat, line) },
+    );
+    match back {
+        Ok(seats) => seats.len(),
+        Err(_) => 0,
+    }
+}
+
+/// The line waits in threads of its own, while the tests of a release are counted.
+fn line_and_count<R: Threads + Wait + Sync>(
+    rt: &R,
+    monitor: &Monitor<Counted, 2>,
+    seats: Vec<Seat<Counted, 2>>,
+    seat: Seat<Counted, 2>,
+    line: Line,
+) -> (usize, u64)
+    requires { All (λ seat. seat.monitor ≡ monitor.now) seats.items × (seat.monitor ≡ monitor.now) }
+{
+    join(
+        rt,
+        move || -> usize
+            requires { IsSync R.row × All (λ seat. seat.monitor ≡ monitor.now) seats.items }
+        { meet_line(rt, monitor, seats, line) },
+        move || -> u64
+            requires { IsSync R.row × (seat.monitor ≡ monitor.now) }
+        { release_to_line(rt, monitor, seat, line) },
+    )
+}
+
+/// How many of a line come back, and how many tests the release makes that takes the one at this place.
+fn count_in_line<R: Abort + Threads + Wait + Sync>(
+    rt: &R,
+    alloc: Global,
+    taken: u64,
+) -> (usize, u64) {
+    let line = new_line(rt, alloc, taken);
+    let (monitor, mut seats) = new_monitor(rt, alloc);
+    let last = take_seat(rt, &monitor, &mut seats);
+    let seat = take_seat(rt, &monitor, &mut seats);
+    let counted = line_and_count(rt, &monitor, seats, seat, line);
+    monitor.close(last);
+    counted
+}
+
+/// Past sixty of whom each waits for something else, a release that takes a reader tests each once whose truth
+/// it needs: all up to that reader, who stands in front, in the middle or at the end, and behind it those who
+/// read, every second one.
+#[test]
+fn release_tests_each_once(rt: HostRuntime) {
+    let front = count_in_line(&rt, rt.alloc(), 0);
+    let middle = count_in_line(&rt, rt.alloc(), 30);
+    let end = count_in_line(&rt, rt.alloc(), 59);
+    assert_eq!(rt;
+        (front, middle, end),
+        ((60, 1 + 29), (60, 31 + 14), (60, 60))
+    );
 }
