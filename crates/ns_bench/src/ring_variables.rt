@@ -17,10 +17,10 @@ use std::sync::Wait;
 use std::thread::Threads;
 
 /// The variable that is signaled once there is room.
-const NOT_FULL: usize = 0;
+const NOT_FULL: u8 = 0;
 
 /// The variable that is signaled once there is an item.
-const NOT_EMPTY: usize = 1;
+const NOT_EMPTY: u8 = 1;
 
 /// What the threads share.
 #[derive(Clone, Copy)]

@@ -9,10 +9,10 @@ use ns_note::seat::EnvSeat;
 use std::sync::Wait;
 
 /// The variable that is broadcast as a round begins.
-const GO: usize = 0;
+const GO: u8 = 0;
 
 /// The variable that is signaled as the last is through a round.
-const THROUGH: usize = 1;
+const THROUGH: u8 = 1;
 
 /// What the threads share.
 #[derive(Clone, Copy)]
@@ -29,7 +29,7 @@ pub type Seats = (SixSeat, EnvSeat);
 /// A cell is within these bounds, and whoever makes it so wakes those who wait for the variable.
 #[derive(Clone, Copy)]
 struct Wanted {
-    variable: usize,
+    variable: u8,
     cell: usize,
     least: u64,
     most: u64,
@@ -71,7 +71,7 @@ pub fn take_turn<R: Wait>(rt: &R, commons: Commons<'_>, seats: Seats, number: u6
     let (seat, mut env_seat) = seats;
     let held = commons.monitor.lock(rt, seat);
     let wanted = Wanted {
-        variable: (number % 2) as usize,
+        variable: (number % 2) as u8,
         cell: 0,
         least: number,
         most: number,
@@ -79,7 +79,7 @@ pub fn take_turn<R: Wait>(rt: &R, commons: Commons<'_>, seats: Seats, number: u6
     let mut held = wait_until(rt, commons, held, wanted, &mut env_seat);
     let other = 1 - number % 2;
     commons.monitor.set(&mut held, 0, other);
-    commons.monitor.signal(rt, &mut held, other as usize);
+    commons.monitor.signal(rt, &mut held, other as u8);
     (commons.monitor.unlock(rt, held), env_seat)
 }
 

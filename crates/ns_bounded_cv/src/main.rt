@@ -11,9 +11,9 @@ use ns_note::env::Env;
 use ns_note::seat::EnvSeat;
 use std::{sync, thread};
 
-const NOT_FULL: usize = 0;
+const NOT_FULL: u8 = 0;
 
-const NOT_EMPTY: usize = 1;
+const NOT_EMPTY: u8 = 1;
 
 /// Waits for the wish's variable until the wish is met: a wake tells nothing of the ring.
 fn wait<R: sync::Wait>(

@@ -22,6 +22,11 @@ fault_status StepLimit = 3
 fault_status Read = 4
 fault_status Write = 4
 
+-- the exit status of what a replay came to
+abbrev pub outcome_status : Result ⊤ Fault → ℕ
+outcome_status (Ok _) = 0
+outcome_status (Err fault) = fault_status fault
+
 -- the exit status
 abbrev pub status_of : Ending → ℕ
 status_of Replayed = 0

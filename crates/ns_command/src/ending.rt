@@ -1,5 +1,8 @@
 //! How a run of the program ends.
 
+ghost use Rattle.std.specs.Prelude.{◌≡◌};
+ghost use Rattle.ns_command.specs.Endings.{outcome_status};
+
 use ns_replay::Fault;
 use std::process::{ExitCode, Termination};
 
@@ -20,6 +23,18 @@ pub enum Ending {
     Misused,
 }
 
+/// The exit status of what a replay came to: 0 where the whole text was written, 4 where a stream was at
+/// fault, and 3 for every refusal.
+pub fn exit_status(outcome: &Result<(), Fault>) -> u8
+    ensures { result ≡ outcome_status outcome.now }
+{
+    match outcome {
+        Ok(()) => 0,
+        Err(Fault::Read | Fault::Write) => 4,
+        Err(_) => 3,
+    }
+}
+
 impl Ending {
     ghost use Rattle.std.specs.Prelude.{◌≡◌};
     ghost use Rattle.ns_command.specs.Endings.{status_of};
@@ -32,8 +47,8 @@ impl Ending {
         match self {
             Ending::Replayed | Ending::Lived | Ending::HelpShown => 0,
             Ending::Misused => 2,
-            Ending::Failed(Fault::Read | Fault::Write) => 4,
-            Ending::NoThread | Ending::Failed(_) => 3,
+            Ending::NoThread => 3,
+            Ending::Failed(fault) => exit_status(&Err(fault)),
         }
     }
 }

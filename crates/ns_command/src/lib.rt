@@ -19,7 +19,7 @@ mod wanted;
 
 pub use answer::Answer;
 pub use console::Console;
-pub use ending::Ending;
+pub use ending::{Ending, exit_status};
 pub use living::{NoSum, finish_live};
 pub use prints::Prints;
 pub use running::run;

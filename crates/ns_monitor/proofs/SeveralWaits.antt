@@ -1,12 +1,13 @@
 -- Waits for any of several condition variables: where they stand, and what they tell once they are over.
 use Rattle.std.proofs.Common.{◌≡◌, ℕ, true, false, List, [], ◌∷◌, ◌++◌, Option, None, Some, append-nil, refl, ap, sym, ◌∙◌, subst}
 use Rattle.ns_env.specs.declared.limits.Cause.{Cause}
-use Rattle.ns_gate.specs.Prelude.{SeatOf, HasAnswered, HasMode, HasSince, IsSettled, IsTold, IsWide, Performed, PlaceFits, the, AwaitWakeInWait, InQueuing, InWait, Load, LoadFlag, Flag, Look, Looked, Truths, Mode, TableId, row_after, Course, InHand, section_of, Await, Held}
+use Rattle.ns_gate.specs.Prelude.{BeginsWith, LockState, SeatOf, HasAnswered, HasMode, HasSince, IsSettled, IsTold, IsWide, Performed, PlaceFits, the, AwaitWakeInWait, InQueuing, InWait, Load, LoadFlag, Flag, Look, Looked, Told, Truths, Mode, TableId, row_after, Course, InHand, section_of, Await, Held}
 use Rattle.ns_gate.proofs.Calls.{since, since_then}
+use Rattle.ns_gate.proofs.Stays.{effect_of}
 use Rattle.ns_model.specs.declared.cvs.Cvs.{Cvs}
 use Rattle.ns_model.specs.declared.event.Exit.TheVariants.{AnyWait}
 use Rattle.ns_monitor.proofs.Waits.{looks_out, waits_on}
-use Rattle.ns_monitor.specs.Prelude.{AreSome, HasBegunToWait, HasComeBackFromAny, HasSeenTrue, IsByOneOf, IsFreshIn, IsWaitingForAny, Known, SaysWoken, WaitKnown, WaitsStill, any_waiting, at_will, known_of, waits_for_any}
+use Rattle.ns_monitor.specs.Prelude.{AreSome, HasBegunToWait, HasComeBackFromAny, HasSeenTrue, HasStoodUnwoken, IsByOneOf, IsFreshIn, IsWaitingForAny, Known, SaysWoken, WaitKnown, WaitsOn, WaitsStill, any_waiting, at_will, known_of, waits_for_any}
 use Rattle.ns_word.specs.Courses.{HasLeft}
 use Rattle.ns_word.specs.Meanings.{AnyWaitMeans, MayEnd, leave_any_told}
 use Rattle.ns_word.specs.Walks.{pays}
@@ -88,9 +89,9 @@ module _ {C : Type 0} {N : ℕ} (truths : Truths C) where
         let is : HasLeft truths (the now.0).at.seat (waits_for_any mode cvs) None (the now.0).course = w.at.so_far in
         let whole : section_of truths.holds (the me.0).at.seat was.was (AnyWait cvs) ∷ s.commits ≡ section_of truths.holds (the now.0).at.seat is.was (AnyWait cvs) ∷ [] = sym (ap (λ es. es ++ s.commits) was.committed) ∙ (sym s.committed ∙ is.committed) in ap behind whole
 
-    pub tells_still : (old : WaitKnown C N) (was is : TableId) (me now : SeatOf C N) → record { known = known_of was me; cvs = cvs } ≡ old → is ≡ old.known.monitor → IsWaitingForAny truths mode cvs me → IsWaitingForAny truths mode cvs now → HasSince None (the me.0) (the now.0)
-        → WaitsStill truths old (record { known = known_of is now; cvs = cvs })
-    tells_still old was is me now view same v w s = subst (λ (k : WaitKnown C N). is ≡ k.known.monitor → WaitsStill truths k (record { known = known_of is now; cvs = cvs })) view (λ same. record {
+    goes_on_waiting : (was is : TableId) (me now : SeatOf C N) → is ≡ was → IsWaitingForAny truths mode cvs me → IsWaitingForAny truths mode cvs now → HasSince None (the me.0) (the now.0)
+        → WaitsOn truths (record { known = known_of was me; cvs = cvs }) (record { known = known_of is now; cvs = cvs })
+    goes_on_waiting was is me now same v w s = record {
       variables = refl;
       monitor = same;
       seat_count = s.seat_count;
@@ -103,6 +104,34 @@ module _ {C : Type 0} {N : ℕ} (truths : Truths C) where
       held = w.at.fits.0.0 ∙ sym v.at.fits.0.0;
       owes = w.owes;
       empty = w.at.empty refl;
+    }
+
+    -- the load of its flag was of a lawful state in which nobody had woken it
+    stood_unwoken : (was is : TableId) (flag : ℕ) (me mid now : SeatOf C N) → flag ≡ 1 → Performed truths None LoadFlag (Flag flag) me mid → BeginsWith (the now.0).told.seen (the mid.0).told.seen → HasStoodUnwoken truths (known_of was me) (known_of is now)
+    stood_unwoken was is flag me mid now set p more =
+        let d = p.did in let e = effect_of truths LoadFlag (Flag flag) me mid p in
+        let seen : (the mid.0).told.seen ≡ d.history = ap (λ (t : Told C N). t.seen) d.tells ∙ (ap (λ es. d.history ++ es) e.2 ∙ append-nil d.history) in
+        record {
+          history = d.history;
+          state = d.old;
+          lawful = d.lawful;
+          unwoken = sym e.0 ∙ set;
+          after = d.told_was.seen_of;
+          before = subst (BeginsWith (the now.0).told.seen) seen more;
+          own = sym d.told_was.own_of;
+          front = d.made.step.front;
+          view = (the me.0).at;
+          back = d.made.step.back;
+          there = ap (λ (x : LockState C N). x.views) (sym d.made.begins) ∙ d.made.step.was;
+          seat = refl;
+          stands = refl;
+        }
+
+    pub tells_still : (old : WaitKnown C N) (was is : TableId) (flag : ℕ) (me mid now : SeatOf C N) → record { known = known_of was me; cvs = cvs } ≡ old → is ≡ old.known.monitor → flag ≡ 1 → IsWaitingForAny truths mode cvs me → IsWaitingForAny truths mode cvs now → HasSince None (the me.0) (the now.0)
+        → Performed truths None LoadFlag (Flag flag) me mid → Performed truths None (Look at_will false) (Looked None) mid now → WaitsStill truths old (record { known = known_of is now; cvs = cvs })
+    tells_still old was is flag me mid now view same set v w s loads looks = subst (λ (k : WaitKnown C N). is ≡ k.known.monitor → WaitsStill truths k (record { known = known_of is now; cvs = cvs })) view (λ same. record {
+      on = goes_on_waiting was is me now same v w s;
+      stood = stood_unwoken was is flag me mid now set loads (since truths None (Look at_will false) (Looked None) mid now looks).begins;
     }) same
 
     -- ---- it has come back

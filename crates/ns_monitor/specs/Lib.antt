@@ -2,9 +2,12 @@ pub mod Begun
 pub mod Known
 pub mod Limits
 pub mod Looks
+pub mod Polls
 pub mod Prelude
+pub mod Room
 pub mod Saved
 pub mod Several
+pub mod Sizes
 pub mod Shows
 pub mod Standing
 pub mod Tests
@@ -18,7 +21,8 @@ pub use Rattle.ns_model.specs.Truths.{Truths, truths}
 pub use Rattle.ns_model.specs.declared.event.Mode.{Mode}
 pub use Rattle.ns_model.specs.declared.event.Mode.TheVariants.{Read, Write}
 pub use Rattle.ns_monitor.specs.Known.{AreNew, AreOfOneHistory, EndsAs, Grows, HasLearned, HasLocked, HasSeenMore, new_seat}
-pub use Rattle.ns_monitor.specs.Several.{AreSome, HasBegunToWait, HasComeBackFromAny, WaitsStill, any_waiting, waits_for_any}
+pub use Rattle.ns_monitor.specs.Polls.{IfStill, IfWoken}
+pub use Rattle.ns_monitor.specs.Several.{AreSome, HasBegunToWait, HasComeBackFromAny, HasStoodUnwoken, WaitsOn, WaitsStill, any_waiting, waits_for_any}
 pub use Rattle.ns_monitor.specs.Shows.{HasStood, ShowsState}
 pub use Rattle.ns_monitor.specs.Variables.{HasComeBackFrom, HasWaitedForVariable, HasWoken, wake_event}
 pub use Rattle.ns_monitor.specs.Waits.{EndedBy, HadLooked, HasComeBack, HasStayed, HasWaitedFor}

@@ -5,18 +5,21 @@ use Rattle.ns_gate.specs.Calls.{SeatOf, IsAtPlace, IsTrueToHistory}
 use Rattle.ns_gate.specs.Steps.{the}
 use Rattle.ns_model.specs.Beginnings.{BeginsWith}
 use Rattle.ns_model.specs.Cvs.{is_in}
-use Rattle.ns_model.specs.Histories.{row_after}
+use Rattle.ns_model.specs.Histories.{own as own_of, row_after}
 use Rattle.ns_model.specs.Truths.{Truths}
 use Rattle.ns_model.specs.declared.cvs.Cvs.{Cvs}
 use Rattle.ns_model.specs.declared.cvs.Variables.TheVariants.{Any}
 use Rattle.ns_model.specs.declared.event.Entry.TheVariants.{AfterAny}
+use Rattle.ns_model.specs.declared.event.Event.{Event}
 use Rattle.ns_model.specs.declared.event.Exit.TheVariants.{AnyWait}
 use Rattle.ns_model.specs.declared.event.Mode.{Mode}
 use Rattle.ns_monitor.specs.Known.{Known}
+use Rattle.ns_word.specs.Lawful.{IsLawful}
 use Rattle.ns_word.specs.Meanings.{InHand, IsBack, leave_any_told}
-use Rattle.ns_word.specs.Steps.{entry_of, section_of}
+use Rattle.ns_word.specs.Steps.{LockState, entry_of, section_of}
 use Rattle.ns_word.specs.Walks.{wait_first}
 use Rattle.ns_word.specs.declared.view.Held.{Held}
+use Rattle.ns_word.specs.declared.view.SeatView.{SeatView}
 use Rattle.ns_word.specs.declared.wait.Subject.TheVariants.{OnVariables}
 use Rattle.ns_word.specs.declared.wait.Wait.{Wait}
 use Rattle.ns_word.specs.declared.wait.WaitPlace.TheVariants.{AwaitWakeInWait}
@@ -74,8 +77,8 @@ pub record HasBegunToWait {C : Type 0} {N : ℕ} (truths : Truths C) (mode : Mod
   pub owes : new.known.owed ≡ []
   pub empty : new.known.carries ≡ []
 
--- It waits still: nothing of it has changed but what it has seen, which is such a history.
-pub record WaitsStill {C : Type 0} {N : ℕ} (truths : Truths C) (old new : WaitKnown C N) : Type 0 where
+-- It waits on: nothing of it has changed but what it has seen, which is such a history.
+pub record WaitsOn {C : Type 0} {N : ℕ} (truths : Truths C) (old new : WaitKnown C N) : Type 0 where
   pub variables : new.cvs ≡ old.cvs
   pub monitor : new.known.monitor ≡ old.known.monitor
   pub seat_count : new.known.seat_count ≡ old.known.seat_count
@@ -88,6 +91,27 @@ pub record WaitsStill {C : Type 0} {N : ℕ} (truths : Truths C) (old new : Wait
   pub held : new.known.held ≡ old.known.held
   pub owes : new.known.owed ≡ []
   pub empty : new.known.carries ≡ []
+
+-- At one moment between what the caller had seen and what it has seen now, the lock was in a lawful state in which the caller stood where it waits, and nobody had woken it: its flag stood at 1. Its own events were just those that it had done.
+pub record HasStoodUnwoken {C : Type 0} {N : ℕ} (truths : Truths C) (old new : Known C N) : Type 0 where
+  pub history : List (Event C N)
+  pub state : LockState C N
+  pub lawful : IsLawful truths old.seat_count history state
+  pub unwoken : state.flags old.seat ≡ 1
+  pub after : BeginsWith history old.seen
+  pub before : BeginsWith new.seen history
+  pub own : own_of history old.seat ≡ old.mine
+  pub front : List (SeatView C N)
+  pub view : SeatView C N
+  pub back : List (SeatView C N)
+  pub there : state.views ≡ front ++ view ∷ back
+  pub seat : view.seat ≡ old.seat
+  pub stands : view.walk ≡ old.call
+
+-- It waits still: it waits on, and nobody had woken it at some moment since.
+pub record WaitsStill {C : Type 0} {N : ℕ} (truths : Truths C) (old new : WaitKnown C N) : Type 0 where
+  pub on : WaitsOn truths old new
+  pub stood : HasStoodUnwoken truths old.known new.known
 
 -- one of the variables has woken it, or none has
 abbrev pub IsByOneOf : Cvs → Option ℕ → Type 0

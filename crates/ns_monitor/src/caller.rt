@@ -2,6 +2,7 @@
 
 ghost use Rattle.std.specs.Prelude.{◌≡◌, ◌<◌, ℕ, Option, None, Some, length, slice_index, slice_index_or};
 ghost use Rattle.ns_gate.specs.Prelude.{Mode, Read, Write, Held, HasMode};
+ghost use Rattle.ns_monitor.specs.Room.{TakesLittle};
 ghost use Rattle.ns_monitor.specs.Prelude.{HasSaved, IsFresh, saved_after, value_before};
 
 use ns_gate::gate::GateSeat;
@@ -33,6 +34,9 @@ pub trait Renewed<C, const N: usize>: Section<C, N> + Drop {
     /// What is in hand where such a section has just begun.
     fn begun() -> Self
         ensures { (held : Held C N) → IsFresh N Self.Section.mode held → Self.Hand.fits result (Some held) };
+
+    /// It takes little memory, so that code over any such section fits.
+    ghost has_room: { TakesLittle Self.row N.row };
 }
 
 /// No section is in hand.
@@ -58,6 +62,8 @@ impl<C, const N: usize> Section<C, N> for Reading {
 }
 
 impl<C, const N: usize> Renewed<C, N> for Reading {
+    ghost use Rattle.ns_monitor.specs.Sizes.{reading_small};
+
     #[inline(always)]
     fn mode() -> Mode {
         Mode::Read
@@ -67,6 +73,8 @@ impl<C, const N: usize> Renewed<C, N> for Reading {
     fn begun() -> Self {
         Reading
     }
+
+    ghost has_room = { reading_small N.row };
 }
 
 /// A section in hand that writes, with what it found in the cells that it has set.
@@ -87,6 +95,8 @@ impl<C, const N: usize> Section<C, N> for Writing<N> {
 }
 
 impl<C, const N: usize> Renewed<C, N> for Writing<N> {
+    ghost use Rattle.ns_monitor.specs.Sizes.{writing_small};
+
     #[inline(always)]
     fn mode() -> Mode {
         Mode::Write
@@ -96,6 +106,8 @@ impl<C, const N: usize> Renewed<C, N> for Writing<N> {
     fn begun() -> Self {
         Writing { saved: [None; N] }
     }
+
+    ghost has_room = { writing_small N.row };
 }
 
 /// A caller of a monitor, with what it has in hand.

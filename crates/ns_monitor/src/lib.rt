@@ -70,5 +70,5 @@ pub use ns_model::event::{Answer, Mode};
 pub use ns_queue::waiter::Shown;
 pub use ns_word::word::Word;
 pub use room::Gated;
-pub use several::AnyWaiting;
+pub use several::{AnyPoll, AnyWaiting};
 pub use showing::DebugState;

@@ -4,9 +4,9 @@
 //! So a caller may look at whatever else it waits for between two of them, as nsync's `nsync_wait_n` does
 //! inside.
 
-ghost use Rattle.std.specs.Prelude.{◌≡◌, Some, None, IfOk, IfErr, [], ℕ};
+ghost use Rattle.std.specs.Prelude.{◌≡◌, Some, None, [], ℕ};
 ghost use Rattle.ns_gate.specs.Prelude.{AwaitWakeInWait, ForWait, HasSince, InWait, IsAtPlace, the};
-ghost use Rattle.ns_monitor.specs.Prelude.{AreSome, HasAcquired, HasBegunToWait, HasComeBackFromAny, IsNumberOf, IsWaitingForAny, WaitsStill, waits_for_any};
+ghost use Rattle.ns_monitor.specs.Prelude.{AreSome, HasAcquired, HasBegunToWait, HasComeBackFromAny, IfStill, IfWoken, IsNumberOf, IsWaitingForAny, WaitsStill, waits_for_any};
 
 use crate::caller::{Caller, Renewed};
 use crate::monitor::Monitor;
@@ -53,6 +53,17 @@ impl<H: Renewed<C, N>, C: Condition<N>, const N: usize> Model for AnyWaiting<H, 
     ghost view = { λ w. record { known = known_of w.seat.table_id w.seat.me; cvs = w.cvs } };
 
     ghost invariant = { λ w. IsWaitingForAny C.means H.Section.mode w.cvs w.seat.me × IsNumberOf w.number w.seat.me × ((held : Held C N) → IsFresh N H.Section.mode held → H.Hand.fits w.hand (Some held)) };
+}
+
+/// What came of asking whether a wait for any of several condition variables was woken: a section, or the
+/// wait still.
+#[derive(Drop)]
+pub enum AnyPoll<S, W> {
+    /// It was woken, and has come back with this section; by a signal or a broadcast of the variable of this
+    /// number.
+    Woken(S, u8),
+    /// It waits still.
+    Still(W),
 }
 
 /// What a wait in this mode is for any of these variables: its caller may end it at any time.
@@ -109,7 +120,8 @@ impl<C: Condition<N>, const N: usize> Monitor<C, N> {
 
     /// Asks whether a wait for any of several variables was woken. Where it was, acquires the lock again,
     /// in the mode of the section that was left, and gives the section and the number of the variable whose
-    /// signal or broadcast took it; else gives the wait back, with nothing changed.
+    /// signal or broadcast took it. Else it gives the wait back, with nothing changed: at some moment of the
+    /// call, nobody had woken it yet.
     ///
     /// Waits for the lock only where it was woken. The behaviour is that of `nsync_wait_n` where it looks
     /// whether it was woken. Needs a wait of this monitor.
@@ -117,10 +129,10 @@ impl<C: Condition<N>, const N: usize> Monitor<C, N> {
         &self,
         rt: &R,
         waiting: AnyWaiting<H, C, N>,
-    ) -> Result<(Caller<H, C, N>, usize), AnyWaiting<H, C, N>>
+    ) -> AnyPoll<Caller<H, C, N>, AnyWaiting<H, C, N>>
         requires of { waiting.known.monitor ≡ self.now }
-        ensures woken { IfOk result (λ back. HasComeBackFromAny C.means H.mode (Some back.1) waiting back.0) }
-        ensures still { IfErr result (λ still. WaitsStill C.means waiting still) }
+        ensures woken { IfWoken result (λ back k. HasComeBackFromAny C.means H.mode (Some k) waiting back) }
+        ensures still { IfStill result (λ still. WaitsStill C.means waiting still) }
     {
         let AnyWaiting {
             mut seat,
@@ -133,7 +145,7 @@ impl<C: Condition<N>, const N: usize> Monitor<C, N> {
         let flag = self.gate.load_flag(&mut seat, number);
         if flag == 1 {
             self.gate.look(&mut seat, number, wait.limits, false, None);
-            return Err(AnyWaiting {
+            return AnyPoll::Still(AnyWaiting {
                 seat,
                 number,
                 cvs,
@@ -149,7 +161,7 @@ impl<C: Condition<N>, const N: usize> Monitor<C, N> {
             hand,
             alone: false,
         };
-        Ok((back, k as usize))
+        AnyPoll::Woken(back, k)
     }
 
     /// Ends a wait for any of several variables, acquires the lock again, in the mode of the section that
@@ -164,7 +176,7 @@ impl<C: Condition<N>, const N: usize> Monitor<C, N> {
         &self,
         rt: &R,
         waiting: AnyWaiting<H, C, N>,
-    ) -> (Caller<H, C, N>, Option<usize>)
+    ) -> (Caller<H, C, N>, Option<u8>)
         requires of { waiting.known.monitor ≡ self.now }
         ensures { HasComeBackFromAny C.means H.mode result.1 waiting result.0 }
     {
@@ -177,10 +189,7 @@ impl<C: Condition<N>, const N: usize> Monitor<C, N> {
         let mode = H::mode();
         let wait = for_any(mode, cvs);
         let outcome = self.come_back(rt, &mut seat, number, wait, &mut AtOnce);
-        let by = match outcome.variable() {
-            Some(k) => Some(k as usize),
-            None => None,
-        };
+        let by = outcome.variable();
         let back = Caller {
             seat,
             number,

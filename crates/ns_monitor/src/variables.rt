@@ -79,7 +79,7 @@ impl<C: Condition<N>, const N: usize> Monitor<C, N> {
         &self,
         rt: &R,
         held: Caller<H, C, N>,
-        k: usize,
+        k: u8,
         deadline: Option<u64>,
         note: Option<Note>,
         env: &Env,
@@ -105,7 +105,7 @@ impl<C: Condition<N>, const N: usize> Monitor<C, N> {
                 seat: env_seat,
                 note,
             };
-            self.wait_for_variable(rt, held, k as u8, limits, &mut looker)
+            self.wait_for_variable(rt, held, k, limits, &mut looker)
         };
         env_seat.attest();
         waited

@@ -192,25 +192,25 @@ impl<C: Gated<N>, const N: usize> Monitor<C, N> {
     /// The behaviour is that of nsync's `nsync_cv_signal`.
     ///
     /// Needs a variable below 4.
-    pub fn signal<H: Hand<C, N>, R: Wait>(&self, rt: &R, caller: &mut Caller<H, C, N>, k: usize)
+    pub fn signal<H: Hand<C, N>, R: Wait>(&self, rt: &R, caller: &mut Caller<H, C, N>, k: u8)
         requires of { caller.old.monitor ≡ self.now }
         requires variable { k < 4 }
         ensures grows { Grows C.means (waking_by Signaling k) caller.old caller.new }
         ensures woke { HasWoken Signaling k caller.old caller.new }
     {
-        self.wake(rt, &mut caller.seat, Waking::Signaling, k as u8);
+        self.wake(rt, &mut caller.seat, Waking::Signaling, k);
     }
 
     /// Wakes everybody who waits for a condition variable, as [`Monitor::signal`] wakes at least one.
     /// The behaviour is that of nsync's `nsync_cv_broadcast`.
     ///
     /// Needs a variable below 4.
-    pub fn broadcast<H: Hand<C, N>, R: Wait>(&self, rt: &R, caller: &mut Caller<H, C, N>, k: usize)
+    pub fn broadcast<H: Hand<C, N>, R: Wait>(&self, rt: &R, caller: &mut Caller<H, C, N>, k: u8)
         requires of { caller.old.monitor ≡ self.now }
         requires variable { k < 4 }
         ensures grows { Grows C.means (waking_by Broadcasting k) caller.old caller.new }
         ensures woke { HasWoken Broadcasting k caller.old caller.new }
     {
-        self.wake(rt, &mut caller.seat, Waking::Broadcasting, k as u8);
+        self.wake(rt, &mut caller.seat, Waking::Broadcasting, k);
     }
 }

@@ -206,7 +206,7 @@ impl Env {
             // order, so who sets it back from now on, and looks after that, sees the step that
             // came before this call. The same is so where the swap finds it rung meanwhile: only
             // the one that found it set back wakes, since there is but one sleeper to a bell; one that
-            // stops for good between the two leaves that sleeper asleep until it is rung anew.
+            // stops for good between the two leaves that sleeper asleep for good.
             let bell = usize::from(number) + BELLS;
             if self.table.shared.peek(bell) == 0 && !self.ring_one(seat, number) {
                 self.table.shared.wake_one(bell);

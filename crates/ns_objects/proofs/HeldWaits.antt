@@ -6,48 +6,65 @@ use mir.Syntax.{Ty}
 use Rattle.ns_model.specs.Room.{room, room_enough}
 use Rattle.ns_model.specs.Tallies.{Every}
 use Rattle.ns_model.specs.Truths.{Truths}
-use Rattle.ns_model.proofs.Beginnings.{begins_through}
+use Rattle.ns_model.proofs.Beginnings.{begins_itself, begins_through}
 use Rattle.ns_model.proofs.Tallies.{every_map}
 use Rattle.ns_model.specs.declared.cvs.Cvs.{Cvs}
 use Rattle.ns_model.specs.declared.event.Exit.TheVariants.{AnyWait}
 use Rattle.ns_model.specs.declared.event.Mode.{Mode}
 use Rattle.ns_monitor.specs.Known.{Known}
-use Rattle.ns_monitor.specs.Several.{AreSome, HasBegunToWait, HasComeBackFromAny, IsByOneOf, WaitKnown, WaitsStill}
+use Rattle.ns_monitor.specs.Several.{AreSome, HasBegunToWait, HasComeBackFromAny, IsByOneOf, KnowsTruly, WaitKnown, WaitsOn}
 use Rattle.ns_word.specs.Meanings.{InHand, leave_any_told}
 use Rattle.ns_word.specs.Steps.{section_of}
 use Rattle.ns_word.specs.declared.view.Held.{Held}
 use Rattle.ns_word.proofs.Enters.{are_some}
 use Rattle.ns_objects.specs.Any.{BothKnown, IsNamed}
-use Rattle.ns_objects.proofs.Rounds.{BothGrow, answers_within}
 use Rattle.ns_objects.specs.Held.{AreAmong, HasWaitedForAny, IsLow, PlaceBy, is_among, is_variable, place_in}
-use Rattle.ns_objects.specs.declared.any.Item.{Item}
-use Rattle.ns_objects.specs.declared.any.Item.TheVariants.{Note, Counter, Cv}
+use Rattle.ns_counters.specs.Rounds.{Past}
+use Rattle.ns_counters.specs.declared.object.Setup.{Setup}
+use Rattle.ns_objects.specs.declared.any.AnyItem.{AnyItem}
+use Rattle.ns_objects.specs.declared.any.AnyItem.TheVariants.{Note, Counter, Cv}
 
 -- an item that is named is no variable above 3
-low_too : (now : BothKnown) (item : Item) → IsNamed now.0 now.1 item → IsLow item
+low_too : (now : BothKnown) (item : AnyItem) → IsNamed now.0 now.1 item → IsLow item
 low_too now (Note note) named = tt
 low_too now (Counter counter) named = tt
 low_too now (Cv k) named = named
 
-low_if_is : (item : Item) (k : ℕ) → IsLow item → is_variable k item ≡ true → k < 4
+low_if_is : (item : AnyItem) (k : ℕ) → IsLow item → is_variable k item ≡ true → k < 4
 low_if_is (Note note) k low is = absurd (false≢true is)
 low_if_is (Counter counter) k low is = absurd (false≢true is)
 low_if_is (Cv j) k low is = let same : j ≡ k = eqb-true j k is in subst (λ n. n < 4) same low
 
-low_if_among : (items : List Item) (k : ℕ) → Every IsLow items → is_among k items ≡ true → k < 4
+low_if_among : (items : List AnyItem) (k : ℕ) → Every IsLow items → is_among k items ≡ true → k < 4
 low_if_among [] k low is = absurd (false≢true is)
 low_if_among (item ∷ items) k low is = elim (or_cases (is_variable k item) (is_among k items) is) [
   | inl here ↦ low_if_is item k low.0 here
   | inr there ↦ low_if_among items k low.1 there
 ]
 
-pub all_low : (items : List Item) (now : BothKnown) → Every (IsNamed now.0 now.1) items → Every IsLow items
+pub all_low : (items : List AnyItem) (now : BothKnown) → Every (IsNamed now.0 now.1) items → Every IsLow items
 all_low items now named = every_map (IsNamed now.0 now.1) IsLow (low_too now) items named
 
 module _ {C : Type 0} {N : ℕ} where
-  -- who waits still, and then still
-  pub still_on : (truths : Truths C) (a b c : WaitKnown C N) → WaitsStill truths a b → WaitsStill truths b c → WaitsStill truths a c
-  still_on truths a b c s t = record {
+  pub waits_on_itself : (truths : Truths C) (a : WaitKnown C N) → KnowsTruly truths a.known → a.known.owed ≡ [] → a.known.carries ≡ [] → WaitsOn truths a a
+  waits_on_itself truths a seen owes empty = record {
+    variables = refl;
+    monitor = refl;
+    seat_count = refl;
+    seat = refl;
+    begins = begins_itself a.known.seen;
+    begun = refl;
+    mine = refl;
+    true_to = seen;
+    call = refl;
+    held = refl;
+    owes = owes;
+    empty = empty;
+  }
+
+  -- who waits on, and then on
+  pub waits_through : (truths : Truths C) (a b c : WaitKnown C N) → WaitsOn truths a b → WaitsOn truths b c → WaitsOn truths a c
+  waits_through truths a b c s t = record {
     variables = t.variables ∙ s.variables;
     monitor = t.monitor ∙ s.monitor;
     seat_count = t.seat_count ∙ s.seat_count;
@@ -63,9 +80,9 @@ module _ {C : Type 0} {N : ℕ} where
   }
 
   module _ (truths : Truths C) (mode : Mode) (by : Option ℕ) where
-    -- who waited still, and then has come back
-    pub back_from_still : (a b : WaitKnown C N) (new : Known C N) → WaitsStill truths a b → HasComeBackFromAny truths mode by b new → HasComeBackFromAny truths mode by a new
-    back_from_still a b new s t = record {
+    -- who waited on, and then has come back
+    pub back_from_wait : (a b : WaitKnown C N) (new : Known C N) → WaitsOn truths a b → HasComeBackFromAny truths mode by b new → HasComeBackFromAny truths mode by a new
+    back_from_wait a b new s t = record {
       monitor = t.monitor ∙ s.monitor;
       seat_count = t.seat_count ∙ s.seat_count;
       seat = t.seat ∙ s.seat;
@@ -109,28 +126,28 @@ up_most : (k e : ℕ) → up k e ≤ e + k
 up_most k e = omega (arith, mod_most (k - e % k) k)
 
 -- what is aligned to a, and takes s, fits with a few bytes before it
-beside_small : (a s n k : ℕ) → n ≤ 2 → k ≤ a + 1 → a + s < 2 ^ 32 → up k (up a n + s) < 2 ^ 63
+beside_small : (a s n k : ℕ) → n ≤ 2 → k ≤ a + 1 → a + s < 2 ^ 40 → up k (up a n + s) < 2 ^ 63
 beside_small a s n k few most small = omega (arith, up_most a n, up_most k (up a n + s), few, most, small)
 
 -- what takes little by the bound is small; of any type, so that no size is worked out
-small_by : (τ : Ty) → room τ < 2 ^ 32 → align τ + size τ < 2 ^ 32
+small_by : (τ : Ty) → room τ < 2 ^ 40 → align τ + size τ < 2 ^ 40
 small_by τ few = let most = room_enough τ in omega (arith, most, few)
 
 -- a section in hand fits, where what stands for it takes little, and so does a wait that it was left for
-pub hand_fits : (τ : Ty) → room τ < 2 ^ 32 → up (max 1 (max 1 (max 1 (max (align τ) 1)))) (up (align τ) 2 + size τ) < 2 ^ 63
+pub hand_fits : (τ : Ty) → room τ < 2 ^ 40 → up (max 1 (max 1 (max 1 (max (align τ) 1)))) (up (align τ) 2 + size τ) < 2 ^ 63
 hand_fits τ few = beside_small (align τ) (size τ) 2 (max 1 (max 1 (max 1 (max (align τ) 1)))) (omega arith) (omega arith) (small_by τ few)
 
 -- the wait is for variables that there are, where one is among the items
-pub some_wait : (cvs : Cvs) (items : List Item) (k : ℕ) → cvs.0 < 256 → AreAmong cvs items → Every IsLow items → is_among k items ≡ true → AreSome cvs
+pub some_wait : (cvs : Cvs) (items : List AnyItem) (k : ℕ) → cvs.0 < 256 → AreAmong cvs items → Every IsLow items → is_among k items ≡ true → AreSome cvs
 some_wait cvs items k byte are low one = are_some cvs k byte (are k ∙ one) (λ j is. low_if_among items j low (sym (are j) ∙ is))
 
-this_is : (k : ℕ) (item : Item) → is_variable k item ≡ true → item ≡ Cv k
+this_is : (k : ℕ) (item : AnyItem) → is_variable k item ≡ true → item ≡ Cv k
 this_is k (Note note) is = absurd (false≢true is)
 this_is k (Counter counter) is = absurd (false≢true is)
 this_is k (Cv j) is = ap Cv (eqb-true j k is)
 
 -- at the place of a variable it stands
-stands_at : (k : ℕ) (items : List Item) → is_among k items ≡ true → slice_get items (place_in k items) ≡ Some (Cv k)
+stands_at : (k : ℕ) (items : List AnyItem) → is_among k items ≡ true → slice_get items (place_in k items) ≡ Some (Cv k)
 stands_at k [] is = absurd (false≢true is)
 stands_at k (item ∷ items) is = by (is_variable k item) refl (λ some. stands_at k items some) is where
   by : (b : Bool) → is_variable k item ≡ b → (is_among k items ≡ true → slice_get items (place_in k items) ≡ Some (Cv k)) → (b || is_among k items) ≡ true → slice_get (item ∷ items) (cond b 0 (suc (place_in k items))) ≡ Some (Cv k)
@@ -138,7 +155,7 @@ stands_at k (item ∷ items) is = by (is_variable k item) refl (λ some. stands_
   by false this rest some = rest some
 
 -- and nowhere before
-stands_first : (k : ℕ) (items : List Item) (i : ℕ) → i < place_in k items → slice_get items i ≡ Some (Cv k) → ⊥
+stands_first : (k : ℕ) (items : List AnyItem) (i : ℕ) → i < place_in k items → slice_get items i ≡ Some (Cv k) → ⊥
 stands_first k [] i low is = absurd (omega (arith, low))
 stands_first k (item ∷ items) i low is = by (is_variable k item) refl (λ j below there. stands_first k items j below there) i low is where
   by : (b : Bool) → is_variable k item ≡ b → ((j : ℕ) → j < place_in k items → slice_get items j ≡ Some (Cv k) → ⊥) → (i : ℕ) → i < cond b 0 (suc (place_in k items)) → slice_get (item ∷ items) i ≡ Some (Cv k) → ⊥
@@ -150,10 +167,5 @@ stands_first k (item ∷ items) i low is = by (is_variable k item) refl (λ j be
   by false this rest (suc i) low is = rest i (omega (arith, low)) is
 
 -- the place of the variable that has woken a wait
-pub place_by : (items : List Item) (deadline : Option ℕ) (old new : BothKnown) (cvs : Cvs) (k place : ℕ) → AreAmong cvs items → IsByOneOf cvs (Some k) → place ≡ place_in k items → PlaceBy items deadline old new (Some k) place
-place_by items deadline old new cvs k place are by at = subst (λ p. PlaceBy items deadline old new (Some k) p) (sym at) (stands_at k items (sym (are k) ∙ by), stands_first k items)
-
--- a place that is answered at the end of a part of a call is answered of the whole of it
-pub place_within : (items : List Item) (deadline : Option ℕ) (by : Option ℕ) (first old new : BothKnown) (place : ℕ) → BothGrow first old → BothGrow new new → PlaceBy items deadline old new by place → PlaceBy items deadline first new by place
-place_within items deadline None first old new place a b at = answers_within items deadline first old new new place a b at
-place_within items deadline (Some k) first old new place a b at = at
+pub place_by : (setup : Setup) (items : List AnyItem) (deadline : Option ℕ) (from to : Past) (cvs : Cvs) (k place : ℕ) → AreAmong cvs items → IsByOneOf cvs (Some k) → place ≡ place_in k items → PlaceBy setup items deadline from to (Some k) place
+place_by setup items deadline from to cvs k place are by at = subst (λ p. PlaceBy setup items deadline from to (Some k) p) (sym at) (stands_at k items (sym (are k) ∙ by), stands_first k items)

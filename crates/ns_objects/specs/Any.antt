@@ -1,54 +1,60 @@
 -- What a wait for any of several notes and counters answers, by what the caller had seen of the objects and of the environment, and has seen then.
-use Rattle.std.specs.Prelude.{◌≡◌, ◌⊎◌, ℕ, ◌<◌, ◌≤◌, Bool, true, false, List, length, take, slice_get, Option, None, Some, IfSome, IsSomeAnd}
-use Rattle.ns_model.specs.declared.environment.EnvEvent.{EnvEvent}
-use Rattle.ns_model.specs.Beginnings.{IsBetween}
-use Rattle.ns_model.specs.Environments.{IsMade, is_notified, clock_of}
-use Rattle.ns_model.specs.Tallies.{Every}
-use Rattle.ns_counters.specs.declared.object.ObjectEvent.{ObjectEvent}
+use Rattle.std.specs.Prelude.{◌≡◌, ℕ, ◌<◌, Bool, true, false, List, Option}
+use Rattle.ns_model.specs.Environments.{IsMade, is_notified}
 use Rattle.ns_model.specs.Counters.{is_ready}
+use Rattle.ns_counters.specs.declared.object.Setup.{Setup}
 use Rattle.ns_counters.specs.Objects.{objects_after}
+use Rattle.ns_counters.specs.Rounds.{AnswersByRounds, IsLater, Past, RoundShows}
 use Rattle.ns_note.specs.Known.{EnvKnown}
+use Rattle.ns_objects.specs.declared.any.AnyItem.{AnyItem}
+use Rattle.ns_objects.specs.declared.any.AnyItem.TheVariants.{Note, Counter, Cv}
 use Rattle.ns_objects.specs.declared.any.Item.{Item}
-use Rattle.ns_objects.specs.declared.any.Item.TheVariants.{Note, Counter, Cv}
+use Rattle.ns_objects.specs.declared.any.Item.TheVariants as TheItem
 use Rattle.ns_objects.specs.Known.{ObjectsKnown}
 
 -- what a caller knows of both
 abbrev pub BothKnown : Type 0
 BothKnown = ObjectsKnown × EnvKnown
 
--- a counter that there is, or a note that was seen made; no variable
-abbrev pub IsKnown : ObjectsKnown → EnvKnown → Item → Type 0
-IsKnown seat watch (Note note) = IsMade watch.seen note.index
-IsKnown seat watch (Counter counter) = counter < seat.setup.counters
-IsKnown seat watch (Cv k) = ⊥
+-- how far both have come, as far as the caller has seen
+abbrev pub past_of : BothKnown → Past
+past_of now = record { notes = now.1.seen; objects = now.0.seen }
 
--- the same, or one of four variables
-abbrev pub IsNamed : ObjectsKnown → EnvKnown → Item → Type 0
+-- a note or a counter, as one of the items that there may be beside variables
+abbrev pub any_of : Item → AnyItem
+any_of (TheItem.Note note) = Note note
+any_of (TheItem.Counter counter) = Counter counter
+
+-- a counter that there is, a note that was seen made, or one of four variables
+abbrev pub IsNamed : ObjectsKnown → EnvKnown → AnyItem → Type 0
 IsNamed seat watch (Note note) = IsMade watch.seen note.index
 IsNamed seat watch (Counter counter) = counter < seat.setup.counters
 IsNamed seat watch (Cv k) = k < 4
 
--- At a point of the call the item was ready, or wasn't: a note that is notified, and a counter whose value is 0. A variable never is: it is passed over.
-abbrev pub WasReady : Bool → BothKnown → BothKnown → Item → Type 0
-WasReady so old new (Note note) = (point : List EnvEvent) × IsBetween old.1.seen point new.1.seen × (is_notified point note.index ≡ so)
-WasReady so old new (Counter counter) = (point : List ObjectEvent) × IsBetween old.0.seen point new.0.seen × (is_ready ((objects_after old.0.setup point).counters counter) ≡ so)
-WasReady true old new (Cv k) = ⊥
-WasReady false old new (Cv k) = Unit {0}
+-- the same of a note or a counter
+abbrev pub IsKnown : ObjectsKnown → EnvKnown → Item → Type 0
+IsKnown seat watch item = IsNamed seat watch (any_of item)
 
--- At a point of the call the clock had reached the deadline.
-abbrev pub WasPast : Option ℕ → BothKnown → BothKnown → Type 0
-WasPast deadline old new = IsSomeAnd deadline (λ d. (point : List EnvEvent) × IsBetween old.1.seen point new.1.seen × (d ≤ clock_of point))
+-- At a point the item was ready, or wasn't: a note that is notified, and a counter whose value is 0. A variable never is: it is passed over.
+abbrev pub WasReady : Setup → Bool → Past → AnyItem → Type 0
+WasReady setup so point (Note note) = is_notified point.notes note.index ≡ so
+WasReady setup so point (Counter counter) = is_ready ((objects_after setup point.objects).counters counter) ≡ so
+WasReady setup true point (Cv k) = ⊥
+WasReady setup false point (Cv k) = Unit {0}
 
--- At a point of the call the clock had not reached the deadline, if there is one.
-abbrev pub WasBefore : Option ℕ → BothKnown → BothKnown → Type 0
-WasBefore deadline old new = IfSome deadline (λ d. (point : List EnvEvent) × IsBetween old.1.seen point new.1.seen × (clock_of point < d))
+-- So it was at some point of a call, or of a part of one.
+abbrev pub WasReadyIn : Bool → BothKnown → BothKnown → AnyItem → Type 0
+WasReadyIn so old new item = (point : Past) × IsLater (past_of old) point × IsLater point (past_of new) × WasReady old.0.setup so point item
 
--- The place of the first item that is ready: it was, and each before it was not; or the number of items, where none was and the deadline had come.
+module _ {A : Type 0} (as_any : A → AnyItem) (setup : Setup) (items : List A) (deadline : Option ℕ) where
+  -- One round over these items shows this: the clock was looked at, and then each item in order, up to the first that was ready.
+  abbrev pub RoundAnswers : Past → Past → Option ℕ → Type 0
+  RoundAnswers from to answer = RoundShows (λ so point item. WasReady setup so point (as_any item)) items deadline from to answer
+
+  -- Rounds that showed nothing, and one behind them that shows this: the place of the first item that was ready; or the number of items, where none was and the deadline had come.
+  abbrev pub RoundsAnswer : Past → Past → ℕ → Type 0
+  RoundsAnswer from to place = AnswersByRounds (λ so point item. WasReady setup so point (as_any item)) items deadline from to place
+
+-- What a wait for any of these answers.
 abbrev pub AnyAnswers : List Item → Option ℕ → BothKnown → BothKnown → ℕ → Type 0
-AnyAnswers items deadline old new place = Every (WasReady false old new) (take place items)
-    × (((item : Item) × (slice_get items place ≡ Some item) × WasReady true old new item) ⊎ ((place ≡ length items) × WasPast deadline old new))
-
--- One round answers that, or nothing: no item was ready, and the deadline had not come.
-abbrev pub RoundAnswers : List Item → Option ℕ → BothKnown → BothKnown → Option ℕ → Type 0
-RoundAnswers items deadline old new (Some place) = AnyAnswers items deadline old new place
-RoundAnswers items deadline old new None = Every (WasReady false old new) items × WasBefore deadline old new
+AnyAnswers items deadline old new place = RoundsAnswer any_of old.0.setup items deadline (past_of old) (past_of new) place

@@ -5,23 +5,21 @@ ghost use Rattle.ns_model.specs.Tallies.{Every};
 ghost use Rattle.ns_monitor.specs.Several.{KnowsTruly};
 ghost use Rattle.ns_note.specs.Known.{Grows as EnvGrows, IsTrueToHistory as EnvTrue};
 ghost use Rattle.ns_objects.specs.Any.{IsNamed};
-ghost use Rattle.ns_objects.specs.Held.{AreAmong, HeldAnswers, IsLow, IsSmall, WaitAnswers, is_among, place_in};
+ghost use Rattle.ns_objects.specs.Held.{AreAmong, HeldAnswers, IsLow, WaitAnswers, is_among, place_in};
 ghost use Rattle.ns_objects.specs.Known.{Grows, IsTrueToHistory};
 
+use crate::any::AnyItem;
 use crate::objects::Objects;
 use crate::seat::ObjSeat;
 use ns_model::condition::Condition;
 use ns_model::cvs::Cvs;
 use ns_monitor::caller::{Caller, Renewed};
 use ns_monitor::monitor::Monitor;
-use ns_monitor::several::AnyWaiting;
+use ns_monitor::several::{AnyPoll, AnyWaiting};
 use ns_note::env::Env;
 use ns_note::pause::Pause;
 use ns_note::seat::EnvSeat;
 use std::sync::Wait;
-
-/// What a wait with a section in hand is for: a note, a counter, or a condition variable.
-pub use crate::any::Item as AnyItem;
 
 /// The variables among the items.
 fn variables_in(items: &[AnyItem]) -> Cvs
@@ -39,12 +37,12 @@ fn variables_in(items: &[AnyItem]) -> Cvs
 }
 
 /// The place of the first item that is this variable, or the number of items where none is.
-fn place_of(items: &[AnyItem], k: usize) -> usize
+fn place_of(items: &[AnyItem], k: u8) -> usize
     ensures { result ≡ place_in k items.now }
 {
     for (i, item) in items.iter().enumerate() {
         if let AnyItem::Cv(j) = *item {
-            if j as usize == k {
+            if j == k {
                 return i;
             }
         }
@@ -85,8 +83,8 @@ impl Objects {
         let mut waiting = waiting;
         for _ in rt.forever() {
             waiting = match monitor.any_poll(rt, waiting) {
-                Ok((held, k)) => return (held, place_of(items, k)),
-                Err(waiting) => waiting,
+                AnyPoll::Woken(held, k) => return (held, place_of(items, k)),
+                AnyPoll::Still(waiting) => waiting,
             };
             if let Some(place) = self.look_at_any(seat, items, deadline, env, watch) {
                 let (held, by) = monitor.any_leave(rt, waiting);
@@ -113,9 +111,8 @@ impl Objects {
     /// turns for a while, and then sleeps for at most 64 milliseconds at a time, while which a release may
     /// have woken it to acquire the lock next: others who wait for the lock then wait so long, too.
     ///
-    /// Needs a section of that monitor, of a kind that takes little memory, as the two that there are; at
-    /// most 16 items, at least one of them a variable, and variables below 4; and what
-    /// [`Objects::wait_any`] needs.
+    /// Needs a section of that monitor; at most 16 items, at least one of them a variable, and variables
+    /// below 4; and what [`Objects::wait_any`] needs.
     pub fn wait_any_held<H: Renewed<C, N>, C: Condition<N>, const N: usize, R: Wait>(
         &self,
         rt: &R,
@@ -131,7 +128,6 @@ impl Objects {
         requires monitor { held.monitor ≡ monitor.now }
         requires env { watch.old.env ≡ env.now }
         requires few { length items.now ≤ 16 }
-        requires small { IsSmall H.row }
         requires named { Every (IsNamed seat.old watch.old) items.now }
         requires variable { (k : ℕ) × (is_among k items.now ≡ true) }
         ensures grows { Grows seat.old seat.new }

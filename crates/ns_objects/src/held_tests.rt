@@ -5,7 +5,7 @@ ghost use Rattle.std.specs.Prelude.{◌≡◌, false};
 ghost use Rattle.std.specs.Thread.{IsSync};
 ghost use Rattle.ns_model.specs.Truths.{truths};
 
-use crate::held::AnyItem;
+use crate::any::AnyItem;
 use crate::objects::Objects;
 use crate::seat::ObjSeat;
 use crate::tests::{two_object_seats, two_watches};

@@ -17,7 +17,7 @@ ghost use Rattle.std.specs.Prelude.{◌≡◌, ◌<◌};
 ghost use Rattle.ns_model.specs.Tallies.{Every};
 ghost use Rattle.ns_objects.specs.Any.{IsNamed};
 
-use crate::any::Item;
+use crate::any::{AnyItem, Looked};
 use crate::objects::Objects;
 use crate::seat::ObjSeat;
 use ns_counters::made::MOST;
@@ -101,17 +101,17 @@ impl Objects {
     /// for some milliseconds.
     ///
     /// Needs what the wait needs of its items.
-    pub(crate) fn rest_for_any<R: Wait>(
+    pub(crate) fn rest_for_any<T: Looked, R: Wait>(
         &self,
         rt: &R,
         seat: &ObjSeat,
-        items: &[Item],
+        items: &[T],
         env: &Env,
         watch: &mut EnvSeat,
         pause: &mut Pause,
     )
         requires env { watch.old.env ≡ env.now }
-        requires known { Every (IsNamed seat.now watch.old) items.now }
+        requires known { Every (λ item. IsNamed seat.now watch.old (T.any item)) items.now }
         ensures watch { watch.new ≡ watch.old }
     {
         let Some(longest) = pause.next() else {
@@ -119,7 +119,7 @@ impl Objects {
         };
         seat.attest();
         for item in items {
-            if let Item::Counter(counter) = *item {
+            if let AnyItem::Counter(counter) = item.any() {
                 self.rest_while_above_zero(rt, counter, longest);
                 return;
             }

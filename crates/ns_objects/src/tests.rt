@@ -150,7 +150,7 @@ fn work_on_new_objects<R: Abort + Threads + Wait + Sync>(
 
 /// Each change and each wait is answered as it must be, also in a thread.
 #[test]
-fn changes_and_waits(rt: HostRuntime) {
+fn objects_15(rt: HostRuntime) {
     let changes = [
         Ok(2),
         Err(CounterFault::Under),
@@ -278,7 +278,7 @@ fn run_two<R: Threads + Wait + Clock + Sync>(
 
 /// Of two threads that call, just one has its function run, and the other sleeps until it has.
 #[test]
-fn once_in_two_threads(rt: HostRuntime) {
+fn once_two(rt: HostRuntime) {
     let (objects, first, second) = two_object_seats(&rt, rt.alloc(), &[]);
     let came = run_two(&rt, &objects, first, second);
     let just_one = matches!(

@@ -15,10 +15,10 @@ use ns_monitor::caller::{Caller, Hand, Seat};
 use std::sync::Wait;
 
 /// The variable of the call of this number: not that of the last or the next, nor one by which is roused.
-fn variable_of(call: u64) -> usize
+fn variable_of(call: u64) -> u8
     ensures { result < 4 }
 {
-    (call % 2) as usize
+    (call % 2) as u8
 }
 
 /// The moment at which those give up who weren't woken by the call of this number. No ticks lead there from

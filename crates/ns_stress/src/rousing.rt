@@ -12,11 +12,11 @@ use std::sync::Wait;
 use std::thread::yield_now;
 
 /// One of the two variables by which somebody is roused again and again.
-pub fn draw_variable(kit: &mut Kit) -> usize
+pub fn draw_variable(kit: &mut Kit) -> u8
     ensures variable { result < 4 }
     ensures env { kit.new.env_seat ≡ kit.old.env_seat }
 {
-    2 + kit.draw(2) as usize
+    2 + kit.draw(2) as u8
 }
 
 /// Signals or broadcasts one of the two variables, with or without a section in hand.

@@ -12,7 +12,7 @@ use ns_model::condition::Condition;
 use ns_model::cvs::Cvs;
 use ns_model::event::Answer;
 use ns_monitor::caller::{Caller, ReadHeld, Reading, Renewed, Seat, WriteHeld, Writing};
-use ns_monitor::several::AnyWaiting;
+use ns_monitor::several::{AnyPoll, AnyWaiting};
 use ns_note::note::Note;
 use std::sync::Wait;
 use std::thread::yield_now;
@@ -147,7 +147,7 @@ where
 }
 
 /// Whether it is one of the two variables by which somebody is roused.
-fn is_rousing(variable: usize) -> bool {
+fn is_rousing(variable: u8) -> bool {
     variable == 2 || variable == 3
 }
 
@@ -169,12 +169,12 @@ where
     let mut waiting = commons.monitor.any_begin(rt, held, Cvs(12));
     for _ in 0..kit.draw(64) {
         waiting = match commons.monitor.any_poll(rt, waiting) {
-            Ok((held, variable)) => {
+            AnyPoll::Woken(held, variable) => {
                 kit.enter(commons.door, H::mode());
                 kit.expect(is_rousing(variable), "woken by another variable");
                 return held;
             }
-            Err(waiting) => waiting,
+            AnyPoll::Still(waiting) => waiting,
         };
         yield_now();
     }

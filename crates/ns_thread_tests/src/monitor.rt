@@ -199,7 +199,7 @@ fn look_for_each_other<R: Threads + Wait + Sync>(
 
 /// Two threads are in read sections at once: each sees there that the other is in its own.
 #[test]
-fn two_readers_see_each_other(rt: HostRuntime) -> Result<(), Fail> {
+fn two_readers(rt: HostRuntime) -> Result<(), Fail> {
     let (monitor, first, second) = two_seats(&rt, rt.alloc());
     let (env, mut one, two) = two_env_seats(&rt, rt.alloc());
     let notes = (

@@ -7,7 +7,7 @@ use crate::waits::{AtLeast, two_seats};
 use ns_monitor::Cvs;
 use ns_monitor::caller::{Seat, Writing};
 use ns_monitor::monitor::Monitor;
-use ns_monitor::several::AnyWaiting;
+use ns_monitor::several::{AnyPoll, AnyWaiting};
 use std::sync::Wait;
 
 /// A wait that was begun in a write section.
@@ -33,7 +33,10 @@ fn ask_in_vain<R: Wait>(rt: &R, monitor: &Monitor<AtLeast, 2>, waiting: Waiting)
     requires { waiting.known.monitor ≡ monitor.now }
     ensures { IfSome result (λ still. still.known.monitor ≡ monitor.now) }
 {
-    monitor.any_poll(rt, waiting).err()
+    match monitor.any_poll(rt, waiting) {
+        AnyPoll::Woken(_, _) => None,
+        AnyPoll::Still(waiting) => Some(waiting),
+    }
 }
 
 /// Signals a variable, and asks a wait that this wakes which one it was.
@@ -42,19 +45,19 @@ fn ask_behind<R: Wait>(
     monitor: &Monitor<AtLeast, 2>,
     waiting: Waiting,
     other: Seat<AtLeast, 2>,
-    k: usize,
-) -> Option<usize>
+    k: u8,
+) -> Option<u8>
     requires of { (waiting.known.monitor ≡ monitor.now) × (other.monitor ≡ monitor.now) }
     requires variable { k < 4 }
 {
     let mut other = other;
     monitor.signal(rt, &mut other, k);
     match monitor.any_poll(rt, waiting) {
-        Ok((held, by)) => {
+        AnyPoll::Woken(held, by) => {
             monitor.unlock(rt, held);
             Some(by)
         }
-        Err(_) => None,
+        AnyPoll::Still(_) => None,
     }
 }
 
@@ -66,9 +69,9 @@ fn wait_past<R: Wait>(
     seat: Seat<AtLeast, 2>,
     other: Seat<AtLeast, 2>,
     cvs: Cvs,
-    strange: usize,
-    k: usize,
-) -> Option<usize>
+    strange: u8,
+    k: u8,
+) -> Option<u8>
     requires of { (seat.monitor ≡ monitor.now) × (other.monitor ≡ monitor.now) }
     requires variables { (1 ≤ cvs.0) × (cvs.0 < 16) × (strange < 4) × (k < 4) }
 {
@@ -93,7 +96,7 @@ fn leave_at_once<R: Wait>(
     rt: &R,
     monitor: &Monitor<AtLeast, 2>,
     seat: Seat<AtLeast, 2>,
-) -> (Seat<AtLeast, 2>, Option<usize>)
+) -> (Seat<AtLeast, 2>, Option<u8>)
     requires { seat.monitor ≡ monitor.now }
     ensures { result.0.monitor ≡ monitor.now }
 {
@@ -119,7 +122,7 @@ fn leave_where_moved<R: Wait>(
     monitor: &Monitor<AtLeast, 2>,
     seat: Seat<AtLeast, 2>,
     other: Seat<AtLeast, 2>,
-) -> Option<usize>
+) -> Option<u8>
     requires { (seat.monitor ≡ monitor.now) × (other.monitor ≡ monitor.now) }
 {
     let waiting = begin(rt, monitor, seat, Cvs(3));

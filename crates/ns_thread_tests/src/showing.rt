@@ -13,6 +13,7 @@ use ns_monitor::showing::DebugState;
 use ns_note::env::Env;
 use ns_queue::waiter::Shown;
 use ns_word::word::Word;
+use std::alloc::Global;
 use std::process::Abort;
 use std::sync::Wait;
 use std::thread::{Threads, join, yield_now};
@@ -39,9 +40,9 @@ const WAITER: Shown = Shown {
 
 /// The word that is shown, where just these stand in the lock list, just these wait for the variable of this
 /// number, and nobody for another.
-fn word_with(state: &DebugState, lock: &[Shown], k: usize, variable: &[Shown]) -> Option<Word> {
+fn word_with(state: &DebugState, lock: &[Shown], k: u8, variable: &[Shown]) -> Option<Word> {
     for (number, list) in state.cvs.iter().enumerate() {
-        let just: &[Shown] = if number == k { variable } else { &[] };
+        let just: &[Shown] = if number == k as usize { variable } else { &[] };
         if list.as_slice() != just {
             return None;
         }
@@ -113,19 +114,14 @@ fn look_and_lock<R: Abort + Threads + Wait + Sync>(
     came
 }
 
-/// A reader sees the writer who waits for it to leave, and the word that says so.
-#[test]
-fn writer_is_shown_to_a_reader(rt: HostRuntime) {
-    let (monitor, first, second) = two_seats(&rt, rt.alloc());
-    let (seat, shown) = look_and_lock(&rt, &monitor, first, second);
-    let mut word = Word::FREE;
-    word.waiting = true;
-    word.writer_waits = true;
-    word.readers = 1;
-    assert_eq!(rt;
-        (shown, row_at_end(monitor, seat)),
-        (Some(word), Some([1, 0]))
-    );
+/// What a reader sees of the writer who waits for it to leave: the word, and the row in the end.
+fn writer_shown<R: Abort + Threads + Wait + Sync>(
+    rt: &R,
+    alloc: Global,
+) -> (Option<Word>, Option<[u64; 2]>) {
+    let (monitor, first, second) = two_seats(rt, alloc);
+    let (seat, shown) = look_and_lock(rt, &monitor, first, second);
+    (shown, row_at_end(monitor, seat))
 }
 
 /// Looks for one who waits in the lock list, looks at it once more with no section in hand, and then sets
@@ -189,14 +185,35 @@ fn tells_of_condition(word: Word) -> bool {
     free && word.waiting && word.cond && !word.writer_waits
 }
 
-/// A reader who waits for a condition is shown as such, and is back once the condition is true.
+/// What is seen of a reader who waits for a condition: whether the word tells of it, the first cell once it is
+/// back, and the row in the end.
+fn conditional_reader_shown<R: Abort + Threads + Wait + Sync>(
+    rt: &R,
+    alloc: Global,
+) -> (Option<bool>, u64, Option<[u64; 2]>) {
+    let (monitor, first, second) = two_seats(rt, alloc);
+    let (seat, value, shown) = wait_and_look(rt, &monitor, first, second);
+    (
+        shown.map(tells_of_condition),
+        value,
+        row_at_end(monitor, seat),
+    )
+}
+
+/// A writer who waits for a reader to leave is shown to that reader; and on a new monitor a reader who waits for
+/// a condition is shown as such, and is back once the condition is true.
 #[test]
-fn conditional_reader_is_shown(rt: HostRuntime) {
-    let (monitor, first, second) = two_seats(&rt, rt.alloc());
-    let (seat, value, shown) = wait_and_look(&rt, &monitor, first, second);
-    let told = shown.map(tells_of_condition);
-    let came = (told, value, row_at_end(monitor, seat));
-    assert_eq!(rt; came, (Some(true), 1, Some([1, 0])));
+fn debug(rt: HostRuntime) {
+    let mut word = Word::FREE;
+    word.waiting = true;
+    word.writer_waits = true;
+    word.readers = 1;
+    let writer = writer_shown(&rt, rt.alloc());
+    let reader = conditional_reader_shown(&rt, rt.alloc());
+    assert_eq!(rt;
+        (writer, reader),
+        ((Some(word), Some([1, 0])), (Some(true), 1, Some([1, 0])))
+    );
 }
 
 /// Looks from one write section while somebody waits for the variable, and behind a signal of it. Then looks
@@ -205,7 +222,7 @@ fn look_and_signal<R: Abort + Wait>(
     rt: &R,
     monitor: &Monitor<AtLeast, 2>,
     seat: Seat<AtLeast, 2>,
-    k: usize,
+    k: u8,
 ) -> (Seat<AtLeast, 2>, Option<Word>, Option<Word>)
     requires { (seat.monitor ≡ monitor.now) × (k < 4) }
     ensures { result.0.monitor ≡ monitor.now }
@@ -228,7 +245,7 @@ fn wait_and_be_shown<R: Abort + Threads + Wait + Sync>(
     env: &Env,
     comer: Comer,
     waker: Seat<AtLeast, 2>,
-    k: usize,
+    k: u8,
 ) -> (Seat<AtLeast, 2>, Answer, [Option<Word>; 2])
     requires of { (comer.seat.monitor ≡ monitor.now) × (waker.monitor ≡ monitor.now) × (comer.env_seat.env ≡ env.now) }
     requires variable { k < 4 }

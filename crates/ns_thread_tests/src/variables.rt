@@ -96,7 +96,7 @@ pub fn come_and_wait<R: Wait>(
     monitor: &Monitor<AtLeast, 2>,
     env: &Env,
     mut comer: Comer,
-    k: usize,
+    k: u8,
 ) -> Answer
     requires of { (comer.seat.monitor ≡ monitor.now) × (comer.env_seat.env ≡ env.now) }
     requires variable { k < 4 }

@@ -496,7 +496,7 @@ fn take_turns_twice<R: Threads + Wait + Sync>(
 
 /// Two threads hand the first cell to and fro, and neither ever waits in vain.
 #[test]
-fn handed_to_and_fro(rt: HostRuntime) {
+fn parked(rt: HostRuntime) {
     let (monitor, first, second) = two_seats(&rt, rt.alloc());
     let (seat, wrong, others) = take_turns_twice(&rt, &monitor, first, second);
     let came = (wrong, others, row_at_end(monitor, seat));

@@ -1,5 +1,5 @@
 -- What ends a wait for a condition early is kept until the wait is over, and then answered, but where the condition is met.
-use Rattle.std.proofs.Common.{◌≡◌, ◌⊎◌, inl, inr, ℕ, ◌+◌, ◌-◌, Bool, true, false, cond, eqb, ltb, Option, None, Some, refl, sym, ap, ◌∙◌, subst}
+use Rattle.std.proofs.Common.{◌≡◌, ◌⊎◌, inl, inr, ℕ, ◌+◌, ◌-◌, Bool, true, false, cond, eqb, ltb, Some, refl, sym, ap, ◌∙◌, subst}
 use Rattle.ns_model.specs.declared.event.Answer.TheVariants.{Met}
 use Rattle.ns_env.specs.declared.limits.Cause.{Cause}
 use Rattle.ns_word.specs.declared.acquire_walk.AcquirePlace.{AcquirePlace}
@@ -14,7 +14,7 @@ use Rattle.ns_word.specs.declared.wait.LeavePlace.TheVariants.{AwaitWakeToLeave,
 use Rattle.ns_word.specs.declared.wait.Outcome.{Outcome}
 use Rattle.ns_word.specs.declared.wait.Outcome.TheVariants.{Woken, Ended}
 use Rattle.ns_word.specs.declared.wait.Subject.{Subject}
-use Rattle.ns_word.specs.declared.wait.Subject.TheVariants.{OnCondition, OnVariables}
+use Rattle.ns_word.specs.declared.wait.Subject.TheVariants.{OnCondition}
 use Rattle.ns_word.specs.declared.wait.Visit.{Visit}
 use Rattle.ns_word.specs.declared.wait.Visit.TheVariants.{OnEntry, OnReturn}
 use Rattle.ns_word.specs.declared.wait.Wait.{Wait}
@@ -30,7 +30,7 @@ use Rattle.ns_word.specs.declared.word.Word.{Word}
 use Rattle.ns_word.specs.Answers.{cause_by, cause_kept}
 use Rattle.ns_word.specs.Asked.{asked_of}
 use Rattle.ns_word.specs.Waits.{answer_of, arrival_of, cause_in, mode_for, outcome_taken}
-use Rattle.ns_word.specs.Walks.{acquire_by, acquired_for, back_with, got_acquiring, got_leaving, got_of, got_waiting, leave_by, test_place, unmet_by, walk_after}
+use Rattle.ns_word.specs.Walks.{acquire_by, acquired_for, back_with, got_acquiring, got_leaving, got_of, got_waiting, test_place, unmet_by, walk_after}
 use Rattle.ns_word.specs.Words.{may_acquire}
 
 -- over with this or with 'met', or on with this kept

@@ -1,9 +1,8 @@
 -- What the lock word tells of the lock list, in words on the list; and who stands back where a writer waits.
-use Rattle.std.proofs.Common.{◌≡◌, ◌⊎◌, inl, inr, ℕ, Bool, true, false, not, ◌&&◌, ◌||◌, cond, eqb, is_some, List, [], ◌∷◌, Option, None, Some, IsSome, IsSomeAnd, refl, sym, ap, ◌∙◌, subst}
+use Rattle.std.proofs.Common.{◌≡◌, inl, inr, Bool, true, false, not, ◌&&◌, ◌||◌, cond, is_some, List, [], ◌∷◌, Option, None, Some, IsSome, IsSomeAnd, refl, sym, ap, ◌∙◌}
 use Rattle.std.specs.List.{list_any}
 use Rattle.std.specs.Prelude.{◌↔◌}
-use Rattle.std.proofs.lemmas.Bool.{and_parts, both_ways, not-true, or_cases, or_parts}
-use Rattle.ns_model.specs.declared.event.Event.{Event}
+use Rattle.std.proofs.lemmas.Bool.{or_cases, or_parts}
 use Rattle.ns_model.specs.declared.event.Mode.{Mode}
 use Rattle.ns_model.specs.declared.event.Mode.TheVariants.{Write, Read}
 use Rattle.ns_model.specs.Phases.{is_write}

@@ -1,4 +1,4 @@
-use Rattle.std.proofs.Common.{◌≡◌, ◌∙◌, sym, subst, ap, arith, None}
+use Rattle.std.proofs.Common.{◌∙◌, sym, subst, ap, arith, None}
 use Rattle.ns_gate.specs.Prelude.{TableId, HasAnswered, IsAtPlace, IsInRange, the, Await, AwaitWakeInWait, ForWait, InWait, Wait}
 use Rattle.ns_gate.proofs.Room.{queues_fit}
 use Rattle.ns_monitor.proofs.Returns.{fits_fresh}
@@ -8,7 +8,7 @@ use Rattle.ns_monitor.specs.Prelude.{HasAcquired, HasComeBackFromAny, WaitKnown,
 use Rattle.ns_word.specs.Waits.{variable_in}
 use Rattle.ns_word.specs.declared.walk.Reply.TheVariants.{WokenBy}
 use Rattle.ns_monitor.proofs.monitor.Monitor.any_leave.Given.{Over}
-use Rattle.ns_monitor.proofs.monitor.Monitor.any_leave.Goals.{Joined-variable, in-Some, in-None}
+use Rattle.ns_monitor.proofs.monitor.Monitor.any_leave.Goals.{After-variable-by}
 use Rattle.ns_monitor.proofs.monitor.Monitor.any_leave.Goals as goal
 
 pub come_back-outcome-requires : goal.come_back-outcome-requires
@@ -33,15 +33,11 @@ come_back-outcome-requires g c = let t = g.C.Condition.means in let w = c.waitin
       ),
     )
 
--- the variable that has woken it, if one has
-by_is : (g : Over) (c : Joined-variable g) → c.match-variable.by ≡ variable_in c.come_back-outcome.result
-by_is g c = elim c.match-variable.branch [ in-Some w ↦ w.by-is ∙ sym w.in-Some.is | in-None w ↦ w.by-is ∙ sym w.in-None.is ] ∙ c.variable.ensures
-
-answered : (g : Over) (c : Joined-variable g) → HasAnswered g.C.Condition.means (Await (waits_for_any g.H.Section.mode c.waiting.inside.cvs)) (WokenBy (variable_in c.come_back-outcome.result)) c.come_back-outcome.new.seat.me
+answered : (g : Over) (c : After-variable-by g) → HasAnswered g.C.Condition.means (Await (waits_for_any g.H.Section.mode c.waiting.inside.cvs)) (WokenBy (variable_in c.come_back-outcome.result)) c.come_back-outcome.new.seat.me
 answered g c = subst (λ (v : Wait g.row.C.Denot). HasAcquired g.C.Condition.means (ForWait v c.come_back-outcome.result) c.come_back-outcome.new.seat.me) (c.for_any-wait.ensures ∙ ap (λ m. waits_for_any m c.waiting.inside.cvs) c.mode-mode.ensures) c.come_back-outcome.ensures.acquired
 
 pub invariant_of-back : goal.invariant_of-back
-invariant_of-back g c = let t = g.C.Condition.means in let now = c.come_back-outcome.new.seat.me in let a = answered g ((goal.at.invariant_of-back g c).Joined-variable) in let mode = g.H.Section.mode in (
+invariant_of-back g c = let t = g.C.Condition.means in let now = c.come_back-outcome.new.seat.me in let a = answered g ((goal.at.invariant_of-back g c).After-variable-by) in let mode = g.H.Section.mode in (
   a.rest,
   same_number t None c.waiting.inside.number c.waiting.inside.seat.me now c.waiting.invariant.1 c.come_back-outcome.ensures.since,
   fits_fresh g.row.N mode (the now.0).at.held (λ o. g.H.Hand.fits c.waiting.inside.hand o) c.waiting.invariant.2 (any_back_fresh t mode c.waiting.inside.cvs (variable_in c.come_back-outcome.result) now a),
@@ -49,5 +45,5 @@ invariant_of-back g c = let t = g.C.Condition.means in let now = c.come_back-out
 
 pub returns : goal.returns
 returns g c = let t = g.C.Condition.means in let s0 = c.waiting.inside.seat in let now = c.come_back-outcome.new.seat in let mode = g.H.Section.mode in
-    subst (λ by. HasComeBackFromAny t mode by c.args.waiting (known_of now.table_id now.me)) (sym (by_is g c))
+    subst (λ by. HasComeBackFromAny t mode by c.args.waiting (known_of now.table_id now.me)) (sym c.variable-by.ensures)
     (has_come_back t mode c.waiting.inside.cvs (variable_in c.come_back-outcome.result) c.args.waiting s0.table_id now.table_id s0.me now.me c.waiting.view_is (◌∙◌ {A = TableId} c.come_back-outcome.ensures.seat (sym c.requires.of)) c.waiting.invariant.0 c.come_back-outcome.ensures.since (answered g c))

@@ -41,17 +41,21 @@ look-requires g c = let t = g.C.Condition.means in let cvs = c.waiting.inside.cv
       ),
     )
 
+-- the look that shows nothing
+looked : (g : Over) (c : After-look g) → Performed g.C.Condition.means None (Look at_will false) (Looked None) c.load_flag-flag.new.seat.me c.look.new.seat.me
+looked g c = let is = c.for_any-wait.ensures ∙ ap (λ m. waits_for_any {C = g.row.C.Denot} m c.waiting.inside.cvs) c.mode-mode.ensures in
+    subst (λ (l : Limits). Performed g.C.Condition.means None (Look l false) (Looked None) c.load_flag-flag.new.seat.me c.look.new.seat.me) (ap (λ (v : Wait g.row.C.Denot). v.limits) is) c.look.ensures.did
+
 -- it waits still
 still : (g : Over) (c : After-look g) → IsWaitingForAny g.C.Condition.means g.H.Section.mode c.waiting.inside.cvs c.look.new.seat.me × HasSince None (the c.waiting.inside.seat.me.0) (the c.look.new.seat.me.0)
-still g c = let t = g.C.Condition.means in let cvs = c.waiting.inside.cvs in let mid = c.load_flag-flag.new.seat.me in let now = c.look.new.seat.me in
-    let is = c.for_any-wait.ensures ∙ ap (λ m. waits_for_any {C = g.row.C.Denot} m cvs) c.mode-mode.ensures in
-    still_waits t g.H.Section.mode cvs c.load_flag-flag.result c.waiting.inside.seat.me mid now c.if-flag-eq1.true c.waiting.invariant.0 c.load_flag-flag.ensures.did
-    (subst (λ (l : Limits). Performed t None (Look l false) (Looked None) mid now) (ap (λ (v : Wait g.row.C.Denot). v.limits) is) c.look.ensures.did)
+still g c =
+    still_waits g.C.Condition.means g.H.Section.mode c.waiting.inside.cvs c.load_flag-flag.result c.waiting.inside.seat.me c.load_flag-flag.new.seat.me c.look.new.seat.me c.if-flag-eq1.true c.waiting.invariant.0 c.load_flag-flag.ensures.did (looked g c)
 
 pub returns-then-flag-eq1-clause-still : goal.returns-then-flag-eq1-clause-still
 returns-then-flag-eq1-clause-still g c = let s0 = c.waiting.inside.seat in let now = c.look.new.seat in
-    tells_still g.C.Condition.means g.H.Section.mode c.waiting.inside.cvs c.args.waiting s0.table_id now.table_id s0.me now.me c.waiting.view_is
-    (◌∙◌ {A = TableId} c.look.ensures.seat (◌∙◌ {A = TableId} c.load_flag-flag.ensures.seat (ap (λ (k : WaitKnown _ _). k.known.monitor) c.waiting.view_is))) c.waiting.invariant.0 (still g c).0 (still g c).1
+    tells_still g.C.Condition.means g.H.Section.mode c.waiting.inside.cvs c.args.waiting s0.table_id now.table_id c.load_flag-flag.result s0.me c.load_flag-flag.new.seat.me now.me c.waiting.view_is
+    (◌∙◌ {A = TableId} c.look.ensures.seat (◌∙◌ {A = TableId} c.load_flag-flag.ensures.seat (ap (λ (k : WaitKnown _ _). k.known.monitor) c.waiting.view_is))) c.if-flag-eq1.true c.waiting.invariant.0 (still g c).0 (still g c).1
+    c.load_flag-flag.ensures.did (looked g c)
 
 pub acquire-requires : goal.acquire-requires
 acquire-requires g c = let t = g.C.Condition.means in let cvs = c.waiting.inside.cvs in let wait : Wait g.row.C.Denot = waits_for_any g.H.Section.mode cvs in let flag = c.load_flag-flag in let me = c.waiting.inside.seat.me in let mid = flag.new.seat.me in

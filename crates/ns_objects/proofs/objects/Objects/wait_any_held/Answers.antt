@@ -2,20 +2,20 @@ use Rattle.std.proofs.Common.{◌≡◌, ◌∙◌, inr, sym, subst, arith}
 use denote.Param.{layout}
 use Rattle.ns_model.specs.Cvs.{is_in}
 use Rattle.ns_model.specs.declared.cvs.Cvs.{Cvs}
-use Rattle.ns_objects.specs.Any.{BothKnown, RoundAnswers}
-use Rattle.ns_objects.specs.Held.{is_among}
-use Rattle.ns_objects.proofs.HeldWaits.{all_low, place_within, some_wait, waited, hand_fits}
-use Rattle.ns_objects.proofs.Rests.{env_grows_not, grows_not}
-use Rattle.ns_objects.proofs.Rounds.{all_known_later, nothing_later}
+use Rattle.ns_counters.specs.declared.object.Setup.{Setup}
+use Rattle.ns_objects.specs.Any.{BothKnown, RoundAnswers, past_of}
+use Rattle.ns_objects.specs.Held.{PlaceBy, is_among}
+use Rattle.ns_objects.proofs.HeldWaits.{all_low, some_wait, waited, hand_fits}
+use Rattle.ns_objects.proofs.Rounds.{all_known_later, further}
 use Rattle.ns_objects.proofs.objects.Objects.wait_any_held.Goals as goal
 
 pub any_begin-waiting-requires : goal.any_begin-waiting-requires
 any_begin-waiting-requires g c = (
   omega arith,
   (
-    hand_fits (layout g.row.H) c.requires.small,
+    hand_fits (layout g.row.H) (g.met.H.Renewed.has_room g.met.C.Condition.has_room.1),
     (
-      hand_fits (layout g.row.H) c.requires.small,
+      hand_fits (layout g.row.H) (g.met.H.Renewed.has_room g.met.C.Condition.has_room.1),
       (
         c.requires.monitor,
         some_wait c.variables_in.result c.args.items.now c.requires.variable.0 c.variables_in.ensures.byte c.variables_in.ensures.among (all_low c.args.items.now (c.args.seat.now, c.args.watch.now) c.requires.named) c.requires.variable.1,
@@ -28,9 +28,9 @@ pub await_any-requires : goal.await_any-requires
 await_any-requires g c = let look = c.look_at_any.ensures in let begun = c.any_begin-waiting.ensures in (
   omega arith,
   (
-    hand_fits (layout g.row.H) c.requires.small,
+    hand_fits (layout g.row.H) (g.met.H.Renewed.has_room g.met.C.Condition.has_room.1),
     (
-      hand_fits (layout g.row.H) c.requires.small,
+      hand_fits (layout g.row.H) (g.met.H.Renewed.has_room g.met.C.Condition.has_room.1),
       (
         look.grows.objects ∙ c.requires.objects,
         (
@@ -41,7 +41,7 @@ await_any-requires g c = let look = c.look_at_any.ensures in let begun = c.any_b
               begun.true_to,
               (
                 λ k. subst (λ (cvs : Cvs). is_in cvs k ≡ is_among k c.args.items.now) (sym begun.variables) (c.variables_in.ensures.among k),
-                (look.watch.env ∙ c.requires.env, (all_known_later c.args.items.now (c.args.seat.now, c.args.watch.now) (c.look_at_any.new.seat, c.look_at_any.new.watch) (look.grows, look.watch) c.requires.named, (look.grows.true_to, look.watch.true_to))),
+                (look.watch.env ∙ c.requires.env, (all_known_later (λ item. item) c.args.items.now (c.args.seat.now, c.args.watch.now) (c.look_at_any.new.seat, c.look_at_any.new.watch) (look.grows, look.watch) c.requires.named, (look.grows.true_to, look.watch.true_to))),
               ),
             ),
           ),
@@ -53,13 +53,16 @@ await_any-requires g c = let look = c.look_at_any.ensures in let begun = c.any_b
 
 pub returns-clause-answers : goal.returns-clause-answers
 returns-clause-answers g c =
-    let first : BothKnown = (c.args.seat.now, c.args.watch.now) in let old : BothKnown = (c.look_at_any.new.seat, c.look_at_any.new.watch) in let new : BothKnown = (c.await_any.new.seat, c.await_any.new.watch) in
+    let first : BothKnown = (c.args.seat.now, c.args.watch.now) in let old : BothKnown = (c.look_at_any.new.seat, c.look_at_any.new.watch) in
     let look = c.look_at_any.ensures in let e = c.await_any.ensures in let cvs = c.variables_in.result in
-    inr (
-      nothing_later c.args.items.now c.args.deadline first old new (e.grows, e.watch) (subst (RoundAnswers c.args.items.now c.args.deadline first old) c.in_default.is look.answers),
-      cvs,
-      e.answers.0,
-      c.variables_in.ensures.among,
-      waited g.C.Condition.means g.H.Section.mode e.answers.0 cvs c.args.held c.any_begin-waiting.result c.await_any.result.0 c.any_begin-waiting.ensures e.answers.1,
-      place_within c.args.items.now c.args.deadline e.answers.0 first old new c.await_any.result.1 (look.grows, look.watch) (grows_not new.0 e.grows.true_to, env_grows_not new.1 e.watch.true_to) e.answers.2,
-    )
+    inr (record {
+      mid = past_of old;
+      nothing = subst (RoundAnswers (λ item. item) first.0.setup c.args.items.now c.args.deadline (past_of first) (past_of old)) c.in_default.is look.answers;
+      until = further old (c.await_any.new.seat, c.await_any.new.watch) (e.grows, e.watch);
+      cvs = cvs;
+      low = (some_wait cvs c.args.items.now c.requires.variable.0 c.variables_in.ensures.byte c.variables_in.ensures.among (all_low c.args.items.now first c.requires.named) c.requires.variable.1).1;
+      among = c.variables_in.ensures.among;
+      by = e.answers.0;
+      waited = waited g.C.Condition.means g.H.Section.mode e.answers.0 cvs c.args.held c.any_begin-waiting.result c.await_any.result.0 c.any_begin-waiting.ensures e.answers.1;
+      place_by = subst (λ (s : Setup). PlaceBy s c.args.items.now c.args.deadline (past_of old) (past_of (c.await_any.new.seat, c.await_any.new.watch)) e.answers.0 c.await_any.result.1) look.grows.setup e.answers.2;
+    })
