@@ -11,7 +11,8 @@
 //!
 //! Beside the lock stand a clock and a tree of notes, which callers watch: their events are in
 //! [`environment`], and which of their histories are legal, what the clock then shows and which
-//! notes are notified is defined in `specs/`.
+//! notes are notified is defined in `specs/`. So do counters and once cells, with what their
+//! histories mean, in [`counter`] and [`once`].
 //!
 //! ```rust
 //! // two sections in one chain: the second begins at the row that the first one left

@@ -34,8 +34,12 @@ pub trait Renewed<C, const N: usize>: Section<C, N> + Drop {
     /// What is in hand where such a section has just begun.
     fn begun() -> Self
         ensures { (held : Held C N) → IsFresh N Self.Section.mode held → Self.Hand.fits result (Some held) };
+}
 
-    /// It takes little memory, so that code over any such section fits.
+/// A section in hand that takes little memory, as both do. Code that holds any of them beside much else takes
+/// this for a bound, too.
+pub trait Compact<const N: usize> {
+    /// How little: a row's bound is enough.
     ghost has_room: { TakesLittle Self.row N.row };
 }
 
@@ -62,8 +66,6 @@ impl<C, const N: usize> Section<C, N> for Reading {
 }
 
 impl<C, const N: usize> Renewed<C, N> for Reading {
-    ghost use Rattle.ns_monitor.specs.Sizes.{reading_small};
-
     #[inline(always)]
     fn mode() -> Mode {
         Mode::Read
@@ -73,6 +75,10 @@ impl<C, const N: usize> Renewed<C, N> for Reading {
     fn begun() -> Self {
         Reading
     }
+}
+
+impl<const N: usize> Compact<N> for Reading {
+    ghost use Rattle.ns_monitor.specs.Sizes.{reading_small};
 
     ghost has_room = { reading_small N.row };
 }
@@ -95,8 +101,6 @@ impl<C, const N: usize> Section<C, N> for Writing<N> {
 }
 
 impl<C, const N: usize> Renewed<C, N> for Writing<N> {
-    ghost use Rattle.ns_monitor.specs.Sizes.{writing_small};
-
     #[inline(always)]
     fn mode() -> Mode {
         Mode::Write
@@ -106,6 +110,10 @@ impl<C, const N: usize> Renewed<C, N> for Writing<N> {
     fn begun() -> Self {
         Writing { saved: [None; N] }
     }
+}
+
+impl<const N: usize> Compact<N> for Writing<N> {
+    ghost use Rattle.ns_monitor.specs.Sizes.{writing_small};
 
     ghost has_room = { writing_small N.row };
 }

@@ -60,7 +60,7 @@ mod waiting;
 mod waking;
 mod watching;
 
-pub use caller::{Caller, Hand, ReadHeld, Renewed, Seat, Section, WriteHeld};
+pub use caller::{Caller, Compact, Hand, ReadHeld, Renewed, Seat, Section, WriteHeld};
 pub use monitor::Monitor;
 pub use ns_gate::closed::Closed;
 pub use ns_gate::fault::Fault;

@@ -120,8 +120,9 @@ impl<C: Condition<N>, const N: usize> Monitor<C, N> {
 
     /// Asks whether a wait for any of several variables was woken. Where it was, acquires the lock again,
     /// in the mode of the section that was left, and gives the section and the number of the variable whose
-    /// signal or broadcast took it. Else it gives the wait back, with nothing changed: at some moment of the
-    /// call, nobody had woken it yet.
+    /// signal or broadcast took it. Else it gives the wait back, with nothing changed: in some lawful state
+    /// between what the caller had seen and what it has seen then, it stood where it waits, and nobody had
+    /// woken it.
     ///
     /// Waits for the lock only where it was woken. The behaviour is that of `nsync_wait_n` where it looks
     /// whether it was woken. Needs a wait of this monitor.

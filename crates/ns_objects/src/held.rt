@@ -13,7 +13,7 @@ use crate::objects::Objects;
 use crate::seat::ObjSeat;
 use ns_model::condition::Condition;
 use ns_model::cvs::Cvs;
-use ns_monitor::caller::{Caller, Renewed};
+use ns_monitor::caller::{Caller, Compact, Renewed};
 use ns_monitor::monitor::Monitor;
 use ns_monitor::several::{AnyPoll, AnyWaiting};
 use ns_note::env::Env;
@@ -113,7 +113,7 @@ impl Objects {
     ///
     /// Needs a section of that monitor; at most 16 items, at least one of them a variable, and variables
     /// below 4; and what [`Objects::wait_any`] needs.
-    pub fn wait_any_held<H: Renewed<C, N>, C: Condition<N>, const N: usize, R: Wait>(
+    pub fn wait_any_held<H: Renewed<C, N> + Compact<N>, C: Condition<N>, const N: usize, R: Wait>(
         &self,
         rt: &R,
         seat: &mut ObjSeat,

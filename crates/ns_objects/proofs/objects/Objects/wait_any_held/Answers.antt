@@ -13,9 +13,9 @@ pub any_begin-waiting-requires : goal.any_begin-waiting-requires
 any_begin-waiting-requires g c = (
   omega arith,
   (
-    hand_fits (layout g.row.H) (g.met.H.Renewed.has_room g.met.C.Condition.has_room.1),
+    hand_fits (layout g.row.H) (g.met.H.Compact.has_room g.met.C.Condition.has_room.1),
     (
-      hand_fits (layout g.row.H) (g.met.H.Renewed.has_room g.met.C.Condition.has_room.1),
+      hand_fits (layout g.row.H) (g.met.H.Compact.has_room g.met.C.Condition.has_room.1),
       (
         c.requires.monitor,
         some_wait c.variables_in.result c.args.items.now c.requires.variable.0 c.variables_in.ensures.byte c.variables_in.ensures.among (all_low c.args.items.now (c.args.seat.now, c.args.watch.now) c.requires.named) c.requires.variable.1,
@@ -28,9 +28,9 @@ pub await_any-requires : goal.await_any-requires
 await_any-requires g c = let look = c.look_at_any.ensures in let begun = c.any_begin-waiting.ensures in (
   omega arith,
   (
-    hand_fits (layout g.row.H) (g.met.H.Renewed.has_room g.met.C.Condition.has_room.1),
+    hand_fits (layout g.row.H) (g.met.H.Compact.has_room g.met.C.Condition.has_room.1),
     (
-      hand_fits (layout g.row.H) (g.met.H.Renewed.has_room g.met.C.Condition.has_room.1),
+      hand_fits (layout g.row.H) (g.met.H.Compact.has_room g.met.C.Condition.has_room.1),
       (
         look.grows.objects ∙ c.requires.objects,
         (
