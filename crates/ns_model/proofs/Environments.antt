@@ -8,7 +8,7 @@ use Rattle.std.proofs.lemmas.List.Elements.{filter-append}
 use Rattle.ns_model.specs.Beginnings.{BeginsWith}
 use Rattle.ns_model.specs.declared.environment.EnvEvent.{EnvEvent}
 use Rattle.ns_model.specs.declared.environment.EnvEvent.TheVariants.{Take, New, Notify, Advance}
-use Rattle.ns_model.specs.Environments.{NoteStanding, EnvStanding, first_env, env_who, ParentFits, IsLegalEnvEvent, but_at, notified_note, made_note, env_next, env_from, IsLegalEnvFrom, IsLegalEnv, env_after, from_parent, line, line_of, is_due, is_over, notified_in, is_notified, earlier, earliest, expiry_in, expiry_of, env_own, IsEnvBySeats, IsMade}
+use Rattle.ns_model.specs.Environments.{NoteStanding, EnvStanding, first_env, env_who, ParentFits, IsLegalEnvEvent, but_at, notified_note, made_note, env_next, env_from, IsLegalEnvFrom, IsLegalEnv, env_after, from_parent, line, line_of, is_due, is_over, notified_in, earlier, earliest, expiry_in, expiry_of, env_own, IsEnvBySeats, IsMade}
 
 -- ---- a history and its parts
 
@@ -28,18 +28,8 @@ pub by_seats_append : (seats : ℕ) (g h : List EnvEvent) → IsEnvBySeats seats
 by_seats_append seats [] h p q = q
 by_seats_append seats (e ∷ g) h p q = (p.0, by_seats_append seats g h p.1 q)
 
-pub by_seats_front : (seats : ℕ) (g h : List EnvEvent) → IsEnvBySeats seats (g ++ h) → IsEnvBySeats seats g
-by_seats_front seats [] h p = tt
-by_seats_front seats (e ∷ g) h p = (p.0, by_seats_front seats g h p.1)
-
 pub env_own-append : (g h : List EnvEvent) (seat : ℕ) → env_own (g ++ h) seat ≡ env_own g seat ++ env_own h seat
 env_own-append g h seat = filter-append (λ event. eqb (env_who event) seat) g h
-
-pub env_own-mine : (h : List EnvEvent) (e : EnvEvent) (seat : ℕ) → env_who e ≡ seat → env_own (h ++ e ∷ []) seat ≡ env_own h seat ++ e ∷ []
-env_own-mine h e seat is = env_own-append h (e ∷ []) seat ∙ ap (λ (b : Bool). env_own h seat ++ cond b (e ∷ []) []) (eq-eqb (env_who e) seat is)
-
-pub env_own-other : (h : List EnvEvent) (e : EnvEvent) (seat : ℕ) → env_who e ≢ seat → env_own (h ++ e ∷ []) seat ≡ env_own h seat ++ []
-env_own-other h e seat apart = env_own-append h (e ∷ []) seat ∙ ap (λ (b : Bool). env_own h seat ++ cond b (e ∷ []) []) (ne_eqb (env_who e) seat apart)
 
 -- ---- what is changed at one number
 
@@ -243,10 +233,6 @@ module _ (old new : EnvStanding) (s : IsSound old) (g : IsGrown old new) where
 
 pub made_begins : (h g : List EnvEvent) (n : ℕ) → IsLegalEnv h → BeginsWith h g → IsMade g n → IsMade h n
 made_begins h g n l b made = ((grown_begins h g l b).note n made).made
-
-pub notified_begins : (h g : List EnvEvent) (n : ℕ) → IsLegalEnv h → BeginsWith h g → IsMade g n → is_notified g n ≡ true → is_notified h n ≡ true
-unfolding is_notified
-notified_begins h g n l b made e = notified_grown (env_after g) (env_after h) (sound_after g (legal_begins h g l b)) (grown_begins h g l b) n made e
 
 pub expiry_begins : (h g : List EnvEvent) (n : ℕ) → IsLegalEnv h → BeginsWith h g → IsMade g n → expiry_of h n ≡ expiry_of g n
 unfolding expiry_of

@@ -2,7 +2,6 @@
 use Rattle.std.proofs.Common.{◌≡◌, ◌≢◌, ℕ, ◌<◌, ◌*◌, ◌^◌, ◌%◌, Bool, true, false, ◌||◌, inl, inr, eqb, List, [], ◌∷◌, refl, ap, sym, ◌∙◌, arith, bit_or}
 use mir.Val.{bits}
 use Rattle.std.specs.Int.{Width, bit_at}
-use Rattle.std.specs.List.{list_any}
 use Rattle.std.proofs.lemmas.Bool.{cases_eq, ne_eqb, eq-eqb}
 use Rattle.std.proofs.lemmas.Nat.Bits.{bit_at_or, bit_at-zero, bit_at-lt, bit_at-pow_same, bit_at-pow_other, bit_at_set_same, bit_at_set_other, same_from_bits}
 use Rattle.ns_model.specs.declared.seats.Seats.{Seats}
@@ -37,11 +36,6 @@ in_more n seats seat = elim (cases_eq n seat) [
   | inl e ↦ rw (eq-eqb n seat e, e) (in_same (seats_in seats).0 seat)
   | inr ne ↦ rw (ne_eqb n seat ne) (in_other (seats_in seats).0 n seat (λ e. ne (sym e)))
 ]
-
--- a seat is in the set just where it is one of these
-pub in_seats : (seats : List ℕ) (seat : ℕ) → is_in (seats_in seats) seat ≡ list_any (λ n. eqb n seat) seats
-in_seats [] seat = none_in seat
-in_seats (n ∷ seats) seat = in_more n seats seat ∙ ap (λ rest. eqb n seat || rest) (in_seats seats seat)
 
 or_true : (b : Bool) → (b || true) ≡ true
 or_true true = refl

@@ -9,16 +9,15 @@ use Rattle.ns_model.proofs.Beginnings.{begins_through}
 use Rattle.ns_model.specs.Environments.{NoteStanding, EnvStanding, ParentFits, made_note, IsLegalEnv, IsEnvBySeats, env_after, clock_of, takes_in, IsMade}
 use Rattle.ns_model.proofs.Environments.{sound_after, grown_begins, made_begins, but-here}
 use Rattle.ns_env.specs.declared.act.EnvAct.{EnvAct}
-use Rattle.ns_env.specs.declared.act.EnvAct.TheVariants.{LoadNext, TakeNext, StoreNote, LoadClock, LoadNote}
+use Rattle.ns_env.specs.declared.act.EnvAct.TheVariants.{LoadNext, TakeNext, StoreNote, LoadClock}
 use Rattle.ns_env.specs.declared.note.NoteWord.{NoteWord}
 use Rattle.ns_env.specs.declared.view.EnvView.{EnvView}
 use Rattle.ns_env.specs.declared.view.Making.TheVariants.{Nothing, Adding, Taken}
 use Rattle.ns_env.specs.Acted.{events_of}
-use Rattle.ns_env.specs.Notes.{state_of}
 use Rattle.ns_env.proofs.Keeps.{after_one}
 use Rattle.ns_note.specs.declared.note.Note.{Note}
 use Rattle.ns_note.specs.Known.{EnvKnown, known_of, the, IsAtRest, IsNumberOf, Grows}
-use Rattle.ns_note.specs.Law.{IsClockWord, IsNoteWord}
+use Rattle.ns_note.specs.Law.{IsClockWord}
 use Rattle.ns_note.specs.Told.{FoundWord, Adds, HasTakenNumber, FoundFull}
 use Rattle.ns_note.specs.Words.{note_of}
 use Rattle.ns_seats.specs.Views.{IsOne}
@@ -49,11 +48,6 @@ module _ (act : EnvAct) (word : ℕ) (v w : EnvView) (found : FoundWord act word
 -- the clock was loaded
 pub clock_loaded : (word : ℕ) (v w : EnvView) → FoundWord LoadClock word v w → IsClockWord word (clock_of w.seen)
 clock_loaded word v w found = subst (IsClockWord word) (found.acted.meets.clock ∙ ap clock_of (sym (seen_is LoadClock word v w found refl))) found.word_is
-
--- a note was loaded
-pub note_loaded : (note word : ℕ) (v w : EnvView) → FoundWord (LoadNote note) word v w → IsNoteWord word (state_of ((env_after w.seen).notes note))
-note_loaded note word v w found =
-    subst (λ (notes : ℕ → NoteStanding). IsNoteWord word (state_of (notes note))) (found.acted.meets.notes ∙ ap (λ (h : List EnvEvent). (env_after h).notes) (sym (seen_is (LoadNote note) word v w found refl))) found.word_is
 
 -- ---- a number is taken
 

@@ -13,7 +13,6 @@ pub mod Shown
 pub mod Taken
 pub mod Vias
 pub mod Wakes
-pub mod Woken
 pub mod Hops
 pub mod Links
 pub mod Making

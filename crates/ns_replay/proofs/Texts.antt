@@ -1,6 +1,6 @@
 -- Texts that grow, and the texts of numbers one after another.
 use Rattle.std.proofs.Common.{◌≡◌, ℕ, zero, suc, ◌+◌, Bool, true, false, ◌||◌, List, [], ◌∷◌, ◌++◌, refl, sym, ap, ◌∙◌, append_assoc, arith}
-use Rattle.std.specs.Prelude.{codes, decimal, flat_map, filter, if◌then◌else◌, Result, Ok, Err, OnOk, is_ok}
+use Rattle.std.specs.Prelude.{decimal, flat_map, filter}
 use Rattle.std.specs.List.{range_with_len}
 use Rattle.std.proofs.lemmas.Grind.{flat_map-append}
 use Rattle.std.proofs.lemmas.List.Elements.{filter-append}
@@ -8,16 +8,11 @@ use Rattle.std.proofs.lemmas.List.{append-nil}
 use Rattle.ns_model.specs.declared.seats.Seats.{Seats}
 use Rattle.ns_model.specs.Seats.{is_in}
 use Rattle.ns_world.specs.declared.schedule.Line.{Line}
-use Rattle.ns_replay.specs.Text.{left_text, lefts_text, after_comma, numbers_text, some_numbers_text, seat_text, seats_below}
+use Rattle.ns_replay.specs.Text.{left_text, lefts_text, after_comma, numbers_text, seat_text, seats_below}
 
 -- what grew twice grew by both
 pub grows : (old mid new xs ys : List ℕ) → mid ≡ old ++ xs → new ≡ mid ++ ys → new ≡ old ++ (xs ++ ys)
 grows old mid new xs ys e f = f ∙ ap (λ (t : List ℕ). t ++ ys) e ∙ append_assoc old xs ys
-
--- the same where the second growth succeeded
-pub on_ok_grows : {T E : Type 0} (r : Result T E) (old mid new xs ys : List ℕ) → mid ≡ old ++ xs → new ≡ (if is_ok r then mid ++ ys else mid) → OnOk r (new ≡ old ++ (xs ++ ys))
-on_ok_grows (Ok x) old mid new xs ys e f = grows old mid new xs ys e f
-on_ok_grows (Err fault) old mid new xs ys e f = tt
 
 -- five parts, one after another
 pub five_parts : (s₁ s₂ s₃ s₄ s₅ a b c d e : List ℕ) → s₁ ≡ [] ++ a → s₂ ≡ s₁ ++ b → s₃ ≡ s₂ ++ c → s₄ ≡ s₃ ++ d → s₅ ≡ s₄ ++ e → s₅ ≡ a ++ b ++ c ++ d ++ e
@@ -96,11 +91,3 @@ unfolding seats_below
 none_below seats = refl
 
 -- ---- a set is empty, or not
-
-pub some_text : (ns : List ℕ) → true ≡ is_any ns → some_numbers_text ns ≡ numbers_text ns
-some_text [] e = absurd cc
-some_text (n ∷ ns) e = refl
-
-pub none_text : (ns : List ℕ) → false ≡ is_any ns → some_numbers_text ns ≡ numbers_text ns ++ codes "-"
-none_text [] e = refl
-none_text (n ∷ ns) e = absurd cc

@@ -7,14 +7,13 @@ use Rattle.std.proofs.lemmas.List.Sums.{get_or-le-sum_by, sum_by-cons}
 use Rattle.ns_model.specs.Seats.{is_in}
 use Rattle.ns_model.specs.declared.seats.Seats.{Seats}
 use Rattle.ns_model.specs.Tallies.{one_if}
-use Rattle.ns_model.proofs.Tallies.{one_most}
 use Rattle.ns_queue.specs.declared.waiter.Waiter.{Waiter}
 use Rattle.ns_queue.specs.declared.waiter.Which.TheVariants.{Cv}
-use Rattle.ns_queue.specs.Queues.{Lists, cvs_without, times, waiters_of, with_waiters, without}
+use Rattle.ns_queue.specs.Queues.{Lists, cvs_without, times, waiters_of, without}
 use Rattle.ns_queue.specs.Signals.{taken_set}
 use Rattle.ns_queue.specs.Waiters.{outside, times_in, without_in}
 use Rattle.ns_queue.proofs.Outside.{gone_each, times_outside}
-use Rattle.ns_queue.proofs.Parts.{lists_without, read_apart, read_back, times_at_most, times_with}
+use Rattle.ns_queue.proofs.Parts.{lists_without}
 use Rattle.ns_queue.proofs.Seats.{none_without, times_in-cons}
 use Rattle.ns_queue.proofs.Taken.{in_list, not_in_list}
 use Rattle.ns_word.specs.Lists.{counts_in}

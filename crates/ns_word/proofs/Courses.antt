@@ -9,7 +9,7 @@ use Rattle.ns_model.specs.declared.event.Answer.{Answer}
 use Rattle.ns_model.specs.declared.event.Answer.TheVariants.{Met}
 use Rattle.ns_model.specs.declared.event.Entry.TheVariants.{Waited}
 use Rattle.ns_model.specs.declared.event.Event.{Event}
-use Rattle.ns_model.specs.declared.event.Exit.TheVariants.{AnyWait, CondWait, CvWait, Plain}
+use Rattle.ns_model.specs.declared.event.Exit.TheVariants.{AnyWait, CvWait, Plain}
 use Rattle.ns_model.specs.declared.cvs.Cvs.{Cvs}
 use Rattle.ns_model.specs.declared.cvs.Variables.{Variables}
 use Rattle.ns_model.specs.declared.cvs.Variables.TheVariants.{Only, Any}

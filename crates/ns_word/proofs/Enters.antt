@@ -1,8 +1,8 @@
 -- Where a wait for variables stands: in the list of each of them.
-use Rattle.std.proofs.Common.{◌≡◌, ◌≢◌, ℕ, zero, suc, ◌+◌, ◌≤◌, ◌<◌, ◌*◌, ◌/◌, ◌%◌, ◌^◌, ◌⊎◌, inl, inr, Bool, true, false, cond, eqb, ltb, ◌&&◌, List, [], ◌∷◌, ◌++◌, length, Option, None, Some, refl, ap, sym, ◌∙◌, subst, arith}
+use Rattle.std.proofs.Common.{◌≡◌, ◌≢◌, ℕ, zero, suc, ◌+◌, ◌≤◌, ◌<◌, ◌*◌, ◌/◌, ◌%◌, ◌^◌, ◌⊎◌, inl, inr, Bool, true, false, cond, eqb, ltb, ◌&&◌, List, [], ◌∷◌, ◌++◌, length, None, Some, refl, ap, sym, ◌∙◌, subst, arith}
 use Rattle.std.specs.Int.{bit_at}
 use Rattle.std.specs.List.{sum_by}
-use Rattle.std.proofs.lemmas.Bool.{cases_Bool, cases_eq, cases_lt, eq-eqb, eqb-true, lt-ltb, ltb-true, ne_eqb}
+use Rattle.std.proofs.lemmas.Bool.{cases_Bool, cases_eq, cases_lt, eq-eqb, eqb-true, lt-ltb, ne_eqb}
 use Rattle.std.proofs.lemmas.List.Sums.{get_or-le-sum_by, sum_by-cons}
 use Rattle.std.proofs.lemmas.Nat.Bits.{bit_at-lt, bit_at-zero, bit_at_above, bit_at_cat_low, same_from_bits_below}
 use Rattle.ns_model.specs.Cvs.{has, is_in}
@@ -18,7 +18,6 @@ use Rattle.ns_queue.specs.Queues.{Lists, named_for, times, waiters_of, with_each
 use Rattle.ns_queue.specs.Waiters.{times_in}
 use Rattle.ns_queue.proofs.Parts.{four_kept, read_apart, read_back, times_at_most}
 use Rattle.ns_queue.proofs.Seats.{times_in-append, times_in-cons}
-use Rattle.ns_word.specs.declared.wait.Subject.{Subject}
 use Rattle.ns_word.specs.declared.wait.Subject.TheVariants.{OnVariables}
 use Rattle.ns_word.specs.Lists.{counts_in}
 use Rattle.ns_word.specs.Places.{AreVariables}

@@ -1,5 +1,5 @@
 -- Whether a wait that leaves still stands where it waits.
-use Rattle.std.proofs.Common.{◌≡◌, ℕ, ◌+◌, ◌≤◌, ◌<◌, ◌⊎◌, inl, inr, Bool, true, false, ltb, List, [], ◌∷◌, ◌++◌, length, cond, Option, None, Some, refl, ap, sym, ◌∙◌, subst, arith}
+use Rattle.std.proofs.Common.{◌≡◌, ℕ, ◌≤◌, ◌<◌, inl, inr, Bool, true, false, ltb, List, [], length, cond, None, Some, refl, ap, sym, ◌∙◌, subst, arith}
 use Rattle.std.specs.List.{sum_by}
 use Rattle.std.proofs.lemmas.Bool.{ltb-true, ltb-false}
 use Rattle.std.proofs.lemmas.List.Sums.{get_or-le-sum_by}
@@ -14,11 +14,9 @@ use Rattle.ns_model.specs.Truths.{Truths}
 use Rattle.ns_queue.specs.declared.waiter.Which.TheVariants.{Cv}
 use Rattle.ns_queue.specs.Queues.{Lists, times, waiters_of, without}
 use Rattle.ns_queue.specs.Waiters.{times_in, without_in}
-use Rattle.ns_word.specs.declared.act.Found.{Found}
 use Rattle.ns_word.specs.declared.act.Found.TheVariants.{Left}
 use Rattle.ns_word.specs.declared.view.SeatView.{SeatView}
 use Rattle.ns_word.specs.declared.wait.LeavePlace.TheVariants.{Leave}
-use Rattle.ns_word.specs.declared.wait.Subject.{Subject}
 use Rattle.ns_word.specs.declared.wait.Subject.TheVariants.{OnCondition, OnVariables}
 use Rattle.ns_word.specs.declared.wait.Wait.{Wait}
 use Rattle.ns_word.specs.declared.wait.WaitPlace.TheVariants.{InLeaving}
@@ -28,10 +26,10 @@ use Rattle.ns_word.specs.Lawful.{EachFits, IsExpected, IsLawful, SectionFits, Va
 use Rattle.ns_word.specs.Lists.{stands_at}
 use Rattle.ns_word.specs.Places.{PlaceFits}
 use Rattle.ns_word.specs.Stands.{IsFoundLeaving}
-use Rattle.ns_word.specs.Steps.{LockState, Step, changed}
+use Rattle.ns_word.specs.Steps.{LockState, Step}
 use Rattle.ns_word.specs.Views.{AreApart, walk_at}
 use Rattle.ns_word.specs.Waits.{home_of}
-use Rattle.ns_word.specs.Walks.{Stance, expected_for, phase_by, waits_in}
+use Rattle.ns_word.specs.Walks.{expected_for, phase_by, waits_in}
 use Rattle.ns_word.proofs.CountsIn.{gone_from, left_at, some_list}
 use Rattle.ns_word.proofs.Keeps.{stance_mode, stance_variables}
 use Rattle.ns_word.proofs.Scans.{times_without}

@@ -1,5 +1,5 @@
 -- The event by which a wait for variables is left.
-use Rattle.std.proofs.Common.{◌≡◌, ◌≢◌, ℕ, ◌<◌, Bool, true, false, List, [], ◌∷◌, refl, ap, subst, sym, eq-eqb}
+use Rattle.std.proofs.Common.{◌≡◌, ◌≢◌, ℕ, ◌<◌, Bool, true, false, List, [], ◌∷◌, refl, subst, sym, eq-eqb}
 use Rattle.std.proofs.lemmas.Bool.{ne_eqb}
 use Rattle.ns_model.specs.declared.cvs.Variables.{Variables}
 use Rattle.ns_model.specs.declared.cvs.Variables.TheVariants.{Only, Any}

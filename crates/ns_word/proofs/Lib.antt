@@ -21,7 +21,6 @@ pub mod Leads
 pub mod Leavers
 pub mod Leaving
 pub mod Longs
-pub mod Made
 pub mod Mapped
 pub mod Numbers
 pub mod Owns

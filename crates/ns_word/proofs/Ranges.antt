@@ -1,14 +1,12 @@
 -- Which seats the law speaks of, and how many: those that wait or are owed a wake are seats, each stands once, and not all of 64 read while one asks to.
-use Rattle.std.proofs.Common.{◌≡◌, ℕ, ◌+◌, ◌<◌, ◌≤◌, true, false, cond, eqb, inl, inr, List, [], ◌∷◌, ◌++◌, length, None, get_or, set, refl, ap, sym, ◌∙◌, subst, arith, eq-eqb}
+use Rattle.std.proofs.Common.{◌≡◌, ℕ, ◌+◌, ◌<◌, ◌≤◌, true, false, cond, eqb, inl, inr, List, [], ◌∷◌, ◌++◌, length, None, refl, ap, sym, ◌∙◌, subst, arith}
 use Rattle.std.proofs.lemmas.Bool.{ne_eqb, cases_eq}
-use Rattle.std.proofs.lemmas.List.{get_or-set_same, get_or-set_other}
 use Rattle.ns_model.specs.declared.event.Mode.TheVariants.{Read}
 use Rattle.ns_model.specs.declared.event.Event.{Event}
 use Rattle.ns_model.specs.Histories.{Standing, standing_after}
 use Rattle.ns_queue.specs.declared.waiter.Waiter.{Waiter}
-use Rattle.ns_queue.specs.declared.waiter.Which.{Which}
-use Rattle.ns_queue.specs.declared.waiter.Which.TheVariants.{Cv, Lock}
-use Rattle.ns_queue.specs.Queues.{Lists, IsList, IsOrderly, beside, times, waiters_of}
+use Rattle.ns_queue.specs.declared.waiter.Which.TheVariants.{Cv}
+use Rattle.ns_queue.specs.Queues.{Lists, IsOrderly, beside, times, waiters_of}
 use Rattle.ns_queue.specs.Waiters.{times_in}
 use Rattle.ns_queue.proofs.Seats.{times_in-cons, few, room_for}
 use Rattle.ns_word.specs.Owed.{times_among}
@@ -17,7 +15,7 @@ use Rattle.ns_word.specs.Lists.{counts_in}
 use Rattle.ns_word.specs.Walks.{awaits}
 use Rattle.ns_word.specs.Views.{is_reading, readers, owed_to, walk_at, NoneIs, AreApart}
 use Rattle.ns_model.specs.Truths.{Truths}
-use Rattle.ns_word.specs.Steps.{LockState, flags_with}
+use Rattle.ns_word.specs.Steps.{LockState}
 use Rattle.ns_word.specs.Lawful.{EachFits, WaitersPlaced, IsLawful, is_unwoken}
 use Rattle.ns_model.specs.Tallies.{one_if}
 use Rattle.ns_model.proofs.Tallies.{one_most}
@@ -162,14 +160,3 @@ module _ {C : Type 0} {N : ℕ} (truths : Truths C) (seats : ℕ) (h : List (Eve
       omega (arith, count, reading_length views, room)
 
 -- ---- flags in an array
-
--- a store into a list of flags
-pub stored_flag : (flags : List ℕ) (who value : ℕ) → who < length flags → (seat : ℕ) → get_or (set flags who value) seat 0 ≡ flags_with (λ s. get_or flags s 0) who value seat
-stored_flag flags who value within seat = elim (cases_eq who seat) [
-  | inl e ↦ rw (eq-eqb who seat e) (subst (λ s. get_or (set flags who value) s 0 ≡ value) e (get_or-set_same flags who value 0 within))
-  | inr ne ↦ rw (ne_eqb who seat ne) (get_or-set_other flags who seat value 0 (λ e. ne (sym e)))
-]
-
--- and as functions
-pub stored_flags : (flags : List ℕ) (who value : ℕ) → who < length flags → ◌≡◌ {A = ℕ → ℕ} (λ seat. get_or (set flags who value) seat 0) (flags_with (λ s. get_or flags s 0) who value)
-stored_flags flags who value within i seat = stored_flag flags who value within seat i

@@ -28,10 +28,6 @@ some_length [] true is has = absurd (let less = is refl in omega (arith, less))
 some_length [] false is has = refl
 some_length (x ∷ xs) b is has = has (omega arith)
 
-pub some_counted : {A : Type 0} (xs : List A) → not (eqb (length xs) 0) ≡ has_some xs
-some_counted [] = refl
-some_counted (x ∷ xs) = rw (ne_eqb (length (x ∷ xs)) 0 (λ e. absurd (omega (arith, e)))) refl
-
 module _ {C : Type 0} where
   -- what a list's bits are, by what was told of it
   pub bits_told : (lock : List (Waiter C)) (waiting conditional writer_waits long : Bool) → (waiting ≡ true → 0 < length lock) → (0 < length lock → waiting ≡ true) →

@@ -1,5 +1,5 @@
 -- No waiter stands twice in a list, or in the lock list and in that of a variable.
-use Rattle.std.proofs.Common.{◌≡◌, ℕ, ◌+◌, ◌≤◌, ◌<◌, inl, inr, List, arith}
+use Rattle.std.proofs.Common.{ℕ, ◌≤◌, ◌<◌, inl, inr, List, arith}
 use Rattle.std.proofs.lemmas.Bool.{cases_eq}
 use Rattle.ns_model.specs.declared.event.Event.{Event}
 use Rattle.ns_model.specs.Truths.{Truths}

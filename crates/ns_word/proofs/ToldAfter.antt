@@ -12,7 +12,6 @@ use Rattle.ns_queue.specs.Queues.{Lists}
 use Rattle.ns_model.specs.declared.cvs.Variables.TheVariants.{Any, Only}
 use Rattle.ns_word.specs.declared.wait.Home.{Home}
 use Rattle.ns_word.specs.declared.wait.Home.TheVariants.{AtLock, AtVariables}
-use Rattle.ns_queue.specs.declared.waiter.Which.TheVariants.{Lock, Cv}
 use Rattle.ns_queue.specs.declared.waiter.Waiter.{Waiter}
 use Rattle.ns_word.specs.declared.act.Waking.{Waking}
 use Rattle.ns_word.specs.declared.act.Waking.TheVariants.{Signaling, Broadcasting}

@@ -15,7 +15,6 @@ use Rattle.ns_word.specs.declared.wait.Subject.{Subject}
 use Rattle.ns_word.specs.declared.wait.Subject.TheVariants.{OnCondition, OnVariables}
 use Rattle.ns_word.specs.declared.wait.Outcome.{Outcome}
 use Rattle.ns_word.specs.declared.wait.Outcome.TheVariants as TheOutcome
-use Rattle.ns_word.specs.declared.wait.Outcome.TheVariants.{Ended}
 use Rattle.ns_word.specs.declared.wait.Aim.{Aim}
 use Rattle.ns_word.specs.declared.wait.Aim.TheVariants.{ForLock, ForWait}
 use Rattle.ns_word.specs.declared.view.Opening.{Opening}

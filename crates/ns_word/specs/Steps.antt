@@ -1,5 +1,5 @@
 -- One atomic step of one seat.
-use Rattle.std.specs.Prelude.{◌≡◌, ◌≢◌, ℕ, Bool, true, false, not, ◌&&◌, nat_lt, ◌==◌, if◌then◌else◌, List, [], ◌∷◌, ◌++◌, Option, None, Some, IsSome, slice_index, slice_set}
+use Rattle.std.specs.Prelude.{◌≡◌, ◌≢◌, ℕ, Bool, true, false, not, ◌&&◌, ◌==◌, if◌then◌else◌, List, [], ◌∷◌, ◌++◌, Option, None, Some, IsSome, slice_index, slice_set}
 use Rattle.ns_model.specs.declared.event.Mode.{Mode}
 use Rattle.ns_model.specs.declared.event.Mode.TheVariants.{Write}
 use Rattle.ns_model.specs.declared.event.Answer.TheVariants.{Met}
@@ -20,7 +20,6 @@ use Rattle.ns_word.specs.declared.wait.Home.TheVariants.{AtVariables}
 use Rattle.ns_queue.specs.declared.waiter.Which.TheVariants.{Cv}
 use Rattle.ns_queue.specs.Queues.{Lists, cvs_without, waiters_of, with_each, with_waiters, without}
 use Rattle.ns_queue.specs.Signals.{signaled_of, unsignaled_of, taken_set}
-use Rattle.ns_queue.specs.Waiters.{times_in}
 use Rattle.ns_word.specs.Owed.{called_of, wakes_of}
 use Rattle.ns_word.specs.declared.owed.Owed.{Owed}
 use Rattle.ns_queue.specs.Scans.{woken_of, left_of, tests_of}
@@ -134,11 +133,6 @@ flags_with flags who value seat = if who == seat then value else flags seat
 -- where a condition is true of a row
 abbrev pub meets_at : {C : Type 0} → Truths C → List ℕ → C → Bool
 meets_at truths row c = truths.holds c row
-
--- a seat puts itself into the lock list
-abbrev pub IsQueuing : Change → Type 0
-IsQueuing (QueueSelf mode arrival) = Unit {0}
-IsQueuing change = ⊥
 
 -- the lists with another lock list
 abbrev pub with_lock : {C : Type 0} → Lists C → List (Waiter C) → Lists C

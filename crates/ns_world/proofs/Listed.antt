@@ -66,13 +66,6 @@ none_behind_it items at none = on (items_of items) at none where
   on (x ∷ xs) zero e = absurd (cc)
   on (x ∷ xs) (suc at) e = on xs at e
 
--- and the other way about
-pub nothing_at : (items : Items) (at : ℕ) → drop at (items_of items) ≡ [] → item_at items at ≡ None
-nothing_at items at none = by (item_at items at) refl where
-  by : (item : Option Item) → item_at items at ≡ item → item ≡ None
-  by None is = refl
-  by (Some item) is = let some : [] ≡ item ∷ drop (suc at) (items_of items) = sym none ∙ left_at items at item is in absurd (cc)
-
 -- ---- the variables among objects
 
 low_if_is : (item : Item) (k : ℕ) → IsLow item → is_this k item ≡ true → k < 4
